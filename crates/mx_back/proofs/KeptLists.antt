@@ -16,7 +16,7 @@ use Rattle.mx_run.specs.declared.end.End.TheVariants as end
 use Rattle.mx_run.proofs.FreeRuns.{trace-free}
 use Rattle.mx_run.proofs.ListSteps.{Beside, as_list, was_wild, list-window, list-step, list-runs}
 use Rattle.mx_run.proofs.ListTurns.{TurnWindow, turn-listed-on}
-use Rattle.mx_run.proofs.PlanEnds.{run_step, turn_ended, step-answer}
+use Rattle.mx_run.proofs.PlanEnds.{left-after, run_step, turn_ended, step-answer}
 use Rattle.mx_back.specs.History.{Turned, stepped, trapped, ended, kept_turn, states_kept}
 use Rattle.mx_back.specs.KeptLists.{AreBeside, AreUntouched, as_lists}
 use Rattle.mx_back.specs.KeptRuns.{ComesStep, turn_kind, kind_at, turns_after, turns_of}
@@ -57,9 +57,6 @@ kind-beside s m h u e =
     let quiet = not-wild (is_wild s) (trap_touches s (step s)) e in
     ap (λ (x : Stepped). turn_kind x (turn_answer (turn (as_list_state s) m)).0) (step-listed s h.window h.machine (record { untouched = u; not_wild = quiet }))
     ∙ ap (λ (t : Turn). turn_kind (as_list_step (step s)) (turn_answer t).0) (turn-listed-on s m h u e) ∙ kind-listed (step s) (turn s m)
-
-left-after : (k i : ℕ) → i < k → k - i ≡ suc (k - (i + 1))
-left-after k i l = omega arith
 
 -- what the list machine keeps by such a turn, and by those behind it
 turns-beside : (n i : ℕ) (s : State) (m : HostModel) (kept : List State) → i < n → TurnWindow s → s.touched ≡ false → turn_is_wild s ≡ false →

@@ -1,8 +1,8 @@
 -- A run whose last steps are kept, step by step.
-use Rattle.std.proofs.Common.{◌≡◌, ◌≢◌, ◌<◌, ◌≤◌, ◌+◌, ◌-◌, ℕ, suc, Bool, true, false, List, [], Ok, Err, inl, inr, arith, refl, sym, subst, ◌∙◌, ap}
+use Rattle.std.proofs.Common.{◌≡◌, ◌≢◌, ◌<◌, ◌≤◌, ◌+◌, ◌-◌, ℕ, Bool, true, false, List, [], Ok, Err, inl, inr, arith, refl, sym, subst, ◌∙◌, ap}
 use Rattle.std.specs.Prelude.{Result, ◌⊎◌}
 use Rattle.mx_host.specs.HostModel.{HostModel}
-use Rattle.mx_plan.specs.Plan.{Comes, IsRest, Stops}
+use Rattle.mx_plan.specs.Plan.{Comes, Stops}
 use Rattle.mx_trip.specs.declared.call.TrapCall.{TrapCall}
 use Rattle.mx_code.specs.Reasons.{number_of}
 use Rattle.mx_core.specs.State.{State}
@@ -15,23 +15,21 @@ use Rattle.mx_core.specs.declared.step.Advance.TheVariants as advance
 use Rattle.mx_core.specs.declared.step.Step.TheVariants as made
 use Rattle.mx_code.specs.declared.trace.Trace.{Trace}
 use Rattle.mx_run.specs.RunPlans.{RunWorld, running, beside_world, turn_plan, step_plan, run_plan}
-use Rattle.mx_run.specs.Runs.{IsLater, ended, no_flags, run}
+use Rattle.mx_run.specs.AccompaniedRuns.{AfterSteps, ComesAccompanied}
+use Rattle.mx_run.specs.Runs.{IsLater, ended, no_flags}
 use Rattle.mx_run.specs.Turns.{Answered, Turn, went_on, halts, stops, turn, turn_answer, may_change}
 use Rattle.mx_run.specs.declared.end.End.{End}
 use Rattle.mx_run.specs.declared.end.End.TheVariants as end
 use Rattle.mx_run.specs.declared.turn_answer.TurnAnswer.{TurnAnswer}
 use Rattle.mx_run.specs.declared.turn_answer.TurnAnswer.TheVariants as answer
-use Rattle.mx_run.proofs.FreeRuns.{trace-free, went-turn, went-free, halted-step, stopped-step, lacking-step, run-from}
-use Rattle.mx_run.specs.Clauses.{GoesAsList}
-use Rattle.mx_run.specs.WildRuns.{RunEnd, HasWindow, list_machine, run_by}
-use Rattle.mx_core.specs.Bounds.{as_list_state}
-use Rattle.mx_run.proofs.ListSteps.{Beside, list-window, list-went, list-ended}
+use Rattle.mx_run.proofs.AccompaniedRuns.{Rest, Made, ended-so}
+use Rattle.mx_run.proofs.FreeRuns.{trace-free, went-turn, went-free, halted-step, stopped-step, lacking-step}
 use Rattle.mx_run.proofs.Later.{stepped-later}
-use Rattle.mx_run.proofs.PlanEnds.{run_step, turn_ended, step-end, step-answer, rest-begun, rest-went, rest-ended, rest-spent}
-use Rattle.mx_run.proofs.Runners.{run-told, turn-told}
+use Rattle.mx_run.proofs.PlanEnds.{left-after, run_step, turn_ended, step-end, step-answer}
+use Rattle.mx_run.proofs.Runners.{turn-told}
 use Rattle.mx_run.proofs.TurnAnswers.{call-told, went-comes, stopped-comes, called-comes}
 use Rattle.mx_back.specs.History.{AreNotesOf, Turned, stepped, kept_turn, states_kept, states_before}
-use Rattle.mx_back.specs.KeptRuns.{AfterSteps, ComesKept, ComesStep, ended_at, notes_left, kind_by, trap_kind, turn_kind, kind_at, turns_after, turns_of}
+use Rattle.mx_back.specs.KeptRuns.{ComesStep, ended_at, notes_left, kind_by, trap_kind, turn_kind, kind_at, turns_after, turns_of}
 
 -- ---- one step
 
@@ -75,47 +73,17 @@ left-fits false r old new s t c e f h = subst (λ ns. AreNotesOf ns t) (sym e) (
 
 -- ---- the run, after some of its steps
 
-abbrev pub Rest : ℕ → ℕ → RunWorld → RunWorld → Type 0
-Rest n left now start = IsRest running (run_plan left no_flags false) now (run_plan n no_flags false) start
-
-abbrev pub Made : ℕ → RunWorld → RunWorld → Type 0
-Made i now start = run i no_flags false start.0 start.1 ≡ ended end.Spent now.0 now.1
-
-pub begun-made : (s : State) (m : HostModel) → run 0 no_flags false s m ≡ ended end.Spent s m
-unfolding run
-begun-made s m = refl
-
-pub went-rest : (n i : ℕ) (u : Unit {0}) (v w start : RunWorld) → i < n → ComesStep v w (Ok u) → Rest n (n - i) v start → Rest n (n - (i + 1)) w start
-went-rest n i u v w start l c r = rest-went n i no_flags false u v w start (run_plan n no_flags false) l r (c.ending (λ e. absurd (cc)))
-
-one-made : (u : Unit {0}) (v w : RunWorld) → ComesStep v w (Ok u) → Made 1 w v
-one-made u v w c =
-    let whole = rest-spent 1 1 no_flags false w v (run_plan 1 no_flags false) (omega arith) (went-rest 1 0 u v w v (omega arith) c (rest-begun 1 no_flags false v)) in
-    sym (run-told 1 no_flags false v.0 w.0 v.1 w.1 end.Spent whole (λ e. absurd (cc)))
-
-pub went-made : (i : ℕ) (u : Unit {0}) (v w start : RunWorld) → ComesStep v w (Ok u) → Made i v start → Made (i + 1) w start
-went-made i u v w start c h = run-from i 1 start.0 v.0 start.1 v.1 h ∙ one-made u v w c
-
 ended-by : (n i : ℕ) (why : End) (v w start : RunWorld) → i < n → Rest n (n - i) v start → Made i v start → why ≡ end.OutOfMemory →
     Stops running w (step_plan no_flags false) v ⊎ (w ≡ v) → Stops running w (run_plan n no_flags false) start ⊎ AfterSteps n start w
 ended-by n i why v w start l r h o (inl lacks) =
-    inl ((rest-ended n i no_flags false why v w start (run_plan n no_flags false) l r (record { ending = λ ne. absurd (ne (ap Err o)); stopping = λ e. lacks })).stopping o)
-ended-by n i why v w start l r h o (inr same) =
-    inr (record { made = i; few = omega (arith, l); steps = h ∙ ap (λ (x : RunWorld). ended end.Spent x.0 x.1) (sym same) })
+    (ended-so n i why v w start l r (record { ending = λ ne. absurd (ne (ap Err o)); stopping = λ e. lacks })).stopping o
+ended-by n i why v w start l r h o (inr same) = inr (record { made = i; few = omega (arith, l); steps = h ∙ ap (λ (x : RunWorld). ended end.Spent x.0 x.1) (sym same) })
 
-pub ended-kept : (n i : ℕ) (why : End) (v w start : RunWorld) → i < n → Rest n (n - i) v start → Made i v start → ComesStep v w (Err why) → ComesKept n start w why
+pub ended-kept : (n i : ℕ) (why : End) (v w start : RunWorld) → i < n → Rest n (n - i) v start → Made i v start → ComesStep v w (Err why) → ComesAccompanied n start w why
 ended-kept n i why v w start l r h c = record {
-  ending = λ ne. (rest-ended n i no_flags false why v w start (run_plan n no_flags false) l r (record { ending = c.ending; stopping = λ e. absurd (ne (cc)) })).ending ne;
+  ending = λ ne. (ended-so n i why v w start l r (record { ending = c.ending; stopping = λ e. absurd (ne (cc)) })).ending ne;
   stopping = λ o. ended-by n i why v w start l r h o (c.stopping (ap Err o));
 }
-
-pub spent-kept : (n i : ℕ) (w start : RunWorld) → n ≤ i → Rest n (n - i) w start → ComesKept n start w end.Spent
-spent-kept n i w start l r =
-    let whole = rest-spent n i no_flags false w start (run_plan n no_flags false) l r in
-    record { ending = whole.ending; stopping = λ o. inl (whole.stopping o) }
-
-pub kept-told : (n : ℕ) (s t : State) (m k : HostModel) (r : End) → ComesKept n (s, m) (t, k) r → r ≢ end.OutOfMemory → ended r t k ≡ run n no_flags false s m
-kept-told n s t m k r c ne = run-told n no_flags false s t m k r (record { ending = c.ending; stopping = λ o. absurd (ne o) }) ne
 
 -- ---- what is kept
 
@@ -188,9 +156,6 @@ end-by more pc why t n (went_on v k trace) e = let first : Err why ≡ Ok tt = a
 end-by more pc why t n (halts status v k) e = refl
 end-by more pc why t n (stops reason v k) e = refl
 
-left-after : (k i : ℕ) → i < k → k - i ≡ suc (k - (i + 1))
-left-after k i l = omega arith
-
 turns-left : (n i : ℕ) (s : State) (m : HostModel) (kept : List State) → i < n → states_kept (turns_of (n - i) s m) kept ≡ states_kept (turns_after (turns_of (n - (i + 1))) (turn s m)) (kept_turn (kind_at s m) s kept)
 unfolding turns_of states_kept
 turns-left n i s m kept l = rw (left-after n i l) refl
@@ -216,15 +181,3 @@ ended-kept-so n i why s t m k before now whole l ne c e h =
 pub spent-kept-so : (n i : ℕ) (s : State) (m : HostModel) (now whole : List State) → n ≤ i → states_kept (turns_of (n - i) s m) now ≡ whole → now ≡ whole
 unfolding turns_of states_kept
 spent-kept-so n i s m now whole l h = let none : n - i ≡ 0 = omega arith in sym (ap (λ j. states_kept (turns_of j s m) now) none) ∙ h
-
--- ---- beside the list machine
-
-pub went-listed : (n i : ℕ) (whole : RunEnd) (u : Unit {0}) (s t : State) (m k : HostModel) → i < n → HasWindow s → ComesStep (s, m) (t, k) (Ok u) → Beside whole (run_by list_machine (n - i) no_flags false (as_list_state s) m) s m →
-    Beside whole (run_by list_machine (n - (i + 1)) no_flags false (as_list_state t) k) t k
-went-listed n i whole u s t m k l w c b =
-    list-went whole n i no_flags false s t m k u l (list-window s w) (step-answer no_flags false s t m k (Ok u) (c.ending (λ e. absurd (cc)))) b
-
-pub ended-listed : (n i : ℕ) (whole : RunEnd) (why : End) (s t : State) (m k : HostModel) → i < n → HasWindow s → why ≢ end.OutOfMemory → ComesStep (s, m) (t, k) (Err why) →
-    Beside whole (run_by list_machine (n - i) no_flags false (as_list_state s) m) s m → GoesAsList whole (ended why t k)
-ended-listed n i whole why s t m k l w ne c b =
-    list-ended whole n i no_flags false s t m k why l (list-window s w) (step-answer no_flags false s t m k (Err why) (c.ending (λ e. ne (cc)))) b

@@ -5,8 +5,8 @@ use Rattle.mx_host.specs.HostModel.{HostModel, tells, contents}
 use Rattle.mx_core.specs.Bounds.{as_list_state}
 use Rattle.mx_core.specs.State.{State}
 use Rattle.mx_core.specs.Undoing.{StateWas}
-use Rattle.mx_run.specs.Runs.{no_flags}
-use Rattle.mx_run.specs.WildRuns.{RunEnd, run_ended, run_wild, list_machine, run_by}
+use Rattle.mx_run.specs.AccompaniedRuns.{list_run}
+use Rattle.mx_run.specs.WildRuns.{RunEnd, run_ended, run_wild}
 use Rattle.mx_run.specs.declared.end.End.{End}
 use Rattle.mx_run.specs.declared.end.End.TheVariants as end
 use Rattle.mx_back.specs.History.{states_kept, states_before}
@@ -23,11 +23,7 @@ IsUntouched s = s.touched ≡ false
 abbrev pub AreUntouched : List State → Type 0
 AreUntouched = AllByRecursion IsUntouched
 
--- what the list machine comes to in at most n steps from the list that a state stands for, and the states that it keeps behind
--- earlier ones
-abbrev pub list_run : Option HostModel → State → ℕ → RunEnd
-list_run old before n = run_by list_machine n no_flags false (as_list_state before) (contents old)
-
+-- the states that the list machine keeps behind earlier ones in at most n steps from the list that a state stands for
 abbrev pub list_kept : Option HostModel → State → ℕ → List State → List State
 list_kept old before n earlier = states_kept (turns_of n (as_list_state before) (contents old)) (as_lists earlier)
 

@@ -1,38 +1,21 @@
 -- The words of clauses over a run whose last steps are kept. `old` and `new` are what the host told before and after, `before`
 -- and `after` the states of the machine.
-use Rattle.std.specs.Prelude.{ℕ, ◌≡◌, ◌≢◌, ◌≤◌, ◌⊎◌, IsTrue, Bool, false, ◌==◌, zero, suc, List, [], ◌∷◌, if◌then◌else◌, Option, Result, Ok, Err}
+use Rattle.std.specs.Prelude.{ℕ, ◌≡◌, ◌≢◌, ◌⊎◌, IsTrue, Bool, false, ◌==◌, zero, suc, List, [], ◌∷◌, if◌then◌else◌, Option, Result, Ok, Err}
 use Rattle.mx_host.specs.HostModel.{HostModel, tells, contents}
+use Rattle.mx_host.specs.Keeping.{Keeps}
 use Rattle.mx_plan.specs.Plan.{Stops, end_of}
 use Rattle.mx_core.specs.State.{State}
 use Rattle.mx_core.specs.Step.{Stepped, went, calls, stopped, step}
 use Rattle.mx_core.specs.Undoing.{StateWas}
-use Rattle.mx_run.specs.RunPlans.{RunWorld, running, run_plan, step_plan}
-use Rattle.mx_run.specs.Runs as runs
-use Rattle.mx_run.specs.Runs.{no_flags, run}
+use Rattle.mx_run.specs.RunPlans.{RunWorld, running, step_plan}
+use Rattle.mx_run.specs.Runs.{IsLater, no_flags}
+use Rattle.mx_run.specs.WildRuns.{HasWindow}
 use Rattle.mx_run.specs.Turns.{Turn, went_on, halts, stops, turn, turn_answer}
 use Rattle.mx_run.specs.declared.end.End.{End}
 use Rattle.mx_run.specs.declared.end.End.TheVariants as end
 use Rattle.mx_run.specs.declared.turn_answer.TurnAnswer.{TurnAnswer}
 use Rattle.mx_run.specs.declared.turn_answer.TurnAnswer.TheVariants as answer
-use Rattle.mx_back.specs.History.{Turned, stepped, trapped, ended, kept_turn, states_kept, states_before}
-
--- the machine and the host after completed steps, at most n
-pub record AfterSteps (n : ℕ) (start now : RunWorld) : Type 0 where
-  pub made : ℕ
-  pub few : made ≤ n
-  pub steps : run made no_flags false start.0 start.1 ≡ runs.ended end.Spent now.0 now.1
-
--- What comes of a run of at most n steps that are noted. Unless there was no memory, the end, the machine and the host are
--- those of the run. Where a turn lacked it, they are as the run may stop; where a note did, the steps up to there are
--- completed, and nothing else changed.
-pub record ComesKept (n : ℕ) (old new : RunWorld) (result : End) : Type 0 where
-  pub ending : result ≢ end.OutOfMemory → (result, new) ≡ end_of running (run_plan n no_flags false) old
-  pub stopping : result ≡ end.OutOfMemory → Stops running new (run_plan n no_flags false) old ⊎ AfterSteps n old new
-
--- so it is over a host that tells its contents
-abbrev pub CarriesOutKept : Option HostModel → Option HostModel → State → State → ℕ → End → Type 0
-CarriesOutKept old new before after n result =
-    IsTrue (tells old) → ComesKept n (before, contents old) (after, contents new) result
+use Rattle.mx_back.specs.History.{AreNotesOf, Turned, stepped, trapped, ended, kept_turn, states_kept, states_before}
 
 -- ---- what is kept
 
@@ -84,6 +67,16 @@ pub record ComesStep (old new : RunWorld) (result : Result (Unit {0}) End) : Typ
 
 abbrev pub StepsKept : Option HostModel → Option HostModel → State → State → Result (Unit {0}) End → Type 0
 StepsKept old new before after result = IsTrue (tells old) → ComesStep (before, contents old) (after, contents new) result
+
+-- what holds of it over every host: its answer, from a state over a window; one step at most; what the host keeps at every call;
+-- and the notes, which fit the state and stand for what the turn keeps
+pub record TakesKeptStep (old new : Option HostModel) (fewer more : ℕ) (before after : State) (earlier later : List StateWas) (result : Result (Unit {0}) End) : Type 0 where
+  pub told : StepsKept old new before after result
+  pub over : HasWindow before
+  pub bound : IsLater 1 before after
+  pub keeps : Keeps old new fewer more
+  pub fits : AreNotesOf later after
+  pub kept : KeepsTurn old before after result earlier later
 
 -- whether the run goes on behind a turn from an address, or its end
 abbrev pub ended_at : ℕ → TurnAnswer → Result (Unit {0}) End

@@ -1,15 +1,14 @@
 //! A run of the machine over a host whose last steps are kept.
 
 ghost use Rattle.std.specs.Prelude.{◌≡◌, false};
-ghost use Rattle.mx_host.specs.Keeping.{Keeps};
 ghost use Rattle.mx_core.specs.Kept.{state_of};
-ghost use Rattle.mx_run.specs.Clauses.{EndsAs, EndsAsList};
-ghost use Rattle.mx_run.specs.Runs.{IsLater, no_flags, run};
-ghost use Rattle.mx_run.specs.WildRuns.{HasWindow, list_machine, run_by};
+ghost use Rattle.mx_run.specs.AccompaniedRuns.{CarriesOutAccompanied};
+ghost use Rattle.mx_run.specs.Clauses.{IsRun};
+ghost use Rattle.mx_run.specs.Runs.{no_flags};
 ghost use Rattle.mx_back.specs.History.{AreNotesOf};
 ghost use Rattle.mx_back.specs.KeptLists.{KeepsAsList};
 ghost use Rattle.mx_back.specs.KeptRuns as spec;
-ghost use Rattle.mx_back.specs.KeptRuns.{CarriesOutKept, KeepsRun, KeepsTurn, StepsKept};
+ghost use Rattle.mx_back.specs.KeptRuns.{KeepsRun, TakesKeptStep};
 
 use crate::Back;
 use crate::trapping::trap_kept;
@@ -25,6 +24,7 @@ use std::alloc::Global;
 ///
 /// The notes change nothing: end, machine and host are those of the run alone. Out of memory, where a turn lacked it,
 /// they are as the run leaves them then; where a note lacked it, the steps up to there were made.
+#[tactic(auto, using(mx_run::proofs::Later::running))]
 pub fn run_kept<H: Host>(
     alloc: Global,
     machine: &mut Machine,
@@ -33,38 +33,10 @@ pub fn run_kept<H: Host>(
     back: &mut Back,
 ) -> End
     requires { AreNotesOf back.old (state_of machine.old) }
-    ensures plan { CarriesOutKept (H.told host.old) (H.told host.new) (state_of machine.old) (state_of machine.new)
+    ensures plan { CarriesOutAccompanied (H.told host.old) (H.told host.new) (state_of machine.old) (state_of machine.new)
         n result }
-    ensures told { EndsAs (H.told host.old) (H.told host.new) (state_of machine.old) (state_of machine.new) result
-        (λ s m. run n no_flags false s m) }
-    ensures listed { EndsAsList (H.told host.old) (H.told host.new) (state_of machine.old) (state_of machine.new)
-        result (λ s m. run_by list_machine n no_flags false s m) }
-    ensures bound { IsLater n (state_of machine.old) (state_of machine.new) }
-    ensures keeps { Keeps (H.told host.old) (H.told host.new) (H.faults host.old) (H.faults host.new) }
-    ensures fits { AreNotesOf back.new (state_of machine.new) }
-    ensures kept { KeepsRun (H.told host.old) (state_of machine.old) (state_of machine.new) n result back.old back.new }
-    ensures kept_listed { KeepsAsList (H.told host.old) (state_of machine.old) (state_of machine.new) n result back.old
-        back.new }
-{
-    keep_steps(alloc, machine, host, n, back)
-}
-
-/// Makes at most so many steps, one after another, and keeps each.
-#[tactic(auto, using(mx_run::proofs::Later::running))]
-fn keep_steps<H: Host>(
-    alloc: Global,
-    machine: &mut Machine,
-    host: &mut H,
-    n: u64,
-    back: &mut Back,
-) -> End
-    requires { AreNotesOf back.old (state_of machine.old) }
-    ensures plan { CarriesOutKept (H.told host.old) (H.told host.new) (state_of machine.old) (state_of machine.new)
-        n result }
-    ensures listed { EndsAsList (H.told host.old) (H.told host.new) (state_of machine.old) (state_of machine.new)
-        result (λ s m. run_by list_machine n no_flags false s m) }
-    ensures bound { IsLater n (state_of machine.old) (state_of machine.new) }
-    ensures keeps { Keeps (H.told host.old) (H.told host.new) (H.faults host.old) (H.faults host.new) }
+    ensures run { IsRun (H.told host.old) (H.told host.new) (H.faults host.old) (H.faults host.new) (state_of machine.old)
+        (state_of machine.new) n no_flags false result }
     ensures fits { AreNotesOf back.new (state_of machine.new) }
     ensures kept { KeepsRun (H.told host.old) (state_of machine.old) (state_of machine.new) n result back.old back.new }
     ensures kept_listed { KeepsAsList (H.told host.old) (state_of machine.old) (state_of machine.new) n result back.old
@@ -88,12 +60,8 @@ fn keep_step<H: Host>(
     back: &mut Back,
 ) -> Result<(), End>
     requires { AreNotesOf back.old (state_of machine.old) }
-    ensures told { StepsKept (H.told host.old) (H.told host.new) (state_of machine.old) (state_of machine.new) result }
-    ensures over { HasWindow (state_of machine.old) }
-    ensures bound { IsLater 1 (state_of machine.old) (state_of machine.new) }
-    ensures keeps { Keeps (H.told host.old) (H.told host.new) (H.faults host.old) (H.faults host.new) }
-    ensures fits { AreNotesOf back.new (state_of machine.new) }
-    ensures kept { KeepsTurn (H.told host.old) (state_of machine.old) (state_of machine.new) result back.old back.new }
+    ensures { TakesKeptStep (H.told host.old) (H.told host.new) (H.faults host.old) (H.faults host.new)
+        (state_of machine.old) (state_of machine.new) back.old back.new result }
 {
     machines_keep_the_invariant(machine);
     machines_are_whole(machine);
@@ -114,12 +82,8 @@ fn keep_any_step<H: Host>(
     back: &mut Back,
 ) -> Result<(), End>
     requires { AreNotesOf back.old (state_of machine.old) }
-    ensures told { StepsKept (H.told host.old) (H.told host.new) (state_of machine.old) (state_of machine.new) result }
-    ensures over { HasWindow (state_of machine.old) }
-    ensures bound { IsLater 1 (state_of machine.old) (state_of machine.new) }
-    ensures keeps { Keeps (H.told host.old) (H.told host.new) (H.faults host.old) (H.faults host.new) }
-    ensures fits { AreNotesOf back.new (state_of machine.new) }
-    ensures kept { KeepsTurn (H.told host.old) (state_of machine.old) (state_of machine.new) result back.old back.new }
+    ensures { TakesKeptStep (H.told host.old) (H.told host.new) (H.faults host.old) (H.faults host.new)
+        (state_of machine.old) (state_of machine.new) back.old back.new result }
 {
     machines_keep_the_invariant(machine);
     machines_are_whole(machine);

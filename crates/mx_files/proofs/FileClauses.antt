@@ -48,7 +48,7 @@ file-output most name m n r c = by (decided-part r)
 pub part-keeps : {A : Type 0} (a b : Option HostModel) (k m : ℕ) (r : Result A Outcome) (p : Part A) → WorksBetween a b k m r p → Keeps a b k m
 part-keeps a b k m r p w = comes-keeps a b k m (Err OutOfMemory) r p (decided-part r) w.told w.stands
 
-end-words : (r : Outcome) → is_end r ≡ true → is_usage r ≡ false
+pub end-words : (r : Outcome) → is_end r ≡ true → is_usage r ≡ false
 end-words (Usage fault) i = absurd (cc)
 end-words outcome i = refl
 

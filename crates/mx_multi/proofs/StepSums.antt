@@ -1,12 +1,8 @@
--- How many steps were made in all, and what the host keeps, turn by turn.
-use Rattle.std.proofs.Common.{◌≡◌, ◌≤◌, ℕ, zero, suc, ◌+◌, ◌%◌, ◌^◌, true, false, cond, IsTrue, ◌==◌, List, length, get_or, arith, refl, sym, subst, ap, ◌∙◌, ⊎_elim}
-use Rattle.std.specs.Prelude.{Option}
+-- How many steps were made in all, turn by turn.
+use Rattle.std.proofs.Common.{◌≡◌, ◌≤◌, ℕ, zero, suc, ◌+◌, ◌%◌, ◌^◌, true, false, cond, ◌==◌, List, length, get_or, arith, refl, sym, subst, ap, ◌∙◌, ⊎_elim}
 use Rattle.std.proofs.lemmas.Bool.{cases_eq}
 use Rattle.std.proofs.lemmas.Bool.Decides.{nat_tests}
 use Rattle.std.proofs.lemmas.List.{get_or-set_other, length-set}
-use Rattle.mx_word.proofs.Fronts.{front-self, front-through}
-use Rattle.mx_host.specs.HostModel.{HostModel, contents}
-use Rattle.mx_host.specs.Keeping.{Keeps}
 use Rattle.mx_core.specs.State.{State}
 use Rattle.mx_multi.specs.Clauses.{MakesAtMost, sum_below}
 use Rattle.mx_multi.specs.Joint.{Joint, processor, no_processor}
@@ -99,18 +95,3 @@ both-made n k a j i h g = record {
       omega (arith, sum, h.few, rest));
   counted = λ w. (let was = h.counted w in let now = g.counted w in omega (arith, was, now));
 }
-
--- ---- the host
-
-pub keeps-then : (a b c : Option HostModel) (x y z : ℕ) → Keeps a b x y → Keeps b c y z → Keeps a c x z
-keeps-then a b c x y z h k = record {
-  telling = k.telling ∙ h.telling;
-  counting = omega (arith, h.counting, k.counting);
-  input = λ t e. k.input (subst IsTrue (sym h.telling) t) (h.input t e);
-  output = λ t e. k.output (subst IsTrue (sym h.telling) t) (h.output t e);
-  errors = λ t e. k.errors (subst IsTrue (sym h.telling) t) (h.errors t e);
-  growing = λ t. front-through (contents a).output (contents b).output (contents c).output (h.growing t) (k.growing (subst IsTrue (sym h.telling) t));
-}
-
-pub keeps-all : (a : Option HostModel) (x : ℕ) → Keeps a a x x
-keeps-all a x = record { telling = refl; counting = omega arith; input = λ t e. e; output = λ t e. e; errors = λ t e. e; growing = λ t. front-self (contents a).output }

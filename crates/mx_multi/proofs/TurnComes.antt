@@ -1,7 +1,7 @@
 -- What the turn of one processor comes to, among all of them.
 use Rattle.std.proofs.Common.{◌≡◌, ◌≢◌, ◌<◌, ℕ, zero, suc, ◌&&◌, not, Bool, true, false, IsTrue, List, [], ◌∷◌, length, get_or, set, map, inl, inr, arith, refl, sym, subst, ap, ◌∙◌}
 use Rattle.std.specs.Prelude.{Option}
-use Rattle.std.proofs.lemmas.List.{get_or-map, map-set, length-map}
+use Rattle.std.proofs.lemmas.List.{get_or-map, map-set, length-map, set-get_or}
 use Rattle.mx_host.specs.HostModel.{HostModel, contents, tells}
 use Rattle.mx_plan.specs.Plan.{Comes, Stops, end_of}
 use Rattle.mx_core.specs.Bare.{Shared, with_shared}
@@ -11,15 +11,17 @@ use Rattle.mx_core.specs.State.{State}
 use Rattle.mx_run.specs.Clauses.{TurnGoesAsList, as_list_answer}
 use Rattle.mx_run.specs.RunPlans.{running, RunLacks}
 use Rattle.mx_run.specs.RunPlans as run
+use Rattle.mx_run.specs.Runs.{IsLater}
 use Rattle.mx_run.specs.Turns.{turn_answer, turn}
 use Rattle.mx_run.specs.WildRuns.{turn_is_wild, HasWindow}
 use Rattle.mx_run.specs.declared.turn_answer.TurnAnswer.{TurnAnswer}
 use Rattle.mx_run.specs.declared.turn_answer.TurnAnswer.TheVariants as answer
+use Rattle.mx_run.proofs.Later.{none-later}
 use Rattle.mx_run.proofs.ListSteps.{turn-goes}
 use Rattle.mx_run.proofs.Runners.{turn-told}
 use Rattle.mx_multi.specs.Clauses.{MakesTurn, TurnGoesAsLists}
 use Rattle.mx_multi.specs.Joint.{Joint, no_processor, state_at, has_halted, alone, AllAlone, NoneTouched, as_list_joint}
-use Rattle.mx_multi.specs.JointTurns.{JointWorld, told_at, halted_by, left_by, joined, turn_of, is_wild_turn}
+use Rattle.mx_multi.specs.JointTurns.{JointWorld, MakesOne, told_at, halted_by, left_by, joined, turn_of, is_wild_turn}
 use Rattle.mx_multi.specs.MultiPlans.{multi, turn_plan}
 use Rattle.mx_multi.specs.declared.turn.Turn.{Turn}
 use Rattle.mx_multi.specs.declared.turn.Turn.TheVariants as turned
@@ -58,6 +60,14 @@ idle-by at j m false h e u = (sym (turn-idle at (as_list_joint j, m) e), u)
 
 pub idle-listed : (at : ℕ) (j : Joint) (m : HostModel) → has_halted j.halted at ≡ true → NoneTouched j.processors → TurnGoesAsLists (is_wild_turn at (as_list_joint j)) at (as_list_joint j) m turned.Idle j m
 idle-listed at j m e u = idle-by at j m (is_wild_turn at (as_list_joint j)) (idle-wild (has_halted j.halted at) (turn_is_wild (state_at (as_list_joint j) at)) _ e refl) e u
+
+-- no step is made, and all is as it was
+pub idle-made : (at : ℕ) (j : Joint) → MakesOne at j j
+idle-made at j = record { one = none-later 1 _ _ refl; others = sym (set-get_or j.processors at no_processor); idle = λ h. refl }
+
+-- a step on the one memory is one of the processor by itself
+pub alone-later : (n : ℕ) (M N : Shared) (s t : State) → IsLater n (with_shared M s) (with_shared N t) → IsLater n s t
+alone-later n M N s t h = record { made = h.made; few = h.few; counted = h.counted }
 
 -- ---- touches
 

@@ -1,18 +1,20 @@
 -- The words of clauses over several processors and a host. `old` and `new` are what the host told before and after, `before`
 -- and `after` the processors.
-use Rattle.std.specs.Prelude.{ℕ, zero, suc, ◌≡◌, ◌≢◌, ◌≤◌, ◌+◌, ◌%◌, ◌^◌, IsTrue, Bool, true, false, List, length, Option, Result, Ok, Err}
+use Rattle.std.specs.Prelude.{ℕ, zero, suc, ◌≡◌, ◌≢◌, ◌↔◌, ◌≤◌, ◌+◌, ◌%◌, ◌^◌, IsTrue, Bool, true, false, List, length, Option, Result, Ok, Err}
 use Rattle.mx_word.specs.Lists.{IsFront}
 use Rattle.mx_host.specs.HostModel.{HostModel, tells, contents}
+use Rattle.mx_host.specs.Keeping.{Keeps}
 use Rattle.mx_plan.specs.Plan.{Comes}
 use Rattle.mx_core.specs.State.{State}
 use Rattle.mx_run.specs.Clauses.{CarriesOutRun}
 use Rattle.mx_run.specs.RunPlans as run
-use Rattle.mx_run.specs.WildRuns.{list_machine}
+use Rattle.mx_run.specs.Runs.{IsLater}
+use Rattle.mx_run.specs.WildRuns.{HasWindow, list_machine}
 use Rattle.mx_run.specs.declared.turn_answer.TurnAnswer.{TurnAnswer}
 use Rattle.mx_run.specs.declared.turn_answer.TurnAnswer.TheVariants as answer
-use Rattle.mx_multi.specs.Joint.{Joint, NoneTouched, as_list_joint, processor}
-use Rattle.mx_multi.specs.JointTurns.{told_at, turn_of, is_wild_turn}
-use Rattle.mx_multi.specs.MultiPlans.{MultiPlan, multi}
+use Rattle.mx_multi.specs.Joint.{Joint, NoneTouched, as_list_joint, has_halted, processor}
+use Rattle.mx_multi.specs.JointTurns.{MakesOne, halted_by, told_at, turn_of, is_wild_turn}
+use Rattle.mx_multi.specs.MultiPlans.{MultiPlan, multi, turn_plan}
 use Rattle.mx_multi.specs.Turns.{TurnsEnd, turns_ended, turns_wild, turn_by}
 use Rattle.mx_multi.specs.declared.turn.Turn.{Turn}
 use Rattle.mx_multi.specs.declared.turn.Turn.TheVariants as turned
@@ -31,6 +33,14 @@ pub record MakesTurn (old new : Option HostModel) (before after : State) (result
   pub step : TurnAnswer
   pub told : result ≡ told_at before.pc step
   pub carried : CarriesOutRun old new before after answer.OutOfMemory step run.turn_plan
+
+-- what holds of such a turn over every host: it is made where the host tells its contents, from a state over a window; it is one
+-- step at most, and the host keeps what it keeps at every call
+pub record TurnsAlone (old new : Option HostModel) (earlier later : ℕ) (before after : State) (result : Turn) : Type 0 where
+  pub told : MakesTurn old new before after result
+  pub over : HasWindow before
+  pub bound : IsLater 1 before after
+  pub keeps : Keeps old new earlier later
 
 -- BESIDE LIST MACHINES
 
@@ -68,6 +78,18 @@ EndAs old new before after result f =
 abbrev pub TurnsTo : Option HostModel → Option HostModel → Joint → Joint → ℕ → Turn → Type 0
 TurnsTo old new before after who result =
     IsTrue (tells old) → result ≢ turned.OutOfMemory → (result, (after, contents new)) ≡ turn_of who (before, contents old)
+
+-- what holds of the turn of a processor over every host: its plan is carried out, so it answers and leaves what it should, beside
+-- list machines too; it is idle exactly where the processor had halted, and a Halt alone marks it; it is one step at most; and
+-- the host keeps what it keeps at every call
+pub record TakesTurn (old new : Option HostModel) (earlier later : ℕ) (before after : Joint) (who : ℕ) (result : Turn) : Type 0 where
+  pub plan : CarriesOutTurns old new before after turned.OutOfMemory result (turn_plan who)
+  pub told : TurnsTo old new before after who result
+  pub listed : TurnsAsLists old new before after who result
+  pub idle : (result ≡ turned.Idle) ↔ IsTrue (has_halted before.halted who)
+  pub marked : after.halted ≡ halted_by before.halted who result
+  pub bound : MakesOne who before after
+  pub keeps : Keeps old new earlier later
 
 -- COUNTS
 

@@ -1,11 +1,8 @@
 //! A turn of a machine by itself, without a trace.
 
-ghost use Rattle.std.specs.Prelude.{◌≡◌, ◌≢◌};
-ghost use Rattle.mx_host.specs.Keeping.{Keeps};
+ghost use Rattle.std.specs.Prelude.{◌≡◌};
 ghost use Rattle.mx_core.specs.Kept.{state_of};
-ghost use Rattle.mx_run.specs.Runs.{IsLater};
-ghost use Rattle.mx_run.specs.WildRuns.{HasWindow};
-ghost use Rattle.mx_multi.specs.Clauses.{MakesTurn};
+ghost use Rattle.mx_multi.specs.Clauses.{TurnsAlone};
 ghost use Rattle.mx_multi.specs.JointTurns as spec;
 
 use crate::Turn;
@@ -17,10 +14,8 @@ use std::alloc::Global;
 /// A turn of a machine on all of its memory: a step without its trace, or a file trap as a whole.
 #[tactic(auto, using(mx_run::proofs::Areas::windows, crate::proofs::Untraced::making))]
 pub(crate) fn turn_alone<H: Host>(alloc: Global, machine: &mut Machine, host: &mut H) -> Turn
-    ensures told { MakesTurn (H.told host.old) (H.told host.new) (state_of machine.old) (state_of machine.new) result }
-    ensures over { HasWindow (state_of machine.old) }
-    ensures bound { IsLater 1 (state_of machine.old) (state_of machine.new) }
-    ensures keeps { Keeps (H.told host.old) (H.told host.new) (H.faults host.old) (H.faults host.new) }
+    ensures { TurnsAlone (H.told host.old) (H.told host.new) (H.faults host.old) (H.faults host.new) (state_of machine.old)
+        (state_of machine.new) result }
 {
     machines_keep_the_invariant(machine);
     machines_are_whole(machine);

@@ -1,6 +1,6 @@
 //! Turns of several processors by a schedule.
 
-ghost use Rattle.std.specs.Prelude.{◌≡◌, ◌≢◌, ◌≤◌, ◌<◌, ◌↔◌, ℕ, Err, IfSome, List, drop, false, length, slice_index};
+ghost use Rattle.std.specs.Prelude.{◌≡◌, ◌≢◌, ◌<◌, ◌↔◌, ℕ, Err, IfSome, List, drop, false, length};
 ghost use Rattle.std.specs.Option.{option_map};
 ghost use Rattle.mx_host.specs.Keeping.{Keeps};
 ghost use Rattle.mx_plan.specs.Plan.{bind, returns};

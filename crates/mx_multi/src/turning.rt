@@ -1,18 +1,14 @@
 //! A turn of one of several processors.
 
-ghost use Rattle.std.specs.Prelude.{◌≡◌, ◌<◌, ◌≤◌, ◌↔◌, IsTrue, false, true, length, map, slice_index_or, slice_set};
-ghost use Rattle.mx_host.specs.Keeping.{Keeps};
+ghost use Rattle.std.specs.Prelude.{◌≡◌, ◌<◌, ◌≤◌, false, true, length, map, slice_index_or, slice_set};
 ghost use Rattle.mx_core.specs.Bare.{nothing_shared, shared_in, shared_of, with_shared};
 ghost use Rattle.mx_core.specs.Kept.{state_of};
 ghost use Rattle.mx_core.specs.State.{State};
 ghost use Rattle.mx_core.specs.Walks.{Goes};
-ghost use Rattle.mx_run.specs.Runs.{IsLater};
-ghost use Rattle.mx_run.specs.WildRuns.{HasWindow};
-ghost use Rattle.mx_multi.specs.Clauses.{CarriesOutTurns, MakesTurn, TurnsAsLists, TurnsTo};
+ghost use Rattle.mx_multi.specs.Clauses.{TakesTurn, TurnsAlone};
 ghost use Rattle.mx_multi.specs.Joint.{AllAlone, has_halted, joint_by, joint_of, processor};
-ghost use Rattle.mx_multi.specs.Joint.{Processors, processor_count, with_processor};
-ghost use Rattle.mx_multi.specs.JointTurns.{halted_by, MakesOne};
-ghost use Rattle.mx_multi.specs.MultiPlans.{turn_plan};
+ghost use Rattle.mx_multi.specs.Joint.{processor_count};
+ghost use Rattle.mx_multi.specs.JointTurns.{halted_by};
 ghost use Rattle.mx_multi.specs.Stretches.{Stretch};
 
 use crate::alone::turn_alone;
@@ -26,13 +22,10 @@ use std::alloc::Global;
 #[tactic(auto, using(crate::proofs::Exchanges::exchanging))]
 fn turn_on<H: Host>(alloc: Global, machine: &mut Machine, memory: &mut Memory, host: &mut H) -> Turn
     requires { shared_of (state_of machine.now) ≡ nothing_shared }
-    ensures told { MakesTurn (H.told host.old) (H.told host.new)
+    ensures turn { TurnsAlone (H.told host.old) (H.told host.new) (H.faults host.old) (H.faults host.new)
         (with_shared (shared_in memory.old) (state_of machine.old))
         (with_shared (shared_in memory.new) (state_of machine.new)) result }
-    ensures over { HasWindow (with_shared (shared_in memory.old) (state_of machine.old)) }
     ensures alone { shared_of (state_of machine.new) ≡ nothing_shared }
-    ensures bound { IsLater 1 (state_of machine.old) (state_of machine.new) }
-    ensures keeps { Keeps (H.told host.old) (H.told host.new) (H.faults host.old) (H.faults host.new) }
 {
     machine.swap_memory(memory);
     let answer = turn_alone(alloc, machine, host);
@@ -50,18 +43,13 @@ fn turn_at<H: Host>(
 ) -> Turn
     requires inside { at < length machines.now.items }
     requires apart { AllAlone (map state_of machines.now.items) }
-    ensures told { (d : State) → MakesTurn (H.told host.old) (H.told host.new)
+    ensures turn { (d : State) → TurnsAlone (H.told host.old) (H.told host.new) (H.faults host.old) (H.faults host.new)
         (with_shared (shared_in memory.old) (slice_index_or (map state_of machines.old.items) at d))
         (with_shared (shared_in memory.new) (slice_index_or (map state_of machines.new.items) at d)) result }
-    ensures over { (d : State) → HasWindow
-        (with_shared (shared_in memory.old) (slice_index_or (map state_of machines.old.items) at d)) }
     ensures placed { (d : State) → map state_of machines.new.items ≡
         slice_set (map state_of machines.old.items) at (slice_index_or (map state_of machines.new.items) at d) }
     ensures apart { AllAlone (map state_of machines.new.items) }
     ensures count { length machines.new.items ≡ length machines.old.items }
-    ensures bound { (d : State) → IsLater 1 (slice_index_or (map state_of machines.old.items) at d)
-        (slice_index_or (map state_of machines.new.items) at d) }
-    ensures keeps { Keeps (H.told host.old) (H.told host.new) (H.faults host.old) (H.faults host.new) }
 {
     turn_on(alloc, &mut machines[at], memory, host)
 }
@@ -119,20 +107,12 @@ fn make_turn<H: Host>(
     requires inside { at < length machines.now.items }
     requires apart { AllAlone (map state_of machines.now.items) }
     requires flags { length halted.now.items ≡ length machines.now.items }
-    ensures told { CarriesOutTurns (H.told host.old) (H.told host.new)
-        (joint_by machines.old.items halted.old.items memory.old)
-        (joint_by machines.new.items halted.new.items memory.new) Turn.OutOfMemory result (turn_plan at) }
-    ensures listed { TurnsAsLists (H.told host.old) (H.told host.new)
+    ensures turn { TakesTurn (H.told host.old) (H.told host.new) (H.faults host.old) (H.faults host.new)
         (joint_by machines.old.items halted.old.items memory.old)
         (joint_by machines.new.items halted.new.items memory.new) at result }
-    ensures idle { (result ≡ Turn.Idle) ↔ IsTrue (has_halted halted.old.items at) }
-    ensures marked { halted.new.items ≡ halted_by halted.old.items at result }
-    ensures bound { MakesOne at (joint_by machines.old.items halted.old.items memory.old)
-        (joint_by machines.new.items halted.new.items memory.new) }
     ensures apart { AllAlone (map state_of machines.new.items) }
     ensures count { length machines.new.items ≡ length machines.old.items }
     ensures flags { length halted.new.items ≡ length machines.new.items }
-    ensures keeps { Keeps (H.told host.old) (H.told host.new) (H.faults host.old) (H.faults host.new) }
 {
     if halted[at] {
         return Turn::Idle;
@@ -150,16 +130,9 @@ impl Multi {
     /// it made.
     pub fn turn<H: Host>(&mut self, host: &mut H, who: u8) -> Turn
         requires { who < processor_count self.now }
-        ensures plan { CarriesOutTurns (H.told host.old) (H.told host.new) (joint_of self.old) (joint_of self.new)
-            Turn.OutOfMemory result (turn_plan who) }
-        ensures told { TurnsTo (H.told host.old) (H.told host.new) (joint_of self.old) (joint_of self.new) who result }
-        ensures listed { TurnsAsLists (H.told host.old) (H.told host.new) (joint_of self.old) (joint_of self.new) who
-            result }
-        ensures idle { (result ≡ Turn.Idle) ↔ IsTrue (has_halted self.old.halted who) }
-        ensures marked { self.new.halted ≡ halted_by self.old.halted who result }
-        ensures bound { MakesOne who (joint_of self.old) (joint_of self.new) }
+        ensures turn { TakesTurn (H.told host.old) (H.told host.new) (H.faults host.old) (H.faults host.new)
+            (joint_of self.old) (joint_of self.new) who result }
         ensures count { processor_count self.new ≡ processor_count self.old }
-        ensures keeps { Keeps (H.told host.old) (H.told host.new) (H.faults host.old) (H.faults host.new) }
     {
         make_turn(
             self.alloc,

@@ -11,6 +11,7 @@ pub mod HeldRuns
 pub mod FreeSteps
 pub mod Runners
 pub mod FreeRuns
+pub mod AccompaniedRuns
 pub mod Walked
 pub mod ListSteps
 pub mod Later

@@ -88,7 +88,7 @@ pub ruleset ends = (run-end)
 
 -- ---- what is left of a run
 
-left-after : (k i : ℕ) → i < k → k - i ≡ suc (k - (i + 1))
+pub left-after : (k i : ℕ) → i < k → k - i ≡ suc (k - (i + 1))
 left-after k i l = omega arith
 
 pub rest-begun : (n : ℕ) (f : FlagsOf) (pass : Bool) (w : RunWorld) → IsRest running (run_plan (n - 0) f pass) w (run_plan n f pass) w

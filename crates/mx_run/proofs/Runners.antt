@@ -8,15 +8,18 @@ use Rattle.mx_plan.specs.Clauses.{Stands}
 use Rattle.mx_plan.specs.Held.{KeepsStreams}
 use Rattle.mx_plan.specs.Plan.{Comes}
 use Rattle.mx_core.specs.State.{State}
+use Rattle.mx_run.specs.Clauses.{EndsAsList, IsRun, IsTurn}
 use Rattle.mx_run.specs.RunPlans.{RunPlan, RunWorld, running, turn_plan, run_plan, SparesMemory, SparesAfter, SparesStep}
-use Rattle.mx_run.specs.Runs.{FlagsOf, ended, run}
+use Rattle.mx_run.specs.Runs.{FlagsOf, IsLater, ended, run}
 use Rattle.mx_run.specs.Turns.{turn_answer, turn}
+use Rattle.mx_run.specs.WildRuns.{HasWindow, list_machine, run_by}
 use Rattle.mx_run.specs.declared.end.End.{End}
 use Rattle.mx_run.specs.declared.end.End.TheVariants as end
 use Rattle.mx_run.specs.declared.turn_answer.TurnAnswer.{TurnAnswer}
 use Rattle.mx_run.specs.declared.turn_answer.TurnAnswer.TheVariants as answer
 use Rattle.mx_run.proofs.HeldRuns.{streams-end, streams-stop, output-front}
-use Rattle.mx_run.proofs.PlanEnds.{turn-end, run-end}
+use Rattle.mx_run.proofs.ListSteps.{turn-goes}
+use Rattle.mx_run.proofs.PlanEnds.{left-after, turn-end, run-end}
 
 -- ---- what is kept
 
@@ -63,6 +66,18 @@ turn-told s t m n r c ne = ap (λ (p : TurnAnswer × RunWorld). (p.0, p.1.0, p.1
 pub turn-begun : (s t : State) (m n : HostModel) (r : TurnAnswer) → Comes running (s, m) (t, n) answer.OutOfMemory r turn_plan → r ≡ answer.OutOfMemory → IsFront n.output (turn_answer (turn s m)).2.output
 turn-begun s t m n r c e = subst (λ (p : TurnAnswer × RunWorld). IsFront n.output p.1.1.output) (turn-end s m) (output-front turn_plan (t, n) (s, m) (c.stopping e))
 
+-- what holds of a turn by its plan
+pub turn-is : (old new : Option HostModel) (earlier later : ℕ) (s u : State) (r : TurnAnswer) → HasWindow s → (IsTrue (tells old) → Comes running (s, contents old) (u, contents new) answer.OutOfMemory r turn_plan) →
+    IsLater 1 s u → Stands old new earlier later → IsTurn old new earlier later s u r
+turn-is old new earlier later s u r w c b h = record {
+  plan = c;
+  told = λ t ne. turn-told s u _ _ r (c t) ne;
+  front = λ t e. turn-begun s u _ _ r (c t) e;
+  listed = λ t ne k. turn-goes s u _ _ r w (turn-told s u _ _ r (c t) ne) k;
+  bound = b;
+  keeps = turn-keeps old new earlier later s u r turn_plan c h;
+}
+
 pub turn-spared : (n : ℕ) (r : TurnAnswer) (t : State) → SparesAfter n r t → r ≢ answer.OutOfMemory
 turn-spared n r t h e = subst (λ a. SparesAfter n a t) e h
 
@@ -78,10 +93,18 @@ pub run-begun : (n : ℕ) (f : FlagsOf) (pass : Bool) (s t : State) (m k : HostM
     IsFront k.output (run n f pass s m).host.output
 run-begun n f pass s t m k r c e = subst (λ (p : End × RunWorld). IsFront k.output p.1.1.output) (run-end n f pass s m) (output-front (run_plan n f pass) (t, k) (s, m) (c.stopping e))
 
--- ---- want of memory, for the loops
+-- what holds of a run by its plan
+pub run-is : (old new : Option HostModel) (earlier later n : ℕ) (f : FlagsOf) (pass : Bool) (s u : State) (r : End) → (IsTrue (tells old) → Comes running (s, contents old) (u, contents new) end.OutOfMemory r (run_plan n f pass)) →
+    EndsAsList old new s u r (λ t m. run_by list_machine n f pass t m) → IsLater n s u → Stands old new earlier later → IsRun old new earlier later s u n f pass r
+run-is old new earlier later n f pass s u r c l b h = record {
+  told = λ t ne. run-told n f pass s u _ _ r (c t) ne;
+  front = λ t e. run-begun n f pass s u _ _ r (c t) e;
+  listed = l;
+  bound = b;
+  keeps = run-keeps old new earlier later s u r (run_plan n f pass) c h;
+}
 
-left-after : (k i : ℕ) → i < k → k - i ≡ suc (k - (i + 1))
-left-after k i l = omega arith
+-- ---- want of memory, for the loops
 
 pub spares-begun : (n : ℕ) (s : State) → SparesMemory n s → SparesMemory (n - 0) s
 spares-begun n s h = let all : n - 0 ≡ n = omega arith in rw all h

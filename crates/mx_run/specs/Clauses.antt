@@ -1,15 +1,17 @@
 -- The words of clauses over a machine and a host. `old` and `new` are what the host told before and after, `before` and
 -- `after` the states of the machine.
-use Rattle.std.specs.Prelude.{◌≡◌, ◌≢◌, IsTrue, Bool, true, false, Option}
+use Rattle.std.specs.Prelude.{ℕ, suc, ◌≡◌, ◌≢◌, IsTrue, Bool, true, false, Option, Result, Err}
 use Rattle.mx_word.specs.Lists.{IsFront}
 use Rattle.mx_host.specs.HostModel.{HostModel, tells, contents}
+use Rattle.mx_host.specs.Keeping.{Keeps}
+use Rattle.mx_plan.specs.Clauses.{Stands}
 use Rattle.mx_plan.specs.Plan.{Comes}
 use Rattle.mx_core.specs.Bounds.{as_list_state}
 use Rattle.mx_core.specs.State.{State}
-use Rattle.mx_run.specs.RunPlans.{RunPlan, running}
-use Rattle.mx_run.specs.Runs.{Ended, ended}
+use Rattle.mx_run.specs.RunPlans.{RunPlan, running, run_plan, turn_plan, SparesMemory, SparesStep}
+use Rattle.mx_run.specs.Runs.{Ended, ended, FlagsOf, IsLater, run}
 use Rattle.mx_run.specs.Turns.{Answered, turn_answer, turn}
-use Rattle.mx_run.specs.WildRuns.{RunEnd, run_ended, run_wild, turn_is_wild, as_list_ended}
+use Rattle.mx_run.specs.WildRuns.{RunEnd, run_ended, run_wild, run_by, list_machine, turn_is_wild, as_list_ended}
 use Rattle.mx_run.specs.declared.end.End.{End}
 use Rattle.mx_run.specs.declared.end.End.TheVariants.{OutOfMemory}
 use Rattle.mx_run.specs.declared.turn_answer.TurnAnswer.{TurnAnswer}
@@ -72,3 +74,41 @@ abbrev pub TurnsAsList : Option HostModel → Option HostModel → State → Sta
 TurnsAsList old new before after result =
     IsTrue (tells old) → result ≢ answer.OutOfMemory → before.touched ≡ false →
     TurnGoesAsList (turn_is_wild (as_list_state before)) (as_list_state before) (contents old) (result, after, contents new)
+
+-- OVER EVERY HOST
+
+-- what holds of a turn: its plan is carried out, so it answers, leaves and writes what the turn does, and beside the list machine
+-- what that does; it is one step at most; and the host keeps what it keeps at every call
+pub record IsTurn (old new : Option HostModel) (earlier later : ℕ) (before after : State) (result : TurnAnswer) : Type 0 where
+  pub plan : CarriesOutRun old new before after answer.OutOfMemory result turn_plan
+  pub told : LeavesMachine old new before after answer.OutOfMemory result (λ s m. turn_answer (turn s m))
+  pub front : LeavesFront old new before answer.OutOfMemory result (λ s m. turn_answer (turn s m))
+  pub listed : TurnsAsList old new before after result
+  pub bound : IsLater 1 before after
+  pub keeps : Keeps old new earlier later
+
+-- what holds of at most n steps with these flags, whatever its plan: it ends as the run does, and beside the list machine as that
+-- does; and it makes at most n steps
+pub record IsRun (old new : Option HostModel) (earlier later : ℕ) (before after : State) (n : ℕ) (f : FlagsOf) (pass : Bool) (result : End) : Type 0 where
+  pub told : EndsAs old new before after result (λ s m. run n f pass s m)
+  pub front : EndsFront old new before result (λ s m. run n f pass s m)
+  pub listed : EndsAsList old new before after result (λ s m. run_by list_machine n f pass s m)
+  pub bound : IsLater n before after
+  pub keeps : Keeps old new earlier later
+
+-- ---- on the way
+
+-- a step of a run, or its end
+pub record TakesStep (old new : Option HostModel) (earlier later : ℕ) (before after : State) (result : Result (Unit {0}) End) (plan : RunPlan (Result (Unit {0}) End)) : Type 0 where
+  pub told : CarriesOutRun old new before after (Err OutOfMemory) result plan
+  pub spared : (n : ℕ) → SparesMemory (suc n) before → SparesStep n result after
+  pub bound : IsLater 1 before after
+  pub stands : Stands old new earlier later
+
+-- the steps of a run
+pub record TakesSteps (old new : Option HostModel) (earlier later : ℕ) (before after : State) (n : ℕ) (f : FlagsOf) (pass : Bool) (result : End) : Type 0 where
+  pub told : CarriesOutRun old new before after OutOfMemory result (run_plan n f pass)
+  pub listed : EndsAsList old new before after result (λ s m. run_by list_machine n f pass s m)
+  pub spared : SparesMemory n before → result ≢ OutOfMemory
+  pub bound : IsLater n before after
+  pub stands : Stands old new earlier later

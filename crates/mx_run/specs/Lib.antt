@@ -7,3 +7,4 @@ pub mod Running
 pub mod Lending
 pub mod Counts
 pub mod RunPlans
+pub mod AccompaniedRuns

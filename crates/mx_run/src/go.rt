@@ -1,14 +1,11 @@
 //! Steps of a run one after another.
 
 ghost use Rattle.std.specs.Prelude.{◌≡◌, ◌≢◌, [], true, false};
-ghost use Rattle.mx_host.specs.Keeping.{Keeps};
-ghost use Rattle.mx_plan.specs.Clauses.{Stands};
 ghost use Rattle.mx_core.specs.Kept.{state_of};
-ghost use Rattle.mx_run.specs.Clauses.{CarriesOutRun, EndsAs, EndsAsList, EndsFront};
+ghost use Rattle.mx_run.specs.Clauses.{CarriesOutRun, IsRun, TakesSteps};
 ghost use Rattle.mx_run.specs.FlagMaps.{flags_at};
 ghost use Rattle.mx_run.specs.RunPlans.{run_plan, SparesMemory};
-ghost use Rattle.mx_run.specs.Runs.{IsLater, no_flags, run};
-ghost use Rattle.mx_run.specs.WildRuns.{run_by, list_machine};
+ghost use Rattle.mx_run.specs.Runs.{no_flags};
 
 use crate::steps::{run_step, step_over};
 use crate::{End, FlagMap};
@@ -27,13 +24,8 @@ pub fn go_by_flags<H: Host>(
     n: u64,
     pass: bool,
 ) -> End
-    ensures told { CarriesOutRun (H.told host.old) (H.told host.new) (state_of machine.old) (state_of machine.new)
-        End.OutOfMemory result (run_plan n (flags_at flags.now) pass) }
-    ensures listed { EndsAsList (H.told host.old) (H.told host.new) (state_of machine.old) (state_of machine.new) result
-        (λ s m. run_by list_machine n (flags_at flags.now) pass s m) }
-    ensures spared { SparesMemory n (state_of machine.old) → result ≢ End.OutOfMemory }
-    ensures bound { IsLater n (state_of machine.old) (state_of machine.new) }
-    ensures stands { Stands (H.told host.old) (H.told host.new) (H.faults host.old) (H.faults host.new) }
+    ensures { TakesSteps (H.told host.old) (H.told host.new) (H.faults host.old) (H.faults host.new) (state_of machine.old)
+        (state_of machine.new) n (flags_at flags.now) pass result }
 {
     let mut first = pass;
     for turn in 0..n {
@@ -54,13 +46,8 @@ pub fn go_freely<H: Host>(
     n: u64,
 ) -> End
     requires { flags.now ≡ [] }
-    ensures told { CarriesOutRun (H.told host.old) (H.told host.new) (state_of machine.old) (state_of machine.new)
-        End.OutOfMemory result (run_plan n (flags_at flags.now) true) }
-    ensures listed { EndsAsList (H.told host.old) (H.told host.new) (state_of machine.old) (state_of machine.new) result
-        (λ s m. run_by list_machine n (flags_at flags.now) true s m) }
-    ensures spared { SparesMemory n (state_of machine.old) → result ≢ End.OutOfMemory }
-    ensures bound { IsLater n (state_of machine.old) (state_of machine.new) }
-    ensures stands { Stands (H.told host.old) (H.told host.new) (H.faults host.old) (H.faults host.new) }
+    ensures { TakesSteps (H.told host.old) (H.told host.new) (H.faults host.old) (H.faults host.new) (state_of machine.old)
+        (state_of machine.new) n (flags_at flags.now) true result }
 {
     let mut left = n;
     loop {
@@ -86,14 +73,8 @@ pub fn run_freely<H: Host>(alloc: Global, machine: &mut Machine, host: &mut H, n
     ensures plan { CarriesOutRun (H.told host.old) (H.told host.new) (state_of machine.old) (state_of machine.new)
         End.OutOfMemory result (run_plan n no_flags false) }
     ensures spared { SparesMemory n (state_of machine.old) → result ≢ End.OutOfMemory }
-    ensures told { EndsAs (H.told host.old) (H.told host.new) (state_of machine.old) (state_of machine.new) result
-        (λ s m. run n no_flags false s m) }
-    ensures front { EndsFront (H.told host.old) (H.told host.new) (state_of machine.old) result
-        (λ s m. run n no_flags false s m) }
-    ensures listed { EndsAsList (H.told host.old) (H.told host.new) (state_of machine.old) (state_of machine.new) result
-        (λ s m. run_by list_machine n no_flags false s m) }
-    ensures bound { IsLater n (state_of machine.old) (state_of machine.new) }
-    ensures keeps { Keeps (H.told host.old) (H.told host.new) (H.faults host.old) (H.faults host.new) }
+    ensures run { IsRun (H.told host.old) (H.told host.new) (H.faults host.old) (H.faults host.new) (state_of machine.old)
+        (state_of machine.new) n no_flags false result }
 {
     let flags = FlagMap::new(alloc);
     go_freely(alloc, machine, &flags, host, n)

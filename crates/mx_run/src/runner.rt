@@ -2,18 +2,13 @@
 
 ghost use Rattle.std.specs.Prelude.{◌≡◌, ◌≢◌, ◌/◌, false, IsOk, OnOk, OnErr};
 ghost use Rattle.std.specs.Borrow.{sem};
-ghost use Rattle.mx_host.specs.Keeping.{Keeps};
 ghost use Rattle.mx_core.specs.Kept.{state_of};
-ghost use Rattle.mx_run.specs.Clauses.{CarriesOutRun, LeavesMachine, LeavesFront, TurnsAsList};
-ghost use Rattle.mx_run.specs.Clauses.{EndsAs, EndsFront, EndsAsList};
+ghost use Rattle.mx_run.specs.Clauses.{CarriesOutRun, IsRun, IsTurn};
 ghost use Rattle.mx_run.specs.FlagMaps as maps;
 ghost use Rattle.mx_run.specs.FlagMaps.{flags_at};
 ghost use Rattle.mx_run.specs.Lending.{LendsMachine};
-ghost use Rattle.mx_run.specs.RunPlans.{SparesMemory, run_plan, turn_plan};
+ghost use Rattle.mx_run.specs.RunPlans.{SparesMemory, run_plan};
 ghost use Rattle.mx_run.specs.Runs as spec;
-ghost use Rattle.mx_run.specs.Turns as turns;
-ghost use Rattle.mx_run.specs.Turns.{turn_answer};
-ghost use Rattle.mx_run.specs.WildRuns.{run_by, list_machine};
 
 use crate::go::{go_by_flags, go_freely};
 use crate::turning::turn;
@@ -102,18 +97,10 @@ impl Runner {
     /// calls that it made; what was written to standard output is a front of what the turn writes.
     #[tactic(auto, using(crate::proofs::Runners::turns))]
     pub fn step<H: Host>(&mut self, host: &mut H) -> TurnAnswer
-        ensures plan { CarriesOutRun (H.told host.old) (H.told host.new) (state_of self.old.machine)
-            (state_of self.new.machine) TurnAnswer.OutOfMemory result turn_plan }
+        ensures turn { IsTurn (H.told host.old) (H.told host.new) (H.faults host.old) (H.faults host.new)
+            (state_of self.old.machine) (state_of self.new.machine) result }
         ensures spared { SparesMemory 1 (state_of self.old.machine) → result ≢ TurnAnswer.OutOfMemory }
-        ensures told { LeavesMachine (H.told host.old) (H.told host.new) (state_of self.old.machine)
-            (state_of self.new.machine) TurnAnswer.OutOfMemory result (λ s m. turn_answer (turns.turn s m)) }
-        ensures front { LeavesFront (H.told host.old) (H.told host.new) (state_of self.old.machine)
-            TurnAnswer.OutOfMemory result (λ s m. turn_answer (turns.turn s m)) }
-        ensures listed { TurnsAsList (H.told host.old) (H.told host.new) (state_of self.old.machine)
-            (state_of self.new.machine) result }
         ensures flags { self.new.flags ≡ self.old.flags }
-        ensures bound { spec.IsLater 1 (state_of self.old.machine) (state_of self.new.machine) }
-        ensures keeps { Keeps (H.told host.old) (H.told host.new) (H.faults host.old) (H.faults host.new) }
     {
         turn(self.alloc, &mut self.machine, host)
     }
@@ -130,15 +117,9 @@ impl Runner {
         ensures plan { CarriesOutRun (H.told host.old) (H.told host.new) (state_of self.old.machine)
             (state_of self.new.machine) End.OutOfMemory result (run_plan n (flags_at self.old.flags) pass) }
         ensures spared { SparesMemory n (state_of self.old.machine) → result ≢ End.OutOfMemory }
-        ensures told { EndsAs (H.told host.old) (H.told host.new) (state_of self.old.machine)
-            (state_of self.new.machine) result (λ s m. spec.run n (flags_at self.old.flags) pass s m) }
-        ensures front { EndsFront (H.told host.old) (H.told host.new) (state_of self.old.machine) result
-            (λ s m. spec.run n (flags_at self.old.flags) pass s m) }
-        ensures listed { EndsAsList (H.told host.old) (H.told host.new) (state_of self.old.machine)
-            (state_of self.new.machine) result (λ s m. run_by list_machine n (flags_at self.old.flags) pass s m) }
+        ensures run { IsRun (H.told host.old) (H.told host.new) (H.faults host.old) (H.faults host.new)
+            (state_of self.old.machine) (state_of self.new.machine) n (flags_at self.old.flags) pass result }
         ensures flags { self.new.flags ≡ self.old.flags }
-        ensures bound { spec.IsLater n (state_of self.old.machine) (state_of self.new.machine) }
-        ensures keeps { Keeps (H.told host.old) (H.told host.new) (H.faults host.old) (H.faults host.new) }
     {
         if self.flags.is_empty() {
             go_freely(self.alloc, &mut self.machine, &self.flags, host, n)

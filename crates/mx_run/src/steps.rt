@@ -1,14 +1,12 @@
 //! A step of a run.
 
-ghost use Rattle.std.specs.Prelude.{◌≡◌, ◌≢◌, ◌/◌, ◌&&◌, not, ℕ, suc, [], Err, IsTrue, true};
-ghost use Rattle.mx_plan.specs.Clauses.{Stands};
+ghost use Rattle.std.specs.Prelude.{◌≡◌, ◌≢◌, ◌/◌, ◌&&◌, not, [], IsTrue, true};
 ghost use Rattle.mx_core.specs.Kept.{state_of};
 ghost use Rattle.mx_core.specs.Step.{step};
 ghost use Rattle.mx_core.specs.Way.Stepping.{advanced, step_needs_page};
-ghost use Rattle.mx_run.specs.Clauses.{CarriesOutRun};
+ghost use Rattle.mx_run.specs.Clauses.{TakesStep};
 ghost use Rattle.mx_run.specs.FlagMaps.{flags_at};
-ghost use Rattle.mx_run.specs.RunPlans.{ended_turn, step_plan, SparesMemory, SparesStep};
-ghost use Rattle.mx_run.specs.Runs.{IsLater};
+ghost use Rattle.mx_run.specs.RunPlans.{ended_turn, step_plan};
 ghost use Rattle.mx_run.specs.WildRuns.{HasWindow};
 
 use crate::breaks::end_of_turn;
@@ -29,12 +27,9 @@ pub fn run_step<H: Host>(
     host: &mut H,
     pass: bool,
 ) -> Result<(), End>
-    ensures told { CarriesOutRun (H.told host.old) (H.told host.new) (state_of machine.old) (state_of machine.new)
-        (Err End.OutOfMemory) result (step_plan (flags_at flags.now) pass) }
+    ensures step { TakesStep (H.told host.old) (H.told host.new) (H.faults host.old) (H.faults host.new) (state_of machine.old)
+        (state_of machine.new) result (step_plan (flags_at flags.now) pass) }
     ensures over { HasWindow (state_of machine.old) }
-    ensures spared { (n : ℕ) → SparesMemory (suc n) (state_of machine.old) → SparesStep n result (state_of machine.new) }
-    ensures bound { IsLater 1 (state_of machine.old) (state_of machine.new) }
-    ensures stands { Stands (H.told host.old) (H.told host.new) (H.faults host.old) (H.faults host.new) }
 {
     know_window(machine);
     let pc = machine.pc();
@@ -64,11 +59,8 @@ fn turn_and_end<H: Host>(
     flags: &FlagMap,
     host: &mut H,
 ) -> Result<(), End>
-    ensures told { CarriesOutRun (H.told host.old) (H.told host.new) (state_of machine.old) (state_of machine.new)
-        (Err End.OutOfMemory) result (ended_turn (flags_at flags.now) (state_of machine.old).pc) }
-    ensures spared { (n : ℕ) → SparesMemory (suc n) (state_of machine.old) → SparesStep n result (state_of machine.new) }
-    ensures bound { IsLater 1 (state_of machine.old) (state_of machine.new) }
-    ensures stands { Stands (H.told host.old) (H.told host.new) (H.faults host.old) (H.faults host.new) }
+    ensures { TakesStep (H.told host.old) (H.told host.new) (H.faults host.old) (H.faults host.new) (state_of machine.old)
+        (state_of machine.new) result (ended_turn (flags_at flags.now) (state_of machine.old).pc) }
 {
     let pc = machine.pc();
     let answer = make_turn(alloc, machine, host);
@@ -89,12 +81,9 @@ pub fn step_over<H: Host>(
     requires came { last ≢ Advance.OutOfMemory →
         (last, state_of machine.old) ≡ advanced (state_of machine.old) (step (state_of machine.old)) }
     requires there { last ≡ Advance.OutOfMemory → IsTrue (step_needs_page (state_of machine.old)) }
-    ensures told { CarriesOutRun (H.told host.old) (H.told host.new) (state_of machine.old) (state_of machine.new)
-        (Err End.OutOfMemory) result (step_plan (flags_at flags.now) true) }
+    ensures step { TakesStep (H.told host.old) (H.told host.new) (H.faults host.old) (H.faults host.new) (state_of machine.old)
+        (state_of machine.new) result (step_plan (flags_at flags.now) true) }
     ensures over { HasWindow (state_of machine.old) }
-    ensures spared { (n : ℕ) → SparesMemory (suc n) (state_of machine.old) → SparesStep n result (state_of machine.new) }
-    ensures bound { IsLater 1 (state_of machine.old) (state_of machine.new) }
-    ensures stands { Stands (H.told host.old) (H.told host.new) (H.faults host.old) (H.faults host.new) }
 {
     know_window(machine);
     match last {

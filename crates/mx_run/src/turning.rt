@@ -2,14 +2,13 @@
 
 ghost use Rattle.std.specs.Prelude.{◌≡◌, ◌≢◌, ℕ, suc, false};
 ghost use Rattle.mx_host.specs.HostModel.{HostModel};
-ghost use Rattle.mx_host.specs.Keeping.{Keeps};
 ghost use Rattle.mx_plan.specs.Clauses.{CarriesOutBoth, Stands};
 ghost use Rattle.mx_core.specs.Kept.{state_of};
 ghost use Rattle.mx_core.specs.MachineSpace.{machine_contents, IsWholeSpace};
 ghost use Rattle.mx_core.specs.Step.{calls, step};
 ghost use Rattle.mx_core.specs.Traps as traps;
 ghost use Rattle.mx_trap.specs.FileTraps.{trap_plan};
-ghost use Rattle.mx_run.specs.Clauses.{CarriesOutRun, LeavesFront, LeavesMachine, TurnsAsList};
+ghost use Rattle.mx_run.specs.Clauses.{CarriesOutRun, IsTurn};
 ghost use Rattle.mx_run.specs.RunPlans.{turn_plan, SparesAfter, SparesMemory};
 ghost use Rattle.mx_run.specs.Runs.{IsLater};
 ghost use Rattle.mx_run.specs.Turns.{turn_answer};
@@ -30,17 +29,10 @@ use std::alloc::Global;
 /// calls that it made; what was written to standard output is a front of what the turn writes.
 #[inline]
 pub fn turn<H: Host>(alloc: Global, machine: &mut Machine, host: &mut H) -> TurnAnswer
-    ensures plan { CarriesOutRun (H.told host.old) (H.told host.new) (state_of machine.old) (state_of machine.new)
-        TurnAnswer.OutOfMemory result turn_plan }
+    ensures turn { IsTurn (H.told host.old) (H.told host.new) (H.faults host.old) (H.faults host.new)
+        (state_of machine.old) (state_of machine.new) result }
     ensures over { HasWindow (state_of machine.old) }
     ensures spared { (n : ℕ) → SparesMemory (suc n) (state_of machine.old) → SparesAfter n result (state_of machine.new) }
-    ensures told { LeavesMachine (H.told host.old) (H.told host.new) (state_of machine.old) (state_of machine.new)
-        TurnAnswer.OutOfMemory result (λ s m. turn_answer (spec.turn s m)) }
-    ensures front { LeavesFront (H.told host.old) (H.told host.new) (state_of machine.old) TurnAnswer.OutOfMemory result
-        (λ s m. turn_answer (spec.turn s m)) }
-    ensures listed { TurnsAsList (H.told host.old) (H.told host.new) (state_of machine.old) (state_of machine.new) result }
-    ensures bound { IsLater 1 (state_of machine.old) (state_of machine.new) }
-    ensures keeps { Keeps (H.told host.old) (H.told host.new) (H.faults host.old) (H.faults host.new) }
 {
     make_turn(alloc, machine, host)
 }

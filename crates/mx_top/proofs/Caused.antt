@@ -1,5 +1,5 @@
 -- How a part of the work fails, over every host.
-use Rattle.std.proofs.Common.{◌≡◌, ◌≢◌, ◌≤◌, ◌<◌, ◌⊎◌, inl, inr, ℕ, false, true, IsTrue, List, Ok, Err, refl, sym, ◌∙◌, ap, subst, arith}
+use Rattle.std.proofs.Common.{◌≡◌, ◌≢◌, ◌≤◌, ◌<◌, ◌⊎◌, inl, inr, ℕ, false, IsTrue, List, Ok, Err, refl, sym, ◌∙◌, ap, subst, arith}
 use Rattle.std.proofs.lemmas.Bool.{cases_lt}
 use Rattle.std.specs.Prelude.{Option, Result}
 use Rattle.mx_host.specs.HostModel.{HostModel, Rose}
@@ -10,12 +10,12 @@ use Rattle.mx_words.specs.declared.order.Order.{Order}
 use Rattle.mx_words.specs.declared.order.WordsFault.{WordsFault}
 use Rattle.mx_outcome.specs.Kinds.{is_usage}
 use Rattle.mx_files.specs.Assembling.{refused_with}
-use Rattle.mx_files.specs.Clauses.{WorksBetween, is_end}
+use Rattle.mx_files.specs.Clauses.{WorksBetween}
 use Rattle.mx_files.specs.declared.refusal.Refusal.{Refusal}
 use Rattle.mx_files.specs.FilePlans.{lines_plan}
 use Rattle.mx_outcome.specs.declared.outcome.Outcome.{Outcome}
 use Rattle.mx_outcome.specs.declared.outcome.Outcome.TheVariants.{HostFault, NoFile, OutOfMemory, Usage}
-use Rattle.mx_files.proofs.FileClauses.{part-keeps}
+use Rattle.mx_files.proofs.FileClauses.{end-words, part-keeps}
 use Rattle.mx_files.proofs.Serving.{only-lines}
 use Rattle.mx_begin.specs.Arguments.{Word}
 use Rattle.mx_files.specs.Failing.{FailsOnlyBy}
@@ -45,16 +45,12 @@ fails-behind told faults a b c r kept rest = (
   keeps-then (told a) (told b) (told c) (faults a) (faults b) (faults c) kept rest.3,
 )
 
-end-unused : (r : Outcome) → is_end r ≡ true → is_usage r ≡ false
-end-unused (Usage fault) i = absurd (cc)
-end-unused outcome i = refl
-
 -- lines that were not written
 pub fails-lines : {H : Type 0} (told : H → Option HostModel) (faults : H → ℕ) (a b : H) (r : Outcome) (lines : List (List ℕ)) → WorksBetween (told a) (told b) (faults a) (faults b) (Err r) (lines_plan lines) → FailsOnlyBy told faults a b r
 fails-lines told faults a b r lines w = (
   λ had e. only-lines (told a) (told b) (faults a) (faults b) (Err r) lines w had (ap Err e),
   λ n e. w.absent n (ap Err e),
-  end-unused r w.ends,
+  end-words r w.ends,
   part-keeps (told a) (told b) (faults a) (faults b) (Err r) (lines_plan lines) w,
 )
 

@@ -4,13 +4,13 @@ use Rattle.mx_host.specs.HostModel.{HostModel}
 use Rattle.mx_plan.specs.Calls.{host, HostPlan}
 use Rattle.mx_plan.specs.Plan.{bind, end_of, Stops, Comes}
 use Rattle.mx_core.specs.State.{State}
+use Rattle.mx_run.specs.AccompaniedRuns.{AfterSteps, ComesAccompanied}
 use Rattle.mx_run.specs.RunPlans.{RunWorld, running, run_plan}
 use Rattle.mx_run.specs.Runs.{FlagsOf, no_flags}
 use Rattle.mx_run.specs.declared.end.End.{End}
 use Rattle.mx_run.specs.declared.end.End.TheVariants as ending
 use Rattle.mx_back.specs.History.{states_kept}
-use Rattle.mx_back.specs.KeptRuns.{AfterSteps as AfterNotes, ComesKept, turns_of}
-use Rattle.mx_watch.specs.WatchedRuns.{AfterSteps, ComesWatched}
+use Rattle.mx_back.specs.KeptRuns.{turns_of}
 use Rattle.mx_con.specs.SessionPlans.{SessionWorld, conversing, session_plan}
 use Rattle.mx_con.specs.declared.end.SessionEnd.{SessionEnd}
 use Rattle.mx_con.specs.declared.end.SessionEnd.TheVariants as sitting
@@ -65,23 +65,23 @@ run-follows n f s t m k v end outcome r follow ef eo c lacked follows = by (want
           stopping = λ o. inr (subst (λ (x : End × RunWorld). Stops program v (on_host (follow (outcome_of n x.0) x.1.0)) x.1.1) is (next.stopping o));
         }
 
+behind-step : (n : ℕ) (s t : State) (m k : HostModel) → Stops running (t, k) (run_plan n no_flags false) (s, m) ⊎ AfterSteps n (s, m) (t, k) → RunStops n s m k ⊎ BehindStep n s m k
+behind-step n s t m k (inl h) = inl (record { state = t; stops = h })
+behind-step n s t m k (inr a) = inr (record { state = t; after = a })
+
 -- one that watchers are told of
 pub watched-follows : (n : ℕ) (s t : State) (m k v : HostModel) (end : End) (outcome r : Outcome) (follow : Follow) → outcome ≡ outcome_of n end →
-    ComesWatched n (s, m) (t, k) end → (outcome ≡ OutOfMemory → (r ≡ OutOfMemory) × (v ≡ k)) →
+    ComesAccompanied n (s, m) (t, k) end → (outcome ≡ OutOfMemory → (r ≡ OutOfMemory) × (v ≡ k)) →
     (outcome ≢ OutOfMemory → Comes host k v OutOfMemory r (follow outcome t)) → Comes program m v OutOfMemory r (bind (λ x. on_host (follow (outcome_of n x.0) x.1)) (reported_plan n s))
 unfolding reported_plan bind end_of Stops program
 watched-follows n s t m k v end outcome r follow eo c lacked follows = by (wanting end)
   where
-    stopped : Stops running (t, k) (run_plan n no_flags false) (s, m) ⊎ AfterSteps n (s, m) (t, k) → RunStops n s m k ⊎ BehindStep n s m k
-    stopped (inl h) = inl (record { state = t; stops = h })
-    stopped (inr a) = inr (record { state = t; after = a })
-
     by : (end ≡ ending.OutOfMemory) ⊎ (end ≢ ending.OutOfMemory) → Comes program m v OutOfMemory r (bind (λ (x : End × State). on_host (follow (outcome_of n x.0) x.1)) (reported_plan n s))
     by (inl e) =
         let none = lacked (eo ∙ ap (outcome_of n) e) in
         record {
           ending = λ ne. absurd (ne none.0);
-          stopping = λ o. inl (subst (λ (h : HostModel). RunStops n s m h ⊎ BehindStep n s m h) (sym none.1) (stopped (c.stopping e)));
+          stopping = λ o. inl (subst (λ (h : HostModel). RunStops n s m h ⊎ BehindStep n s m h) (sym none.1) (behind-step n s t m k (c.stopping e)));
         }
     by (inr ne) =
         let is = c.ending ne in
@@ -93,22 +93,18 @@ watched-follows n s t m k v end outcome r follow eo c lacked follows = by (wanti
         }
 
 -- one whose last states are kept
-pub kept-follows : (n : ℕ) (s t : State) (kept : List State) (m k v : HostModel) (end : End) (outcome r : Outcome) (follow : Outcome → State → List State → HostPlan Outcome) → outcome ≡ outcome_of n end → ComesKept n (s, m) (t, k) end →
+pub kept-follows : (n : ℕ) (s t : State) (kept : List State) (m k v : HostModel) (end : End) (outcome r : Outcome) (follow : Outcome → State → List State → HostPlan Outcome) → outcome ≡ outcome_of n end → ComesAccompanied n (s, m) (t, k) end →
     (end ≢ ending.OutOfMemory → kept ≡ states_kept (turns_of n s m) []) → (outcome ≡ OutOfMemory → (r ≡ OutOfMemory) × (v ≡ k)) →
     (outcome ≢ OutOfMemory → Comes host k v OutOfMemory r (follow outcome t kept)) → Comes program m v OutOfMemory r (bind (λ x. on_host (follow (outcome_of n x.0) x.1.0 x.1.1)) (keeping_plan n s))
 unfolding keeping_plan bind end_of Stops program
 kept-follows n s t kept m k v end outcome r follow eo c kept-so lacked follows = by (wanting end)
   where
-    stopped : Stops running (t, k) (run_plan n no_flags false) (s, m) ⊎ AfterNotes n (s, m) (t, k) → RunStops n s m k ⊎ BehindStep n s m k
-    stopped (inl h) = inl (record { state = t; stops = h })
-    stopped (inr a) = inr (record { state = t; after = record { made = a.made; few = a.few; steps = a.steps } })
-
     by : (end ≡ ending.OutOfMemory) ⊎ (end ≢ ending.OutOfMemory) → Comes program m v OutOfMemory r (bind (λ (x : End × (State × List State)). on_host (follow (outcome_of n x.0) x.1.0 x.1.1)) (keeping_plan n s))
     by (inl e) =
         let none = lacked (eo ∙ ap (outcome_of n) e) in
         record {
           ending = λ ne. absurd (ne none.0);
-          stopping = λ o. inl (subst (λ (h : HostModel). RunStops n s m h ⊎ BehindStep n s m h) (sym none.1) (stopped (c.stopping e)));
+          stopping = λ o. inl (subst (λ (h : HostModel). RunStops n s m h ⊎ BehindStep n s m h) (sym none.1) (behind-step n s t m k (c.stopping e)));
         }
     by (inr ne) =
         let is = c.ending ne in

@@ -13,7 +13,7 @@ use Rattle.mx_run.specs.declared.end.End.{End}
 use Rattle.mx_run.proofs.FreeRuns.{run-from}
 use Rattle.mx_run.proofs.HeldRuns.{run-held, streams-end}
 use Rattle.mx_run.proofs.PlanEnds.{run-end}
-use Rattle.mx_watch.specs.WatchedRuns.{AfterSteps}
+use Rattle.mx_run.specs.AccompaniedRuns.{AfterSteps}
 use Rattle.mx_con.specs.SessionPlans.{SessionWorld, conversing, session_plan}
 use Rattle.mx_con.proofs.HeldSessions.{session-held}
 use Rattle.mx_multi.specs.JointTurns.{JointWorld}

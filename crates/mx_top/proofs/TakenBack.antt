@@ -8,11 +8,12 @@ use Rattle.mx_plan.specs.Clauses.{CarriesOut}
 use Rattle.mx_plan.specs.Plan.{bind, end_of, end_after, StopsAfter}
 use Rattle.mx_plan.proofs.Plans.{end_bind, end_returns, stops_first, stops_after}
 use Rattle.mx_back.specs.History.{states_before, states_kept}
-use Rattle.mx_back.specs.KeptLists.{AreBeside, AreUntouched, as_lists, list_run, list_kept}
+use Rattle.mx_back.specs.KeptLists.{AreBeside, AreUntouched, as_lists, list_kept}
 use Rattle.mx_back.specs.KeptRuns.{turns_of}
 use Rattle.mx_core.specs.Bounds.{as_list_state}
 use Rattle.mx_core.specs.State.{State}
 use Rattle.mx_core.specs.Undoing.{StateWas}
+use Rattle.mx_run.specs.AccompaniedRuns.{list_run}
 use Rattle.mx_run.specs.WildRuns.{MachineKind, window_machine, list_machine}
 use Rattle.mx_watch.specs.Hearing.{heard_by}
 use Rattle.mx_watch.specs.Traces.{traces}

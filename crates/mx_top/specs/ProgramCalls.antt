@@ -11,7 +11,7 @@ use Rattle.mx_run.specs.Runs.{no_flags}
 use Rattle.mx_run.specs.declared.end.End.{End}
 use Rattle.mx_back.specs.History.{states_kept}
 use Rattle.mx_back.specs.KeptRuns.{turns_of}
-use Rattle.mx_watch.specs.WatchedRuns.{AfterSteps}
+use Rattle.mx_run.specs.AccompaniedRuns.{AfterSteps}
 use Rattle.mx_con.specs.SessionPlans.{SessionWorld, conversing, session_plan}
 use Rattle.mx_con.specs.declared.end.SessionEnd.{SessionEnd}
 use Rattle.mx_multi.specs.Joint.{Joint}

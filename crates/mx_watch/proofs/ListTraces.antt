@@ -1,5 +1,5 @@
 -- The traces of the list machine, beside a run of the window machine.
-use Rattle.std.proofs.Common.{◌≡◌, ◌≢◌, ◌<◌, ◌≤◌, ◌+◌, ◌-◌, ℕ, suc, Bool, true, false, cond, List, [], Ok, Err, arith, refl, sym, ◌∙◌, ap}
+use Rattle.std.proofs.Common.{◌≡◌, ◌≢◌, ◌<◌, ◌≤◌, ◌+◌, ◌-◌, ℕ, Bool, true, false, cond, List, [], Ok, Err, arith, refl, sym, ◌∙◌, ap}
 use Rattle.std.specs.Prelude.{Result}
 use Rattle.mx_host.specs.HostModel.{HostModel}
 use Rattle.mx_plan.specs.Plan.{Comes}
@@ -15,7 +15,7 @@ use Rattle.mx_run.specs.declared.end.End.TheVariants.{OutOfMemory}
 use Rattle.mx_run.proofs.FreeRuns.{trace-free}
 use Rattle.mx_run.proofs.ListSteps.{Beside, as_list, was_wild, list-window, list-step, list-runs}
 use Rattle.mx_run.proofs.ListTurns.{TurnWindow, turn-listed-on, wild-listed}
-use Rattle.mx_run.proofs.PlanEnds.{run_step, step-answer}
+use Rattle.mx_run.proofs.PlanEnds.{left-after, run_step, step-answer}
 use Rattle.mx_watch.specs.Listening.{Listening, told, watched}
 use Rattle.mx_watch.specs.Traces.{traces, traces_after}
 use Rattle.mx_watch.specs.WatchedRuns.{UnlessWild}
@@ -29,9 +29,6 @@ pub unless-wild : (whole : RunEnd) (P Q : Type 0) → (P → Q) → OrWild whole
 unless-wild (run_ended e) P Q f (holds p) = f p
 unless-wild (run_ended e) P Q f (wild m is) = absurd (cc)
 unless-wild (run_wild m) P Q f h = tt
-
-left-after : (k i : ℕ) → i < k → k - i ≡ suc (k - (i + 1))
-left-after k i l = omega arith
 
 -- ---- a turn
 

@@ -1,40 +1,23 @@
 -- The words of clauses over a run that watchers are told of. `old` and `new` are what the host told before and after,
 -- `before` and `after` the states of the machine.
-use Rattle.std.specs.Prelude.{ℕ, ◌≡◌, ◌≢◌, ◌≤◌, ◌⊎◌, IsTrue, false, List, Option, Result, Ok, Err}
+use Rattle.std.specs.Prelude.{ℕ, ◌≡◌, ◌≢◌, IsTrue, false, List, Option, Result, Ok, Err}
 use Rattle.mx_host.specs.HostModel.{HostModel, tells, contents}
-use Rattle.mx_plan.specs.Plan.{Comes, Stops, end_of}
+use Rattle.mx_plan.specs.Plan.{Comes}
 use Rattle.mx_core.specs.Bounds.{as_list_state}
 use Rattle.mx_core.specs.State.{State}
 use Rattle.mx_code.specs.declared.trace.Trace.{Trace}
-use Rattle.mx_run.specs.RunPlans.{RunWorld, running, run_plan, step_plan}
-use Rattle.mx_run.specs.Runs.{ended, no_flags, run}
+use Rattle.mx_run.specs.AccompaniedRuns.{list_run}
+use Rattle.mx_run.specs.RunPlans.{running, step_plan}
+use Rattle.mx_run.specs.Runs.{no_flags}
 use Rattle.mx_run.specs.Turns.{went_on, turn}
-use Rattle.mx_run.specs.WildRuns.{RunEnd, run_ended, run_wild, window_machine, list_machine, run_by}
+use Rattle.mx_run.specs.WildRuns.{RunEnd, run_ended, run_wild, window_machine, list_machine}
 use Rattle.mx_run.specs.declared.end.End.{End}
-use Rattle.mx_run.specs.declared.end.End.TheVariants.{OutOfMemory, Spent}
+use Rattle.mx_run.specs.declared.end.End.TheVariants.{OutOfMemory}
 use Rattle.mx_watch.specs.Hearing.{Hears}
 use Rattle.mx_watch.specs.Listening.{Listening, watched, watchers_left}
 use Rattle.mx_watch.specs.Traces.{traces}
 use Rattle.mx_watch.specs.Watching.{Watching}
 use Rattle.mx_watch.specs.declared.telling.Report.{Report}
-
--- the machine and the host after completed steps, at most n
-pub record AfterSteps (n : ℕ) (start now : RunWorld) : Type 0 where
-  pub made : ℕ
-  pub few : made ≤ n
-  pub steps : run made no_flags false start.0 start.1 ≡ ended Spent now.0 now.1
-
--- What comes of a run of at most n steps that watchers are told of. Unless there was no memory, the end, the machine and the
--- host are those of the run. Where a step lacked it, they are as the run may stop; where watchers or reports did, the steps
--- up to there are completed, and nothing else changed.
-pub record ComesWatched (n : ℕ) (old new : RunWorld) (result : End) : Type 0 where
-  pub ending : result ≢ OutOfMemory → (result, new) ≡ end_of running (run_plan n no_flags false) old
-  pub stopping : result ≡ OutOfMemory → Stops running new (run_plan n no_flags false) old ⊎ AfterSteps n old new
-
--- so it is over a host that tells its contents
-abbrev pub CarriesOutWatched : Option HostModel → Option HostModel → State → State → ℕ → End → Type 0
-CarriesOutWatched old new before after n result =
-    IsTrue (tells old) → ComesWatched n (before, contents old) (after, contents new) result
 
 -- over a host that tells its contents, unless there was no memory, watchers heard the traces of the run of at most n steps:
 -- `left` are those that are left, and the reports `earlier` became `later`
@@ -47,10 +30,7 @@ abbrev pub UnlessWild : RunEnd → Type 0 → Type 0
 UnlessWild (run_ended e) P = P
 UnlessWild (run_wild m) P = Unit {0}
 
--- what the list machine comes to in at most n steps from the list that a state stands for, and the traces of that
-abbrev pub list_run : Option HostModel → State → ℕ → RunEnd
-list_run old before n = run_by list_machine n no_flags false (as_list_state before) (contents old)
-
+-- the traces of the list machine in at most n steps from the list that a state stands for
 abbrev pub list_traces : Option HostModel → State → ℕ → List Trace
 list_traces old before n = traces list_machine n (as_list_state before) (contents old)
 

@@ -2,15 +2,14 @@
 
 ghost use Rattle.std.specs.Prelude.{◌≡◌, ◌≢◌, [], false, length, map};
 ghost use Rattle.mx_host.specs.Keeping.{Keeps};
-ghost use Rattle.mx_plan.specs.Clauses.{Stands};
 ghost use Rattle.mx_core.specs.Kept.{state_of};
-ghost use Rattle.mx_run.specs.Clauses.{EndsAs, EndsAsList, EndsFront};
+ghost use Rattle.mx_run.specs.AccompaniedRuns.{CarriesOutAccompanied};
+ghost use Rattle.mx_run.specs.Clauses.{IsRun};
 ghost use Rattle.mx_run.specs.RunPlans.{SparesMemory};
-ghost use Rattle.mx_run.specs.Runs.{IsLater, no_flags, run};
-ghost use Rattle.mx_run.specs.WildRuns.{HasWindow, run_by, list_machine};
+ghost use Rattle.mx_run.specs.Runs.{IsLater, no_flags};
+ghost use Rattle.mx_run.specs.WildRuns.{HasWindow};
 ghost use Rattle.mx_watch.specs.Listening.{listening};
-ghost use Rattle.mx_watch.specs.WatchedRuns.{CarriesOutWatched, HearsAsList, HearsFrom, HearsFromList};
-ghost use Rattle.mx_watch.specs.WatchedRuns.{HearsRun, StepsTo};
+ghost use Rattle.mx_watch.specs.WatchedRuns.{HearsAsList, HearsFrom, HearsFromList, HearsRun, StepsTo};
 
 use crate::Watcher;
 use crate::telling::{Reports, tell_all};
@@ -35,45 +34,15 @@ pub fn watched_run<H: Host>(
     watchers: &mut Vec<Box<dyn Watcher>>,
     kept: &mut Reports,
 ) -> End
-    ensures plan { CarriesOutWatched (H.told host.old) (H.told host.new) (state_of machine.old) (state_of machine.new)
+    ensures plan { CarriesOutAccompanied (H.told host.old) (H.told host.new) (state_of machine.old) (state_of machine.new)
         n result }
+    ensures run { IsRun (H.told host.old) (H.told host.new) (H.faults host.old) (H.faults host.new) (state_of machine.old)
+        (state_of machine.new) n no_flags false result }
     ensures spared { watchers.old.items ≡ [] → SparesMemory n (state_of machine.old) → result ≢ End.OutOfMemory }
-    ensures told { EndsAs (H.told host.old) (H.told host.new) (state_of machine.old) (state_of machine.new) result
-        (λ s m. run n no_flags false s m) }
-    ensures front { EndsFront (H.told host.old) (H.told host.new) (state_of machine.old) result
-        (λ s m. run n no_flags false s m) }
-    ensures listed { EndsAsList (H.told host.old) (H.told host.new) (state_of machine.old) (state_of machine.new)
-        result (λ s m. run_by list_machine n no_flags false s m) }
     ensures heard { HearsRun (H.told host.old) (state_of machine.old) n result
         (map meaning watchers.old.items) (map meaning watchers.new.items) kept.old kept.new }
     ensures list_heard { HearsAsList (H.told host.old) (state_of machine.old) n result
         (map meaning watchers.old.items) (map meaning watchers.new.items) kept.old kept.new }
-    ensures bound { IsLater n (state_of machine.old) (state_of machine.new) }
-    ensures keeps { Keeps (H.told host.old) (H.told host.new) (H.faults host.old) (H.faults host.new) }
-{
-    run_watched(alloc, machine, host, n, watchers, kept)
-}
-
-/// Makes the steps of a run that watchers are told of; where there is none, they are made as at any time.
-fn run_watched<H: Host>(
-    alloc: Global,
-    machine: &mut Machine,
-    host: &mut H,
-    n: u64,
-    watchers: &mut Vec<Box<dyn Watcher>>,
-    kept: &mut Reports,
-) -> End
-    ensures told { CarriesOutWatched (H.told host.old) (H.told host.new) (state_of machine.old) (state_of machine.new)
-        n result }
-    ensures listed { EndsAsList (H.told host.old) (H.told host.new) (state_of machine.old) (state_of machine.new)
-        result (λ s m. run_by list_machine n no_flags false s m) }
-    ensures heard { HearsRun (H.told host.old) (state_of machine.old) n result
-        (map meaning watchers.old.items) (map meaning watchers.new.items) kept.old kept.new }
-    ensures list_heard { HearsAsList (H.told host.old) (state_of machine.old) n result
-        (map meaning watchers.old.items) (map meaning watchers.new.items) kept.old kept.new }
-    ensures spared { watchers.old.items ≡ [] → SparesMemory n (state_of machine.old) → result ≢ End.OutOfMemory }
-    ensures bound { IsLater n (state_of machine.old) (state_of machine.new) }
-    ensures stands { Stands (H.told host.old) (H.told host.new) (H.faults host.old) (H.faults host.new) }
 {
     if watchers.is_empty() {
         return run_freely(alloc, machine, host, n);
@@ -99,18 +68,16 @@ fn listen<H: Host>(
     kept: &mut Reports,
 ) -> End
     requires { length places.now.items ≡ length watchers.now.items }
-    ensures told { CarriesOutWatched (H.told host.old) (H.told host.new) (state_of machine.old) (state_of machine.new)
+    ensures plan { CarriesOutAccompanied (H.told host.old) (H.told host.new) (state_of machine.old) (state_of machine.new)
         n result }
-    ensures listed { EndsAsList (H.told host.old) (H.told host.new) (state_of machine.old) (state_of machine.new) result
-        (λ s m. run_by list_machine n no_flags false s m) }
+    ensures run { IsRun (H.told host.old) (H.told host.new) (H.faults host.old) (H.faults host.new) (state_of machine.old)
+        (state_of machine.new) n no_flags false result }
     ensures heard { HearsFrom (H.told host.old) (state_of machine.old) n result
         (listening places.old.items (map meaning watchers.old.items) kept.old)
         (map meaning watchers.new.items) kept.new }
     ensures list_heard { HearsFromList (H.told host.old) (state_of machine.old) n result
         (listening places.old.items (map meaning watchers.old.items) kept.old)
         (map meaning watchers.new.items) kept.new }
-    ensures bound { IsLater n (state_of machine.old) (state_of machine.new) }
-    ensures stands { Stands (H.told host.old) (H.told host.new) (H.faults host.old) (H.faults host.new) }
 {
     for _made in 0..n {
         match next_trace(alloc, machine, host) {

@@ -4,6 +4,6 @@ use Rattle.mx_count.proofs.watched.run_told.Goals as goal
 pub returns-in-Ok-clause-told : goal.returns-in-Ok-clause-told
 returns-in-Ok-clause-told g c = λ w alone none tells.
     let enough = c.is_lacking.ensures c.if-is_lacking.false in (
-      c.watched_run-end.ensures.told tells enough,
+      c.watched_run-end.ensures.run.told tells enough,
       report-alone w _ _ _ _ _ c.in-Ok.text alone none (c.watched_run-end.ensures.heard tells enough) c.in-Ok.ensures,
     )

@@ -1,10 +1,11 @@
 use Rattle.std.proofs.Common.{Ok, Err, drop, arith, sym, subst, refl, ◌∙◌, IsTrue}
 use Rattle.mx_host.specs.HostModel.{contents}
+use Rattle.mx_host.proofs.Keeping.{keeps-then, keeps-all}
 use Rattle.mx_multi.specs.Clauses.{as_lists}
 use Rattle.mx_multi.specs.Joint.{joint_of}
 use Rattle.mx_multi.proofs.RowTurns.{rest-self, start-made, row-rest, row-listed, row-made, stayed, one-rest, one-ended, one-follows, one-more, none-left, none-left-listed}
 use Rattle.mx_multi.proofs.Schedules.{last-all}
-use Rattle.mx_multi.proofs.StepSums.{few-made, keeps-then, keeps-all}
+use Rattle.mx_multi.proofs.StepSums.{few-made}
 use Rattle.mx_multi.proofs.TurnPlans.{turns-told}
 use Rattle.mx_multi.proofs.runs.run_turns.Goals as goal
 

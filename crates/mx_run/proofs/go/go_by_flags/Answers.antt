@@ -1,8 +1,8 @@
-use Rattle.std.proofs.Common.{sym, subst, IsTrue}
+use Rattle.std.proofs.Common.{arith, sym, subst, IsTrue}
 use Rattle.mx_host.specs.HostModel.{contents}
 use Rattle.mx_core.specs.Kept.{state_of}
 use Rattle.mx_run.specs.FlagMaps.{flags_at}
-use Rattle.mx_run.proofs.Later.{begun-later, turned-later}
+use Rattle.mx_run.proofs.Later.{begun-later, few-later, last-later, turned-later}
 use Rattle.mx_run.proofs.ListSteps.{list-window, list-begun, list-went, list-ended, list-spent}
 use Rattle.mx_run.proofs.PlanEnds.{rest-begun, rest-went, rest-ended, rest-spent, step-answer}
 use Rattle.mx_plan.proofs.Standing.{stands-all, stands-then}
@@ -20,29 +20,35 @@ loop-turn-init g c = record {
 
 pub loop-turn-preserved : goal.loop-turn-preserved
 loop-turn-preserved g c = record {
-  told = λ t. rest-went _ _ _ _ _ _ _ _ _ c.loop-turn-test.true (c.loop-turn.invariant.told t) ((c.in-Ok.ensures.told (subst IsTrue (sym c.loop-turn.invariant.stands.0) t)).ending (λ e. absurd (cc)));
+  told = λ t. rest-went _ _ _ _ _ _ _ _ _ c.loop-turn-test.true (c.loop-turn.invariant.told t) ((c.in-Ok.ensures.step.told (subst IsTrue (sym c.loop-turn.invariant.stands.0) t)).ending (λ e. absurd (cc)));
   listed = λ t u. list-went _ _ _ _ _ _ _ _ _ _ c.loop-turn-test.true (list-window _ c.in-Ok.ensures.over)
-      (step-answer _ _ _ _ _ _ _ ((c.in-Ok.ensures.told (subst IsTrue (sym c.loop-turn.invariant.stands.0) t)).ending (λ e. absurd (cc)))) (c.loop-turn.invariant.listed t u);
-  spared = λ h. spares-went _ _ _ _ _ c.loop-turn-test.true c.in-Ok.ensures.spared (c.loop-turn.invariant.spared h);
-  bound = turned-later _ _ _ _ c.loop-turn.invariant.bound c.run_step.ensures.bound;
-  stands = stands-then _ _ _ _ _ _ c.loop-turn.invariant.stands c.run_step.ensures.stands;
+      (step-answer _ _ _ _ _ _ _ ((c.in-Ok.ensures.step.told (subst IsTrue (sym c.loop-turn.invariant.stands.0) t)).ending (λ e. absurd (cc)))) (c.loop-turn.invariant.listed t u);
+  spared = λ h. spares-went _ _ _ _ _ c.loop-turn-test.true c.in-Ok.ensures.step.spared (c.loop-turn.invariant.spared h);
+  bound = turned-later _ _ _ _ c.loop-turn.invariant.bound c.run_step.ensures.step.bound;
+  stands = stands-then _ _ _ _ _ _ c.loop-turn.invariant.stands c.run_step.ensures.step.stands;
 }
 
-pub returns-in-Err-clause-told : goal.returns-in-Err-clause-told
-returns-in-Err-clause-told g c = λ t.
-    rest-ended _ _ _ _ _ _ _ _ _ c.loop-turn-test.true (c.loop-turn.invariant.told t) (c.in-Err.ensures.told (subst IsTrue (sym c.loop-turn.invariant.stands.0) t))
+pub returns-in-Err : goal.returns-in-Err
+returns-in-Err g c =
+    let was = c.loop-turn.invariant in
+    let e = c.in-Err.ensures in
+    record {
+      told = λ t. rest-ended _ _ _ _ _ _ _ _ _ c.loop-turn-test.true (was.told t) (e.step.told (subst IsTrue (sym was.stands.0) t));
+      listed = λ t ne u.
+          list-ended _ _ _ _ _ _ _ _ _ _ c.loop-turn-test.true (list-window _ e.over)
+          (step-answer _ _ _ _ _ _ _ ((e.step.told (subst IsTrue (sym was.stands.0) t)).ending (λ o. ne (cc)))) (was.listed t u);
+      spared = λ h. spares-ended _ _ _ _ _ c.loop-turn-test.true e.step.spared (was.spared h);
+      bound = last-later _ _ _ _ _ c.loop-turn-test.true was.bound e.step.bound;
+      stands = stands-then _ _ _ _ _ _ was.stands e.step.stands;
+    }
 
-pub returns-clause-told : goal.returns-clause-told
-returns-clause-told g c = λ t. rest-spent _ _ _ _ _ _ _ c.loop-turn-test.false (c.loop-turn.invariant.told t)
-
-pub returns-in-Err-clause-spared : goal.returns-in-Err-clause-spared
-returns-in-Err-clause-spared g c = λ h. spares-ended _ _ _ _ _ c.loop-turn-test.true c.in-Err.ensures.spared (c.loop-turn.invariant.spared h)
-
--- beside the list machine
-pub returns-in-Err-clause-listed : goal.returns-in-Err-clause-listed
-returns-in-Err-clause-listed g c = λ t ne u.
-    list-ended _ _ _ _ _ _ _ _ _ _ c.loop-turn-test.true (list-window _ c.in-Err.ensures.over)
-    (step-answer _ _ _ _ _ _ _ ((c.in-Err.ensures.told (subst IsTrue (sym c.loop-turn.invariant.stands.0) t)).ending (λ e. ne (cc)))) (c.loop-turn.invariant.listed t u)
-
-pub returns-clause-listed : goal.returns-clause-listed
-returns-clause-listed g c = λ t ne u. list-spent _ _ _ _ _ _ _ c.loop-turn-test.false (c.loop-turn.invariant.listed t u)
+pub returns : goal.returns
+returns g c =
+    let was = c.loop-turn.invariant in
+    record {
+      told = λ t. rest-spent _ _ _ _ _ _ _ c.loop-turn-test.false (was.told t);
+      listed = λ t ne u. list-spent _ _ _ _ _ _ _ c.loop-turn-test.false (was.listed t u);
+      spared = λ h e. absurd (cc);
+      bound = few-later _ _ _ _ (omega (arith, c.loop-turn-test.false)) was.bound;
+      stands = was.stands;
+    }

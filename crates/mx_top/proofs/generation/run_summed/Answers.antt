@@ -23,14 +23,14 @@ returns g c =
             run-follows generator_steps _ (state_of c.args.machine) after _ _ _ c.go-end.result c.outcome_of.result c.sum_up.result
             (summed_plan c.args.blocks c.args.size) c.new-runner.ensures.flags c.outcome_of.ensures.value (rw c.new-runner.ensures.machine at (c.go-end.ensures.plan t))
             (λ e. let none = told.lacked e in (none.0, ap (λ h. contents (g.H.Host.told h)) none.1))
-            (λ ne. rw c.machine.ensures at (told.plan ne (subst IsTrue (sym c.go-end.ensures.keeps.telling) t)));
+            (λ ne. rw c.machine.ensures at (told.plan ne (subst IsTrue (sym c.go-end.ensures.run.keeps.telling) t)));
         list = λ t ne.
-            let there = subst IsTrue (sym c.go-end.ensures.keeps.telling) t in
+            let there = subst IsTrue (sym c.go-end.ensures.run.keeps.telling) t in
             let untouched = subst (λ (k : Kept). (state_of k).touched ≡ false) (sym c.new-runner.ensures.machine) c.requires in
             run-listed generator_steps _ (state_of c.args.machine) after _ _ _ c.go-end.result c.outcome_of.result c.sum_up.result
             (summed_plan c.args.blocks c.args.size) c.new-runner.ensures.flags c.outcome_of.ensures.value
-            (rw c.new-runner.ensures.machine at (c.go-end.ensures.listed t (λ e. some ne (c.outcome_of.ensures.memory e)) untouched)) (told.causes.3.growing there)
+            (rw c.new-runner.ensures.machine at (c.go-end.ensures.run.listed t (λ e. some ne (c.outcome_of.ensures.memory e)) untouched)) (told.causes.3.growing there)
             (λ u. same-summed c.args.blocks c.args.size c.outcome_of.result after) ((rw c.machine.ensures at (told.plan (some ne) there)).ending ne);
       };
-      causes = fails-behind g.H.Host.told g.H.Host.faults _ _ _ _ c.go-end.ensures.keeps told.causes;
+      causes = fails-behind g.H.Host.told g.H.Host.faults _ _ _ _ c.go-end.ensures.run.keeps told.causes;
     }

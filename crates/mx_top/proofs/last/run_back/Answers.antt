@@ -28,14 +28,14 @@ returns g c =
             (λ outcome s kept. back_plan c.args.order.now.dump outcome (take c.args.order.now.last kept) s) c.outcome_of.ensures.value (c.run_kept-end.ensures.plan t)
             (λ ne. nothing-kept _ _ _ _ _ _ c.in-Ok.ensures.none (c.run_kept-end.ensures.kept t ne))
             (λ e. let none = told.lacked e in (none.0, ap (λ h. contents (g.H.Host.told h)) none.1))
-            (λ ne. told.plan ne (subst IsTrue (sym c.run_kept-end.ensures.keeps.telling) t));
+            (λ ne. told.plan ne (subst IsTrue (sym c.run_kept-end.ensures.run.keeps.telling) t));
         list = λ t ne.
-            let there = subst IsTrue (sym c.run_kept-end.ensures.keeps.telling) t in
+            let there = subst IsTrue (sym c.run_kept-end.ensures.run.keeps.telling) t in
             kept-listed c.args.order.now.steps (state_of c.args.machine) after _ _ _ _ c.run_kept-end.result c.outcome_of.result c.tell_back.result
             (λ outcome s kept. back_plan c.args.order.now.dump outcome (take c.args.order.now.last kept) s) c.outcome_of.ensures.value
-            (c.run_kept-end.ensures.listed t (λ e. some ne (c.outcome_of.ensures.memory e)) c.requires)
+            (c.run_kept-end.ensures.run.listed t (λ e. some ne (c.outcome_of.ensures.memory e)) c.requires)
             (nothing-beside _ _ _ _ _ _ c.in-Ok.ensures.none (c.run_kept-end.ensures.kept_listed t (λ e. some ne (c.outcome_of.ensures.memory e)) c.requires)) (told.causes.3.growing there)
             (λ u a. same-back c.args.order.now.dump c.args.order.now.last c.outcome_of.result _ after u a) ((told.plan (some ne) there).ending ne);
       });
-      causes = fails-behind g.H.Host.told g.H.Host.faults _ _ _ _ c.run_kept-end.ensures.keeps told.causes;
+      causes = fails-behind g.H.Host.told g.H.Host.faults _ _ _ _ c.run_kept-end.ensures.run.keeps told.causes;
     }

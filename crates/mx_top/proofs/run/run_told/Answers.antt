@@ -27,14 +27,14 @@ returns-clause-part g c =
             watched-follows c.args.order.now.steps (state_of c.args.machine) after _ _ _ c.watched_run-end.result c.outcome_of.result c.tell_end.result
             (dumped_plan c.args.order.now.dump) c.outcome_of.ensures.value (c.watched_run-end.ensures.plan t)
             (λ e. let none = told.lacked e in (none.0, ap (λ h. contents (g.H.Host.told h)) none.1))
-            (λ ne. told.plan ne (subst IsTrue (sym c.watched_run-end.ensures.keeps.telling) t));
+            (λ ne. told.plan ne (subst IsTrue (sym c.watched_run-end.ensures.run.keeps.telling) t));
         list = λ t ne.
-            let there = subst IsTrue (sym c.watched_run-end.ensures.keeps.telling) t in
+            let there = subst IsTrue (sym c.watched_run-end.ensures.run.keeps.telling) t in
             watched-listed c.args.order.now.steps (state_of c.args.machine) after _ _ _ c.watched_run-end.result c.outcome_of.result c.tell_end.result
-            (dumped_plan c.args.order.now.dump) c.outcome_of.ensures.value (c.watched_run-end.ensures.listed t (λ e. some ne (c.outcome_of.ensures.memory e)) c.requires) (told.causes.3.growing there)
+            (dumped_plan c.args.order.now.dump) c.outcome_of.ensures.value (c.watched_run-end.ensures.run.listed t (λ e. some ne (c.outcome_of.ensures.memory e)) c.requires) (told.causes.3.growing there)
             (same-dumped c.args.order.now.dump c.outcome_of.result after) ((told.plan (some ne) there).ending ne);
       };
-      causes = fails-behind g.H.Host.told g.H.Host.faults _ _ _ _ c.watched_run-end.ensures.keeps told.causes;
+      causes = fails-behind g.H.Host.told g.H.Host.faults _ _ _ _ c.watched_run-end.ensures.run.keeps told.causes;
     }
 
 pub returns-clause-heard : goal.returns-clause-heard

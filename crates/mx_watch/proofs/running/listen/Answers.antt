@@ -1,12 +1,13 @@
-use Rattle.std.proofs.Common.{sym, subst, refl, IsTrue, false}
+use Rattle.std.proofs.Common.{arith, sym, subst, refl, IsTrue, false}
 use Rattle.mx_host.specs.HostModel.{contents}
 use Rattle.mx_core.specs.Kept.{state_of}
 use Rattle.mx_run.specs.Runs.{no_flags}
-use Rattle.mx_run.proofs.Later.{begun-later, turned-later, last-later}
+use Rattle.mx_run.proofs.AccompaniedRuns.{begun-made, went-rest, went-made, went-listed, ended-listed, ended-so, lacking-so, spent-so, accompanied-is}
+use Rattle.mx_run.proofs.Later.{begun-later, few-later, turned-later, last-later}
 use Rattle.mx_run.proofs.ListSteps.{list-begun, list-spent}
 use Rattle.mx_run.proofs.PlanEnds.{rest-begun}
 use Rattle.mx_plan.proofs.Standing.{stands-all, stands-kept, stands-then}
-use Rattle.mx_watch.proofs.Listened.{begun-made, begun-heard, went-told, went-made, went-listed, went-heard, ended-told, ended-listed, ended-heard, lacking-told, spent-told, spent-heard, left-heard}
+use Rattle.mx_watch.proofs.Listened.{goes-on, begun-heard, went-heard, ended-heard, spent-heard, left-heard}
 use Rattle.mx_watch.proofs.ListTraces.{unless-wild, went-by-list, ended-by-list, spent-by-list, begun-by-list}
 use Rattle.mx_watch.proofs.running.listen.Goals as goal
 
@@ -29,39 +30,30 @@ pub loop-made-preserved : goal.loop-made-preserved
 loop-made-preserved g c =
     let was = c.loop-made.invariant in
     let inside = c.loop-made-test.true in
+    let e = c.in-Ok.ensures in
     record {
-      told = λ t. went-told _ _ _ _ _ _ _ _ inside (c.in-Ok.ensures.told (subst IsTrue (sym was.stands.0) t)) (was.told t);
-      made = λ t. went-made _ _ _ _ _ _ _ _ (c.in-Ok.ensures.told (subst IsTrue (sym was.stands.0) t)) (was.made t);
-      listed = λ t u. went-listed _ _ _ _ _ _ _ _ inside c.in-Ok.ensures.over (c.in-Ok.ensures.told (subst IsTrue (sym was.stands.0) t)) (was.listed t u);
-      heard = λ t. went-heard _ _ _ _ _ _ _ _ _ _ inside (c.in-Ok.ensures.told (subst IsTrue (sym was.stands.0) t)) c.in-Ok-tell_all.ensures.told (was.heard t);
-      list_heard = λ t u. went-by-list _ _ _ _ _ _ _ _ _ _ _ inside c.in-Ok.ensures.over (c.in-Ok.ensures.told (subst IsTrue (sym was.stands.0) t)) c.in-Ok-tell_all.ensures.told (was.listed t u) (was.list_heard t u);
+      told = λ t. went-rest _ _ tt _ _ _ inside (goes-on _ _ _ _ _ (e.told (subst IsTrue (sym was.stands.0) t))) (was.told t);
+      made = λ t. went-made _ tt _ _ _ (goes-on _ _ _ _ _ (e.told (subst IsTrue (sym was.stands.0) t))) (was.made t);
+      listed = λ t u. went-listed _ _ _ tt _ _ _ _ inside e.over (goes-on _ _ _ _ _ (e.told (subst IsTrue (sym was.stands.0) t))) (was.listed t u);
+      heard = λ t. went-heard _ _ _ _ _ _ _ _ _ _ inside (e.told (subst IsTrue (sym was.stands.0) t)) c.in-Ok-tell_all.ensures.told (was.heard t);
+      list_heard = λ t u. went-by-list _ _ _ _ _ _ _ _ _ _ _ inside e.over (e.told (subst IsTrue (sym was.stands.0) t)) c.in-Ok-tell_all.ensures.told (was.listed t u) (was.list_heard t u);
       same = c.in-Ok-tell_all.ensures.same;
-      bound = turned-later _ _ _ _ was.bound c.in-Ok.ensures.bound;
-      stands = stands-then _ _ _ _ _ _ was.stands (stands-kept _ _ _ _ c.in-Ok.ensures.keeps);
+      bound = turned-later _ _ _ _ was.bound e.bound;
+      stands = stands-then _ _ _ _ _ _ was.stands (stands-kept _ _ _ _ e.keeps);
     }
 
-pub returns-in-Err-tell_all-clause-told : goal.returns-in-Err-tell_all-clause-told
-returns-in-Err-tell_all-clause-told g c = λ t.
-    lacking-told _ _ _ _ _ _ c.loop-made-test.true (went-made _ _ _ _ _ _ _ _ (c.in-Ok.ensures.told (subst IsTrue (sym c.loop-made.invariant.stands.0) t)) (c.loop-made.invariant.made t))
+-- ---- where a watcher or a report lacks memory
 
-pub returns-in-Err-clause-told : goal.returns-in-Err-clause-told
-returns-in-Err-clause-told g c = λ t.
-    ended-told _ _ _ _ _ _ _ _ c.loop-made-test.true (c.loop-made.invariant.told t) (c.in-Err.ensures.told (subst IsTrue (sym c.loop-made.invariant.stands.0) t))
+pub returns-in-Err-tell_all-clause-plan : goal.returns-in-Err-tell_all-clause-plan
+returns-in-Err-tell_all-clause-plan g c = λ t.
+    let was = c.loop-made.invariant in
+    lacking-so _ _ _ _ (omega (arith, c.loop-made-test.true)) (went-made _ tt _ _ _ (goes-on _ _ _ _ _ (c.in-Ok.ensures.told (subst IsTrue (sym was.stands.0) t))) (was.made t))
 
-pub returns-in-Err-clause-listed : goal.returns-in-Err-clause-listed
-returns-in-Err-clause-listed g c = λ t ne u.
-    ended-listed _ _ _ _ _ _ _ _ c.loop-made-test.true c.in-Err.ensures.over ne (c.in-Err.ensures.told (subst IsTrue (sym c.loop-made.invariant.stands.0) t)) (c.loop-made.invariant.listed t u)
-
-pub returns-in-Err-clause-heard : goal.returns-in-Err-clause-heard
-returns-in-Err-clause-heard g c = λ t ne.
-    left-heard _ _ _ _ _ c.loop-made.invariant.same
-    (ended-heard _ _ _ _ _ _ _ _ _ c.loop-made-test.true ne (c.in-Err.ensures.told (subst IsTrue (sym c.loop-made.invariant.stands.0) t)) (c.loop-made.invariant.heard t))
-
-pub returns-in-Err-clause-bound : goal.returns-in-Err-clause-bound
-returns-in-Err-clause-bound g c = last-later _ _ _ _ _ c.loop-made-test.true c.loop-made.invariant.bound c.in-Err.ensures.bound
-
-pub returns-in-Err-tell_all-clause-listed : goal.returns-in-Err-tell_all-clause-listed
-returns-in-Err-tell_all-clause-listed g c = λ t ne. absurd (ne refl)
+pub returns-in-Err-tell_all-clause-run : goal.returns-in-Err-tell_all-clause-run
+returns-in-Err-tell_all-clause-run g c =
+    let was = c.loop-made.invariant in
+    accompanied-is _ _ _ _ _ _ _ _ (returns-in-Err-tell_all-clause-plan g c) (λ t ne. absurd (ne refl)) (last-later _ _ _ _ _ c.loop-made-test.true was.bound c.in-Ok.ensures.bound)
+    (stands-then _ _ _ _ _ _ was.stands (stands-kept _ _ _ _ c.in-Ok.ensures.keeps))
 
 pub returns-in-Err-tell_all-clause-heard : goal.returns-in-Err-tell_all-clause-heard
 returns-in-Err-tell_all-clause-heard g c = λ t ne. absurd (ne refl)
@@ -69,16 +61,41 @@ returns-in-Err-tell_all-clause-heard g c = λ t ne. absurd (ne refl)
 pub returns-in-Err-tell_all-clause-list_heard : goal.returns-in-Err-tell_all-clause-list_heard
 returns-in-Err-tell_all-clause-list_heard g c = λ t ne. absurd (ne refl)
 
+-- ---- where the run ends
+
+pub returns-in-Err-clause-plan : goal.returns-in-Err-clause-plan
+returns-in-Err-clause-plan g c = λ t.
+    let was = c.loop-made.invariant in
+    ended-so _ _ _ _ _ _ c.loop-made-test.true (was.told t) (c.in-Err.ensures.told (subst IsTrue (sym was.stands.0) t))
+
+pub returns-in-Err-clause-run : goal.returns-in-Err-clause-run
+returns-in-Err-clause-run g c =
+    let was = c.loop-made.invariant in
+    let e = c.in-Err.ensures in
+    accompanied-is _ _ _ _ _ _ _ _ (returns-in-Err-clause-plan g c)
+    (λ t ne u. ended-listed _ _ _ _ _ _ _ _ c.loop-made-test.true e.over ((e.told (subst IsTrue (sym was.stands.0) t)).ending (λ o. ne (cc))) (was.listed t u))
+    (last-later _ _ _ _ _ c.loop-made-test.true was.bound e.bound) (stands-then _ _ _ _ _ _ was.stands (stands-kept _ _ _ _ e.keeps))
+
+pub returns-in-Err-clause-heard : goal.returns-in-Err-clause-heard
+returns-in-Err-clause-heard g c = λ t ne.
+    let was = c.loop-made.invariant in
+    left-heard _ _ _ _ _ was.same (ended-heard _ _ _ _ _ _ _ _ _ c.loop-made-test.true ne (c.in-Err.ensures.told (subst IsTrue (sym was.stands.0) t)) (was.heard t))
+
 pub returns-in-Err-clause-list_heard : goal.returns-in-Err-clause-list_heard
 returns-in-Err-clause-list_heard g c = λ t ne u.
-    unless-wild _ _ _ (left-heard _ _ _ _ _ c.loop-made.invariant.same)
-    (ended-by-list _ _ _ _ _ _ _ _ _ _ c.loop-made-test.true c.in-Err.ensures.over ne (c.in-Err.ensures.told (subst IsTrue (sym c.loop-made.invariant.stands.0) t)) (c.loop-made.invariant.listed t u) (c.loop-made.invariant.list_heard t u))
+    let was = c.loop-made.invariant in
+    unless-wild _ _ _ (left-heard _ _ _ _ _ was.same)
+    (ended-by-list _ _ _ _ _ _ _ _ _ _ c.loop-made-test.true c.in-Err.ensures.over ne (c.in-Err.ensures.told (subst IsTrue (sym was.stands.0) t)) (was.listed t u) (was.list_heard t u))
 
-pub returns-clause-told : goal.returns-clause-told
-returns-clause-told g c = λ t. spent-told _ _ _ _ c.loop-made-test.false (c.loop-made.invariant.told t)
+-- ---- where all steps are made
 
-pub returns-clause-listed : goal.returns-clause-listed
-returns-clause-listed g c = λ t ne u. list-spent _ _ _ _ _ _ _ c.loop-made-test.false (c.loop-made.invariant.listed t u)
+pub returns-clause-plan : goal.returns-clause-plan
+returns-clause-plan g c = λ t. spent-so _ _ _ _ c.loop-made-test.false (c.loop-made.invariant.told t)
+
+pub returns-clause-run : goal.returns-clause-run
+returns-clause-run g c =
+    let was = c.loop-made.invariant in
+    accompanied-is _ _ _ _ _ _ _ _ (returns-clause-plan g c) (λ t ne u. list-spent _ _ _ _ _ _ _ c.loop-made-test.false (was.listed t u)) (few-later _ _ _ _ (omega (arith, c.loop-made-test.false)) was.bound) was.stands
 
 pub returns-clause-heard : goal.returns-clause-heard
 returns-clause-heard g c = λ t ne. left-heard _ _ _ _ _ c.loop-made.invariant.same (spent-heard _ _ _ _ _ _ c.loop-made-test.false (c.loop-made.invariant.heard t))
@@ -86,15 +103,3 @@ returns-clause-heard g c = λ t ne. left-heard _ _ _ _ _ c.loop-made.invariant.s
 pub returns-clause-list_heard : goal.returns-clause-list_heard
 returns-clause-list_heard g c = λ t ne u.
     unless-wild _ _ _ (left-heard _ _ _ _ _ c.loop-made.invariant.same) (spent-by-list _ _ _ _ _ _ _ c.loop-made-test.false (c.loop-made.invariant.list_heard t u))
-
-pub returns-in-Err-tell_all-clause-bound : goal.returns-in-Err-tell_all-clause-bound
-returns-in-Err-tell_all-clause-bound g c = last-later _ _ _ _ _ c.loop-made-test.true c.loop-made.invariant.bound c.in-Ok.ensures.bound
-
-pub returns-in-Err-tell_all-clause-stands : goal.returns-in-Err-tell_all-clause-stands
-returns-in-Err-tell_all-clause-stands g c = stands-then _ _ _ _ _ _ c.loop-made.invariant.stands (stands-kept _ _ _ _ c.in-Ok.ensures.keeps)
-
-pub returns-in-Err-clause-stands : goal.returns-in-Err-clause-stands
-returns-in-Err-clause-stands g c = stands-then _ _ _ _ _ _ c.loop-made.invariant.stands (stands-kept _ _ _ _ c.in-Err.ensures.keeps)
-
-pub returns-clause-stands : goal.returns-clause-stands
-returns-clause-stands g c = c.loop-made.invariant.stands

@@ -3,14 +3,13 @@ use Rattle.mx_host.specs.HostModel.{tells, contents}
 use Rattle.mx_plan.specs.Clauses.{Stands}
 use Rattle.mx_core.specs.Bounds.{as_list_state}
 use Rattle.mx_core.specs.Kept.{state_of}
-use Rattle.mx_run.specs.Runs.{IsLater, ended, no_flags, run}
+use Rattle.mx_run.specs.Runs.{IsLater, no_flags}
 use Rattle.mx_run.specs.WildRuns.{run_by, window_machine, list_machine}
-use Rattle.mx_run.specs.declared.end.End.TheVariants.{Spent}
+use Rattle.mx_run.proofs.AccompaniedRuns.{Rest, Made}
 use Rattle.mx_run.proofs.ListSteps.{Beside}
 use Rattle.mx_watch.specs.Listening.{listening, watched}
 use Rattle.mx_watch.specs.Traces.{traces}
 use Rattle.mx_watch.proofs.ListTraces.{OrWild}
-use Rattle.mx_watch.proofs.Listened.{Rest}
 use Rattle.mx_watch.proofs.running.listen.Given as goal
 
 abbrev pub invariant-loop-made : goal.invariant-loop-made
@@ -18,7 +17,7 @@ invariant-loop-made g l = record {
   told : IsTrue (tells (g.H.Host.told l.fn.host)) →
       Rest l.n (l.n - l._made) (state_of l.machine, contents (g.H.Host.told l.host)) (state_of l.fn.machine, contents (g.H.Host.told l.fn.host));
   made : IsTrue (tells (g.H.Host.told l.fn.host)) →
-      run l._made no_flags false (state_of l.fn.machine) (contents (g.H.Host.told l.fn.host)) ≡ ended Spent (state_of l.machine) (contents (g.H.Host.told l.host));
+      Made l._made (state_of l.machine, contents (g.H.Host.told l.host)) (state_of l.fn.machine, contents (g.H.Host.told l.fn.host));
   listed : IsTrue (tells (g.H.Host.told l.fn.host)) → (state_of l.fn.machine).touched ≡ false →
       Beside (run_by list_machine l.n no_flags false (as_list_state (state_of l.fn.machine)) (contents (g.H.Host.told l.fn.host)))
       (run_by list_machine (l.n - l._made) no_flags false (as_list_state (state_of l.machine)) (contents (g.H.Host.told l.host)))

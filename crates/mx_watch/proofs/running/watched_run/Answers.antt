@@ -1,11 +1,42 @@
-use Rattle.mx_watch.proofs.Watched.{watched-told, watched-front, watched-keeps}
+use Rattle.std.proofs.Common.{arith, eqb-true, ◌∙◌, sym, refl}
+use Rattle.std.proofs.lemmas.List.{nil_from_length}
+use Rattle.mx_plan.proofs.Standing.{stands-all}
+use Rattle.mx_run.proofs.AccompaniedRuns.{begun-made, of-run, lacking-so, accompanied-is}
+use Rattle.mx_run.proofs.Later.{none-later}
+use Rattle.mx_watch.proofs.Heard.{place_count}
+use Rattle.mx_watch.proofs.Watched.{hears-placed, hears-nobody, either-way, unless-by}
 use Rattle.mx_watch.proofs.running.watched_run.Goals as goal
 
-pub returns-clause-told : goal.returns-clause-told
-returns-clause-told g c = λ t ne. watched-told _ _ _ _ _ _ (c.run_watched.ensures.told t) ne
+-- ---- without watchers
 
-pub returns-clause-front : goal.returns-clause-front
-returns-clause-front g c = λ t o. watched-front _ _ _ _ _ _ (c.run_watched.ensures.told t) o
+pub returns-then-is_empty-clause-plan : goal.returns-then-is_empty-clause-plan
+returns-then-is_empty-clause-plan g c = λ t. of-run _ _ _ _ (c.run_freely.ensures.plan t)
 
-pub returns-clause-keeps : goal.returns-clause-keeps
-returns-clause-keeps g c = watched-keeps _ _ _ _ _ _ _ _ c.run_watched.ensures.told c.run_watched.ensures.stands
+pub returns-then-is_empty-clause-heard : goal.returns-then-is_empty-clause-heard
+returns-then-is_empty-clause-heard g c = λ t ne.
+    hears-nobody _ _ _ _ (nil_from_length _ (sym c.args.watchers.now.ok.0 ∙ eqb-true _ 0 (sym c.is_empty.ensures ∙ c.if-is_empty.true)))
+
+pub returns-then-is_empty-clause-list_heard : goal.returns-then-is_empty-clause-list_heard
+returns-then-is_empty-clause-list_heard g c = λ t ne u.
+    either-way _ _ (hears-nobody _ _ _ _ (nil_from_length _ (sym c.args.watchers.now.ok.0 ∙ eqb-true _ 0 (sym c.is_empty.ensures ∙ c.if-is_empty.true))))
+
+-- ---- with watchers
+
+pub listen-requires : goal.listen-requires
+listen-requires g c = place_count _ _ c.in-Ok.ensures ∙ c.len.ensures ∙ c.args.watchers.now.ok.0
+
+pub returns-in-Ok-clause-heard : goal.returns-in-Ok-clause-heard
+returns-in-Ok-clause-heard g c = λ t ne.
+    hears-placed _ _ _ _ _ _ _ _ c.in-Ok.ensures (c.len.ensures ∙ c.args.watchers.now.ok.0) (c.listen.ensures.heard t ne)
+
+pub returns-in-Ok-clause-list_heard : goal.returns-in-Ok-clause-list_heard
+returns-in-Ok-clause-list_heard g c = λ t ne u.
+    unless-by _ _ _ (hears-placed _ _ _ _ _ _ _ _ c.in-Ok.ensures (c.len.ensures ∙ c.args.watchers.now.ok.0)) (c.listen.ensures.list_heard t ne u)
+
+-- ---- where their places lack memory
+
+pub returns-in-Err-clause-plan : goal.returns-in-Err-clause-plan
+returns-in-Err-clause-plan g c = λ t. lacking-so _ 0 _ _ (omega arith) (begun-made _ _)
+
+pub returns-in-Err-clause-run : goal.returns-in-Err-clause-run
+returns-in-Err-clause-run g c = accompanied-is _ _ _ _ _ _ _ _ (returns-in-Err-clause-plan g c) (λ t ne. absurd (ne refl)) (none-later _ _ _ refl) (stands-all _ _)

@@ -1,17 +1,18 @@
 use Rattle.std.proofs.Common.{IsTrue, false, ◌-◌, ◌≡◌}
 use Rattle.mx_host.specs.HostModel.{tells, contents}
-use Rattle.mx_host.specs.Keeping.{Keeps}
+use Rattle.mx_plan.specs.Clauses.{Stands}
 use Rattle.mx_core.specs.Kept.{state_of}
 use Rattle.mx_core.specs.Bounds.{as_list_state}
+use Rattle.mx_run.specs.AccompaniedRuns.{list_run}
 use Rattle.mx_run.specs.Runs.{IsLater, no_flags}
 use Rattle.mx_run.specs.WildRuns.{run_by, list_machine}
+use Rattle.mx_run.proofs.AccompaniedRuns.{Rest, Made}
 use Rattle.mx_run.proofs.ListSteps.{Beside}
 use Rattle.mx_back.specs.History.{AreNotesOf, states_before, states_kept}
-use Rattle.mx_back.specs.KeptLists.{AreUntouched, list_run, list_kept}
+use Rattle.mx_back.specs.KeptLists.{AreUntouched, list_kept}
 use Rattle.mx_back.specs.KeptRuns.{turns_of}
 use Rattle.mx_back.proofs.KeptLists.{KeptSoFar}
-use Rattle.mx_back.proofs.KeptSteps.{Rest, Made}
-use Rattle.mx_back.proofs.running.keep_steps.Given as goal
+use Rattle.mx_back.proofs.running.run_kept.Given as goal
 
 abbrev pub invariant-loop-made : goal.invariant-loop-made
 invariant-loop-made g l = record {
@@ -24,7 +25,7 @@ invariant-loop-made g l = record {
       (run_by list_machine (l.n - l._made) no_flags false (as_list_state (state_of l.machine)) (contents (g.H.Host.told l.host)))
       (state_of l.machine) (contents (g.H.Host.told l.host));
   bound : IsLater l._made (state_of l.fn.machine) (state_of l.machine);
-  keeps : Keeps (g.H.Host.told l.fn.host) (g.H.Host.told l.host) (g.H.Host.faults l.fn.host) (g.H.Host.faults l.host);
+  stands : Stands (g.H.Host.told l.fn.host) (g.H.Host.told l.host) (g.H.Host.faults l.fn.host) (g.H.Host.faults l.host);
   fits : AreNotesOf l.back (state_of l.machine);
   kept : IsTrue (tells (g.H.Host.told l.fn.host)) →
       states_kept (turns_of (l.n - l._made) (state_of l.machine) (contents (g.H.Host.told l.host))) (states_before l.back (state_of l.machine))

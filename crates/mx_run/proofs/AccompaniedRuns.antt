@@ -1,0 +1,114 @@
+-- A run that something goes along with, after some of its steps and as a whole.
+use Rattle.std.proofs.Common.{◌≡◌, ◌≢◌, ◌<◌, ◌≤◌, ◌+◌, ◌-◌, ℕ, false, IsTrue, Ok, Err, inl, inr, arith, refl, sym, subst, ◌∙◌, ap}
+use Rattle.std.specs.Prelude.{Option, ◌⊎◌}
+use Rattle.mx_word.specs.Lists.{IsFront}
+use Rattle.mx_host.specs.HostModel.{HostModel, tells, contents}
+use Rattle.mx_plan.specs.Clauses.{Stands}
+use Rattle.mx_plan.specs.Held.{KeepsStreams}
+use Rattle.mx_plan.specs.Plan.{Comes, IsRest, Stops, end_of}
+use Rattle.mx_core.specs.Bounds.{as_list_state}
+use Rattle.mx_core.specs.State.{State}
+use Rattle.mx_run.specs.AccompaniedRuns.{AfterSteps, ComesAccompanied}
+use Rattle.mx_run.specs.Clauses.{EndsAsList, GoesAsList, IsRun}
+use Rattle.mx_run.specs.RunPlans.{RunWorld, running, ended_world, run_plan, step_plan}
+use Rattle.mx_run.specs.Runs.{Ended, IsLater, ended, no_flags, run}
+use Rattle.mx_run.specs.WildRuns.{HasWindow, RunEnd, list_machine, run_by}
+use Rattle.mx_run.specs.declared.end.End.{End}
+use Rattle.mx_run.specs.declared.end.End.TheVariants.{Halted, Stopped, Broke, Traced, Spent, OutOfMemory}
+use Rattle.mx_run.proofs.FreeRuns.{run-from}
+use Rattle.mx_run.proofs.HeldRuns.{streams-end, streams-stop}
+use Rattle.mx_run.proofs.ListSteps.{Beside, list-window, list-went, list-ended}
+use Rattle.mx_run.proofs.Outputs.{run-front}
+use Rattle.mx_run.proofs.PlanEnds.{run-end, rest-begun, rest-went, rest-ended, rest-spent, step-answer}
+use Rattle.mx_run.proofs.Runners.{run-told, run-begun, run-streams, keeps-by}
+
+-- ---- after some of its steps: what is left of its plan, and what is made
+
+abbrev pub Rest : ℕ → ℕ → RunWorld → RunWorld → Type 0
+Rest n left now start = IsRest running (run_plan left no_flags false) now (run_plan n no_flags false) start
+
+abbrev pub Made : ℕ → RunWorld → RunWorld → Type 0
+Made i now start = run i no_flags false start.0 start.1 ≡ ended Spent now.0 now.1
+
+pub begun-made : (s : State) (m : HostModel) → run 0 no_flags false s m ≡ ended Spent s m
+unfolding run
+begun-made s m = refl
+
+-- a step that goes on
+abbrev pub GoesOn : Unit {0} → RunWorld → RunWorld → Type 0
+GoesOn u v w = (Ok u, w) ≡ end_of running (step_plan no_flags false) v
+
+pub went-rest : (n i : ℕ) (u : Unit {0}) (v w start : RunWorld) → i < n → GoesOn u v w → Rest n (n - i) v start → Rest n (n - (i + 1)) w start
+went-rest n i u v w start l e r = rest-went n i no_flags false u v w start (run_plan n no_flags false) l r e
+
+one-made : (u : Unit {0}) (v w : RunWorld) → GoesOn u v w → Made 1 w v
+one-made u v w e =
+    let whole = rest-spent 1 1 no_flags false w v (run_plan 1 no_flags false) (omega arith) (went-rest 1 0 u v w v (omega arith) e (rest-begun 1 no_flags false v)) in
+    sym (run-told 1 no_flags false v.0 w.0 v.1 w.1 Spent whole (λ e. absurd (cc)))
+
+pub went-made : (i : ℕ) (u : Unit {0}) (v w start : RunWorld) → GoesOn u v w → Made i v start → Made (i + 1) w start
+went-made i u v w start e h = run-from i 1 start.0 v.0 start.1 v.1 h ∙ one-made u v w e
+
+pub went-listed : (n i : ℕ) (whole : RunEnd) (u : Unit {0}) (s t : State) (m k : HostModel) → i < n → HasWindow s → GoesOn u (s, m) (t, k) → Beside whole (run_by list_machine (n - i) no_flags false (as_list_state s) m) s m →
+    Beside whole (run_by list_machine (n - (i + 1)) no_flags false (as_list_state t) k) t k
+went-listed n i whole u s t m k l w e b = list-went whole n i no_flags false s t m k u l (list-window s w) (step-answer no_flags false s t m k (Ok u) e) b
+
+pub ended-listed : (n i : ℕ) (whole : RunEnd) (why : End) (s t : State) (m k : HostModel) → i < n → HasWindow s → (Err why, (t, k)) ≡ end_of running (step_plan no_flags false) (s, m) →
+    Beside whole (run_by list_machine (n - i) no_flags false (as_list_state s) m) s m → GoesAsList whole (ended why t k)
+ended-listed n i whole why s t m k l w e b = list-ended whole n i no_flags false s t m k why l (list-window s w) (step-answer no_flags false s t m k (Err why) e) b
+
+-- ---- how it ends
+
+pub of-run : (n : ℕ) (v w : RunWorld) (r : End) → Comes running v w OutOfMemory r (run_plan n no_flags false) → ComesAccompanied n v w r
+of-run n v w r c = record { ending = c.ending; stopping = λ o. inl (c.stopping o) }
+
+pub ended-so : (n i : ℕ) (why : End) (v w start : RunWorld) → i < n → Rest n (n - i) v start → Comes running v w (Err OutOfMemory) (Err why) (step_plan no_flags false) → ComesAccompanied n start w why
+ended-so n i why v w start l r c = of-run n start w why (rest-ended n i no_flags false why v w start (run_plan n no_flags false) l r c)
+
+pub spent-so : (n i : ℕ) (w start : RunWorld) → n ≤ i → Rest n (n - i) w start → ComesAccompanied n start w Spent
+spent-so n i w start l r = of-run n start w Spent (rest-spent n i no_flags false w start (run_plan n no_flags false) l r)
+
+-- what goes along lacks memory
+pub lacking-so : (n i : ℕ) (w start : RunWorld) → i ≤ n → Made i w start → ComesAccompanied n start w OutOfMemory
+lacking-so n i w start l h = record { ending = λ ne. absurd (ne refl); stopping = λ o. inr (record { made = i; few = l; steps = h }) }
+
+-- ---- what its clauses say
+
+plain : (n : ℕ) (v w : RunWorld) (r : End) → ComesAccompanied n v w r → r ≢ OutOfMemory → Comes running v w OutOfMemory r (run_plan n no_flags false)
+plain n v w r c ne = record { ending = c.ending; stopping = λ o. absurd (ne o) }
+
+steps-front : (n : ℕ) (s t : State) (m k : HostModel) → AfterSteps n (s, m) (t, k) → IsFront k.output (run n no_flags false s m).host.output
+steps-front n s t m k a =
+    let all : a.made + (n - a.made) ≡ n = omega (arith, a.few) in
+    subst (λ (e : Ended). IsFront k.output e.host.output)
+    (sym (run-from a.made (n - a.made) s t m k a.steps) ∙ ap (λ j. run j no_flags false s m) all) (run-front (n - a.made) no_flags false t k)
+
+stopped-front : (n : ℕ) (s t : State) (m k : HostModel) → Stops running (t, k) (run_plan n no_flags false) (s, m) ⊎ AfterSteps n (s, m) (t, k) → IsFront k.output (run n no_flags false s m).host.output
+stopped-front n s t m k (inl h) = run-begun n no_flags false s t m k OutOfMemory (record { ending = λ ne. absurd (ne refl); stopping = λ o. h }) refl
+stopped-front n s t m k (inr a) = steps-front n s t m k a
+
+pub steps-streams : (n : ℕ) (v w : RunWorld) → AfterSteps n v w → KeepsStreams v.1 w.1
+steps-streams n v w a =
+    subst (λ (p : End × RunWorld). KeepsStreams v.1 p.1.1) (run-end a.made no_flags false v.0 v.1 ∙ ap ended_world a.steps) (streams-end (run_plan a.made no_flags false) v)
+
+stopped-streams : (n : ℕ) (v w : RunWorld) → Stops running w (run_plan n no_flags false) v ⊎ AfterSteps n v w → KeepsStreams v.1 w.1
+stopped-streams n v w (inl h) = streams-stop (run_plan n no_flags false) w v h
+stopped-streams n v w (inr a) = steps-streams n v w a
+
+all-streams : (n : ℕ) (v w : RunWorld) (r : End) → ComesAccompanied n v w r → KeepsStreams v.1 w.1
+all-streams n v w (Halted status) c = run-streams v w _ _ (plain n v w _ c (λ e. absurd (cc)))
+all-streams n v w (Stopped pc reason) c = run-streams v w _ _ (plain n v w _ c (λ e. absurd (cc)))
+all-streams n v w (Broke kind at traced) c = run-streams v w _ _ (plain n v w _ c (λ e. absurd (cc)))
+all-streams n v w (Traced trace) c = run-streams v w _ _ (plain n v w _ c (λ e. absurd (cc)))
+all-streams n v w Spent c = run-streams v w _ _ (plain n v w _ c (λ e. absurd (cc)))
+all-streams n v w OutOfMemory c = stopped-streams n v w (c.stopping refl)
+
+pub accompanied-is : (old new : Option HostModel) (earlier later n : ℕ) (s t : State) (r : End) → (IsTrue (tells old) → ComesAccompanied n (s, contents old) (t, contents new) r) →
+    EndsAsList old new s t r (λ u m. run_by list_machine n no_flags false u m) → IsLater n s t → Stands old new earlier later → IsRun old new earlier later s t n no_flags false r
+accompanied-is old new earlier later n s t r c l b h = record {
+  told = λ is ne. run-told n no_flags false s t _ _ r (plain n _ _ r (c is) ne) ne;
+  front = λ is o. stopped-front n s t _ _ ((c is).stopping o);
+  listed = l;
+  bound = b;
+  keeps = keeps-by old new earlier later h (λ is. all-streams n _ _ r (c is));
+}
