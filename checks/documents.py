@@ -4,6 +4,7 @@
 - Links lead to files, and to headings in them. Each crate is described, and what it offers stands in docs/PROVED.md.
 - Names in backquotes are there: crates `mx_..`, paths, the modules that docs/ARCHITECTURE.md names, and the files,
   clauses and definitions of docs/PROVED.md. In a path a word of capitals, as NAME, or a * stands for any word.
+- Each crate names those that crates.txt lists behind it.
 - A table of CONTRIBUTING.md with the head "`WORD` in" names the files of sources, definitions and proofs that have the word.
 - The numbers and names of docs/MESSAGES.md are those of the program's table.
 - The blocks marked `console` on every page are run on the program that is kept, if it is that of these sources: a line
@@ -96,6 +97,20 @@ def crates():
     """The crates of crates.txt, each with what it stands on."""
     rows = re.findall(r"^(\w+)[^:\n]*:(.*)", text_of("crates.txt"), re.M)
     return {crate: below.split() for crate, below in rows}
+
+
+def sources_of(crate):
+    paths = [it for end in ("rt", "antt") for it in glob.glob(f"crates/{crate}/**/*.{end}", recursive=True)]
+    return "".join(text_of(it) for it in paths if "/out/" not in it)
+
+
+def check_needs():
+    """What crates.txt lists behind a crate is named in its files."""
+    for crate, below in crates().items():
+        sources = sources_of(crate)
+        for name in below:
+            if not re.search(rf"\b{name}\b", sources):
+                wrong("crates.txt", f"{crate} does not name {name}")
 
 
 def check_architecture():
@@ -331,7 +346,7 @@ def check_what_beginners_write():
 
 def main():
     os.chdir(TOP)
-    for check in (check_links_and_paths, check_architecture, check_claims, check_file_tables, check_messages, check_crates,
+    for check in (check_links_and_paths, check_needs, check_architecture, check_claims, check_file_tables, check_messages, check_crates,
                   check_sessions, check_manual, check_examples_of_messages, check_what_beginners_write):
         check()
     for it in wrongs:
