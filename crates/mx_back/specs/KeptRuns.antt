@@ -70,11 +70,11 @@ StepsKept old new before after result = IsTrue (tells old) → ComesStep (before
 
 -- what holds of it over every host: its answer, from a state over a window; one step at most; what the host keeps at every call;
 -- and the notes, which fit the state and stand for what the turn keeps
-pub record TakesKeptStep (old new : Option HostModel) (fewer more : ℕ) (before after : State) (earlier later : List StateWas) (result : Result (Unit {0}) End) : Type 0 where
+pub record TakesKeptStep (old new : Option HostModel) (faults_before faults_after : ℕ) (before after : State) (earlier later : List StateWas) (result : Result (Unit {0}) End) : Type 0 where
   pub told : StepsKept old new before after result
   pub over : HasWindow before
   pub bound : IsLater 1 before after
-  pub keeps : Keeps old new fewer more
+  pub keeps : Keeps old new faults_before faults_after
   pub fits : AreNotesOf later after
   pub kept : KeepsTurn old before after result earlier later
 
