@@ -6,6 +6,7 @@ trap 'rm -rf "$room"' EXIT
 cd "$room" && mkdir programs && touch a.mms 'b c.mms' d.mmo notes || exit 1
 . "$here/completion/mmixware.bash"
 . "$here/completion/mmixview.bash"
+. "$here/completion/grade.bash"
 bad=0
 
 # offers WANTED WORDS...: what the last one of the words can become, in order
@@ -59,11 +60,20 @@ offers --json mmixview where ''
 offers 'a.mms|b c.mms|programs' mmixview where '#100' ''
 offers 'a.mms|b c.mms|programs' mmixview where --json '#100' ''
 offers '--json|--ring|--steps' mmixview count -
-offers '--json|--ring|--steps' mmixview count --json -
+offers '--ring|--steps' mmixview count --json -
 offers '--ring|--steps' mmixview count --json --steps 9 -
 offers '1024|16384' mmixview count --ring 1
 offers '' mmixview count --steps ''
 offers a.mms mmixview count --ring 256 --steps 9 a
 offers 'a.mms|b c.mms|d.mmo|notes|programs' mmixview count a.mms ''
 offers 'check|count|list|where' mmixview help ''
+
+offers programs grade ''
+offers '--shield|--show|--size|--sshlogin|--steps|--suffix' grade --s
+offers 'gradescope|json|junit|table|tap' grade --format ''
+offers unshare grade --json --shield u
+offers '' grade --points ''
+offers 'a.mms|b c.mms|d.mmo|programs' grade --program x --show programs ''
+offers 'a.mms|b c.mms|d.mmo|notes|programs' grade --program ''
+offers d.mmo grade programs a.mms d
 exit $bad

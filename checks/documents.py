@@ -12,7 +12,8 @@
   input is no file, what stands behind each prompt is typed. A block marked `mms NAME` is a file that the reader has
   saved under that name. Nothing is built here.
 - The examples of docs/MESSAGES.md give the number and name of their row: words of a command line, a source of one line, or
-  an object in hexadecimal tetras. Of what beginners write, the mended source gives no message.
+  an object in hexadecimal tetras. Of what beginners write, the mended source gives no message; of slips without a message
+  both sources give none, and the statuses of the row.
 - Blocks with mmixview are run where that program is kept, too.
 - The examples of the manual pages are run where the sources of examples/ are, with the program on the path.
 """
@@ -114,8 +115,13 @@ def check_needs():
 
 
 def check_architecture():
-    """A crate's row says what it stands on; in the other tables a crate is followed by modules of its specs."""
+    """The first picture has each crate but those of tests; a crate's row says what it stands on; in the other tables a crate is
+    followed by modules of its specs."""
     listed = crates()
+    picture = re.search(r"^```\n(.*?)^```", text_of("docs/ARCHITECTURE.md"), re.M | re.S)[1]
+    for crate in listed:
+        if not crate.startswith("test_") and not re.search(rf"\b{crate}\b", picture):
+            wrong("docs/ARCHITECTURE.md", f"its first picture has no {crate}")
     for where, line in lines_of("docs/ARCHITECTURE.md"):
         names = re.findall(r"`(\w+)`", line)
         row = re.match(r"\| `(\w+)` \|([^|]*)\|", line)
@@ -243,6 +249,7 @@ def with_room(call, saved=None):
         os.symlink(os.path.realpath(VIEWER), f"{room}/mmixview")
         for script in glob.glob("grade"):
             shutil.copy(script, room)
+            shutil.copytree("grading", f"{room}/grading")
         for name, text in (saved or {}).items():
             with open(f"{room}/{name}", "w", encoding="utf-8") as file:
                 file.write(text)
@@ -298,8 +305,8 @@ def check_manual():
         check_session(page, block, {}, "examples")
 
 
-def answered(example, room):
-    """What the program says of an example: words of a command line, a source of one line, or tetras of an object."""
+def call_of(example, room):
+    """The call of the program on an example: words of a command line, a source, or tetras of an object."""
     if example.startswith("mmixware"):
         words = shlex.split(example)[1:]
     elif re.fullmatch(r"[0-9a-f]{8}( [0-9a-f]{2,8})*", example):
@@ -311,7 +318,19 @@ def answered(example, room):
         with open(f"{room}/example.mms", "w", encoding="utf-8") as file:
             file.write(example + "\n")
     how = {"cwd": room, "stdin": subprocess.DEVNULL, "capture_output": True, "timeout": 60}
-    return subprocess.run(["./mmixware", *words], **how).stderr.decode(errors="replace")
+    return subprocess.run(["./mmixware", *words], **how)
+
+
+def answered(example):
+    """What the program says of an example, and its status."""
+    done = with_room(lambda room: call_of(example, room))
+    return done.stderr.decode(errors="replace").strip(), str(done.returncode)
+
+
+def source_in(cell):
+    """The source in a cell of a table, whose lines are in backquotes with <br> between them; nothing of another cell."""
+    is_source = re.fullmatch("`[^`]+`(<br>`[^`]+`)*", cell)
+    return "\n".join(re.findall("`([^`]+)`", cell)) if is_source else None
 
 
 def check_examples_of_messages():
@@ -325,23 +344,27 @@ def check_examples_of_messages():
             continue
         message = " ".join(cells[:2]) if cells[0].isdigit() else cells[0].strip("`")
         if not re.search(r"\b[A-Z]+\b", message):
-            got = with_room(lambda room: answered(cells[3][1:-1], room))
+            got, _ = answered(cells[3][1:-1])
             if not re.search(rf"\b{message}\b", got):
-                wrong(where, f"the example {cells[3]} gives {got.strip() or 'no message'}")
+                wrong(where, f"the example {cells[3]} gives {got or 'no message'}")
 
 
 def check_what_beginners_write():
-    """In a row of four cells the first one, a source, gives the message of the second; the last one gives none."""
+    """In a row of four cells the first one, a source, gives the message of the second; the last one gives none. In a row of
+    five with two sources and a status after each they give these, and no message."""
     if not is_fresh():
         return
     for where, line in lines_of("docs/MESSAGES.md"):
-        cells = cells_of(line)
-        if len(cells) != 4 or not re.fullmatch(r"\d+ \w+", cells[1]):
-            continue
-        for source, message in ((cells[0], f".*: {cells[1]}"), (cells[3], "")):
-            got = with_room(lambda room: answered(source[1:-1], room)).strip() if source.startswith("`") else ""
-            if not re.fullmatch(message, got):
-                wrong(where, f"the source {source} gives {got or 'no message'}")
+        cells, due = cells_of(line), []
+        if len(cells) == 4 and re.fullmatch(r"\d+ \w+", cells[1]):
+            due = [(cells[0], f".*: {cells[1]}", ".*"), (cells[3], "", ".*")]
+        elif len(cells) == 5 and cells[1].isdigit() and cells[3].isdigit():
+            due = [(cells[0], "", cells[1]), (cells[2], "", cells[3])]
+        for cell, message, status in due:
+            source = source_in(cell)
+            got = answered(source) if source else ("", "")
+            if source and not (re.fullmatch(message, got[0]) and re.fullmatch(status, got[1])):
+                wrong(where, f"the source {cell} gives {got[0] or 'no message'} and status {got[1]}")
 
 
 def main():

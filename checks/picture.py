@@ -5,7 +5,7 @@ usage: checks/picture.py          writes the picture
        checks/picture.py --check  says whether the picture is that of crates.txt, and no chain is too long
 A crate stands in the column of its area and in a layer above all that it stands on; a line leads from a crate to
 each one that it stands on and that no other line leads to. To mx_word, on which all stand but mx_ops
-and mx_greg, no line is drawn; crates of tests (test_...) and of laws alone (law_...) have none. No chain may have more than eight
+and mx_spec, no line is drawn; crates of tests (test_...) and of laws alone (law_...) have none. No chain may have more than eight
 crates, those of tests aside.
 """
 import os

@@ -50,6 +50,9 @@ name=$(basename "$PWD")
 grep -q "$(sha256sum <mmixware | cut -d ' ' -f 1)" MADE-FROM || wrong 'MADE-FROM does not name the program'
 ./install "$room/there" 2>/dev/null || wrong 'the release is not installed'
 for file in bin/mmixware bin/grade share/man/man1/mmixware.1 share/man/man1/grade.1 \
+  share/mmixware/grading/run.sh share/mmixware/grading/rows.awk share/vim/vimfiles/syntax/mmixal.vim \
+  share/emacs/site-lisp/mmixal-mode.el share/texmf/tex/latex/mmixal/mmixal.sty \
+  share/bash-completion/completions/grade \
   share/bash-completion/completions/mmixware share/zsh/site-functions/_mmixware; do
   [ -s "$room/there/$file" ] || wrong "install puts no $file"
 done

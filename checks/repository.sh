@@ -9,24 +9,31 @@ wrong() {
 
 [ "$(cat HANDLES)" = 'Handles allowed: none.' ] || wrong 'HANDLES does not hold its one line'
 
-# each crate is listed, and has wrong bodies that the prover refuses, but for `main` and the crates of rows, which are tests
+# each crate is listed
 for folder in crates/*/; do
   crate=$(basename "$folder")
   [ -d "$folder/src" ] || continue
   grep -q "^$crate[ :]" crates.txt || wrong "$crate is not in crates.txt"
-  case $crate in
-    test_* | mmixware | mmixview) continue ;;
-  esac
-  [ -n "$(ls "$folder/must-fail" 2>/dev/null)" ] || wrong "$crate has no must-fail edit"
 done
 
-# the names of must-fail edits are in one spelling
-for edit in crates/*/must-fail/*_*.edit; do
-  [ -e "$edit" ] && wrong "$edit has an underscore in its name"
+# each must-fail edit is listed with what it shows, and no other is; their names are in one spelling
+for edit in crates/*/must-fail/*.edit; do
+  crate=${edit#crates/} name=$(basename "$edit" .edit)
+  grep -q "^${crate%%/*}/$name: ." checks/edits || wrong "$edit is not in checks/edits"
+  case $name in
+    *_*) wrong "$edit has an underscore in its name" ;;
+  esac
+done
+for listed in $(sed -n '/^#/!s/:.*//p' checks/edits); do
+  [ -e "crates/${listed%/*}/must-fail/${listed#*/}.edit" ] || wrong "checks/edits has $listed, which is not there"
 done
 
 # no file grows past one idea
 for file in $(find crates -name out -prune -o \( -name '*.rt' -o -name '*.antt' \) -print); do
+  [ "$(wc -l <"$file")" -le 500 ] || wrong "$file has more than 500 lines"
+done
+
+for file in grade grading/*; do
   [ "$(wc -l <"$file")" -le 500 ] || wrong "$file has more than 500 lines"
 done
 
@@ -76,9 +83,18 @@ fi
 if command -v python3 >/dev/null; then
   python3 checks/picture.py --check || bad=1
   python3 checks/documents.py || bad=1
+  # the files for editors have the words of the tables, and their tools read them, where they are there
+  python3 editors/words.py --check || bad=1
+  python3 checks/editors/try.py >/dev/null || bad=1
 fi
 
-# the grader gives each solution its verdict
+# objects of a compiler for C run, where they are there
+sh checks/c.sh >/dev/null || bad=1
+
+# the grader gives each solution its verdict, and each of a class its row
 sh checks/grade/test.sh || bad=1
+sh checks/grade/class.sh || bad=1
+sh checks/grade/course.sh || bad=1
+sh checks/grade/machines.sh || bad=1
 
 exit $bad

@@ -36,8 +36,9 @@ make_repository() {
   printf '# Crates.\nmx_word: thiserror\nmx_rows: mx_word\nmmixware: mx_word\n' >"$1/crates.txt"
   cp "$here/mmixware" "$here/install" "$here/try" "$here/release" "$here/grade" "$1"
   cp "$here"/packaging/*.sh "$1/packaging"
+  cp -R "$here/grading" "$1"
   cp "$here"/docs/*.1 "$1/docs"
-  cp -R "$here/completion" "$1"
+  cp -R "$here/completion" "$here/editors" "$1"
 }
 
 # what rt does: it builds a program, in a repository under its lock, and does what $meanwhile says before that. Of the crates
@@ -260,21 +261,38 @@ status 64' repo/install "$word"
 done
 prints 'install: usage: ./install [PREFIX]
 status 64' repo/install a b
-prints 'install: to/bin/mmixware
+prints "install: to/bin/mmixware
 install: to/bin/grade
+$(cd "$here/grading" && printf 'install: to/share/mmixware/grading/%s\n' *)
 install: to/share/man/man1/mmixware.1
 install: to/share/man/man1/grade.1
 install: to/share/bash-completion/completions/mmixware
 install: to/share/zsh/site-functions/_mmixware
-status 0' repo/install to
+install: to/share/bash-completion/completions/grade
+install: to/share/zsh/site-functions/_grade
+install: to/share/vim/vimfiles/syntax/mmixal.vim
+install: to/share/vim/vimfiles/ftdetect/mmixal.vim
+install: to/share/vim/vimfiles/ftplugin/mmixal.vim
+install: to/share/vim/vimfiles/compiler/mmixware.vim
+install: to/share/emacs/site-lisp/mmixal-mode.el
+install: to/share/org.kde.syntax-highlighting/syntax/mmixal.xml
+install: to/share/gtksourceview-4/language-specs/mmixal.lang
+install: to/share/gtksourceview-5/language-specs/mmixal.lang
+install: to/share/texmf/tex/latex/mmixal/mmixal.sty
+install: to/share/mmixware/pygments/mmixal.py
+status 0" repo/install to
 prints 'built a
 status 0' to/bin/mmixware a
+prints "$(repo/grade --help)
+status 0" to/bin/grade --help
 
-# the manual page of the grader has each of its options
+# the manual page and the completion of the grader have each of its options
 for option in $(repo/grade --help | grep -o -e '--[a-z]*'); do
-  if ! sed 's/\\-/-/g' "$here/docs/grade.1" | grep -q -e "$option"; then
-    wrong "docs/grade.1 has no $option"
-  fi
+  for file in docs/grade.1 completion/grade.bash completion/_grade; do
+    if ! sed 's/\\-/-/g' "$here/$file" | grep -q -e "$option"; then
+      wrong "$file has no $option"
+    fi
+  done
 done
 
 exit $bad

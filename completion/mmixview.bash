@@ -33,7 +33,7 @@ _mmixview() {
     */list/0/* | */check/0/*) words='--json' files=.mms ;;
     */where/0/*) words='--json' ;;
     */where/1/*) files=.mms ;;
-    2/count/* | */count/0/--json) words='--json --ring --steps' files=.mms ;;
+    2/count/*) words='--json --ring --steps' files=.mms ;;
     */count/0/--ring) words='256 512 1024 2048 4096 8192 16384 32768 65536' ;;
     */count/0/--steps) ;;
     */count/0/*) words='--ring --steps' files=.mms ;;

@@ -1,10 +1,10 @@
-* copy.mms: copies standard input to standard output; the status tells whether that failed.
+* copy.mms: copies standard input to standard output; the status says whether that failed.
 size    IS    4096
         LOC   Data_Segment
         GREG  @
 Into    OCTA  Buffer,size       what Fread wants: where to, and how many bytes
 From    OCTA  Buffer,0          what Fwrite wants; how many is filled in
-Buffer  OCTA  0                 the buffer goes on behind this octa
+Buffer  OCTA  0                 the buffer goes on after this octa
         LOC   #100
 Main    LDA   $255,Into
         TRAP  0,Fread,StdIn

@@ -1,6 +1,6 @@
 * hello.mms: prints a text.
         LOC   Data_Segment
-        GREG  @                 the base for what stands in the data segment
+        GREG  @                 the base for addresses in the data segment
 Text    BYTE  "Hello, reader",#a,0
         LOC   #100
 Main    LDA   $255,Text         Fputs wants the address of the text in $255

@@ -12,7 +12,7 @@ list    IS    $3                the address of the first node, 0 for an empty li
 node    IS    $4                where the next node will be
 x       IS    $5
         LOC   #100
-Main    LDOU  text,$1,8         the argument behind the name of the program
+Main    LDOU  text,$1,8         the argument after the name of the program
         SET   list,0
         LDA   node,Nodes
         BZ    text,Print

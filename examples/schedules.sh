@@ -1,5 +1,5 @@
 #!/bin/sh
-# Runs an object on two processors by each schedule of so many turns, and counts how often which octa stands at
+# Runs an object on two processors by each schedule of so many turns, and counts how often which octa is at
 # #2000000000000000 in the end.
 # Usage: examples/schedules.sh PROGRAM OBJECT TURNS, as in examples/schedules.sh ./mmixware lost.mmo 4
 turns=$(mktemp) || exit 1

@@ -10,7 +10,7 @@ x       IS    $5
 y       IS    $6
 test    IS    $7
         LOC   #100
-Main    LDOU  text,$1,8         the argument behind the name of the program
+Main    LDOU  text,$1,8         the argument after the name of the program
         BZ    text,Done
         SET   j,0
 Next    LDBU  x,text,j          the bytes before x are in order

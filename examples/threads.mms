@@ -1,5 +1,5 @@
 * threads.mms: two threads take turns. What one of them has in its registers is saved while the other runs.
-* UNSAVE brings back the globals too, so what the threads share stands in memory.
+* UNSAVE brings back the globals too, so what the threads share is in memory.
         LOC   Data_Segment
         GREG  @
 Other   OCTA  0                 the frame of the thread that waits
@@ -32,7 +32,7 @@ Start   SAVE  $255,0
         ADD   $0,$0,1
         JMP   2B
 
-* Yield: saves this thread and goes on with the other one, behind its own call of Yield.
+* Yield: saves this thread and goes on with the other one, after its own call of Yield.
 Yield   SAVE  $255,0
         LDO   $0,Other
         STO   $255,Other

@@ -17,7 +17,7 @@ node    IS    $3
 j       IS    $4                objects are 8 times their number, from 0
 k       IS    $5
 x       IS    $6
-ready   IS    $7                a stack of objects that may be printed, behind the nodes
+ready   IS    $7                a stack of objects that may be printed, after the nodes
 bottom  IS    $8
 left    IS    $9                how many are not printed yet
         LOC   #100

@@ -3,7 +3,7 @@
         PUSHJ $255,Divided
         PUT   rJ,$255           the trip has put rJ there
         GET   $255,rB           and $255 into rB
-        RESUME 0                back behind the instruction
+        RESUME 0                back after the instruction
         LOC   V_Handler         32
         PUSHJ $255,Overflowed
         PUT   rJ,$255

@@ -51,7 +51,9 @@ make_solutions() {
   # two objects: one that is right, and one that is none
   "$program" asm "$room/solutions/hello/right.mms" "$room/solutions/hello/object.mmo"
   echo none >"$room/solutions/hello/no-object.mmo"
-  printf '%s\n' 'hello object right' 'hello no-object status=65' | tee -a "$room/verdicts" >>"$room/bare"
+  cp "$room/solutions/hello/object.mmo" "$room/solutions/hello/no-object.mmo" "$room/solutions/object"
+  printf '%s\n' 'hello object right' 'hello no-object status=65' 'object object refusal' 'object no-object right' |
+    tee -a "$room/verdicts" >>"$room/bare"
 }
 
 # a line for each solution of a task: the task, the solution and the verdicts, from lines of JSON
@@ -131,7 +133,6 @@ check_refusals() {
   refused --jobs 0 "$room/tasks/hello" "$hello"
   refused --nothing "$room/tasks/hello" "$hello"
   refused "$room/nothing" "$hello"
-  refused "$room/tasks/hello" "$room/nothing.mms"
   refused --with xargs --sshlogin there "$room/tasks/hello" "$hello"
   for part in status/70 status/300 ouput/hello; do
     mkdir -p "$room/faulty/1"
@@ -145,7 +146,7 @@ check_refusals() {
   refused --size 64 "$room/faulty" "$hello"
 }
 
-every='hello memory fifo given written two status'
+every='hello memory fifo given written two status ends object'
 make_solutions
 check_shields
 check_forms

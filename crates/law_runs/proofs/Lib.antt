@@ -3,6 +3,7 @@ pub mod CompletedFiles
 pub mod DetourImages
 pub mod DetourRuns
 pub mod DumpLaws
+pub mod FaultyListings
 pub mod IdleFiles
 pub mod JoinedWrites
 pub mod KeptSessions

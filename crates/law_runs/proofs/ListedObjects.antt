@@ -62,7 +62,7 @@ concat-append : (xs ys : List (List ℕ)) → concat (xs ++ ys) ≡ concat xs ++
 concat-append [] ys = refl
 concat-append (x ∷ xs) ys = ap (λ t. x ++ t) (concat-append xs ys) ∙ sym (append_assoc x (concat xs) (concat ys))
 
-items-joined : (lambda : ℕ) (items : List Item) → concat (item_lines lambda items) ≡ items_text lambda items
+pub items-joined : (lambda : ℕ) (items : List Item) → concat (item_lines lambda items) ≡ items_text lambda items
 unfolding item_lines items_text
 items-joined lambda [] = refl
 items-joined lambda (item ∷ items) =

@@ -3,3 +3,4 @@ pub mod Complete
 pub mod Detour
 pub mod Rings
 pub mod Unbroken
+pub mod WholeItems

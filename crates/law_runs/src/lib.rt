@@ -27,7 +27,7 @@ pub use files::{files_are_read_whole, pieces_come_to_one_write};
 pub use images::sources_are_loaded_as_they_mean;
 pub use listings::{
     objects_are_listed_beside_what_they_mean, objects_that_are_there_are_listed,
-    what_is_written_for_an_object_is_its_listing,
+    what_is_written_for_an_object_is_its_listing, whole_items_before_a_fault_are_listed,
 };
 pub use rings::{
     programs_end_by_themselves, reports_change_nothing_else, runs_end_by_themselves,

@@ -1,6 +1,6 @@
 //! Laws of objects that are listed: what is written for an object is its listing.
 
-ghost use Rattle.std.specs.Prelude.{◌≡◌, ◌≢◌, ◌<◌, List, ℕ, [], Option, Ok, Err, length};
+ghost use Rattle.std.specs.Prelude.{◌≡◌, ◌≢◌, ◌<◌, ◌≤◌, List, ℕ, [], Option, Ok, Err, length};
 ghost use Rattle.std.specs.List.{concat};
 ghost use Rattle.mx_word.specs.Ranges.{AreBytes};
 ghost use Rattle.mx_word.specs.declared.symbols.Symbol.{Symbol};
@@ -9,6 +9,7 @@ ghost use Rattle.mx_mmo.specs.Image.{Image};
 ghost use Rattle.mx_mmo.specs.Replies.{limit};
 ghost use Rattle.mx_mmo.specs.Whole.{object_of};
 ghost use Rattle.mx_mmo.specs.declared.faults.MmoFault.{MmoFault};
+ghost use Rattle.mx_mmo.specs.declared.items.Item.{Item};
 ghost use Rattle.mx_mmo.specs.declared.items.Object.{Object};
 ghost use Rattle.mx_load.specs.Objects.{object_loaded};
 ghost use Rattle.mx_plan.specs.Counts.{unscheduled};
@@ -16,7 +17,7 @@ ghost use Rattle.mx_run.specs.WildRuns.{MachineKind, window_machine};
 ghost use Rattle.mx_stab.specs.Grammar.{IsTrie};
 ghost use Rattle.mx_stab.specs.Reading.{trie_answer};
 ghost use Rattle.mx_stab.specs.declared.faults.StabFault.{StabFault};
-ghost use Rattle.mx_type.specs.Listing.{IsListing};
+ghost use Rattle.mx_type.specs.Listing.{AreLines, IsListing};
 ghost use Rattle.mx_words.specs.declared.order.Command.{Command};
 ghost use Rattle.mx_words.specs.declared.order.Order.{Order};
 ghost use Rattle.mx_files.specs.Answers.{answered};
@@ -28,6 +29,7 @@ ghost use Rattle.mx_outcome.specs.declared.outcome.Outcome.{Outcome};
 ghost use Rattle.law_runs.specs.Called.{IsCalled, NoCallFails};
 ghost use Rattle.law_runs.specs.Complete.{IsOrdered, IsThere, with_output};
 ghost use Rattle.law_runs.specs.Detour.{answer_unscheduled};
+ghost use Rattle.law_runs.specs.WholeItems.{AreWholeItems};
 
 /// The lines that are written for an object without a fault are its listing, and nothing else is done.
 /// Where the bytes have a fault of their own, or the trie has one, that is the outcome, whatever the
@@ -50,6 +52,14 @@ pub fn what_is_written_for_an_object_is_its_listing()
     ensures trie { (bytes : List ℕ) (object : Object) (fault : StabFault) → object_of bytes ≡ Ok object →
         trie_answer object.tail.trie ≡ Err fault → (typed bytes).1 ≡ unread_trie object.tail.place fault }
     ensures long { (bytes : List ℕ) → limit < length bytes → (typed bytes).0 ≡ [] }
+{}
+
+/// Where an object is not listed whole, the lines of its whole items are written, those before the fault, each by the
+/// table of lines; and no line of a trie.
+#[tactic(auto, using(crate::proofs::FaultyListings::whole_items_listed))]
+pub fn whole_items_before_a_fault_are_listed()
+    ensures { (bytes : List ℕ) → AreBytes bytes → length bytes ≤ limit → (typed bytes).1 ≢ Outcome.Done 0 →
+        (items : List Item) × AreWholeItems bytes items × AreLines items (concat (typed bytes).0) }
 {}
 
 /// What is loaded is listed. A fault of loading is that of listing, unless it is one of what the items mean:

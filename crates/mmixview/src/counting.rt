@@ -1,10 +1,10 @@
 //! A source that is run and counted.
 
-use crate::sheet::sheet;
+use crate::sheet::as_value;
 use crate::showing::json_line;
 use crate::{OUT_OF_MEMORY, told};
 use mx_begin::arguments;
-use mx_count::{CountedLines, LineSheet, count_file, count_lines};
+use mx_count::{CountedLines, count_file, count_lines};
 use mx_files::write_line;
 use mx_outcome::Outcome;
 use mx_real::RealHost;
@@ -30,12 +30,12 @@ pub fn is_count(all: &[String]) -> bool {
     }
 }
 
-/// How many words behind the command are `--json`, in front of all others.
-fn json_words(all: &[String]) -> usize {
-    all.iter()
-        .skip(2)
-        .take_while(|word| word.as_str() == "--json")
-        .count()
+/// Whether `--json` stands behind the command, in front of all other words.
+fn is_json(all: &[String]) -> bool {
+    match all {
+        [_program, _command, word, ..] => word.as_str() == "--json",
+        _ => false,
+    }
 }
 
 /// The words with which `mmixware run` does the same run: so many words behind the command are left out.
@@ -48,14 +48,29 @@ fn run_words(alloc: Global, all: &[String], left_out: usize) -> Result<Vec<Strin
     Ok(words)
 }
 
-/// The first option in front of the file that `mmixware run` has and `count` has not.
-fn other_option(words: &[String], order: &Order) -> Option<usize> {
-    for (at, word) in words.iter().enumerate() {
-        if at < order.file && matches!(word.as_str(), "-i" | "--dump" | "--report" | "--last") {
-            return Some(at);
+/// The place of the first option in front of the file that `mmixware run` has and `count` has not.
+fn other_option(words: &[String]) -> Option<usize> {
+    let mut is_value = false;
+    for (at, word) in words.iter().enumerate().skip(1) {
+        if is_value {
+            is_value = false;
+            continue;
+        }
+        match word.as_str() {
+            "--ring" | "--steps" => is_value = true,
+            "-i" | "--dump" | "--report" | "--last" => return Some(at),
+            _ => return None,
         }
     }
     None
+}
+
+/// The first fault of words that are no order of a run: an option that `count` has not is unknown to it, whatever follows.
+fn first_fault(fault: WordsFault, unknown: Option<usize>) -> WordsFault {
+    match unknown {
+        Some(word) if word <= fault.word => WordsFault { kind: 3, word },
+        _ => fault,
+    }
 }
 
 /// An outcome without a sheet.
@@ -74,9 +89,12 @@ fn misordered(fault: WordsFault, left_out: usize) -> Report {
     }))
 }
 
-/// The sheet as a line of JSON, at the beginning of a line.
-fn sheet_line(alloc: Global, counted: &LineSheet) -> Result<Bytes, NoMemory> {
-    let line = json_line(alloc, sheet(alloc, counted))?;
+/// What was counted as a line of JSON. It stands at the beginning of a line, also behind the output of a program.
+fn line_of_json(alloc: Global, counted: &CountedLines) -> Result<Bytes, NoMemory> {
+    let line = json_line(alloc, as_value(alloc, counted))?;
+    if counted.sheet.is_none() {
+        return Ok(line);
+    }
     let mut text = Bytes::copy(alloc, b"\n")?;
     text.extend(line.as_slice())?;
     Ok(text)
@@ -84,10 +102,7 @@ fn sheet_line(alloc: Global, counted: &LineSheet) -> Result<Bytes, NoMemory> {
 
 /// The report of what was counted, as JSON.
 fn as_json(alloc: Global, counted: CountedLines) -> Report {
-    let Some(lines) = &counted.sheet else {
-        return unreported(counted.outcome);
-    };
-    match sheet_line(alloc, lines) {
+    match line_of_json(alloc, &counted) {
         Ok(text) => Report {
             outcome: counted.outcome,
             sheet: Some(text),
@@ -120,11 +135,12 @@ fn run_report(
 
 /// Runs and counts what the words order, where so many words were left out: then as JSON.
 fn counted(alloc: Global, host: &mut RealHost, words: &[String], left_out: usize) -> Report {
+    let unknown = other_option(words);
     let order = match read(words) {
         Ok(order) => order,
-        Err(fault) => return misordered(fault, left_out),
+        Err(fault) => return misordered(first_fault(fault, unknown), left_out),
     };
-    if let Some(word) = other_option(words, &order) {
+    if let Some(word) = unknown {
         return misordered(WordsFault { kind: 3, word }, left_out);
     }
     match arguments(alloc, words, &order) {
@@ -145,7 +161,7 @@ pub fn count(rt: HostRuntime, alloc: Global, all: &[String]) -> u8 {
     let Some(mut host) = RealHost::new(rt) else {
         return OUT_OF_MEMORY;
     };
-    let left_out = json_words(all);
+    let left_out = usize::from(is_json(all));
     let Ok(words) = run_words(alloc, all, left_out) else {
         return OUT_OF_MEMORY;
     };

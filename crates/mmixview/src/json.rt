@@ -1,8 +1,8 @@
 //! What is shown of a source, as JSON.
 
-use mx_asm::Refused;
+use mx_files::Refusal;
 use mx_outcome::fault_name;
-use mx_text::{octa_hex, tetra_hex};
+use mx_text::{byte_hex, octa_hex, tetra_hex};
 use mx_view::{Cell, Listed, ListedLine, ToldFault};
 use mx_word::{Symbol, Value as SymbolValue};
 use serde_json::{Value, json};
@@ -11,6 +11,27 @@ use std::alloc::{AllocError, Global};
 /// Bytes as a text, with U+FFFD where they are no UTF-8.
 pub fn text(alloc: Global, bytes: &[u8]) -> Result<Value, AllocError> {
     Ok(Value::String(String::from_utf8_lossy(alloc, bytes)?))
+}
+
+/// Bytes as hexadecimal digits.
+fn digits(alloc: Global, bytes: &[u8]) -> Result<Value, AllocError> {
+    let mut digits = Vec::new(alloc);
+    for b in bytes {
+        digits.extend_from_slice(&byte_hex(*b))?;
+    }
+    text(alloc, digits.as_slice())
+}
+
+/// An object that has these bytes as a text; where they are no UTF-8, it has them as `bytes`, too.
+pub fn with_bytes(alloc: Global, object: Value, bytes: &[u8]) -> Result<Value, AllocError> {
+    let mut object = object;
+    if str::from_utf8(bytes).is_err() {
+        let digits = digits(alloc, bytes)?;
+        if let Some(members) = object.as_object_mut() {
+            members.insert(String::from_str(alloc, "bytes")?, digits)?;
+        }
+    }
+    Ok(object)
 }
 
 /// A number, or nothing.
@@ -45,7 +66,8 @@ fn cells(alloc: Global, cells: &[Cell]) -> Result<Value, AllocError> {
 fn line(alloc: Global, line: &ListedLine) -> Result<Value, AllocError> {
     let written = text(alloc, line.text.as_slice())?;
     let loaded = cells(alloc, line.cells.as_slice())?;
-    json!(in alloc; {"line": line.number, "text": written, "cells": loaded})
+    let object = json!(in alloc; {"line": line.number, "text": written, "cells": loaded})?;
+    with_bytes(alloc, object, line.text.as_slice())
 }
 
 fn lines(alloc: Global, lines: &[ListedLine]) -> Result<Value, AllocError> {
@@ -67,7 +89,8 @@ fn meaning(alloc: Global, meaning: SymbolValue) -> Result<Value, AllocError> {
 fn symbol(alloc: Global, symbol: &Symbol) -> Result<Value, AllocError> {
     let name = text(alloc, symbol.name.as_slice())?;
     let value = meaning(alloc, symbol.value)?;
-    json!(in alloc; {"name": name, "value": value, "serial": symbol.serial})
+    let object = json!(in alloc; {"name": name, "value": value, "serial": symbol.serial})?;
+    with_bytes(alloc, object, symbol.name.as_slice())
 }
 
 fn symbols(alloc: Global, symbols: &[Symbol]) -> Result<Value, AllocError> {
@@ -79,7 +102,7 @@ fn symbols(alloc: Global, symbols: &[Symbol]) -> Result<Value, AllocError> {
 }
 
 /// The line of a reference that waited, if a refusal has one.
-fn from_line(refused: Refused) -> Value {
+fn from_line(refused: Refusal) -> Value {
     if refused.from_line == 0 {
         Value::Null
     } else {
@@ -88,35 +111,34 @@ fn from_line(refused: Refused) -> Value {
 }
 
 /// Why a source is refused, if it is.
-fn refusal(alloc: Global, refused: Option<Refused>) -> Result<Value, AllocError> {
+fn refusal(alloc: Global, refused: Option<Refusal>) -> Result<Value, AllocError> {
     let Some(refused) = refused else {
         return Ok(Value::Null);
     };
-    let fault = refused.fault.number();
     json!(in alloc; {
         "line": refused.line,
-        "fault": fault,
-        "name": fault_name(fault),
+        "fault": refused.fault,
+        "name": fault_name(refused.fault),
         "from_line": from_line(refused)
     })
 }
 
-/// A fault with the text of its line, and the column of its caret, which is counted from 1.
+/// A fault with the text of its line, if it names one, and the column of its caret, which is counted from 1.
 fn fault(alloc: Global, told: &ToldFault) -> Result<Value, AllocError> {
-    let fault = told.refused.fault.number();
-    let written = match &told.line {
-        Some(line) => text(alloc, line.as_slice())?,
-        None => Value::Null,
+    let (written, bytes) = match &told.line {
+        Some(line) => (text(alloc, line.as_slice())?, line.as_slice()),
+        None => (Value::Null, b"".as_slice()),
     };
     let caret = number(told.caret.map(|place| (place as u64).saturating_add(1)));
-    json!(in alloc; {
+    let object = json!(in alloc; {
         "line": told.refused.line,
-        "fault": fault,
-        "name": fault_name(fault),
+        "fault": told.refused.fault,
+        "name": fault_name(told.refused.fault),
         "from_line": from_line(told.refused),
         "text": written,
         "caret": caret
-    })
+    })?;
+    with_bytes(alloc, object, bytes)
 }
 
 /// The listing of a source.

@@ -8,13 +8,14 @@ mod showing;
 mod words;
 
 use crate::counting::{count, is_count};
-use crate::showing::{View, show};
+use crate::showing::{Answer, View, show};
 use crate::words::command;
 use clap::error::ErrorKind;
 use clap::{ArgMatches, Error};
 use mx_host::Host;
 use mx_outcome::{Outcome, message};
 use mx_real::{RealHost, StandIns};
+use mx_text::octa_hex;
 use std::alloc::Global;
 use std::env;
 use std::io::ErrorKind as Fault;
@@ -30,12 +31,16 @@ pub(crate) const OUT_OF_MEMORY: u8 = 71;
 /// The slot of standard error.
 const ERRORS: u16 = 260;
 
-/// An address: `#` and hexadecimal digits, or decimal digits.
+/// An address: `#` and hexadecimal digits, or decimal digits. It has no sign.
 fn address(text: &str) -> Option<u64> {
-    match text.strip_prefix('#') {
-        Some(digits) => u64::from_str_radix(digits, 16).ok(),
-        None => text.parse::<u64>().ok(),
+    let (digits, base) = match text.strip_prefix('#') {
+        Some(digits) => (digits, 16),
+        None => (text, 10),
+    };
+    if digits.starts_with('+') {
+        return None;
     }
+    u64::from_str_radix(digits, base).ok()
 }
 
 /// Tells an outcome on standard error, and gives its status.
@@ -66,6 +71,13 @@ fn place(given: &ArgMatches) -> Option<u64> {
     }
 }
 
+/// Says on standard error that no line has an address.
+fn tell_none(host: &mut RealHost, place: u64) {
+    let _ = host.write_slot(ERRORS, b"no line has the address ");
+    let _ = host.write_slot(ERRORS, &octa_hex(place));
+    let _ = host.write_slot(ERRORS, b"\n");
+}
+
 /// Does what the words order, and gives the status.
 fn carry_out(rt: HostRuntime, alloc: Global, matches: &ArgMatches) -> u8 {
     let Some((name, given)) = matches.subcommand() else {
@@ -86,8 +98,12 @@ fn carry_out(rt: HostRuntime, alloc: Global, matches: &ArgMatches) -> u8 {
     };
     let view = View::of(name, place);
     match show(alloc, &mut host, view, given.get_flag("JSON"), file) {
-        Ok(true) => 0,
-        Ok(false) => REFUSED,
+        Ok(Answer::Accepted) => 0,
+        Ok(Answer::NoLine) => {
+            tell_none(&mut host, place);
+            0
+        }
+        Ok(Answer::Refused) => REFUSED,
         Err(outcome) => told(alloc, &mut host, outcome),
     }
 }

@@ -1,7 +1,7 @@
 //! Views of a source, as texts and as JSON.
 
 use crate::json;
-use mx_files::{SOURCE_PIECES, read_file, write_line};
+use mx_files::{Refusal, SOURCE_PIECES, read_file, write_line};
 use mx_outcome::Outcome;
 use mx_real::RealHost;
 use mx_view::{Wanted, faults, lines_holding, list_source, listing, tell_faults};
@@ -28,11 +28,20 @@ impl View {
     }
 }
 
-/// What is written, and whether the source is accepted.
+/// What a view comes to: the source is accepted, no line of it has the address that was asked for, or it is refused.
+#[derive(Clone, Copy)]
+pub enum Answer {
+    Accepted,
+    NoLine,
+    Refused,
+}
+
+/// What is written, whether it shows a line, and why a run of the source is refused, if it is.
 #[derive(Drop)]
 struct Shown {
     text: Bytes,
-    accepted: bool,
+    found: bool,
+    refused: Option<Refusal>,
 }
 
 /// A line of JSON.
@@ -51,8 +60,9 @@ fn as_text(alloc: Global, view: View, source: &[u8]) -> Result<Shown, NoMemory> 
         View::Where(place) => lines_holding(alloc, place, source)?,
     };
     Ok(Shown {
+        found: !sheet.text.as_slice().is_empty(),
         text: sheet.text,
-        accepted: sheet.accepted,
+        refused: sheet.refused,
     })
 }
 
@@ -62,7 +72,8 @@ fn list_as_json(alloc: Global, source: &[u8]) -> Result<Shown, NoMemory> {
     let text = json_line(alloc, json::listing(alloc, &listed))?;
     Ok(Shown {
         text,
-        accepted: listed.refused.is_none(),
+        found: !listed.lines.as_slice().is_empty(),
+        refused: listed.refused,
     })
 }
 
@@ -72,7 +83,8 @@ fn faults_as_json(alloc: Global, source: &[u8]) -> Result<Shown, NoMemory> {
     let text = json_line(alloc, json::faults(alloc, told.as_slice()))?;
     Ok(Shown {
         text,
-        accepted: told.as_slice().is_empty(),
+        found: !told.as_slice().is_empty(),
+        refused: told.as_slice().first().map(|fault| fault.refused),
     })
 }
 
@@ -82,7 +94,8 @@ fn lines_as_json(alloc: Global, place: u64, source: &[u8]) -> Result<Shown, NoMe
     let text = json_line(alloc, json::lines_holding(alloc, place, &listed))?;
     Ok(Shown {
         text,
-        accepted: listed.refused.is_none(),
+        found: !listed.lines.as_slice().is_empty(),
+        refused: listed.refused,
     })
 }
 
@@ -95,14 +108,32 @@ fn as_json(alloc: Global, view: View, source: &[u8]) -> Result<Shown, NoMemory> 
     }
 }
 
-/// Reads a source, and writes what is shown of it. Whether the source is accepted.
+/// What a view of a source comes to where nothing refuses it.
+fn accepted(view: View, found: bool) -> Answer {
+    match view {
+        View::Where(_) if !found => Answer::NoLine,
+        View::List | View::Check | View::Where(_) => Answer::Accepted,
+    }
+}
+
+/// What a view of a source that is refused comes to: the faults are what `check` was asked for, so that no message
+/// follows them.
+fn refused(view: View, refusal: Refusal) -> Result<Answer, Outcome> {
+    match view {
+        View::Check => Ok(Answer::Refused),
+        View::List | View::Where(_) => Err(refusal.outcome()),
+    }
+}
+
+/// Reads a source, and writes what is shown of it. Where it is refused, its refusal is the outcome of the views that do
+/// not write it.
 pub fn show(
     alloc: Global,
     host: &mut RealHost,
     view: View,
     is_json: bool,
     file: &str,
-) -> Result<bool, Outcome> {
+) -> Result<Answer, Outcome> {
     let source = read_file(alloc, host, file.as_bytes(), SOURCE_PIECES)?;
     let shown = if is_json {
         as_json(alloc, view, source.as_slice())
@@ -113,5 +144,8 @@ pub fn show(
         return Err(Outcome::OutOfMemory);
     };
     write_line(host, shown.text.as_slice())?;
-    Ok(shown.accepted)
+    match shown.refused {
+        None => Ok(accepted(view, shown.found)),
+        Some(refusal) => refused(view, refusal),
+    }
 }

@@ -1,5 +1,5 @@
 -- What notes stand for, and what calls of `back` come to.
-use Rattle.std.proofs.Common.{◌≡◌, ℕ, zero, suc, ◌-◌, ◌≤◌, List, [], ◌∷◌, Some, length, take, drop, slice_get, arith, refl, sym, subst, ◌∙◌, ap}
+use Rattle.std.proofs.Common.{◌≡◌, ℕ, zero, suc, ◌-◌, ◌≤◌, List, [], ◌∷◌, None, Some, length, take, drop, slice_get, arith, refl, sym, subst, ◌∙◌, ap}
 use Rattle.circular_buffer.specs.Buffer.{Buffer, buffer}
 use Rattle.std.proofs.lemmas.List.{length-drop}
 use Rattle.mx_core.specs.State.{State}
@@ -70,6 +70,13 @@ pub popped-rest : (b d : Buffer StateWas) (notes : List StateWas) (n : StateWas)
     AreNotesOf d.items t
 popped-rest b d notes n s t e f g h a =
     subst (λ u. AreNotesOf d.items u) (sym h) (subst (λ ns. AreNotesOf ns (state_undone n s)) (sym (ap (λ (x : Buffer StateWas). x.items) g ∙ ap (drop 1) e)) (rest-fits notes n s (f ∙ ap (λ ns. slice_get ns 0) e) a))
+
+none-left : (notes : List StateWas) → None ≡ slice_get notes 0 → drop 1 notes ≡ notes
+none-left [] e = refl
+none-left (n ∷ notes) e = absurd (cc)
+
+pub none-popped : (b d : Buffer StateWas) (notes : List StateWas) → b.items ≡ notes → None ≡ slice_get b.items 0 → d ≡ buffer (drop 1 b.items) b.capacity → d.items ≡ notes
+none-popped b d notes e f g = ap (λ (x : Buffer StateWas). x.items) g ∙ none-left b.items f ∙ e
 
 -- CALLS OF BACK
 

@@ -1,5 +1,5 @@
 -- A run whose last steps are kept, step by step.
-use Rattle.std.proofs.Common.{◌≡◌, ◌≢◌, ◌<◌, ◌≤◌, ◌+◌, ◌-◌, ℕ, Bool, true, false, List, [], Ok, Err, inl, inr, arith, refl, sym, subst, ◌∙◌, ap}
+use Rattle.std.proofs.Common.{◌≡◌, ◌≢◌, ◌<◌, ◌≤◌, ◌+◌, ◌-◌, ℕ, zero, suc, Bool, true, false, List, [], Ok, Err, inl, inr, arith, refl, sym, subst, ◌∙◌, ap}
 use Rattle.std.specs.Prelude.{Result, ◌⊎◌}
 use Rattle.mx_host.specs.HostModel.{HostModel}
 use Rattle.mx_plan.specs.Plan.{Comes, Stops}
@@ -16,20 +16,20 @@ use Rattle.mx_core.specs.declared.step.Step.TheVariants as made
 use Rattle.mx_code.specs.declared.trace.Trace.{Trace}
 use Rattle.mx_run.specs.RunPlans.{RunWorld, running, beside_world, turn_plan, step_plan, run_plan}
 use Rattle.mx_run.specs.AccompaniedRuns.{AfterSteps, ComesAccompanied}
-use Rattle.mx_run.specs.Runs.{IsLater, ended, no_flags}
+use Rattle.mx_run.specs.Runs.{Ended, IsLater, ended, no_flags, as_ended, after_turn, run}
 use Rattle.mx_run.specs.Turns.{Answered, Turn, went_on, halts, stops, turn, turn_answer, may_change}
 use Rattle.mx_run.specs.declared.end.End.{End}
 use Rattle.mx_run.specs.declared.end.End.TheVariants as end
 use Rattle.mx_run.specs.declared.turn_answer.TurnAnswer.{TurnAnswer}
 use Rattle.mx_run.specs.declared.turn_answer.TurnAnswer.TheVariants as answer
 use Rattle.mx_run.proofs.AccompaniedRuns.{Rest, Made, ended-so}
-use Rattle.mx_run.proofs.FreeRuns.{trace-free, went-turn, went-free, halted-step, stopped-step, lacking-step}
+use Rattle.mx_run.proofs.FreeRuns.{trace-free, went-turn, went-free, halted-step, stopped-step, lacking-step, run-went}
 use Rattle.mx_run.proofs.Later.{stepped-later}
 use Rattle.mx_run.proofs.PlanEnds.{left-after, run_step, turn_ended, step-end, step-answer}
 use Rattle.mx_run.proofs.Runners.{turn-told}
 use Rattle.mx_run.proofs.TurnAnswers.{call-told, went-comes, stopped-comes, called-comes}
 use Rattle.mx_back.specs.History.{AreNotesOf, Turned, stepped, kept_turn, states_kept, states_before}
-use Rattle.mx_back.specs.KeptRuns.{ComesStep, ended_at, notes_left, kind_by, trap_kind, turn_kind, kind_at, turns_after, turns_of}
+use Rattle.mx_back.specs.KeptRuns.{ComesStep, CallsTrap, LeavesLacking, FrontKept, ended_at, notes_left, kind_by, trap_kind, turn_kind, kind_at, turns_after, turns_of}
 
 -- ---- one step
 
@@ -145,6 +145,25 @@ usual-later s t e = went-trace (IsLater 1 s t) s t (step s) e (λ trace f. stepp
 pub usual-keeps : (s t : State) (m : HostModel) (now kept : List State) → (advance.Went, t) ≡ advanced s (step s) → now ≡ kept_turn stepped s kept → now ≡ kept_turn (kind_at s m) s kept
 usual-keeps s t m now kept e h = went-trace (now ≡ kept_turn (kind_at s m) s kept) s t (step s) e (λ trace f. went-keeps s t m trace now kept f h)
 
+-- ---- where memory was lacking
+
+ended-lacks : (pc : ℕ) (r : TurnAnswer) → ended_at pc r ≡ Err end.OutOfMemory → r ≡ answer.OutOfMemory
+ended-lacks pc (answer.Went trace) e = absurd (cc)
+ended-lacks pc (answer.Halted status) e = absurd (cc)
+ended-lacks pc (answer.Stopped reason) e = absurd (cc)
+ended-lacks pc answer.OutOfMemory e = refl
+
+pub unnoted-lacks : (s t : State) (m : HostModel) (kept now : List State) → t ≡ s → now ≡ kept → LeavesLacking (s, m) (t, m) kept now
+unnoted-lacks s t m kept now e k = inl (ap (λ (u : State). (u, m)) e, k)
+
+pub call-lacks : (s t u : State) (m n : HostModel) (pc : ℕ) (call : TrapCall) (r : TurnAnswer) (x : Result (Unit {0}) End) (kept mid now : List State) → (made.Trap call, t) ≡ step_answer s (step s) → Comes running (t, m) (u, n) answer.OutOfMemory r turn_plan →
+    now ≡ kept_turn (trap_kind r) t mid → x ≡ ended_at pc r → x ≡ Err end.OutOfMemory → LeavesLacking (s, m) (u, n) kept now
+call-lacks s t u m n pc call r x kept mid now e c h is o =
+    let lacks : r ≡ answer.OutOfMemory = ended-lacks pc r (sym is ∙ o) in
+    let same : t ≡ s = called-state s t call (step s) e in
+    let called : step s ≡ calls call = ap step (sym same) ∙ call-told s t call e in
+    inr (subst CallsTrap (sym called) tt, subst (λ v. Stops running (u, n) turn_plan (v, m)) same (c.stopping lacks), h ∙ ap (λ a. kept_turn (trap_kind a) t mid) lacks)
+
 -- the turns behind a step
 on-by : (more : State → HostModel → List (Turned × State)) (pc : ℕ) (u : Unit {0}) (t : State) (n : HostModel) (x : Turn) → (Ok u, t, n) ≡ turn_ended no_flags pc (turn_answer x) → turns_after more x ≡ more t n
 on-by more pc u t n (went_on v k trace) e = ap (λ (a : Answered (Result (Unit {0}) End)). more a.1 a.2) (sym e)
@@ -181,3 +200,46 @@ ended-kept-so n i why s t m k before now whole l ne c e h =
 pub spent-kept-so : (n i : ℕ) (s : State) (m : HostModel) (now whole : List State) → n ≤ i → states_kept (turns_of (n - i) s m) now ≡ whole → now ≡ whole
 unfolding turns_of states_kept
 spent-kept-so n i s m now whole l h = let none : n - i ≡ 0 = omega arith in sym (ap (λ j. states_kept (turns_of j s m) now) none) ∙ h
+
+-- ---- what some turns keep, and one more
+
+none-after : (x : Turn) → turns_after (turns_of zero) x ≡ []
+unfolding turns_of
+none-after (went_on s m trace) = refl
+none-after (halts status s m) = refl
+none-after (stops reason s m) = refl
+
+none-made : (s t : State) (m n : HostModel) → run zero no_flags false s m ≡ ended end.Spent t n → ended end.Spent s m ≡ ended end.Spent t n
+unfolding run
+none-made s t m n h = h
+
+-- such turns behind one
+abbrev KeepsMore : ℕ → State → HostModel → State → HostModel → List State → Type 0
+KeepsMore i s m t n kept = run i no_flags false s m ≡ ended end.Spent t n → states_kept (turns_of (suc i) s m) kept ≡ kept_turn (kind_at t n) t (states_kept (turns_of i s m) kept)
+
+more-by : (i : ℕ) (s t : State) (m n : HostModel) (kept : List State) (x : Turn) → turn s m ≡ x → ((u : State) (h : HostModel) → KeepsMore i u h t n kept) → run (suc i) no_flags false s m ≡ ended end.Spent t n →
+    states_kept (turns_after (turns_of (suc i)) x) kept ≡ kept_turn (kind_at t n) t (states_kept (turns_after (turns_of i) x) kept)
+unfolding run
+more-by i s t m n kept (went_on u h trace) e more r = more u h (sym (run-went i s u m h trace e) ∙ r)
+more-by i s t m n kept (halts status u h) e more r = let wrong : end.Halted status ≡ end.Spent = ap (λ (x : Ended). x.end) (sym (ap (after_turn as_ended (run i no_flags false) no_flags s.pc) e) ∙ r) in absurd (cc)
+more-by i s t m n kept (stops reason u h) e more r = let wrong : end.Stopped s.pc reason ≡ end.Spent = ap (λ (x : Ended). x.end) (sym (ap (after_turn as_ended (run i no_flags false) no_flags s.pc) e) ∙ r) in absurd (cc)
+
+kept-more : (i : ℕ) (s t : State) (m n : HostModel) (kept : List State) → KeepsMore i s m t n kept
+unfolding turns_of states_kept
+kept-more zero s t m n kept h =
+    let same : ended end.Spent s m ≡ ended end.Spent t n = none-made s t m n h in
+    ap (λ ts. states_kept ts (kept_turn (kind_at s m) s kept)) (none-after (turn s m)) ∙ ap (λ (x : Ended). kept_turn (kind_at x.state x.host) x.state kept) same
+kept-more (suc i) s t m n kept h = more-by i s t m n (kept_turn (kind_at s m) s kept) (turn s m) refl (λ u g. kept-more i u t g n (kept_turn (kind_at s m) s kept)) h
+
+pub none-kept : (s : State) (m : HostModel) (kept : List State) → kept ≡ states_kept (turns_of 0 s m) kept
+unfolding turns_of states_kept
+none-kept s m kept = refl
+
+pub went-turns : (i : ℕ) (start v : RunWorld) (before now earlier : List State) → Made i v start → now ≡ kept_turn (kind_at v.0 v.1) v.0 before → before ≡ states_kept (turns_of i start.0 start.1) earlier →
+    now ≡ states_kept (turns_of (i + 1) start.0 start.1) earlier
+went-turns i start v before now earlier h e b =
+    let next : suc i ≡ i + 1 = omega arith in
+    e ∙ ap (kept_turn (kind_at v.0 v.1) v.0) b ∙ sym (kept-more i start.0 v.0 start.1 v.1 earlier h) ∙ ap (λ j. states_kept (turns_of j start.0 start.1) earlier) next
+
+pub lacking-turns : (n i : ℕ) (start v w : RunWorld) (before now earlier : List State) → i < n → Made i v start → before ≡ states_kept (turns_of i start.0 start.1) earlier → LeavesLacking v w before now → FrontKept n start w earlier now
+lacking-turns n i start v w before now earlier l h b e = record { made = i; few = l; reached = v; turns = h; left = subst (λ ks. LeavesLacking v w ks now) b e }

@@ -1,5 +1,5 @@
 -- The states before the last steps, the newest first: those that notes stand for, and those that a run keeps.
-use Rattle.std.specs.Prelude.{ℕ, suc, List, [], ◌∷◌, take}
+use Rattle.std.specs.Prelude.{ℕ, ◌≡◌, suc, List, [], ◌∷◌, take}
 use Rattle.mx_core.specs.State.{State}
 use Rattle.mx_core.specs.Undoing.{StateWas, FitsState, state_undone}
 use Rattle.mx_core.specs.declared.step.Step.{Step}
@@ -33,6 +33,11 @@ kept_with s kept = take 1024 (s ∷ kept)
 abbrev pub kept_after : Step → State → List State → List State
 kept_after (Went trace) s kept = kept_with s kept
 kept_after answer s kept = kept
+
+-- the notes after a step: where it did not go on, they are those that were
+abbrev pub KeepsNotes : Step → List StateWas → List StateWas → Type 0
+KeepsNotes (Went trace) old new = Unit {0}
+KeepsNotes answer old new = new ≡ old
 
 -- BACK
 

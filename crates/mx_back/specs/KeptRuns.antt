@@ -1,14 +1,15 @@
 -- The words of clauses over a run whose last steps are kept. `old` and `new` are what the host told before and after, `before`
 -- and `after` the states of the machine.
-use Rattle.std.specs.Prelude.{ℕ, ◌≡◌, ◌≢◌, ◌⊎◌, IsTrue, Bool, false, ◌==◌, zero, suc, List, [], ◌∷◌, if◌then◌else◌, Option, Result, Ok, Err}
+use Rattle.std.specs.Prelude.{ℕ, ◌≡◌, ◌≢◌, ◌<◌, ◌⊎◌, IsTrue, Bool, false, ◌==◌, zero, suc, List, [], ◌∷◌, if◌then◌else◌, Option, Result, Ok, Err}
 use Rattle.mx_host.specs.HostModel.{HostModel, tells, contents}
 use Rattle.mx_host.specs.Keeping.{Keeps}
 use Rattle.mx_plan.specs.Plan.{Stops, end_of}
 use Rattle.mx_core.specs.State.{State}
 use Rattle.mx_core.specs.Step.{Stepped, went, calls, stopped, step}
 use Rattle.mx_core.specs.Undoing.{StateWas}
-use Rattle.mx_run.specs.RunPlans.{RunWorld, running, step_plan}
-use Rattle.mx_run.specs.Runs.{IsLater, no_flags}
+use Rattle.mx_run.specs.RunPlans.{RunWorld, running, step_plan, turn_plan}
+use Rattle.mx_run.specs.Runs.{IsLater, no_flags, run}
+use Rattle.mx_run.specs.Runs as run_end
 use Rattle.mx_run.specs.WildRuns.{HasWindow}
 use Rattle.mx_run.specs.Turns.{Turn, went_on, halts, stops, turn, turn_answer}
 use Rattle.mx_run.specs.declared.end.End.{End}
@@ -52,6 +53,33 @@ KeepsRun old before after n result earlier later =
     IsTrue (tells old) → result ≢ end.OutOfMemory →
     states_before later after ≡ states_kept (turns_of n before (contents old)) (states_before earlier before)
 
+-- whether a step calls a file trap
+abbrev pub CallsTrap : Stepped → Type 0
+CallsTrap (calls call) = Unit {0}
+CallsTrap (went t trace) = ⊥
+CallsTrap (stopped reason) = ⊥
+
+-- What a turn without memory leaves of the machine, the host and the kept states: a note or a store lacked it, and they are as
+-- they were; or a file trap did, which may have changed the machine, and nothing is kept.
+abbrev pub LeavesLacking : RunWorld → RunWorld → List State → List State → Type 0
+LeavesLacking reached now before kept =
+    ((now ≡ reached) × (kept ≡ before)) ⊎ (CallsTrap (step reached.0) × Stops running now turn_plan reached × (kept ≡ []))
+
+-- Out of memory so many turns of a run were made, fewer than n, and the next one lacked it: the machine, the host and the kept
+-- states are those after these turns, but for what that one leaves.
+pub record FrontKept (n : ℕ) (start now : RunWorld) (earlier kept : List State) : Type 0 where
+  pub made : ℕ
+  pub few : made < n
+  pub reached : RunWorld
+  pub turns : run made no_flags false start.0 start.1 ≡ run_end.ended end.Spent reached.0 reached.1
+  pub left : LeavesLacking reached now (states_kept (turns_of made start.0 start.1) earlier) kept
+
+-- so it is over a host that tells its contents, of the states that the notes stand for
+abbrev pub KeepsFront : Option HostModel → Option HostModel → State → State → ℕ → End → List StateWas → List StateWas → Type 0
+KeepsFront old new before after n result earlier later =
+    IsTrue (tells old) → result ≡ end.OutOfMemory →
+    FrontKept n (before, contents old) (after, contents new) (states_before earlier before) (states_before later after)
+
 -- ---- on the way
 
 -- so it is of a step
@@ -59,6 +87,11 @@ abbrev pub KeepsTurn : Option HostModel → State → State → Result (Unit {0}
 KeepsTurn old before after result earlier later =
     IsTrue (tells old) → result ≢ Err end.OutOfMemory →
     states_before later after ≡ kept_turn (kind_at before (contents old)) before (states_before earlier before)
+
+abbrev pub KeepsLacking : Option HostModel → Option HostModel → State → State → Result (Unit {0}) End → List StateWas → List StateWas → Type 0
+KeepsLacking old new before after result earlier later =
+    IsTrue (tells old) → result ≡ Err end.OutOfMemory →
+    LeavesLacking (before, contents old) (after, contents new) (states_before earlier before) (states_before later after)
 
 -- what comes of one step of it: where a note lacks memory, nothing changed
 pub record ComesStep (old new : RunWorld) (result : Result (Unit {0}) End) : Type 0 where
@@ -77,6 +110,7 @@ pub record TakesKeptStep (old new : Option HostModel) (faults_before faults_afte
   pub keeps : Keeps old new faults_before faults_after
   pub fits : AreNotesOf later after
   pub kept : KeepsTurn old before after result earlier later
+  pub lacking : KeepsLacking old new before after result earlier later
 
 -- whether the run goes on behind a turn from an address, or its end
 abbrev pub ended_at : ℕ → TurnAnswer → Result (Unit {0}) End

@@ -2,7 +2,7 @@
 
 ghost use Rattle.std.specs.Prelude.{◌≡◌, ◌≢◌, ◌↔◌, ◌≤◌, ◌∷◌, [], false, Err, IfOk, IsTrue, OnErr, OnOk, length};
 ghost use Rattle.mx_back.specs.History as spec;
-ghost use Rattle.mx_back.specs.History.{AreNotesOf, states_before};
+ghost use Rattle.mx_back.specs.History.{AreNotesOf, KeepsNotes, states_before};
 ghost use Rattle.mx_core.specs.Kept.{state_of};
 ghost use Rattle.mx_core.specs.State.{State};
 ghost use Rattle.mx_core.specs.Step.{step};
@@ -22,7 +22,6 @@ const MOST: usize = 1024;
 /// the states before these steps.
 #[derive(Drop)]
 pub struct Back {
-    alloc: Global,
     notes: HeapCircularBuffer<Note>,
 }
 
@@ -47,7 +46,7 @@ impl Back {
         ensures fits { IfOk result (λ b. (s : State) → AreNotesOf b s) }
     {
         match HeapCircularBuffer::with_capacity(alloc, MOST) {
-            Ok(notes) => Ok(Back { alloc, notes }),
+            Ok(notes) => Ok(Back { notes }),
             Err(_) => Err(NoMemory),
         }
     }
@@ -69,9 +68,10 @@ impl Back {
         ensures memory { result ≡ Step.OutOfMemory → state_of m.new ≡ state_of m.old }
         ensures kept { states_before self.new (state_of m.new)
             ≡ spec.kept_after result (state_of m.old) (states_before self.old (state_of m.old)) }
+        ensures same { KeepsNotes result self.old self.new }
         ensures fits { AreNotesOf self.new (state_of m.new) }
     {
-        match m.step_noted(self.alloc) {
+        match m.step_noted() {
             Noted::Went(trace, note) => {
                 self.notes.push_front(note);
                 Step::Went(trace)
@@ -122,6 +122,7 @@ impl Back {
             ≡ state_of m.new ∷ states_before self.new (state_of m.new)) }
         ensures fault { result ≡ Err BackFault.NothingKept ↔ length self.old ≡ 0 }
         ensures err { OnErr result (state_of m.new ≡ state_of m.old) }
+        ensures same { OnErr result (self.new ≡ self.old) }
         ensures fits { AreNotesOf self.new (state_of m.new) }
     {
         let Some(note) = self.notes.pop_front() else {

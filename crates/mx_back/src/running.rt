@@ -8,7 +8,7 @@ ghost use Rattle.mx_run.specs.Runs.{no_flags};
 ghost use Rattle.mx_back.specs.History.{AreNotesOf};
 ghost use Rattle.mx_back.specs.KeptLists.{KeepsAsList};
 ghost use Rattle.mx_back.specs.KeptRuns as spec;
-ghost use Rattle.mx_back.specs.KeptRuns.{KeepsRun, TakesKeptStep};
+ghost use Rattle.mx_back.specs.KeptRuns.{KeepsFront, KeepsRun, TakesKeptStep};
 
 use crate::Back;
 use crate::trapping::trap_kept;
@@ -23,7 +23,8 @@ use std::alloc::Global;
 /// memory of the register stack.
 ///
 /// The notes change nothing: end, machine and host are those of the run alone. Out of memory, where a turn lacked it,
-/// they are as the run leaves them then; where a note lacked it, the steps up to there were made.
+/// they are as the run leaves them then; where a note lacked it, the steps up to there were made. What is kept is what
+/// the turns that were made keep, or nothing where a file trap lacked memory.
 #[tactic(auto, using(mx_run::proofs::Later::running))]
 pub fn run_kept<H: Host>(
     alloc: Global,
@@ -39,6 +40,8 @@ pub fn run_kept<H: Host>(
         (state_of machine.new) n no_flags false result }
     ensures fits { AreNotesOf back.new (state_of machine.new) }
     ensures kept { KeepsRun (H.told host.old) (state_of machine.old) (state_of machine.new) n result back.old back.new }
+    ensures front { KeepsFront (H.told host.old) (H.told host.new) (state_of machine.old) (state_of machine.new) n result
+        back.old back.new }
     ensures kept_listed { KeepsAsList (H.told host.old) (state_of machine.old) (state_of machine.new) n result back.old
         back.new }
 {

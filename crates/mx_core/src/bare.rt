@@ -14,7 +14,7 @@ use crate::Machine;
 use crate::bounds::know_bounds;
 use mx_mem::Memory;
 use mx_ring::{Ring, RingSize};
-use mx_word::NoMemory;
+use mx_word::{NoMemory, Sequence};
 use std::alloc::Global;
 
 impl Machine {
@@ -26,7 +26,7 @@ impl Machine {
     pub fn bare(
         alloc: Global,
         g: u8,
-        globals: &[u64],
+        globals: &Sequence<u64>,
         first: u64,
         second: u64,
         r: RingSize,
@@ -36,8 +36,10 @@ impl Machine {
         ensures { IfOk result (λ m.
             state_of m ≡ spec.bare g globals.now first second (windowed (window_at_start r))) }
     {
+        let globals = globals.as_slice();
         match bare_ring(alloc, g, globals, first, second, r) {
             Ok(ring) => Ok(Machine {
+                alloc,
                 pc: globals[255 - usize::from(g)] / 4 * 4,
                 ring,
                 memory: Memory::new(alloc),

@@ -17,11 +17,13 @@ use mx_code::Stop;
 use mx_mem::{MemFault, Memory, Part, with_part};
 use mx_ring::{AREA_END, Ring, RingFault};
 use mx_word::STACK_SEGMENT;
+use std::alloc::Global;
 use std::marker::Model;
 
 /// The machine between two instructions.
 #[derive(Drop)]
 pub struct Machine {
+    pub(crate) alloc: Global,
     pub(crate) pc: u64,
     pub(crate) ring: Ring,
     pub(crate) memory: Memory,

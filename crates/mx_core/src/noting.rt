@@ -84,19 +84,19 @@ pub enum Noted {
 
 impl Machine {
     /// One step, as `step` makes it, and a note by which it is taken back. It may take memory for the note.
-    pub fn step_noted(&mut self, alloc: Global) -> Noted
+    pub fn step_noted(&mut self) -> Noted
         ensures answer { step_of result ≢ Step.OutOfMemory →
             (step_of result, state_of self.new) ≡ step_answer (state_of self.old) (step (state_of self.old)) }
         ensures memory { step_of result ≡ Step.OutOfMemory → state_of self.new ≡ state_of self.old }
         ensures back { IfWent result (λ note. TakesBack note (state_of self.new) (state_of self.old)) }
     {
-        let noted = self.step_with_note(alloc);
+        let noted = self.step_with_note();
         self.keep_code();
         noted
     }
 
     /// One step and its note. The page of its instruction is not kept.
-    fn step_with_note(&mut self, alloc: Global) -> Noted
+    fn step_with_note(&mut self) -> Noted
         ensures answer { step_of result ≢ Step.OutOfMemory →
             (step_of result, state_of self.new) ≡ step_answer (state_of self.old) (step (state_of self.old)) }
         ensures memory { step_of result ≡ Step.OutOfMemory → state_of self.new ≡ state_of self.old }
@@ -109,12 +109,12 @@ impl Machine {
         let i = self.fetched(at);
         match i.operation() {
             Operation::Trap => Noted::Trap(self.call(&i)),
-            _ => self.follow_noted(alloc, &i),
+            _ => self.follow_noted(&i),
         }
     }
 
     /// A noted step at an instruction that is no TRAP: the note first, and then the step as it is.
-    fn follow_noted(&mut self, alloc: Global, i: &Instruction) -> Noted
+    fn follow_noted(&mut self, i: &Instruction) -> Noted
         requires fetched { i.now ≡ fetched (state_of self.old) }
         requires range { (state_of self.old).pc < 2 ^ 63 }
         requires other { operation_in i.now ≢ Operation.Trap }
@@ -125,7 +125,7 @@ impl Machine {
     {
         machines_hold_octas(self);
         machines_are_paged(self);
-        let Some(note) = self.note(alloc, i) else {
+        let Some(note) = self.note(i) else {
             return Noted::OutOfMemory;
         };
         match self.follow(i) {
@@ -138,15 +138,15 @@ impl Machine {
 
     /// What an instruction may overwrite, or nothing where memory is lacking.
     #[tactic(auto, using(crate::proofs::Undone::Notes::tells))]
-    fn note(&mut self, alloc: Global, i: &Instruction) -> Option<Note>
+    fn note(&mut self, i: &Instruction) -> Option<Note>
         ensures note { IfSome result (λ n.
             TellsDeed n self.old.ring (state_of self.old) (deed_at (state_of self.old) i.now)) }
         ensures same { self.new ≡ self.old }
     {
         let sight = self.sight_at(i);
         let work = self.work_at(i);
-        match self.whole_note(alloc, &sight, work) {
-            Some(whole) => boxed(alloc, whole),
+        match self.whole_note(&sight, work) {
+            Some(whole) => boxed(self.alloc, whole),
             None => None,
         }
     }
@@ -154,12 +154,7 @@ impl Machine {
     /// The note by what is seen and by the work of the register stack.
     #[tactic(auto, unfolding(crate::specs::Kept::state_of))]
     #[inline(always)]
-    fn whole_note(
-        &mut self,
-        alloc: Global,
-        sight: &Sight,
-        work: Option<RingWork>,
-    ) -> Option<WholeNote>
+    fn whole_note(&mut self, sight: &Sight, work: Option<RingWork>) -> Option<WholeNote>
         requires { IfSome work (λ work. WorkNeeds work self.old.ring) }
         ensures note { IfSome result (λ n. n ≡ spec.whole_told self.old.ring (state_of self.old) sight.now work) }
         ensures same { self.new ≡ self.old }
@@ -167,7 +162,7 @@ impl Machine {
         let place = place_of(sight.writes);
         let memory = self.memory_noted(place);
         let k = sight.dest.unwrap_or(255);
-        let Ok(ring) = self.ring_noted(alloc, work, k, place) else {
+        let Ok(ring) = self.ring_noted(work, k, place) else {
             return None;
         };
         Some(WholeNote {
@@ -205,7 +200,6 @@ impl Machine {
     /// What a work of the register stack notes; where there is none, a value for $k and an octa of the stack area.
     fn ring_noted(
         &mut self,
-        alloc: Global,
         work: Option<RingWork>,
         k: u8,
         place: Option<u64>,
@@ -215,32 +209,26 @@ impl Machine {
         ensures same { self.new ≡ self.old }
     {
         match work {
-            Some(work) => self.ring.note(alloc, work),
-            None => self.value_noted(alloc, k, place),
+            Some(work) => self.ring.note(work),
+            None => self.value_noted(k, place),
         }
     }
 
     /// What a value for $k notes, and an octa of the stack area where the place is one.
     #[tactic(auto, unfolding(mx_ring::specs::Notes::WorkNeeds))]
-    fn value_noted(
-        &mut self,
-        alloc: Global,
-        k: u8,
-        place: Option<u64>,
-    ) -> Result<RingNote, RingFault>
+    fn value_noted(&mut self, k: u8, place: Option<u64>) -> Result<RingNote, RingFault>
         ensures note { IfOk result (λ n. n ≡ undoing.value_noted k place self.old.ring) }
         ensures same { self.new ≡ self.old }
     {
         match place {
             Some(a) => {
                 if is_in_stack_area(a) {
-                    self.ring
-                        .note_store(alloc, ((a - STACK_SEGMENT) / 8) as u32, k)
+                    self.ring.note_store(((a - STACK_SEGMENT) / 8) as u32, k)
                 } else {
-                    self.ring.note(alloc, RingWork::Set(k, 0))
+                    self.ring.note(RingWork::Set(k, 0))
                 }
             }
-            None => self.ring.note(alloc, RingWork::Set(k, 0)),
+            None => self.ring.note(RingWork::Set(k, 0)),
         }
     }
 }

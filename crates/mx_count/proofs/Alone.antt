@@ -1,5 +1,5 @@
 -- A watcher that is never full, alone in its list.
-use Rattle.std.proofs.Common.{◌≡◌, ℕ, Bool, true, false, not, List, [], ◌∷◌, ◌++◌, append-nil, cond, length, map, refl, ap, ◌∙◌}
+use Rattle.std.proofs.Common.{◌≡◌, ℕ, Bool, true, false, not, List, [], ◌∷◌, ◌++◌, cond, length, map, refl, ap, ◌∙◌}
 use Rattle.std.specs.List.{flat_map, list_all, range_with_len}
 use Rattle.mx_code.specs.declared.trace.Trace.{Trace}
 use Rattle.mx_watch.specs.Hearing.{Hears, after, never_full, placed, remains}
@@ -19,8 +19,7 @@ left-alone w h ws left earlier kept alone none hears =
     hears.staying ∙ ap (λ (v : List Watching). map (λ (x : ℕ × Watching). x.1) (flat_map (remains h) (placed v))) alone
     ∙ ap (λ b. map (λ (x : ℕ × Watching). x.1) (cond b ((0, after h w) ∷ []) [] ++ [])) (open-still w h none)
 
--- its report is on all that it heard
-pub report-alone : (w : Watching) (h : List Trace) (ws left : List Watching) (earlier kept : List Report) (text : List ℕ) → ws ≡ w ∷ [] → ((g : List Trace) → w.full g ≡ false) →
-    Hears h ws left earlier kept → ((v : Watching) → left ≡ v ∷ [] → text ≡ v.text []) → text ≡ w.text h
-report-alone w h ws left earlier kept text alone none hears is =
-    is (after h w) (left-alone w h ws left earlier kept alone none hears) ∙ ap w.text (append-nil h)
+-- its report is on all that it heard, and on what it hears behind it
+pub report-alone : (w : Watching) (h last : List Trace) (ws left : List Watching) (earlier kept : List Report) (text : List ℕ) → ws ≡ w ∷ [] → ((g : List Trace) → w.full g ≡ false) →
+    Hears h ws left earlier kept → ((v : Watching) → left ≡ v ∷ [] → text ≡ v.text last) → text ≡ w.text (h ++ last)
+report-alone w h last ws left earlier kept text alone none hears is = is (after h w) (left-alone w h ws left earlier kept alone none hears)

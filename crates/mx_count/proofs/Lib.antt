@@ -8,3 +8,4 @@ pub mod CountedRuns
 pub mod TraceCounts
 pub mod ReadSheets
 pub mod TracedLines
+pub mod CountedSteps

@@ -1,5 +1,5 @@
 -- A run of few steps has tallies that its octas hold.
-use Rattle.std.proofs.Common.{◌≡◌, ℕ, zero, suc, ◌*◌, ◌≤◌, ◌^◌, ◌==◌, ◌||◌, Bool, true, false, cond, List, [], ◌∷◌, length, Result, Ok, Err, arith, refl, ap}
+use Rattle.std.proofs.Common.{◌≡◌, ℕ, zero, suc, ◌*◌, ◌+◌, ◌≤◌, ◌^◌, ◌==◌, ◌||◌, Bool, true, false, cond, List, [], ◌∷◌, length, length-append, Result, Ok, Err, arith, refl, ap}
 use Rattle.mx_host.specs.HostAnswer.{Then}
 use Rattle.mx_host.specs.HostModel.{HostModel}
 use Rattle.mx_mmo.specs.Image.{Image}
@@ -17,7 +17,7 @@ use Rattle.mx_outcome.specs.declared.outcome.Outcome.{Outcome}
 use Rattle.mx_begin.specs.Begun.{started}
 use Rattle.mx_count.specs.Costs.{is_within, oops, mems}
 use Rattle.mx_count.specs.Reports.{HasOctas}
-use Rattle.mx_count.specs.Runs.{as_data, lines_as, lines_counted, lines_traced, machine_counted, machine_traced, meaning_counted, meaning_traced, source_lines, source_traced, start_counted, start_traced}
+use Rattle.mx_count.specs.Runs.{as_data, halting_after, halting_step, is_halted, lines_as, lines_counted, lines_traced, machine_counted, machine_traced, meaning_counted, meaning_traced, source_lines, source_traced, start_counted, start_traced, steps_counted}
 use Rattle.mx_count.specs.Tallies.{added, code_in, goes_away, nothing, tally_in}
 use Rattle.mx_count.specs.declared.counts.Form.TheVariants.{Octas}
 use Rattle.mx_count.specs.declared.tally.Tally.{Tally}
@@ -87,10 +87,17 @@ unfolding traces
 traces-few kind zero s m = omega arith
 traces-few kind (suc n) s m = unless-few (ends_wild kind s) (traces_after (traces kind n) (turn s m)) (suc n) (after-few (traces kind n) n (turn s m) (traces-few kind n))
 
-run-fits : (steps : ℕ) (s : State) (m : HostModel) → steps ≤ 10 ^ 12 → HasOctas (tally_in (λ a. true) (traces window_machine steps s m))
+-- and one step more that halts
+one-if : (b : Bool) (t : Trace) → length (cond b (t ∷ []) []) ≤ 1
+one-if true t = omega arith
+one-if false t = omega arith
+
+run-fits : (steps : ℕ) (s : State) (m : HostModel) → steps ≤ 10 ^ 12 → HasOctas (tally_in (λ a. true) (steps_counted steps s m))
 run-fits steps s m few =
-    let h = traces window_machine steps s m in
-    let length-few : length h ≤ 10 ^ 12 = omega (arith, traces-few window_machine steps s m, few) in
+    let h = steps_counted steps s m in
+    let e = run steps no_flags false s m in
+    let length-few : length h ≤ 10 ^ 12 + 1 =
+    omega (arith, traces-few window_machine steps s m, one-if (is_halted e.end) (halting_step e.state.pc), length-append (traces window_machine steps s m) (halting_after e), few) in
     let y = all-few h in
     record {
       times = omega (arith, y.times, length-few);
@@ -103,7 +110,7 @@ run-fits steps s m few =
 
 machine-same : (steps : ℕ) (source : List ℕ) (s : State) (m : HostModel) → steps ≤ 10 ^ 12 → as_data source (machine_counted Octas steps source s m) ≡ machine_traced steps source s m
 machine-same steps source s m few =
-    ap (λ sheet. lines_as steps sheet (run steps no_flags false s m)) (read-back source (traces window_machine steps s m) (run-fits steps s m few))
+    ap (λ sheet. lines_as steps sheet (run steps no_flags false s m)) (read-back source (steps_counted steps s m) (run-fits steps s m few))
 
 module _ (o : Order) (arguments : List (List ℕ)) (few : o.steps ≤ 10 ^ 12) where
   start-same : (source : List ℕ) (r : Result State Outcome) (m : HostModel) → as_data source (start_counted Octas o.steps source r m) ≡ start_traced o.steps source r m

@@ -1,10 +1,11 @@
 -- What a source comes to that is run and counted: the outcome, the host as it then stands, and the sheet where a machine ran, as a text or
 -- as data.
-use Rattle.std.specs.Prelude.{ℕ, ◌≡◌, ◌≢◌, IsTrue, false, List, Option, None, Some, Result, Ok, Err}
+use Rattle.std.specs.Prelude.{ℕ, ◌≡◌, ◌≢◌, ◌+◌, IsTrue, Bool, true, false, if◌then◌else◌, List, [], ◌∷◌, ◌++◌, Option, None, Some, Result, Ok, Err}
 use Rattle.mx_host.specs.HostModel.{HostModel, tells, contents}
 use Rattle.mx_host.specs.HostAnswer.{Then}
 use Rattle.mx_mmo.specs.Image.{Image}
 use Rattle.mx_core.specs.State.{State}
+use Rattle.mx_code.specs.declared.trace.Trace.{Trace}
 use Rattle.mx_run.specs.Runs.{Ended, ended, no_flags, run}
 use Rattle.mx_run.specs.WildRuns.{window_machine}
 use Rattle.mx_run.specs.declared.end.End.{End}
@@ -41,19 +42,40 @@ outcome_of steps (ending.Traced trace) = OutOfMemory
 outcome_of steps ending.Spent = StepsSpent steps
 outcome_of steps ending.OutOfMemory = OutOfMemory
 
+-- ---- the steps that are counted
+
+-- the step of a program that halts at an address: it has no trace, and is counted as the TRAP 0,Halt,0 that it is
+abbrev pub halting_step : ℕ → Trace
+halting_step pc = record { pc = pc; word = 0; dest = None; reads = None; writes = None; next = pc + 4 }
+
+abbrev pub is_halted : End → Bool
+is_halted (ending.Halted status) = true
+is_halted end = false
+
+abbrev pub halting_steps : End → ℕ → List Trace
+halting_steps end pc = if is_halted end then halting_step pc ∷ [] else []
+
+-- a program that halts stands where it halted
+abbrev pub halting_after : Ended → List Trace
+halting_after e = halting_steps e.end e.state.pc
+
+-- those of a run of at most n steps: its traces, and behind them the step that halts
+abbrev pub steps_counted : ℕ → State → HostModel → List Trace
+steps_counted n s m = traces window_machine n s m ++ halting_after (run n no_flags false s m)
+
 -- ---- what is counted
 
 -- an outcome without a sheet
 abbrev pub uncounted : Outcome → HostModel → Then Counted
 uncounted outcome m = (record { outcome = outcome; sheet = None }, m)
 
--- the report has the traces of the run
+-- the report has the steps of the run
 abbrev pub counted_as : ℕ → List ℕ → Ended → Then Counted
 counted_as steps sheet e = (record { outcome = outcome_of steps e.end; sheet = Some sheet }, e.host)
 
 abbrev pub machine_counted : Form → ℕ → List ℕ → State → HostModel → Then Counted
 machine_counted form steps source s m =
-    counted_as steps (report_of form source (traces window_machine steps s m)) (run steps no_flags false s m)
+    counted_as steps (report_of form source (steps_counted steps s m)) (run steps no_flags false s m)
 
 abbrev pub start_counted : Form → ℕ → List ℕ → Result State Outcome → HostModel → Then Counted
 start_counted form steps source (Err outcome) m = uncounted outcome m
@@ -92,7 +114,7 @@ source_lines o arguments (Ok source, m) = as_data source (meaning_counted Octas 
 abbrev pub lines_counted : Order → List ℕ → List (List ℕ) → HostModel → Then CountedLines
 lines_counted o name arguments m = source_lines o arguments (file_bytes source_pieces name m)
 
--- ---- the same data, in words of the traces alone
+-- ---- the same data, in words of the steps alone
 
 -- an outcome without a sheet
 abbrev pub untraced : Outcome → HostModel → Then CountedLines
@@ -101,10 +123,10 @@ untraced outcome m = (record { outcome = outcome; sheet = None }, m)
 abbrev pub lines_as : ℕ → LineSheet → Ended → Then CountedLines
 lines_as steps sheet e = (record { outcome = outcome_of steps e.end; sheet = Some sheet }, e.host)
 
--- each line has the tally of the traces at the tetras that it loads
+-- each line has the tally of the steps at the tetras that it loads
 abbrev pub machine_traced : ℕ → List ℕ → State → HostModel → Then CountedLines
 machine_traced steps source s m =
-    lines_as steps (sheet_data source (loads_of source) (λ test. tally_in test (traces window_machine steps s m))) (run steps no_flags false s m)
+    lines_as steps (sheet_data source (loads_of source) (λ test. tally_in test (steps_counted steps s m))) (run steps no_flags false s m)
 
 abbrev pub start_traced : ℕ → List ℕ → Result State Outcome → HostModel → Then CountedLines
 start_traced steps source (Err outcome) m = untraced outcome m
@@ -130,9 +152,9 @@ CountsAs old new result f = IsTrue (tells old) → result.outcome ≢ OutOfMemor
 abbrev pub LinesCountAs : Option HostModel → Option HostModel → CountedLines → (HostModel → Then CountedLines) → Type 0
 LinesCountAs old new result f = IsTrue (tells old) → result.outcome ≢ OutOfMemory → (result, contents new) ≡ f (contents old)
 
--- over a host that tells its contents, a run of at most n steps ends so, and a watcher has this report on its traces
+-- over a host that tells its contents, a run of at most n steps ends so, and a watcher has this report on its steps
 abbrev pub EndsReported : Option HostModel → Option HostModel → State → State → ℕ → Watching → Result (End × List ℕ) NoMemory → Type 0
 EndsReported old new before after n w (Err e) = Unit {0}
 EndsReported old new before after n w (Ok (end, text)) =
     IsTrue (tells old) → (ended end after (contents new) ≡ run n no_flags false before (contents old))
-    × (text ≡ w.text (traces window_machine n before (contents old)))
+    × (text ≡ w.text (steps_counted n before (contents old)))

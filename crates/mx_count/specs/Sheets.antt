@@ -22,9 +22,9 @@ is_among (c ∷ cells) a = c.address == a || is_among cells a
 
 -- ---- rows
 
--- a number, filled up with blanks on the left to eleven places
+-- a blank, and then a number that is filled up with blanks on the left to ten places
 abbrev pub column : ℕ → List ℕ
-column n = take (11 - length (decimal n)) (codes "           ") ++ decimal n
+column n = codes " " ++ take (10 - length (decimal n)) (codes "          ") ++ decimal n
 
 abbrev pub figures : Tally → List ℕ
 figures y = column y.times ++ column y.away ++ column y.oops ++ column y.mems
@@ -49,7 +49,7 @@ line_tally counts cells = counts (is_among cells)
 
 -- the row of a line with this number, which loads these tetras
 abbrev pub sheet_row : LineTally → ℕ → List ℕ → List Cell → List ℕ
-sheet_row tally number line cells = line_figures cells (tally cells) ++ numbered number line
+sheet_row tally number line cells = line_figures cells (tally cells) ++ codes " " ++ numbered number line
 
 -- the tetras of the first line, where they are told line by line
 abbrev pub first_load : List (List Cell) → List Cell

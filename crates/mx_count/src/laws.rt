@@ -1,15 +1,17 @@
 //! What counts come to, in words of the traces alone.
 
-ghost use Rattle.std.specs.Prelude.{◌≡◌, ◌≤◌, ◌^◌, ◌==◌, ◌&&◌, [], ◌∷◌, ℕ, Bool, List, false, true, length};
+ghost use Rattle.std.specs.Prelude.{◌≡◌, ◌≤◌, ◌+◌, ◌%◌, ◌^◌, ◌==◌, ◌&&◌, [], ◌∷◌, ℕ, Bool, List, codes, false, true, length, take};
 ghost use Rattle.std.specs.List.{filter, sum_by};
+ghost use Rattle.mx_core.specs.State.{State};
+ghost use Rattle.mx_run.specs.Runs.{no_flags, run};
 ghost use Rattle.mx_code.specs.declared.trace.Trace.{Trace};
 ghost use Rattle.mx_host.specs.HostModel.{HostModel};
 ghost use Rattle.mx_view.specs.declared.cells.Cell.{Cell};
 ghost use Rattle.mx_count.specs.Costs.{mems, oops};
 ghost use Rattle.mx_view.specs.Loads.{loads_of};
 ghost use Rattle.mx_count.specs.Reports.{HasOctas, report_data, report_of};
-ghost use Rattle.mx_count.specs.Runs.{lines_counted, lines_traced};
-ghost use Rattle.mx_count.specs.Sheets.{is_among, sheet_data};
+ghost use Rattle.mx_count.specs.Runs.{lines_counted, lines_traced, steps_counted};
+ghost use Rattle.mx_count.specs.Sheets.{column, is_among, sheet_data};
 ghost use Rattle.mx_count.specs.declared.counts.Form.TheVariants.{Octas};
 ghost use Rattle.mx_words.specs.declared.order.Order.{Order};
 ghost use Rattle.mx_count.specs.Tallies.{added, code_in, goes_away, nothing, tally_in};
@@ -46,8 +48,21 @@ pub fn sheets_are_read_back()
         ≡ sheet_data source (loads_of source) (λ test. tally_in test h) }
 {}
 
-/// `count_lines` gives the sheet of the traces: in a run of at most 10^12 steps, which is the most that the words of the
-/// command line allow, each line has the tally of the steps at the tetras that it loads.
+/// A column begins with a blank, so the numbers of a row stand apart, however many digits they have.
+pub fn columns_stand_apart()
+    ensures { (n : ℕ) → take 1 (column n) ≡ codes " " }
+{}
+
+/// As many steps are counted as the machine makes, with the one that halts: its count of steps, which is one modulo 2^64,
+/// grows by the number in the tally of all steps.
+#[tactic(auto, using(crate::proofs::CountedSteps::counting))]
+pub fn all_steps_are_counted()
+    ensures { (n : ℕ) (s : State) (m : HostModel) → (run n no_flags false s m).state.steps % 2 ^ 64
+        ≡ (s.steps + (tally_in (λ a. true) (steps_counted n s m)).times) % 2 ^ 64 }
+{}
+
+/// `count_lines` gives the sheet of the steps: in a run of at most 10^12 steps, which is the most that the words of the
+/// command line allow, each line has the tally of the steps at the tetras that it loads, with the one that halts.
 pub fn counted_lines_are_those_of_the_traces()
     ensures { (o : Order) (name : List ℕ) (arguments : List (List ℕ)) (m : HostModel) → o.steps ≤ 10 ^ 12 →
         lines_counted o name arguments m ≡ lines_traced o name arguments m }

@@ -18,8 +18,8 @@ pub use count::{Counted, count_file};
 pub use counted::count_lines;
 pub use counts::Counts;
 pub use laws::{
-    counted_lines_are_those_of_the_traces, lines_are_sums_over_their_tetras, sheets_are_read_back,
-    tallies_count_traces,
+    all_steps_are_counted, columns_stand_apart, counted_lines_are_those_of_the_traces,
+    lines_are_sums_over_their_tetras, sheets_are_read_back, tallies_count_traces,
 };
 pub use lines::{CountedLine, CountedLines, LineSheet};
 pub use table::Entry;

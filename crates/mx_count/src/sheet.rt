@@ -15,8 +15,8 @@ use mx_view::{Cell, add_numbered};
 use mx_word::{Bytes, NoMemory, Sequence};
 use std::alloc::Global;
 
-/// As many blanks as a column has places.
-static BLANKS: [u8; 11] = *b"           ";
+/// As many blanks as a number is filled up to.
+static BLANKS: [u8; 10] = *b"          ";
 
 /// What stands in front of a line that loads nothing.
 static NO_FIGURES: [u8; 44] = *b"                                            ";
@@ -28,13 +28,14 @@ static NEVER: [u8; 44] = *b"          -                                 ";
 static HEADING: [u8; 103] =
     *b"\n--------------------------------------------------------\n      times       away       oops       mems\n";
 
-/// Adds a number, filled up with blanks on the left.
+/// Adds a blank, and a number that is filled up with blanks on the left.
 fn add_column(alloc: Global, text: &mut Bytes, n: u64) -> Result<(), NoMemory>
     ensures { OnOk result (text.new ≡ text.old ++ spec.column n) }
 {
     let mut digits = Bytes::new(alloc);
     add_decimal(&mut digits, n)?;
-    let blanks = 11usize.saturating_sub(digits.as_slice().len());
+    let blanks = 10usize.saturating_sub(digits.as_slice().len());
+    text.extend(b" ")?;
     text.extend(&BLANKS[..blanks])?;
     text.extend(digits.as_slice())
 }
@@ -81,6 +82,7 @@ fn add_row(
 {
     let tally = line_tally(alloc, sums, cells)?;
     add_line_figures(alloc, text, cells, tally)?;
+    text.extend(b" ")?;
     add_numbered(alloc, text, number, line)
 }
 

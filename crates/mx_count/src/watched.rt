@@ -1,14 +1,15 @@
 //! A run of a machine that is told to a watcher which is never full.
 
-ghost use Rattle.std.specs.Prelude.{◌≡◌, ◌≢◌, ◌∷◌, [], List, IfOk, false, map};
+ghost use Rattle.std.specs.Prelude.{◌≡◌, ◌≢◌, ◌∷◌, [], List, IfOk, IfSome, OnOk, false, map};
 ghost use Rattle.mx_core.specs.Kept.{state_of};
 ghost use Rattle.mx_code.specs.declared.trace.Trace.{Trace as Step};
 ghost use Rattle.mx_host.specs.Keeping.{Keeps};
-ghost use Rattle.mx_watch.specs.Watching.{Watching};
+ghost use Rattle.mx_watch.specs.Watching.{Watching, later};
+ghost use Rattle.mx_count.specs.Runs as spec;
 ghost use Rattle.mx_count.specs.Runs.{EndsReported};
 
 use crate::Counts;
-use mx_core::Machine;
+use mx_core::{Machine, Trace};
 use mx_host::Host;
 use mx_run::End;
 use mx_watch::{Reports, Watcher, watched_run};
@@ -26,6 +27,34 @@ fn only(alloc: Global, watcher: Box<dyn Watcher>) -> Result<Vec<Box<dyn Watcher>
     }
 }
 
+/// The step of a program that halts at an address. It has no trace in the run.
+fn halting_step(pc: u64) -> Option<Trace>
+    ensures { IfSome result (λ t. t ≡ spec.halting_step pc) }
+{
+    let next = pc.checked_add(4)?;
+    Some(Trace {
+        pc,
+        word: 0,
+        dest: None,
+        reads: None,
+        writes: None,
+        next,
+    })
+}
+
+/// Tells a watcher of a program that halts at an address.
+fn tell_halt(watcher: &mut Box<dyn Watcher>, pc: u64) -> Result<(), NoMemory>
+    ensures { OnOk result (meaning watcher.new ≡ later (spec.halting_step pc) (meaning watcher.old)) }
+{
+    let Some(step) = halting_step(pc) else {
+        return Err(NoMemory);
+    };
+    match watcher.tell(&step) {
+        Ok(_) => Ok(()),
+        Err(_) => Err(NoMemory),
+    }
+}
+
 /// The report of a watcher.
 fn report_of(watcher: &Box<dyn Watcher>) -> Result<Bytes, NoMemory>
     ensures { IfOk result (λ text. text ≡ (meaning watcher.now).text []) }
@@ -33,14 +62,33 @@ fn report_of(watcher: &Box<dyn Watcher>) -> Result<Bytes, NoMemory>
     watcher.summary()
 }
 
-/// The report of the only watcher.
-fn only_report(watchers: &Vec<Box<dyn Watcher>>) -> Result<Bytes, NoMemory>
-    ensures { (w : Watching) → map meaning watchers.now.items ≡ w ∷ [] → IfOk result (λ text. text ≡ w.text []) }
+/// Whether a program halted.
+fn is_halted(end: End) -> bool
+    ensures { result ≡ spec.is_halted end }
+{
+    matches!(end, End::Halted(_))
+}
+
+/// The report of a watcher of a run that ended so at an address.
+fn last_report(watcher: &mut Box<dyn Watcher>, end: End, pc: u64) -> Result<Bytes, NoMemory>
+    ensures { IfOk result (λ text. text ≡ (meaning watcher.old).text (spec.halting_steps end pc)) }
+{
+    if is_halted(end) {
+        tell_halt(watcher, pc)?;
+        return report_of(watcher);
+    }
+    report_of(watcher)
+}
+
+/// The report of the only watcher of a run that ended so at an address.
+fn only_report(watchers: &mut Vec<Box<dyn Watcher>>, end: End, pc: u64) -> Result<Bytes, NoMemory>
+    ensures { (w : Watching) → map meaning watchers.old.items ≡ w ∷ [] →
+        IfOk result (λ text. text ≡ w.text (spec.halting_steps end pc)) }
 {
     if watchers.is_empty() {
         return Err(NoMemory);
     }
-    report_of(&watchers[0])
+    last_report(&mut watchers[0], end, pc)
 }
 
 /// Whether a run ended for want of memory.
@@ -50,7 +98,8 @@ fn is_lacking(end: End) -> bool
     matches!(end, End::OutOfMemory)
 }
 
-/// Makes at most n steps of a machine that a list of one watcher is told of. The end, and the report.
+/// Makes at most n steps of a machine that a list of one watcher is told of. The end, and the report, also on the step
+/// that halts.
 fn run_told<H: Host>(
     alloc: Global,
     host: &mut H,
@@ -68,7 +117,8 @@ fn run_told<H: Host>(
     if is_lacking(end) {
         return Err(NoMemory);
     }
-    match only_report(&watchers) {
+    let at = machine.pc();
+    match only_report(&mut watchers, end, at) {
         Ok(text) => Ok((end, text)),
         Err(_) => Err(NoMemory),
     }

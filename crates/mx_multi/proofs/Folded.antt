@@ -1,16 +1,14 @@
 -- Turns by a schedule as a fold of the schedule that is repeated.
-use Rattle.std.proofs.Common.{◌≡◌, ◌≤◌, ℕ, zero, suc, ◌+◌, Bool, true, false, cond, List, [], ◌∷◌, ◌++◌, Option, None, Some, arith, append_assoc, refl, sym, ap, ◌∙◌}
-use Rattle.mx_word.specs.Lists.{IsFront}
+use Rattle.std.proofs.Common.{◌≡◌, ℕ, zero, suc, ◌+◌, Bool, true, false, cond, List, [], ◌∷◌, ◌++◌, Option, None, Some, arith, append_assoc, refl, sym, subst, ap, ◌∙◌}
 use Rattle.mx_host.specs.HostModel.{HostModel}
 use Rattle.mx_run.specs.Turns.{turn_answer, turn}
-use Rattle.mx_run.specs.WildRuns.{window_machine}
-use Rattle.mx_multi.specs.Folds.{FoldsFrom, after_turns, steps_in, steps_of, repeated}
+use Rattle.mx_run.specs.WildRuns.{MachineKind, ends_wild}
+use Rattle.mx_multi.specs.Folds.{AreUnstopped, DoesNotEnd, EndsSo, FoldsFrom, IsNext, after_turns, repeated, steps_in, steps_of}
 use Rattle.mx_multi.specs.Joint.{Joint, has_halted, state_at}
 use Rattle.mx_multi.specs.JointTurns.{JointWorld, turn_of}
-use Rattle.mx_multi.specs.Turns.{turns_ended, next_in, or_again, AllHaveHalted, end_of_turn, after_turn, turn_by, turns, end_at_last}
+use Rattle.mx_multi.specs.Turns.{TurnsEnd, turns_ended, turns_wild, next_in, or_again, AllHaveHalted, made_turn, turn_by, turns, end_at_last}
 use Rattle.mx_multi.specs.declared.turn.Turn.{Turn}
 use Rattle.mx_multi.specs.declared.turn.Turn.TheVariants as turned
-use Rattle.mx_multi.specs.declared.end.MultiEnd.{MultiEnd}
 use Rattle.mx_multi.specs.declared.end.MultiEnd.TheVariants.{AllHalted, Stopped, Spent, OutOfMemory}
 use Rattle.mx_multi.proofs.Schedules.{all-none, found-in}
 use Rattle.mx_multi.proofs.TurnComes.{turn-idle, turn-made, not-idle-at}
@@ -36,6 +34,15 @@ unfolding next_in
 found-at halted [] who after e = absurd (cc)
 found-at halted (x ∷ xs) who after e = found-by halted x who xs after (has_halted halted x) refl (λ f. found-at halted xs who after f) e
 
+-- one that runs is among them
+not-all-in : (halted : List Bool) (before : List ℕ) (who : ℕ) (after : List ℕ) → has_halted halted who ≡ false → AllHaveHalted halted (before ++ who ∷ after) → ⊥
+not-all-in halted [] who after runs h = let no : false ≡ true = sym runs ∙ h.0 in absurd (cc)
+not-all-in halted (x ∷ before) who after runs h = not-all-in halted before who after runs h.1
+
+all-after : (halted : List Bool) (before : List ℕ) (who : ℕ) (after : List ℕ) → AllHaveHalted halted (before ++ who ∷ after) → AllHaveHalted halted after
+all-after halted [] who after h = h.1
+all-after halted (x ∷ before) who after h = all-after halted before who after h.1
+
 -- ---- turns of processors that have halted
 
 idle-after : (before turns : List ℕ) (w : JointWorld) → AllHaveHalted w.0.halted before → after_turns (before ++ turns) w ≡ after_turns turns w
@@ -54,119 +61,159 @@ not-idle : (who : ℕ) (w : JointWorld) → has_halted w.0.halted who ≡ false 
 not-idle who w runs e =
     not-idle-at (state_at w.0 who).pc (turn_answer (turn (state_at w.0 who) w.1)).0 (ap (λ (t : Turn × JointWorld). t.0) (sym (turn-made who w runs)) ∙ e)
 
--- ---- a turn that is made, and those that follow it
-
-record Step (after schedule : List ℕ) (n : ℕ) (end : MultiEnd) (t : Turn × JointWorld) (v : JointWorld) : Type 0 where
-  pub turns : List ℕ
-  pub rounds : ℕ
-  pub front : IsFront turns (after ++ repeated schedule rounds)
-  pub folded : after_turns turns t.1 ≡ v
-  pub few : steps_of t.0 + steps_in turns t.1 ≤ suc n
-  pub all : end ≡ Spent → steps_of t.0 + steps_in turns t.1 ≡ suc n
-
-module _ (schedule : List ℕ) (n : ℕ) (end : MultiEnd) (v : JointWorld) where
-  abbrev Follow : List ℕ → JointWorld → Type 0
-  Follow after u = turns window_machine schedule n after u.0 u.1 ≡ turns_ended end v.0 v.1
-
-  goes-on : (after : List ℕ) (r : Turn) (u : JointWorld) → steps_of r ≡ 1 → FoldsFrom after schedule n end u v → Step after schedule n end (r, u) v
-  goes-on after r u one f = record {
-    turns = f.turns;
-    rounds = f.rounds;
-    front = f.front;
-    folded = f.folded;
-    few = (let few = f.few in omega (arith, few, one));
-    all = λ s. (let all = f.all s in omega (arith, all, one));
-  }
-
-  same-world : (e : MultiEnd) (u : JointWorld) → turns_ended e u.0 u.1 ≡ turns_ended end v.0 v.1 → u ≡ v
-  same-world e u h = let first : u.0 ≡ v.0 = cc in let second : u.1 ≡ v.1 = cc in ap (λ (j : Joint). (j, u.1)) first ∙ ap (λ (m : HostModel). (v.0, m)) second
-
-  same-end : (e : MultiEnd) (u : JointWorld) → turns_ended e u.0 u.1 ≡ turns_ended end v.0 v.1 → e ≡ end
-  same-end e u h = cc
-
-  ends : (after : List ℕ) (r : Turn) (u : JointWorld) (e : MultiEnd) → steps_of r ≡ 0 → (e ≡ Spent → ⊥) → turns_ended e u.0 u.1 ≡ turns_ended end v.0 v.1 → Step after schedule n end (r, u) v
-  unfolding after_turns steps_in
-  ends after r u e none other h = record {
-    turns = [];
-    rounds = 0;
-    front = (after ++ [], refl);
-    folded = same-world e u h;
-    few = omega (arith, none);
-    all = λ s. absurd (other (same-end e u h ∙ s));
-  }
-
-  step-by : (who : ℕ) (after : List ℕ) (r : Turn) (u : JointWorld) → (r ≡ turned.Idle → ⊥) → (Follow after u → FoldsFrom after schedule n end u v) →
-      after_turn (turns window_machine schedule n) (end_of_turn who after r) u ≡ turns_ended end v.0 v.1 → Step after schedule n end (r, u) v
-  step-by who after turned.Went u runs more h = goes-on after turned.Went u refl (more h)
-  step-by who after (turned.Halted status) u runs more h = goes-on after (turned.Halted status) u refl (more h)
-  step-by who after turned.Idle u runs more h = absurd (runs refl)
-  step-by who after (turned.Stopped pc reason) u runs more h = ends after (turned.Stopped pc reason) u (Stopped who pc reason) refl (λ s. absurd (cc)) h
-  step-by who after turned.OutOfMemory u runs more h = ends after turned.OutOfMemory u OutOfMemory refl (λ s. absurd (cc)) h
-
-  -- behind turns of processors that have halted
-  step-found : (part : List ℕ) (who : ℕ) (after : List ℕ) (w : JointWorld) → Found w.0.halted part who after → Step after schedule n end (turn_of who w) v → FoldsFrom part schedule (suc n) end w v
-  unfolding after_turns steps_in
-  step-found part who after w f s =
-      let steps : steps_in (f.before ++ who ∷ s.turns) w ≡ steps_of (turn_of who w).0 + steps_in s.turns (turn_of who w).1 = idle-steps f.before (who ∷ s.turns) w f.idle in
-      record {
-        turns = f.before ++ who ∷ s.turns;
-        rounds = s.rounds;
-        front = (
-          s.front.0,
-          ap (λ l. l ++ repeated schedule s.rounds) f.split ∙ append_assoc f.before (who ∷ after) (repeated schedule s.rounds) ∙ ap (λ l. f.before ++ who ∷ l) s.front.1
-              ∙ sym (append_assoc f.before (who ∷ s.turns) s.front.0),
-        );
-        folded = idle-after f.before (who ∷ s.turns) w f.idle ∙ s.folded;
-        few = (let few = s.few in omega (arith, steps, few));
-        all = λ e. (let all = s.all e in steps ∙ all);
-      }
-
-  one-found : (part : List ℕ) (who : ℕ) (after : List ℕ) (w : JointWorld) → next_in w.0.halted part ≡ Some (who, after) → ((u : JointWorld) → Follow after u → FoldsFrom after schedule n end u v) →
-      turn_by window_machine (turns window_machine schedule n) w.0 w.1 (Some (who, after)) ≡ turns_ended end v.0 v.1 → FoldsFrom part schedule (suc n) end w v
-  one-found part who after w e more h =
-      step-found part who after w (found-at w.0.halted part who after e)
-      (step-by who after (turn_of who w).0 (turn_of who w).1 (not-idle who w (found-in w.0.halted part who after e)) (more (turn_of who w).1) h)
-
--- ---- behind what is left where all of it has halted
-
-idle-first : (rest schedule : List ℕ) (n : ℕ) (end : MultiEnd) (w v : JointWorld) → AllHaveHalted w.0.halted rest → FoldsFrom schedule schedule n end w v → FoldsFrom rest schedule n end w v
-idle-first rest schedule n end w v h f =
-    let steps : steps_in (rest ++ f.turns) w ≡ steps_in f.turns w = idle-steps rest f.turns w h in
+module _ (kind : MachineKind) (schedule : List ℕ) where
+  idle-unstopped : (before turns : List ℕ) (w : JointWorld) → ¬ AllHaveHalted w.0.halted schedule → AllHaveHalted w.0.halted before → AreUnstopped kind schedule turns w → AreUnstopped kind schedule (before ++ turns) w
+  unfolding AreUnstopped
+  idle-unstopped [] turns w due h u = u
+  idle-unstopped (who ∷ before) turns w due h u = (
     record {
-      turns = rest ++ f.turns;
+      due = due;
+      going = subst (λ (t : Turn × JointWorld). DoesNotEnd t.0) (sym (turn-idle who w h.0)) tt;
+      tame = λ runs. (let no : false ≡ true = sym runs ∙ h.0 in absurd (cc));
+    },
+    subst (λ (t : Turn × JointWorld). AreUnstopped kind schedule (before ++ turns) t.1) (sym (turn-idle who w h.0)) (idle-unstopped before turns w due h.1 u),
+  )
+
+  module _ (n : ℕ) where
+    -- ---- behind turns of processors that have halted
+
+    ends-as : (s t : ℕ) (next : List ℕ) (w v : JointWorld) (end : TurnsEnd) → s ≡ t → w ≡ v → EndsSo kind schedule n s next w end → EndsSo kind schedule n t next v end
+    ends-as s t next w v end e f h = subst (λ u. EndsSo kind schedule n t next u end) f (subst (λ k. EndsSo kind schedule n k next w end) e h)
+
+    behind-idle : (before part : List ℕ) (w : JointWorld) (end : TurnsEnd) → ¬ AllHaveHalted w.0.halted schedule → AllHaveHalted w.0.halted before → FoldsFrom kind part schedule n w end → FoldsFrom kind (before ++ part) schedule n w end
+    behind-idle before part w end due h f =
+        let steps : steps_in (before ++ f.turns) w ≡ steps_in f.turns w = idle-steps before f.turns w h in
+        record {
+          turns = before ++ f.turns;
+          next = f.next;
+          rounds = f.rounds;
+          front = (
+            f.front.0,
+            append_assoc before part (repeated schedule f.rounds) ∙ ap (λ l. before ++ l) f.front.1 ∙ sym (append_assoc before (f.turns ++ f.next) f.front.0)
+                ∙ ap (λ l. l ++ f.front.0) (sym (append_assoc before f.turns f.next)),
+          );
+          few = (let few = f.few in omega (arith, steps, few));
+          unstopped = idle-unstopped before f.turns w due h f.unstopped;
+          ends = ends-as (steps_in f.turns w) (steps_in (before ++ f.turns) w) f.next (after_turns f.turns w) (after_turns (before ++ f.turns) w) end (sym steps) (sym (idle-after before f.turns w h)) f.ends;
+        }
+
+    -- the schedule that is begun again is its first round
+    one-round : (rest : List ℕ) (w : JointWorld) (end : TurnsEnd) → FoldsFrom kind (rest ++ schedule) schedule n w end → FoldsFrom kind rest schedule n w end
+    one-round rest w end f = record {
+      turns = f.turns;
+      next = f.next;
       rounds = suc f.rounds;
-      front = (f.front.0, ap (λ l. rest ++ l) f.front.1 ∙ sym (append_assoc rest f.turns f.front.0));
-      folded = idle-after rest f.turns w h ∙ f.folded;
-      few = (let few = f.few in omega (arith, steps, few));
-      all = λ e. steps ∙ f.all e;
+      front = (f.front.0, sym (append_assoc rest schedule (repeated schedule f.rounds)) ∙ f.front.1);
+      few = f.few;
+      unstopped = f.unstopped;
+      ends = f.ends;
     }
 
-none-made : (rest schedule : List ℕ) (n : ℕ) (end e : MultiEnd) (w v : JointWorld) → (e ≡ Spent → n ≡ 0) → turns_ended e w.0 w.1 ≡ turns_ended end v.0 v.1 → FoldsFrom rest schedule n end w v
-unfolding after_turns steps_in
-none-made rest schedule n end e w v last h = record {
-  turns = [];
-  rounds = 0;
-  front = (rest ++ [], refl);
-  folded = same-world schedule n end v e w h;
-  few = omega arith;
-  all = λ s. sym (last (same-end schedule n end v e w h ∙ s));
-}
+    -- ---- no turn is made
 
-next-by : (schedule rest : List ℕ) (n : ℕ) (end : MultiEnd) (w v : JointWorld) (first second : Option (ℕ × List ℕ)) → next_in w.0.halted rest ≡ first → next_in w.0.halted schedule ≡ second →
-    ((after : List ℕ) (u : JointWorld) → turns window_machine schedule n after u.0 u.1 ≡ turns_ended end v.0 v.1 → FoldsFrom after schedule n end u v) →
-    turn_by window_machine (turns window_machine schedule n) w.0 w.1 (or_again first second) ≡ turns_ended end v.0 v.1 → FoldsFrom rest schedule (suc n) end w v
-next-by schedule rest n end w v (Some (who, after)) second e f more h = one-found schedule n end v rest who after w e (more after) h
-next-by schedule rest n end w v None (Some (who, after)) e f more h =
-    idle-first rest schedule (suc n) end w v (all-none w.0.halted rest e) (one-found schedule n end v schedule who after w f (more after) h)
-next-by schedule rest n end w v None None e f more h = none-made rest schedule (suc n) end AllHalted w v (λ s. absurd (cc)) h
+    nothing : (rest : List ℕ) (w : JointWorld) (end : TurnsEnd) → EndsSo kind schedule n 0 [] w end → FoldsFrom kind rest schedule n w end
+    unfolding after_turns steps_in AreUnstopped
+    nothing rest w end e = record { turns = []; next = []; rounds = 0; front = (rest ++ [], refl); few = omega arith; unstopped = tt; ends = e }
 
-fold-from : (schedule : List ℕ) (n : ℕ) (rest : List ℕ) (end : MultiEnd) (w v : JointWorld) → turns window_machine schedule n rest w.0 w.1 ≡ turns_ended end v.0 v.1 → FoldsFrom rest schedule n end w v
-unfolding turns
-fold-from schedule zero rest end w v h = none-made rest schedule 0 end (end_at_last (next_in w.0.halted schedule)) w v (λ s. refl) h
-fold-from schedule (suc n) rest end w v h =
-    next-by schedule rest n end w v (next_in w.0.halted rest) (next_in w.0.halted schedule) refl refl (λ after u k. fold-from schedule n after end u v k) h
+    -- the next one is that of this number, which ends them
+    stops-at : (who : ℕ) (after : List ℕ) (w : JointWorld) (end : TurnsEnd) → EndsSo kind schedule n 0 (who ∷ []) w end → FoldsFrom kind (who ∷ after) schedule n w end
+    unfolding after_turns steps_in AreUnstopped
+    stops-at who after w end e = record { turns = []; next = who ∷ []; rounds = 0; front = (after ++ [], refl); few = omega arith; unstopped = tt; ends = e }
 
-pub turns-fold : (schedule : List ℕ) (n : ℕ) (j k : Joint) (m h : HostModel) (end : MultiEnd) → turns window_machine schedule n schedule j m ≡ turns_ended end k h → FoldsFrom schedule schedule n end (j, m) (k, h)
-turns-fold schedule n j k m h end e = fold-from schedule n schedule end (j, m) (k, h) e
+  -- ---- a step, and what follows it
+
+  module _ (n who : ℕ) (after : List ℕ) (w : JointWorld) (due : ¬ AllHaveHalted w.0.halted schedule) (runs : has_halted w.0.halted who ≡ false) (tame : ends_wild kind (state_at w.0 who) ≡ false) where
+    is-next : IsNext (suc n) 0 who (who ∷ []) w
+    is-next = record { left = omega arith; named = refl; runs = runs }
+
+    more-next : (s t x : ℕ) (next : List ℕ) (v : JointWorld) → t ≡ suc s → IsNext n s x next v → IsNext (suc n) t x next v
+    more-next s t x next v e h = record { left = (let left = h.left in omega (arith, e, left)); named = h.named; runs = h.runs }
+
+    ends-more : (s t : ℕ) (next : List ℕ) (v : JointWorld) (end : TurnsEnd) → t ≡ suc s → EndsSo kind schedule n s next v end → EndsSo kind schedule (suc n) t next v end
+    ends-more s t next v (turns_ended Spent j m) e h = (h.0, (let all = h.1 in omega (arith, e, all)), h.2)
+    ends-more s t next v (turns_ended AllHalted j m) e h = h
+    ends-more s t next v (turns_ended (Stopped x pc reason) j m) e h = (more-next s t x next v e h.0, h.1, h.2)
+    ends-more s t next v (turns_ended OutOfMemory j m) e h = (h.0, (more-next s t h.0 next v e h.1.0, h.1.1, h.1.2))
+    ends-more s t next v (turns_wild m) e h = (h.0, (more-next s t h.0 next v e h.1.0, h.1.1, h.1.2))
+
+    step-then : (r : Turn) (u : JointWorld) (end : TurnsEnd) → (r, u) ≡ turn_of who w → steps_of r ≡ 1 → DoesNotEnd r → FoldsFrom kind after schedule n u end → FoldsFrom kind (who ∷ after) schedule (suc n) w end
+    unfolding after_turns steps_in AreUnstopped
+    step-then r u end e one going f =
+        let steps : steps_of (turn_of who w).0 + steps_in f.turns (turn_of who w).1 ≡ suc (steps_in f.turns u) =
+        ap (λ (t : Turn × JointWorld). steps_of t.0 + steps_in f.turns t.1) (sym e) ∙ (let s = steps_in f.turns u in omega (arith, one)) in
+        record {
+          turns = who ∷ f.turns;
+          next = f.next;
+          rounds = f.rounds;
+          front = (f.front.0, ap (λ l. who ∷ l) f.front.1);
+          few = (let few = f.few in omega (arith, steps, few));
+          unstopped = (
+            record { due = due; going = subst (λ (t : Turn × JointWorld). DoesNotEnd t.0) e going; tame = λ h. tame },
+            subst (λ (t : Turn × JointWorld). AreUnstopped kind schedule f.turns t.1) e f.unstopped,
+          );
+          ends = ends-more (steps_in f.turns u) (steps_of (turn_of who w).0 + steps_in f.turns (turn_of who w).1) f.next (after_turns f.turns (turn_of who w).1) end steps
+              (subst (λ (t : Turn × JointWorld). EndsSo kind schedule n (steps_in f.turns u) f.next (after_turns f.turns t.1) end) e f.ends);
+        }
+
+    step-by : (r : Turn) (u : JointWorld) → (r, u) ≡ turn_of who w → (r ≡ turned.Idle → ⊥) → ((v : JointWorld) → FoldsFrom kind after schedule n v (turns kind schedule n after v.0 v.1)) →
+        FoldsFrom kind (who ∷ after) schedule (suc n) w (made_turn (turns kind schedule n) who after (r, u))
+    step-by turned.Went u e ne more = step-then turned.Went u (turns kind schedule n after u.0 u.1) e refl tt (more u)
+    step-by (turned.Halted status) u e ne more = step-then (turned.Halted status) u (turns kind schedule n after u.0 u.1) e refl tt (more u)
+    step-by turned.Idle u e ne more = absurd (ne refl)
+    step-by (turned.Stopped pc reason) u e ne more = stops-at (suc n) who after w (turns_ended (Stopped who pc reason) u.0 u.1) (is-next, e, tame)
+    step-by turned.OutOfMemory u e ne more = stops-at (suc n) who after w (turns_ended OutOfMemory u.0 u.1) (who, (is-next, e, tame))
+
+  kind-by : (n who : ℕ) (after : List ℕ) (w : JointWorld) (b : Bool) → ends_wild kind (state_at w.0 who) ≡ b → ¬ AllHaveHalted w.0.halted schedule → has_halted w.0.halted who ≡ false →
+      ((v : JointWorld) → FoldsFrom kind after schedule n v (turns kind schedule n after v.0 v.1)) →
+      FoldsFrom kind (who ∷ after) schedule (suc n) w (cond b (turns_wild w.1) (made_turn (turns kind schedule n) who after (turn_of who w)))
+  kind-by n who after w true e due runs more =
+      stops-at (suc n) who after w (turns_wild w.1) (who, (record { left = omega arith; named = refl; runs = runs }, e, refl))
+  kind-by n who after w false e due runs more = step-by n who after w due runs e (turn_of who w).0 (turn_of who w).1 refl (not-idle who w runs) more
+
+  -- ---- the next turn, of what is left or of the schedule from its beginning
+
+  abbrev Within : List ℕ → Type 0
+  Within rest = (halted : List Bool) → AllHaveHalted halted schedule → AllHaveHalted halted rest
+
+  abbrev Folds : ℕ → Type 0
+  Folds n = (rest : List ℕ) (w : JointWorld) → Within rest → FoldsFrom kind rest schedule n w (turns kind schedule n rest w.0 w.1)
+
+  one-found : (n : ℕ) (part : List ℕ) (who : ℕ) (after : List ℕ) (w : JointWorld) → next_in w.0.halted part ≡ Some (who, after) → Within part → Folds n →
+      FoldsFrom kind part schedule (suc n) w (turn_by kind (turns kind schedule n) w.0 w.1 (Some (who, after)))
+  one-found n part who after w e within more =
+      let f = found-at w.0.halted part who after e in
+      let runs = found-in w.0.halted part who after e in
+      let end = turn_by kind (turns kind schedule n) w.0 w.1 (Some (who, after)) in
+      let due : ¬ AllHaveHalted w.0.halted schedule = λ all. not-all-in w.0.halted f.before who after runs (subst (AllHaveHalted w.0.halted) f.split (within w.0.halted all)) in
+      let later : Within after = λ halted all. all-after halted f.before who after (subst (AllHaveHalted halted) f.split (within halted all)) in
+      subst (λ p. FoldsFrom kind p schedule (suc n) w end) (sym f.split)
+      (behind-idle (suc n) f.before (who ∷ after) w end due f.idle
+      (kind-by n who after w (ends_wild kind (state_at w.0 who)) refl due runs (λ v. more after v later)))
+
+  not-all-found : (halted : List Bool) (part : List ℕ) (who : ℕ) (after : List ℕ) → next_in halted part ≡ Some (who, after) → ¬ AllHaveHalted halted part
+  not-all-found halted part who after e all =
+      let f = found-at halted part who after e in not-all-in halted f.before who after (found-in halted part who after e) (subst (AllHaveHalted halted) f.split all)
+
+  next-by : (n : ℕ) (rest : List ℕ) (w : JointWorld) (first second : Option (ℕ × List ℕ)) → next_in w.0.halted rest ≡ first → next_in w.0.halted schedule ≡ second → Within rest → Folds n →
+      FoldsFrom kind rest schedule (suc n) w (turn_by kind (turns kind schedule n) w.0 w.1 (or_again first second))
+  next-by n rest w (Some (who, after)) second e f within more = one-found n rest who after w e within more
+  next-by n rest w None (Some (who, after)) e f within more =
+      let end = turn_by kind (turns kind schedule n) w.0 w.1 (Some (who, after)) in
+      one-round (suc n) rest w end
+      (behind-idle (suc n) rest schedule w end (not-all-found w.0.halted schedule who after f) (all-none w.0.halted rest e)
+      (one-found n schedule who after w f (λ halted all. all) more))
+  next-by n rest w None None e f within more = nothing (suc n) rest w (turns_ended AllHalted w.0 w.1) (refl, all-none w.0.halted schedule f)
+
+  last-by : (rest : List ℕ) (w : JointWorld) (x : Option (ℕ × List ℕ)) → next_in w.0.halted schedule ≡ x → FoldsFrom kind rest schedule 0 w (turns_ended (end_at_last x) w.0 w.1)
+  last-by rest w None e = nothing 0 rest w (turns_ended AllHalted w.0 w.1) (refl, all-none w.0.halted schedule e)
+  last-by rest w (Some (who, after)) e = nothing 0 rest w (turns_ended Spent w.0 w.1) (refl, refl, not-all-found w.0.halted schedule who after e)
+
+  fold-from : (n : ℕ) → Folds n
+  unfolding turns
+  fold-from zero rest w within = last-by rest w (next_in w.0.halted schedule) refl
+  fold-from (suc n) rest w within = next-by n rest w (next_in w.0.halted rest) (next_in w.0.halted schedule) refl refl within (fold-from n)
+
+pub turns-fold : (kind : MachineKind) (schedule : List ℕ) (n : ℕ) (j : Joint) (m : HostModel) → FoldsFrom kind schedule schedule n (j, m) (turns kind schedule n schedule j m)
+turns-fold kind schedule n j m = fold-from kind schedule n schedule (j, m) (λ halted all. all)
 
 pub ruleset folding = (turns-fold)

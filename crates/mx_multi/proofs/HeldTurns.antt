@@ -1,6 +1,6 @@
 -- What every call of a host keeps, turns of several processors keep; and what they had written where memory ran out is a front
 -- of what they write.
-use Rattle.std.proofs.Common.{◌≡◌, ℕ, List, Bool, true, false, cond, subst}
+use Rattle.std.proofs.Common.{◌≡◌, ℕ, List, Bool, true, false, cond, subst, sym}
 use Rattle.mx_word.specs.Lists.{IsFront}
 use Rattle.mx_host.specs.HostModel.{HostModel}
 use Rattle.mx_plan.specs.Plan.{Comes, end_of}
@@ -54,13 +54,13 @@ multi-held Rel h = record {
 
     lacks : (o : MultiCall) (w v : JointWorld) → multi.Lacks o w v → Rel w.1 v.1
     lacks (turning who) w v l = (run-held Rel h).lacking run.turning (state_at w.0 who, w.1) (l.state, v.1) l.lacks
-    lacks looking w v l = absurd l
+    lacks looking w v l = subst (λ (u : JointWorld). Rel w.1 u.1) (sym l) (h.self w.1)
 
     between : (o : MultiCall) (w v : JointWorld) → multi.Lacks o w v → Rel v.1 (multi.act o w).1.1
     between (turning who) w v l =
         going-turn Rel v.1 w (joined w.0 who (turn_answer (turn (state_at w.0 who) w.1))) (has_halted w.0.halted who) l.runs
         ((run-held Rel h).between run.turning (state_at w.0 who, w.1) (l.state, v.1) l.lacks)
-    between looking w v l = absurd l
+    between looking w v l = subst (λ (u : JointWorld). Rel u.1 w.1) (sym l) (h.self w.1)
 
 -- what standard output then has
 abbrev pub turns_output : TurnsEnd → List ℕ

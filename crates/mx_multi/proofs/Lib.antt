@@ -8,8 +8,9 @@ pub mod TurnPlans
 pub mod HeldTurns
 pub mod Followed
 pub mod StepSums
-pub mod Named
 pub mod ListStarts
 pub mod Folded
 pub mod Stretches
+pub mod Names
 pub mod RowTurns
+pub mod Underway

@@ -1,32 +1,11 @@
 -- The next turn of a schedule.
-use Rattle.std.proofs.Common.{◌≡◌, ◌<◌, ◌≤◌, ◌↔◌, ℕ, zero, suc, ◌+◌, Bool, true, false, cond, IsTrue, List, [], ◌∷◌, drop, length, get_or, Option, None, Some, arith, refl, sym, subst, ap, ◌∙◌}
-use Rattle.std.specs.Option.{option_map}
-use Rattle.std.proofs.lemmas.List.{at_drop_more, at_drop_all}
+use Rattle.std.proofs.Common.{◌≡◌, ◌<◌, ◌↔◌, ℕ, zero, suc, Bool, true, false, cond, IsTrue, List, [], ◌∷◌, length, get_or, Option, None, Some, arith, refl, sym, subst, ap, ◌∙◌}
 use Rattle.mx_multi.specs.Joint.{has_halted}
-use Rattle.mx_multi.specs.Turns.{next_in, next_turn, or_again, AllHaveHalted, AreNames, turn_from, end_at_last}
+use Rattle.mx_multi.specs.Turns.{next_in, next_turn, or_again, AllHaveHalted, AreNames, end_at_last}
 use Rattle.mx_multi.specs.declared.end.MultiEnd.{MultiEnd}
 use Rattle.mx_multi.specs.declared.end.MultiEnd.TheVariants.{AllHalted}
 
 -- ---- the search
-
-next-step : (halted : List Bool) (who : ℕ) (rest : List ℕ) (b : Bool) → has_halted halted who ≡ b → next_in halted (who ∷ rest) ≡ cond b (next_in halted rest) (Some (who, rest))
-unfolding next_in
-next-step halted who rest b e = rw e refl
-
-pub next-found : (halted : List Bool) (schedule : List ℕ) (at place : ℕ) (b : Bool) → place < length schedule → has_halted halted (get_or schedule place 0) ≡ b → b ≡ false →
-    next_in halted (drop at schedule) ≡ next_in halted (drop place schedule) → option_map (turn_from schedule) (Some place) ≡ next_in halted (drop at schedule)
-next-found halted schedule at place b l h e was =
-    sym (was ∙ at_drop_more (next_in halted) schedule place 0 l ∙ next-step halted (get_or schedule place 0) (drop (place + 1) schedule) false (h ∙ e))
-
-pub next-more : (halted : List Bool) (schedule : List ℕ) (at place : ℕ) (b : Bool) → place < length schedule → has_halted halted (get_or schedule place 0) ≡ b → b ≡ true →
-    next_in halted (drop at schedule) ≡ next_in halted (drop place schedule) → next_in halted (drop at schedule) ≡ next_in halted (drop (place + 1) schedule)
-next-more halted schedule at place b l h e was =
-    was ∙ at_drop_more (next_in halted) schedule place 0 l ∙ next-step halted (get_or schedule place 0) (drop (place + 1) schedule) true (h ∙ e)
-
-pub next-none : (halted : List Bool) (schedule : List ℕ) (at place : ℕ) → length schedule ≤ place → next_in halted (drop at schedule) ≡ next_in halted (drop place schedule) →
-    option_map (turn_from schedule) None ≡ next_in halted (drop at schedule)
-unfolding next_in
-next-none halted schedule at place l was = sym (was ∙ at_drop_all (next_in halted) schedule place l)
 
 pub name-below : (count : ℕ) (schedule : List ℕ) (place d : ℕ) → place < length schedule → AreNames count schedule → get_or schedule place d < count
 name-below count [] place d l h = absurd (omega arith)
@@ -53,9 +32,6 @@ found-either halted schedule part (Some (x, xs)) who rest h e = found-in halted 
 pub found-turn : (halted : List Bool) (schedule part : List ℕ) (who : ℕ) (rest : List ℕ) → next_turn halted schedule part ≡ Some (who, rest) → has_halted halted who ≡ false
 found-turn halted schedule part who rest e = found-either halted schedule part (next_in halted part) who rest refl e
 
-pub found-runs : (halted : List Bool) (schedule part : List ℕ) (place : ℕ) → option_map (turn_from schedule) (Some place) ≡ next_turn halted schedule part → has_halted halted (get_or schedule place 0) ≡ false
-found-runs halted schedule part place e = found-either halted schedule part (next_in halted part) (get_or schedule place 0) (drop (place + 1) schedule) refl (sym e)
-
 -- ---- all have halted
 
 all-by : (halted : List Bool) (x : ℕ) (xs : List ℕ) (b : Bool) → has_halted halted x ≡ b → (next_in halted xs ≡ None → AllHaveHalted halted xs) → cond b (next_in halted xs) (Some (x, xs)) ≡ None → AllHaveHalted halted (x ∷ xs)
@@ -75,19 +51,6 @@ none-all : (halted : List Bool) (part : List ℕ) → AllHaveHalted halted part 
 unfolding next_in
 none-all halted [] h = refl
 none-all halted (x ∷ xs) h = none-by halted x xs (has_halted halted x) refl h.0 (none-all halted xs h.1)
-
-or-none : (x y : Option (ℕ × List ℕ)) → or_again x y ≡ None → y ≡ None
-or-none None y e = e
-or-none (Some p) y e = absurd (cc)
-
-pub none-next : (halted : List Bool) (schedule part : List ℕ) → option_map (turn_from schedule) None ≡ next_turn halted schedule part → AllHaveHalted halted schedule
-none-next halted schedule part e = all-none halted schedule (or-none (next_in halted part) (next_in halted schedule) (sym e))
-
--- one that is named runs
-pub not-all : (halted : List Bool) (schedule : List ℕ) (place d : ℕ) → place < length schedule → has_halted halted (get_or schedule place d) ≡ false → AllHaveHalted halted schedule → ⊥
-not-all halted [] place d l e h = absurd (omega arith)
-not-all halted (x ∷ xs) zero d l e h = let no : false ≡ true = sym e ∙ h.0 in absurd (cc)
-not-all halted (x ∷ xs) (suc place) d l e h = not-all halted xs place d (omega (arith, l)) e h.1
 
 last-by : (x : Option (ℕ × List ℕ)) (end : MultiEnd) → end ≡ end_at_last x → end ≡ AllHalted → x ≡ None
 last-by None end e h = refl

@@ -1,10 +1,9 @@
 -- Steps of a machine that go on are a stretch of turns.
-use Rattle.std.proofs.Common.{◌≡◌, ◌<◌, ◌≤◌, ℕ, zero, suc, ◌+◌, ◌-◌, Bool, true, false, List, length, drop, get_or, set, arith, inl, inr, refl, sym, subst, ap, ◌∙◌, ⊎_elim}
-use Rattle.std.specs.Prelude.{◌⊎◌, Some, Ok, Err}
+use Rattle.std.proofs.Common.{◌≡◌, ◌<◌, ◌≤◌, ℕ, zero, suc, ◌+◌, Bool, true, false, List, length, get_or, set, arith, inl, inr, refl, sym, subst, ap, ◌∙◌, ⊎_elim}
+use Rattle.std.specs.Prelude.{◌⊎◌, Some}
 use Rattle.std.proofs.lemmas.List.{get_or-set_same, length-set, set-set, set-get_or}
 use Rattle.std.proofs.lemmas.Bool.{cases_eq}
 use Rattle.mx_word.proofs.Fronts.{front-self}
-use Rattle.mx_plan.specs.Plan.{Comes, IsRest}
 use Rattle.mx_host.specs.HostModel.{HostModel, tells, contents}
 use Rattle.mx_core.specs.Bare.{Shared, nothing_shared, shared_of, with_shared}
 use Rattle.mx_core.specs.Bounds.{as_list_state}
@@ -18,26 +17,18 @@ use Rattle.mx_core.specs.declared.step.Advance.TheVariants as advance
 use Rattle.mx_run.specs.Clauses.{TurnGoesAsList, as_list_answer}
 use Rattle.mx_run.specs.Runs.{IsLater}
 use Rattle.mx_run.specs.Turns.{Answered, Turn, went_on, halts, stops, turn, turn_answer}
-use Rattle.mx_run.specs.WildRuns.{list_machine, turn_is_wild, as_list_turn, state_after}
+use Rattle.mx_run.specs.WildRuns.{turn_is_wild, as_list_turn, state_after}
 use Rattle.mx_run.specs.declared.turn_answer.TurnAnswer.{TurnAnswer}
 use Rattle.mx_run.proofs.Later.{advanced-later}
 use Rattle.mx_run.proofs.ListTurns.{TurnWindow, turn-listed-on, wild-listed, turn-untouched}
 use Rattle.mx_run.proofs.Runners.{turn-told}
-use Rattle.mx_multi.specs.Clauses.{Beside, MakesAtMost, MakesTurn}
-use Rattle.mx_multi.specs.Joint.{Joint, no_processor, has_halted, alone, as_list_joint, AllAlone}
-use Rattle.mx_multi.specs.JointTurns.{JointWorld, told_at}
-use Rattle.mx_multi.specs.MultiPlans.{MultiPlan, multi, step_plan, turns_plan}
+use Rattle.mx_multi.specs.Clauses.{MakesTurn}
+use Rattle.mx_multi.specs.Joint.{Joint, no_processor, has_halted, alone, AllAlone}
+use Rattle.mx_multi.specs.JointTurns.{told_at}
 use Rattle.mx_multi.specs.Stretches.{GoesOn, Stretch, IsRow}
-use Rattle.mx_multi.specs.Turns.{TurnsEnd, next_in, next_turn, or_again, turns}
-use Rattle.mx_multi.specs.declared.end.MultiEnd.{MultiEnd}
-use Rattle.mx_multi.specs.declared.end.MultiEnd.TheVariants as end
 use Rattle.mx_multi.specs.declared.turn.Turn.TheVariants as turned
 use Rattle.mx_multi.proofs.Places.{alone-at, alone-set}
-use Rattle.mx_multi.proofs.Followed.{lists-follow, next-follows, turn-follows}
-use Rattle.mx_multi.proofs.Schedules.{next-found, found-turn}
-use Rattle.mx_multi.proofs.StepSums.{none-made, one-made, both-made}
 use Rattle.mx_multi.proofs.TurnComes.{joint, told-comes, step-listed}
-use Rattle.mx_multi.proofs.TurnPlans.{rest-went, some-comes, turned-comes}
 use Rattle.mx_multi.proofs.Untraced.{went-makes}
 
 -- ---- a step that goes on, over the list of its machine
@@ -145,72 +136,6 @@ module _ (H : List Bool) (at : ℕ) (runs : has_halted H at ≡ false) where
               (subst (λ s. Goes n s (with_shared N (get_or Q at no_processor))) (sym (back P M inside p g.0 g.1)) g.2),
         ),
       )
-
--- ---- along a schedule
-
-next-in : (halted : List Bool) (schedule : List ℕ) (place who : ℕ) → place < length schedule → get_or schedule place 0 ≡ who → has_halted halted who ≡ false → next_in halted (drop place schedule) ≡ Some (who, drop (place + 1) schedule)
-next-in halted schedule place who l e runs =
-    sym (next-found halted schedule place place false l (ap (has_halted halted) e ∙ runs) refl refl) ∙ ap (λ x. Some (x, drop (place + 1) schedule)) e
-
-pub next-row : (halted : List Bool) (schedule : List ℕ) (place who : ℕ) → place < length schedule → get_or schedule place 0 ≡ who → has_halted halted who ≡ false → next_turn halted schedule (drop place schedule) ≡ Some (who, drop (place + 1) schedule)
-next-row halted schedule place who l e runs = ap (λ x. or_again x (next_in halted schedule)) (next-in halted schedule place who l e runs)
-
--- What a turn that goes on keeps, with one step less to make and what follows in the schedule, a stretch keeps.
-module _ (schedule : List ℕ) (who : ℕ) (Along : ℕ → List ℕ → Joint → Type 0)
-    (step : (left : ℕ) (rest after : List ℕ) (j k : Joint) → 1 ≤ left → next_turn j.halted schedule rest ≡ Some (who, after) → GoesOn who j k → Along left rest j → Along (left - 1) after k) where
-  pub stretch-along : (n left at place : ℕ) (j l : Joint) → suc n ≤ left → IsRow schedule place (suc n) who → next_turn j.halted schedule (drop at schedule) ≡ Some (who, drop (place + 1) schedule) → has_halted j.halted who ≡ false →
-      Stretch (suc n) who j l → Along left (drop at schedule) j → Along (left - suc n) (drop (place + suc n) schedule) l
-  unfolding Stretch
-  stretch-along zero left at place j l f row e runs s a =
-      subst (Along (left - 1) (drop (place + 1) schedule)) s.1.1 (step left (drop at schedule) (drop (place + 1) schedule) j s.0 (omega (arith, f)) e s.1.0 a)
-  stretch-along (suc n) left at place j l f row e runs s a =
-      let less : left - 1 - suc n ≡ left - suc (suc n) = omega arith in
-      let to : place + 1 + suc n ≡ place + suc (suc n) = omega arith in
-      let still = ap (λ hs. has_halted hs who) s.1.0.halted ∙ runs in
-      let within : place + 1 < length schedule = (let i = row.inside in omega (arith, i)) in
-      let next = step left (drop at schedule) (drop (place + 1) schedule) j s.0 (omega (arith, f)) e s.1.0 a in
-      subst (λ k. Along (left - suc (suc n)) (drop k schedule) l) to
-      (subst (λ k. Along k (drop (place + 1 + suc n) schedule) l) less
-      (stretch-along n (left - 1) (place + 1) (place + 1) s.0 l (omega (arith, f))
-      (record {
-        inside = (let i = row.inside in omega (arith, i));
-        names = λ i h. (let then : place + (i + 1) ≡ place + 1 + i = omega arith in subst (λ p. get_or schedule p 0 ≡ who) then (row.names (i + 1) (omega (arith, h))));
-      }) (next-row s.0.halted schedule (place + 1) who within (row.names 1 (omega arith)) still) still s.1.1 next))
-
--- ---- what is kept so: what is left of a plan, turns beside those of list machines, and how many steps were made
-
-went-step : (schedule : List ℕ) (who left : ℕ) (rest after : List ℕ) (j k : Joint) (m : HostModel) → next_turn j.halted schedule rest ≡ Some (who, after) → GoesOn who j k →
-    Comes multi (j, m) (k, m) (Err end.OutOfMemory) (Ok after) (step_plan schedule rest)
-went-step schedule who left rest after j k m e g = some-comes schedule rest after who (j, m) (k, m) (Ok after) (sym e) (turned-comes who after turned.Went (j, m) (k, m) (g.comes m))
-
-module _ (schedule : List ℕ) (who n left at place : ℕ) (j l : Joint) (f : suc n ≤ left) (row : IsRow schedule place (suc n) who) (e : next_turn j.halted schedule (drop at schedule) ≡ Some (who, drop (place + 1) schedule))
-    (runs : has_halted j.halted who ≡ false) (s : Stretch (suc n) who j l) where
-  pub stretch-rest : (m : HostModel) (start : JointWorld) (whole : MultiPlan MultiEnd) → IsRest multi (turns_plan schedule left (drop at schedule)) (j, m) whole start →
-      IsRest multi (turns_plan schedule (left - suc n) (drop (place + suc n) schedule)) (l, m) whole start
-  stretch-rest m start whole r =
-      stretch-along schedule who (λ k rest i. IsRest multi (turns_plan schedule k rest) (i, m) whole start)
-      (λ k rest after i h some next g was. (
-      let none : k - 0 ≡ k = omega arith in
-      rest-went schedule rest after k 0 (i, m) (h, m) start whole (omega (arith, some)) (subst (λ b. IsRest multi (turns_plan schedule b rest) (i, m) whole start) (sym none) was) (went-step schedule who k rest after i h m next g)
-      )) n left at place j l f row e runs s r
-
-  pub stretch-listed : (m : HostModel) (whole : TurnsEnd) → Beside whole (turns list_machine schedule left (drop at schedule) (as_list_joint j) m) j m →
-      Beside whole (turns list_machine schedule (left - suc n) (drop (place + suc n) schedule) (as_list_joint l) m) l m
-  stretch-listed m whole b =
-      stretch-along schedule who (λ k rest i. Beside whole (turns list_machine schedule k rest (as_list_joint i) m) i m)
-      (λ k rest after i h some next g was. (
-      let none : k - 0 ≡ k = omega arith in
-      lists-follow schedule rest k 0 whole i h m m (Ok after) (omega (arith, some)) (subst (λ c. Beside whole (turns list_machine schedule c rest (as_list_joint i) m) i m) (sym none) was)
-      (λ u. next-follows (turns list_machine schedule (k - (0 + 1))) i h m m (Ok after) (Some (who, after)) (next_turn i.halted schedule rest) (sym next)
-      (turn-follows (turns list_machine schedule (k - (0 + 1))) who after i h m m turned.Went (found-turn i.halted schedule rest who after next) (g.listed m u)))
-      (front-self m.output)
-      )) n left at place j l f row e runs s b
-
-pub stretch-made : (n who : ℕ) (j l : Joint) → Stretch n who j l → MakesAtMost n j l
-unfolding Stretch
-stretch-made zero who j l s = subst (λ k. MakesAtMost 0 j k) s (none-made j)
-stretch-made (suc n) who j l s =
-    let more : 1 + n ≡ suc n = omega arith in subst (λ k. MakesAtMost k j l) more (both-made 1 n j s.0 l (one-made who j s.0 s.1.0.bound) (stretch-made n who s.0 l s.1.1))
 
 -- ---- rows
 

@@ -113,7 +113,7 @@ unfolding bind turn_plan end_of multi
 next-end schedule n None w h = refl
 next-end schedule n (Some (who, rest)) w h = after-end schedule n (end_of_turn who rest (turn_of who w).0) (turn_of who w).1 h
 
-step-end : (schedule rest : List ℕ) (w : JointWorld) → end_of multi (step_plan schedule rest) w ≡ end_of multi (turn_if (next_turn w.0.halted schedule rest)) w
+pub step-end : (schedule rest : List ℕ) (w : JointWorld) → end_of multi (step_plan schedule rest) w ≡ end_of multi (turn_if (next_turn w.0.halted schedule rest)) w
 unfolding bind step_plan look end_of multi
 step-end schedule rest w = refl
 

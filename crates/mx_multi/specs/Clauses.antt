@@ -9,13 +9,13 @@ use Rattle.mx_core.specs.State.{State}
 use Rattle.mx_run.specs.Clauses.{CarriesOutRun}
 use Rattle.mx_run.specs.RunPlans as run
 use Rattle.mx_run.specs.Runs.{IsLater}
-use Rattle.mx_run.specs.WildRuns.{HasWindow, list_machine}
+use Rattle.mx_run.specs.WildRuns.{HasWindow, list_machine, window_machine}
 use Rattle.mx_run.specs.declared.turn_answer.TurnAnswer.{TurnAnswer}
 use Rattle.mx_run.specs.declared.turn_answer.TurnAnswer.TheVariants as answer
 use Rattle.mx_multi.specs.Joint.{Joint, NoneTouched, as_list_joint, has_halted, processor}
 use Rattle.mx_multi.specs.JointTurns.{MakesOne, halted_by, told_at, turn_of, is_wild_turn}
-use Rattle.mx_multi.specs.MultiPlans.{MultiPlan, multi, turn_plan}
-use Rattle.mx_multi.specs.Turns.{TurnsEnd, turns_ended, turns_wild, turn_by}
+use Rattle.mx_multi.specs.MultiPlans.{MultiPlan, multi, turn_plan, turns_plan}
+use Rattle.mx_multi.specs.Turns.{TurnsEnd, turns_ended, turns_wild, turn_by, turns, AllHaveHalted}
 use Rattle.mx_multi.specs.declared.turn.Turn.{Turn}
 use Rattle.mx_multi.specs.declared.turn.Turn.TheVariants as turned
 use Rattle.mx_multi.specs.declared.end.MultiEnd.{MultiEnd}
@@ -105,6 +105,19 @@ pub record MakesAtMost (n : ℕ) (old new : Joint) : Type 0 where
   pub made : ℕ → ℕ
   pub few : sum_below (length old.processors) made ≤ n
   pub counted : (who : ℕ) → (processor new who).steps % 2 ^ 64 ≡ ((processor old who).steps + made who) % 2 ^ 64
+
+-- TURNS BY A SCHEDULE
+
+-- What holds of turns by a schedule over every host, at most n steps of them: their plan is carried out, so they end and leave what
+-- they should, beside list machines too; they end so that all have halted exactly where each that the schedule names then has; at most
+-- n steps are made; and the host keeps what it keeps at every call.
+pub record TakesTurns (schedule : List ℕ) (n : ℕ) (old new : Option HostModel) (earlier later : ℕ) (before after : Joint) (result : MultiEnd) : Type 0 where
+  pub plan : CarriesOutTurns old new before after end.OutOfMemory result (turns_plan schedule n schedule)
+  pub told : EndAs old new before after result (λ j m. turns window_machine schedule n schedule j m)
+  pub listed : EndAsLists old new before after result (λ j m. turns list_machine schedule n schedule j m)
+  pub halted : (result ≡ end.AllHalted) ↔ AllHaveHalted after.halted schedule
+  pub bound : MakesAtMost n before after
+  pub keeps : Keeps old new earlier later
 
 -- ON THE WAY
 

@@ -1,11 +1,13 @@
 -- Turns as a fold: of a list of numbers each names the processor of a turn, one after another.
-use Rattle.std.specs.Prelude.{ℕ, zero, suc, ◌≡◌, ◌≤◌, ◌+◌, List, [], ◌∷◌, ◌++◌}
+use Rattle.std.specs.Prelude.{ℕ, zero, suc, ◌≡◌, ◌≤◌, ◌<◌, ◌+◌, false, true, List, [], ◌∷◌, ◌++◌}
 use Rattle.mx_word.specs.Lists.{IsFront}
+use Rattle.mx_run.specs.WildRuns.{MachineKind, ends_wild}
+use Rattle.mx_multi.specs.Joint.{has_halted, state_at}
 use Rattle.mx_multi.specs.JointTurns.{JointWorld, turn_of}
+use Rattle.mx_multi.specs.Turns.{AllHaveHalted, TurnsEnd, turns_ended, turns_wild}
 use Rattle.mx_multi.specs.declared.turn.Turn.{Turn}
 use Rattle.mx_multi.specs.declared.turn.Turn.TheVariants.{Went, Halted, Idle, Stopped, OutOfMemory}
-use Rattle.mx_multi.specs.declared.end.MultiEnd.{MultiEnd}
-use Rattle.mx_multi.specs.declared.end.MultiEnd.TheVariants.{Spent}
+use Rattle.mx_multi.specs.declared.end.MultiEnd.TheVariants as end
 
 -- what is left after all of them
 unfoldable pub after_turns : List ℕ → JointWorld → JointWorld
@@ -29,12 +31,51 @@ abbrev pub repeated : List ℕ → ℕ → List ℕ
 repeated schedule zero = []
 repeated schedule (suc rounds) = schedule ++ repeated schedule rounds
 
--- Turns that lead from one world to another are a front of this, and then of the schedule that is repeated; of them at most
--- n are steps, and n where they end as all steps are made.
-pub record FoldsFrom (rest schedule : List ℕ) (n : ℕ) (end : MultiEnd) (old new : JointWorld) : Type 0 where
+-- ---- turns that do not end them
+
+abbrev pub DoesNotEnd : Turn → Type 0
+DoesNotEnd Went = Unit {0}
+DoesNotEnd (Halted status) = Unit {0}
+DoesNotEnd Idle = Unit {0}
+DoesNotEnd (Stopped pc reason) = ⊥
+DoesNotEnd OutOfMemory = ⊥
+
+-- a turn that is made while not all have halted that the schedule names, that does not end them, and that is not wild
+pub record IsUnstopped (kind : MachineKind) (schedule : List ℕ) (who : ℕ) (w : JointWorld) : Type 0 where
+  pub due : ¬ AllHaveHalted w.0.halted schedule
+  pub going : DoesNotEnd (turn_of who w).0
+  pub tame : has_halted w.0.halted who ≡ false → ends_wild kind (state_at w.0 who) ≡ false
+
+unfoldable pub AreUnstopped : MachineKind → List ℕ → List ℕ → JointWorld → Type 0
+AreUnstopped kind schedule [] w = Unit {0}
+AreUnstopped kind schedule (who ∷ turns) w = IsUnstopped kind schedule who w × AreUnstopped kind schedule turns (turn_of who w).1
+
+-- ---- their end
+
+-- after these turns a step is left, and the next number of the schedule is this one, whose processor has not halted
+pub record IsNext (n steps who : ℕ) (next : List ℕ) (w : JointWorld) : Type 0 where
+  pub left : steps < n
+  pub named : next ≡ who ∷ []
+  pub runs : has_halted w.0.halted who ≡ false
+
+-- How they end after turns that do not end them, of which so many are steps: all steps are made, and one that the schedule
+-- names has not halted; all that it names have halted; the next turn stops; or it is wild, and is not made.
+abbrev pub EndsSo : MachineKind → List ℕ → ℕ → ℕ → List ℕ → JointWorld → TurnsEnd → Type 0
+EndsSo kind schedule n steps next w (turns_ended end.Spent j m) = ((j, m) ≡ w) × (steps ≡ n) × ¬ AllHaveHalted w.0.halted schedule
+EndsSo kind schedule n steps next w (turns_ended end.AllHalted j m) = ((j, m) ≡ w) × AllHaveHalted w.0.halted schedule
+EndsSo kind schedule n steps next w (turns_ended (end.Stopped who pc reason) j m) =
+    IsNext n steps who next w × ((Stopped pc reason, (j, m)) ≡ turn_of who w) × (ends_wild kind (state_at w.0 who) ≡ false)
+EndsSo kind schedule n steps next w (turns_ended end.OutOfMemory j m) =
+    (who : ℕ) × (IsNext n steps who next w × ((OutOfMemory, (j, m)) ≡ turn_of who w) × (ends_wild kind (state_at w.0 who) ≡ false))
+EndsSo kind schedule n steps next w (turns_wild m) = (who : ℕ) × (IsNext n steps who next w × (ends_wild kind (state_at w.0 who) ≡ true) × (m ≡ w.1))
+
+-- Turns from a world to an end. Those that do not end them, and then the one that does, if one does, are a front of this and then of
+-- the schedule that is repeated; at most n are steps.
+pub record FoldsFrom (kind : MachineKind) (rest schedule : List ℕ) (n : ℕ) (old : JointWorld) (end : TurnsEnd) : Type 0 where
   pub turns : List ℕ
+  pub next : List ℕ
   pub rounds : ℕ
-  pub front : IsFront turns (rest ++ repeated schedule rounds)
-  pub folded : after_turns turns old ≡ new
+  pub front : IsFront (turns ++ next) (rest ++ repeated schedule rounds)
   pub few : steps_in turns old ≤ n
-  pub all : end ≡ Spent → steps_in turns old ≡ n
+  pub unstopped : AreUnstopped kind schedule turns old
+  pub ends : EndsSo kind schedule n (steps_in turns old) next (after_turns turns old) end

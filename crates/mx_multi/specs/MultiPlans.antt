@@ -28,7 +28,7 @@ multi_act (turning who) w = turn_of who w
 multi_act looking w = (w.0.halted, w)
 
 -- A turn lacks memory where the step of its processor on the one memory does. That processor and the memory are then as the
--- step leaves them, and nothing else changed.
+-- step leaves them, and nothing else changed. A look may lack memory for the names of those that have not halted, and changes nothing.
 pub record TurnLacks (who : ℕ) (w v : JointWorld) : Type 0 where
   pub state : State
   pub runs : has_halted w.0.halted who ≡ false
@@ -37,7 +37,7 @@ pub record TurnLacks (who : ℕ) (w v : JointWorld) : Type 0 where
 
 abbrev pub MultiLacks : MultiCall → JointWorld → JointWorld → Type 0
 MultiLacks (turning who) w v = TurnLacks who w v
-MultiLacks looking w v = ⊥
+MultiLacks looking w v = v ≡ w
 
 unfoldable pub multi : Acts MultiCall MultiSays JointWorld
 multi = record { act = multi_act; Lacks = MultiLacks }

@@ -1,6 +1,6 @@
 -- Several processors take turns by a schedule, whose bytes name processors and which is repeated from its beginning as often
 -- as needed.
-use Rattle.std.specs.Prelude.{ℕ, zero, suc, ◌+◌, ◌<◌, Bool, IsTrue, List, drop, get_or, [], ◌∷◌, Option, None, Some, Result, Ok, Err, if◌then◌else◌}
+use Rattle.std.specs.Prelude.{ℕ, zero, suc, ◌<◌, Bool, IsTrue, List, [], ◌∷◌, Option, None, Some, Result, Ok, Err, if◌then◌else◌}
 use Rattle.mx_host.specs.HostModel.{HostModel}
 use Rattle.mx_run.specs.WildRuns.{MachineKind, ends_wild}
 use Rattle.mx_multi.specs.Joint.{Joint, has_halted, state_at}
@@ -34,10 +34,6 @@ AllHaveHalted halted (who ∷ rest) = IsTrue (has_halted halted who) × AllHaveH
 abbrev pub AreNames : ℕ → List ℕ → Type 0
 AreNames count [] = Unit {0}
 AreNames count (who ∷ rest) = (who < count) × AreNames count rest
-
--- what the turn at a place of the schedule is, and what follows it
-abbrev pub turn_from : List ℕ → ℕ → ℕ × List ℕ
-turn_from schedule place = (get_or schedule place 0, drop (place + 1) schedule)
 
 -- TURNS
 

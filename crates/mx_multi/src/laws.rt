@@ -6,11 +6,10 @@ ghost use Rattle.mx_mmo.specs.Image.{Image};
 ghost use Rattle.mx_ring.specs.RegisterList.{list_at_start};
 ghost use Rattle.mx_ring.specs.Stack.{Stack, listed, windowed};
 ghost use Rattle.mx_ring.specs.Window.{window_at_start};
-ghost use Rattle.mx_run.specs.WildRuns.{window_machine};
+ghost use Rattle.mx_run.specs.WildRuns.{MachineKind};
 ghost use Rattle.mx_multi.specs.Folds.{FoldsFrom};
 ghost use Rattle.mx_multi.specs.Joint.{Joint, NoneTouched, as_list_joint, started};
-ghost use Rattle.mx_multi.specs.Turns.{turns, turns_ended};
-ghost use Rattle.mx_multi.specs.declared.end.MultiEnd.{MultiEnd};
+ghost use Rattle.mx_multi.specs.Turns.{turns};
 
 /// Processors start over the lists that their register stacks at the start stand for, and none is touched.
 #[tactic(auto, using(crate::proofs::ListStarts::starting))]
@@ -21,11 +20,11 @@ pub fn processors_start_as_lists()
         → NoneTouched (started image count stack).processors }
 {}
 
-/// Turns by a schedule are a fold of the schedule that is repeated from its beginning: turns of processors that have halted
-/// do nothing and are no steps.
+/// Turns by a schedule, of machines with a window and with a list, are a fold of the schedule that is repeated from its
+/// beginning. Turns of processors that have halted do nothing and are no steps. Each end is reached where it is due, and no
+/// turn is made after it.
 #[tactic(auto, using(crate::proofs::Folded::folding))]
 pub fn turns_fold_the_schedule()
-    ensures { (schedule : List ℕ) (n : ℕ) (j k : Joint) (m h : HostModel) (end : MultiEnd)
-        → turns window_machine schedule n schedule j m ≡ turns_ended end k h
-        → FoldsFrom schedule schedule n end (j, m) (k, h) }
+    ensures { (kind : MachineKind) (schedule : List ℕ) (n : ℕ) (j : Joint) (m : HostModel)
+        → FoldsFrom kind schedule schedule n (j, m) (turns kind schedule n schedule j m) }
 {}

@@ -5,9 +5,9 @@ mod alone;
 mod end;
 mod laws;
 mod multi;
+mod queue;
 mod rows;
 mod runs;
-mod schedule;
 mod turn;
 mod turning;
 
@@ -15,5 +15,4 @@ pub use end::MultiEnd;
 pub use laws::{processors_start_as_lists, turns_fold_the_schedule};
 pub use multi::Multi;
 pub use runs::run_turns;
-pub use schedule::first_unnamed;
 pub use turn::Turn;

@@ -14,6 +14,7 @@ ghost use Rattle.mx_multi.specs.Joint.{has_halted, joint_of, processor_count, st
 use mx_core::Machine;
 use mx_load::Image;
 use mx_mem::Memory;
+use mx_mmo::Octas;
 use mx_ring::RingSize;
 use mx_start::globals_in;
 use mx_word::NoMemory;
@@ -55,7 +56,7 @@ impl Multi {
         ensures count { IfOk result (λ p. processor_count p ≡ count) }
     {
         let globals = globals_in(alloc, &image)?;
-        let processors = bare_machines(alloc, image.g(), globals.as_slice(), count, r)?;
+        let processors = bare_machines(alloc, image.g(), &globals, count, r)?;
         let halted = none_halted(alloc, count)?;
         Ok(Multi {
             alloc,
@@ -104,7 +105,7 @@ impl Multi {
 fn bare_machines(
     alloc: Global,
     g: u8,
-    globals: &[u64],
+    globals: &Octas,
     count: u8,
     r: RingSize,
 ) -> Result<Vec<Machine>, NoMemory>

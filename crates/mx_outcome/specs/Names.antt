@@ -130,6 +130,10 @@ trap_name n =
     else if n == 124 then codes "UnknownTrap"
     else []
 
+-- where no step can be taken back
+abbrev pub back_name : ℕ → List ℕ
+back_name n = if n == 140 then codes "NothingKept" else []
+
 abbrev pub fault_name_of : ℕ → List ℕ
 fault_name_of n =
     if nat_lt n 10 then line_name n
@@ -142,7 +146,8 @@ fault_name_of n =
     else if nat_lt n 100 then load_name n
     else if nat_lt n 110 then stack_name n
     else if nat_lt n 121 then stop_name n
-    else trap_name n
+    else if nat_lt n 130 then trap_name n
+    else back_name n
 
 abbrev pub usage_name_of : ℕ → List ℕ
 usage_name_of n =

@@ -27,8 +27,10 @@ pub fn fault_name(number: u16) -> &'static str
         stack_name(number)
     } else if number < 121 {
         stop_name(number)
-    } else {
+    } else if number < 130 {
         trap_name(number)
+    } else {
+        back_name(number)
     }
 }
 
@@ -219,6 +221,16 @@ fn trap_name(number: u16) -> &'static str
         122 => "TransferTooLarge",
         123 => "TrapPagesFull",
         124 => "UnknownTrap",
+        _ => "",
+    }
+}
+
+/// Where no step can be taken back.
+fn back_name(number: u16) -> &'static str
+    ensures { result.now ≡ spec.back_name number }
+{
+    match number {
+        140 => "NothingKept",
         _ => "",
     }
 }

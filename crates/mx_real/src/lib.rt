@@ -4,7 +4,10 @@
 mod opening;
 mod real;
 mod standard;
+mod start;
 mod streams;
+mod transfers;
 
 pub use real::RealHost;
 pub use standard::{StandIns, stand_in};
+pub use streams::{Stream, read, write};

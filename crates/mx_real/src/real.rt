@@ -1,26 +1,30 @@
 //! The real host: the files and streams of the system. It tells nothing of their contents.
 
-ghost use Rattle.std.specs.Prelude.{None, ◌≡◌, ◌≤◌, ◌<◌, vec_len, IfSome};
-ghost use Rattle.mx_host.specs.HostModel.{Rose};
+ghost use Rattle.std.specs.Prelude.{None, ◌≡◌, ◌≤◌, ◌<◌, IfSome, map, vec_len};
+ghost use Rattle.mx_host.specs.HostModel.{Rose, start_slots};
+ghost use Rattle.mx_real.specs.Streams.{stream_of};
 
 use crate::opening::open;
-use crate::streams::{Stream, at_start, read, seek, tell, write};
+use crate::start::streams_at_start;
+use crate::streams::{Stream, read, seek, tell, write};
 use mx_host::{Host, HostFault, Mode, OpenFault};
-use std::alloc::Global;
+use std::fs::File;
 
 /// The files and streams of the system, by slots, with a count of the calls that failed.
 #[derive(Drop)]
 pub struct RealHost {
     runtime: HostRuntime,
-    slots: Vec<Stream>,
+    slots: Vec<Stream<File>>,
     faults: u64,
     ghost slots_ok: { vec_len slots ≡ 261 },
 }
 
 impl RealHost {
     /// The slots as a program starts with them; nothing where there is no memory.
-    pub fn new(runtime: HostRuntime) -> Option<RealHost> {
-        let slots = start_slots(runtime.alloc())?;
+    pub fn new(runtime: HostRuntime) -> Option<RealHost>
+        ensures { IfSome result (λ host. host.slots.items ≡ map stream_of start_slots) }
+    {
+        let slots = streams_at_start(runtime.alloc())?;
         Some(RealHost {
             runtime,
             slots,
@@ -44,15 +48,17 @@ impl Host for RealHost {
     ghost faults = { λ h. h.faults };
 
     fn open_file(&mut self, slot: u16, name: &[u8], mode: Mode) -> Result<(), OpenFault> {
-        self.slots[slot as usize] = Stream::Closed;
         match open(&self.runtime, name, mode) {
             Ok(opened) => {
                 self.slots[slot as usize] = opened;
                 Ok(())
             }
-            Err(e) => {
+            Err(fault) => {
                 self.fault();
-                Err(e)
+                if fault == OpenFault::Absent {
+                    self.slots[slot as usize] = Stream::Closed;
+                }
+                Err(fault)
             }
         }
     }
@@ -67,7 +73,11 @@ impl Host for RealHost {
     }
 
     fn read_slot(&mut self, slot: u16, into: &mut [u8]) -> Result<usize, HostFault> {
-        match read(&self.runtime, &mut self.slots[slot as usize], into) {
+        match read(
+            &mut self.runtime.stdin(),
+            &mut self.slots[slot as usize],
+            into,
+        ) {
             Ok(count) => Ok(count),
             Err(e) => {
                 self.fault();
@@ -77,7 +87,12 @@ impl Host for RealHost {
     }
 
     fn write_slot(&mut self, slot: u16, from: &[u8]) -> Result<(), HostFault> {
-        match write(&self.runtime, &mut self.slots[slot as usize], from) {
+        match write(
+            &mut self.runtime.stdout(),
+            &mut self.runtime.stderr(),
+            &mut self.slots[slot as usize],
+            from,
+        ) {
             Ok(()) => Ok(()),
             Err(e) => {
                 self.fault();
@@ -105,16 +120,4 @@ impl Host for RealHost {
             }
         }
     }
-}
-
-fn start_slots(alloc: Global) -> Option<Vec<Stream>>
-    ensures { IfSome result (λ slots. vec_len slots ≡ 261) }
-{
-    let mut slots = Vec::new(alloc);
-    for at in 0..261u16 {
-        if slots.push(at_start(at)).is_err() {
-            return None;
-        }
-    }
-    Some(slots)
 }

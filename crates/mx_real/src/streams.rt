@@ -1,169 +1,167 @@
-//! What a slot of the real host leads to.
+//! What a slot of the real host leads to, and the calls on it.
+//!
+//! The calls are generic in the files and the standard streams, so that their clauses can speak of the bytes of a
+//! reader and a writer that tell them.
 
-ghost use Rattle.std.specs.Prelude.{◌≤◌, IfOk, IfSome, length};
+ghost use Rattle.std.specs.Prelude.{◌≡◌, ◌≤◌, ◌<◌, ◌↔◌, false, None, Err, IfOk, IfSome, OnErr, OnOk, length, take};
+ghost use Rattle.std.specs.Io.KnownBytes.{Appends, Consumes, IsAtEnd};
+ghost use Rattle.std.specs.Io.Seek.{StaysAt};
+ghost use Rattle.mx_host.specs.HostAnswer as answer;
+ghost use Rattle.mx_real.specs.Streams.{contents_of, is_readable, is_writable, IsSought, position_of, remaining_of};
 
+use crate::transfers::{read_whole, write_whole};
 use mx_host::{HostFault, Mode};
-use std::fs::File;
-use std::io::{ErrorKind, Read, Seek, SeekFrom, Write};
+use std::fs::OpenFile;
+use std::io::{Read, Seek, SeekFrom, Write};
 
-/// What a slot is.
+/// What a slot leads to.
 #[derive(Drop)]
-pub enum Stream {
+pub enum Stream<F> {
+    /// It is not open.
     Closed,
+    /// Standard input.
     Input,
+    /// Standard output.
     Output,
+    /// Standard error.
     Errors,
-    File(File, Mode),
+    /// A file, opened in this mode.
+    File(F, Mode),
 }
 
-/// What slots are at the start: the program's first three and the tool's last three lead to the
-/// standard streams.
-pub fn at_start(slot: u16) -> Stream {
-    match slot {
-        0 | 258 => Stream::Input,
-        1 | 259 => Stream::Output,
-        2 | 260 => Stream::Errors,
-        _ => Stream::Closed,
-    }
-}
-
-/// Reads until the buffer is full or the input ends.
-pub fn read(runtime: &HostRuntime, stream: &mut Stream, into: &mut [u8]) -> Result<usize, HostFault>
-    ensures { IfOk result (λ n. n ≤ length into.old) }
+/// Reads until the buffer is full or the input ends. Where a call of the system fails, the place in a file is moved back
+/// over the bytes that were read; what they changed in the buffer stays.
+pub fn read<I: Read, F: Read + Seek>(
+    input: &mut I,
+    stream: &mut Stream<F>,
+    into: &mut [u8],
+) -> Result<usize, HostFault>
+    ensures count { IfOk result (λ n. n ≤ length into.old) }
+    ensures bytes { IfOk result (λ n. Consumes (remaining_of I.remaining F.remaining input.old stream.old)
+        (remaining_of I.remaining F.remaining input.new stream.new) (take n into.new)) }
+    ensures end { IfOk result (λ n. n < length into.old →
+        IsAtEnd (remaining_of I.remaining F.remaining input.new stream.new)) }
+    ensures misused { result ≡ Err HostFault.Misused ↔ is_readable stream.old ≡ false }
 {
-    let count = match stream {
-        Stream::Input => read_whole(&mut runtime.stdin(), into),
+    match stream {
+        Stream::Input => match read_whole(input, into) {
+            Ok(count) => Ok(count),
+            Err(_) => Err(HostFault::Failed),
+        },
         Stream::File(file, mode) => {
             if mode.is_write_only() {
                 return Err(HostFault::Misused);
             }
-            read_whole(file, into)
+            match read_whole(file, into) {
+                Ok(count) => Ok(count),
+                Err(count) => Err(moved_back(file, count)),
+            }
         }
-        Stream::Closed | Stream::Output | Stream::Errors => return Err(HostFault::Misused),
-    };
-    count.ok_or(HostFault::Failed)
+        Stream::Closed | Stream::Output | Stream::Errors => Err(HostFault::Misused),
+    }
 }
 
-/// Writes all bytes.
-pub fn write(runtime: &HostRuntime, stream: &mut Stream, from: &[u8]) -> Result<(), HostFault> {
-    let done = match stream {
-        Stream::Output => write_whole(&mut runtime.stdout(), from),
-        Stream::Errors => write_whole(&mut runtime.stderr(), from),
+/// Writes all bytes. Where a call of the system fails, the place in a file is moved back over the bytes that were
+/// written; they stay in the file.
+pub fn write<O: Write, E: Write, F: Write + Seek>(
+    output: &mut O,
+    errors: &mut E,
+    stream: &mut Stream<F>,
+    from: &[u8],
+) -> Result<(), HostFault>
+    ensures bytes { OnOk result (Appends
+        (contents_of O.contents E.contents F.contents output.old errors.old stream.old)
+        (contents_of O.contents E.contents F.contents output.new errors.new stream.new) from.now) }
+    ensures misused { result ≡ Err HostFault.Misused ↔ is_writable stream.old ≡ false }
+{
+    match stream {
+        Stream::Output => match write_whole(output, from) {
+            Ok(_) => Ok(()),
+            Err(_) => Err(HostFault::Failed),
+        },
+        Stream::Errors => match write_whole(errors, from) {
+            Ok(_) => Ok(()),
+            Err(_) => Err(HostFault::Failed),
+        },
         Stream::File(file, mode) => {
             if mode.is_read_only() {
                 return Err(HostFault::Misused);
             }
-            write_whole(file, from)
+            match write_whole(file, from) {
+                Ok(_) => Ok(()),
+                Err(count) => Err(moved_back(file, count)),
+            }
         }
-        Stream::Closed | Stream::Input => return Err(HostFault::Misused),
-    };
-    if done { Ok(()) } else { Err(HostFault::Failed) }
+        Stream::Closed | Stream::Input => Err(HostFault::Misused),
+    }
+}
+
+/// Moves the place in a file back over the bytes that a call moved before it failed. What has no place, as a pipe,
+/// stays as it is.
+fn moved_back<F: Seek>(file: &mut F, count: usize) -> HostFault
+    ensures { result ≡ HostFault.Failed }
+{
+    if let Ok(count) = i64::try_from(count) {
+        let _ = file.seek_relative(-count);
+    }
+    HostFault::Failed
 }
 
 /// Moves the place of a file in a binary mode.
-pub fn seek(stream: &mut Stream, to: i64) -> Result<(), HostFault> {
+pub fn seek<F: Seek + OpenFile>(stream: &mut Stream<F>, to: i64) -> Result<(), HostFault>
+    ensures place { OnOk result (IsSought (position_of F.stream_position stream.old)
+        (position_of F.stream_position stream.new) to) }
+    ensures stays { OnErr result (StaysAt (position_of F.stream_position stream.old)
+        (position_of F.stream_position stream.new)) }
+{
     match stream {
-        Stream::File(file, mode) if mode.is_binary() => seek_file(file, to),
+        Stream::File(file, mode) if mode.is_binary() => match file.metadata() {
+            Ok(about) => seek_file(file, about.len(), to),
+            Err(_) => Err(HostFault::Failed),
+        },
         _ => Err(HostFault::Misused),
     }
 }
 
 /// The place of a file in a binary mode.
-pub fn tell(stream: &mut Stream) -> Result<u64, HostFault> {
+pub fn tell<F: Seek>(stream: &mut Stream<F>) -> Result<u64, HostFault>
+    ensures place { IfSome (position_of F.stream_position stream.old) (λ at. IfOk result (λ n. n ≡ at)) }
+    ensures stays { StaysAt (position_of F.stream_position stream.old) (position_of F.stream_position stream.new) }
+{
     match stream {
-        Stream::File(file, mode) if mode.is_binary() => {
-            file.stream_position().map_err(|_| HostFault::Failed)
-        }
+        Stream::File(file, mode) if mode.is_binary() => match file.stream_position() {
+            Ok(place) => Ok(place),
+            Err(_) => Err(HostFault::Failed),
+        },
         _ => Err(HostFault::Misused),
     }
 }
 
-fn seek_file(file: &mut File, to: i64) -> Result<(), HostFault> {
-    let Ok(about) = file.metadata() else {
-        return Err(HostFault::Failed);
-    };
-    let Some(place) = place_sought(about.len(), to) else {
-        return Err(HostFault::Misused);
-    };
-    match file.seek(SeekFrom::Start(place)) {
-        Ok(_) => Ok(()),
-        Err(_) => Err(HostFault::Failed),
-    }
-}
-
-/// The place that is sought in a file of this length, where it lies inside: -1 is the end, -2 the
-/// byte before it, and so on.
-fn place_sought(len: u64, to: i64) -> Option<u64> {
-    match u64::try_from(to) {
-        Ok(place) => { if place <= len { Some(place) } else { None } }
-        Err(_) => len.checked_sub(!to.cast_unsigned()),
-    }
-}
-
-/// Reads what there is; a read that a signal interrupts is tried again.
-fn read_some<R: Read>(reader: &mut R, into: &mut [u8]) -> Option<usize>
-    ensures { IfSome result (λ n. n ≤ length into.old) }
+/// Moves the place of a file of this length.
+fn seek_file<F: Seek>(file: &mut F, len: u64, to: i64) -> Result<(), HostFault>
+    ensures place { OnOk result (IfSome (F.stream_position file.old)
+        (λ _. F.stream_position file.new ≡ answer.place_sought len to)) }
+    ensures stays { OnErr result (StaysAt (F.stream_position file.old) (F.stream_position file.new)) }
+    ensures misused { result ≡ Err HostFault.Misused ↔ answer.place_sought len to ≡ None }
 {
-    for _turn in 0..u64::MAX {
-        match reader.read(into) {
-            Ok(count) => return Some(count),
-            Err(e) => {
-                if e.kind() != ErrorKind::Interrupted {
-                    return None;
-                }
-            }
-        }
+    match place_sought(len, to) {
+        Some(place) => match file.seek(SeekFrom::Start(place)) {
+            Ok(_) => Ok(()),
+            Err(_) => Err(HostFault::Failed),
+        },
+        None => Err(HostFault::Misused),
     }
-    None
 }
 
-/// Reads until the buffer is full or the input ends. Once it is full the system is not called again.
-fn read_whole<R: Read>(reader: &mut R, into: &mut [u8]) -> Option<usize>
-    ensures { IfSome result (λ n. n ≤ length into.old) }
+/// The place that is sought in a file of this length, where it lies inside.
+fn place_sought(len: u64, to: i64) -> Option<u64>
+    ensures { result ≡ answer.place_sought len to }
 {
-    let mut count = 0;
-    for _turn in 0..into.len() {
-        match read_some(reader, &mut into[count..]) {
-            Some(0) => break,
-            Some(n) => count += n,
-            None => return None,
-        }
-        if count == into.len() {
-            break;
-        }
+    if to >= 0 {
+        let place = to.unsigned_abs();
+        if place <= len { Some(place) } else { None }
+    } else {
+        let back = (to + 1).unsigned_abs();
+        if back <= len { Some(len - back) } else { None }
     }
-    Some(count)
-}
-
-/// Writes what can be written; a write that a signal interrupts is tried again.
-fn write_some<W: Write>(writer: &mut W, from: &[u8]) -> Option<usize>
-    ensures { IfSome result (λ n. n ≤ length from.now) }
-{
-    for _turn in 0..u64::MAX {
-        match writer.write(from) {
-            Ok(count) => return Some(count),
-            Err(e) => {
-                if e.kind() != ErrorKind::Interrupted {
-                    return None;
-                }
-            }
-        }
-    }
-    None
-}
-
-/// Writes all bytes, and says whether it could. Once they are written the system is not called again.
-fn write_whole<W: Write>(writer: &mut W, from: &[u8]) -> bool {
-    let mut count = 0;
-    for _turn in 0..from.len() {
-        match write_some(writer, &from[count..]) {
-            Some(0) => break,
-            Some(n) => count += n,
-            None => return false,
-        }
-        if count == from.len() {
-            break;
-        }
-    }
-    count == from.len()
 }

@@ -23,6 +23,7 @@ pub const ROOM: usize = 1 << 20;
 /// and the other hidden ones.
 #[derive(Drop)]
 pub struct Hidden {
+    alloc: Global,
     octas: Vec<u64>,
     stack: Area,
     spilled: usize,
@@ -66,6 +67,7 @@ impl Hidden {
         ensures memory { OnErr result (result ≡ Err RingFault.OutOfMemory) }
     {
         Ok(Hidden {
+            alloc,
             octas: Vec::with_capacity(alloc, ROOM)?,
             stack: Area::new(alloc)?,
             spilled: 0,

@@ -1,18 +1,16 @@
 -- What a step makes of a register, of an octa of the stack area and of $255 is taken back by one note.
-use Rattle.std.proofs.Common.{◌≡◌, ℕ, ◌+◌, ◌^◌, ◌≤◌, ◌<◌, true, false, cond, List, length, take, drop, arith, refl, sym, ◌∙◌, ap, get_or, ⊎_elim}
+use Rattle.std.proofs.Common.{◌≡◌, ℕ, ◌+◌, ◌^◌, ◌≤◌, ◌<◌, true, false, cond, length, arith, refl, sym, ◌∙◌, ap, ⊎_elim}
 use Rattle.std.proofs.lemmas.Bool.{cases_Bool}
 use Rattle.std.proofs.lemmas.Bool.Decides.{nat_tests}
-use Rattle.std.proofs.lemmas.List.{set-set, set-get_or}
 use Rattle.mx_ring.proofs.Lists.{register-grown, register-kept}
-use Rattle.mx_registers.proofs.Octas.{length-octas}
-use Rattle.mx_ring.proofs.Rings.{fits-of, grown-count}
-use Rattle.mx_ring.proofs.TakenBack.{undone-is, takes, moved, over-fits, octa-is, value-grows, trip-back}
-use Rattle.mx_ring.proofs.Undone.{set-undone, last-undone, room-spilled, nothing-spilled, stored-back}
+use Rattle.mx_ring.proofs.Rings.{grown-count}
+use Rattle.mx_ring.proofs.TakenBack.{moved, octa-is, value-grows, trip-back, octa-taken}
+use Rattle.mx_ring.proofs.Undone.{set-undone, last-undone, room-spilled, nothing-spilled, octa-back}
 use Rattle.mx_registers.proofs.Values.{locals-kept, with_value-bounds}
 use Rattle.mx_registers.specs.Bounds.{AreInBounds}
 use Rattle.mx_ring.specs.Bounds.{IsRing}
-use Rattle.mx_registers.specs.HiddenPart.{HiddenPart, octas_of, with_spilled, with_room, with_octa, put_back}
-use Rattle.mx_ring.specs.Notes.{TakesBack, ring_noted, ring_noted_stored, spilled_by, registers_noted, above_room, hidden_undone}
+use Rattle.mx_registers.specs.HiddenPart.{HiddenPart, with_spilled, with_room, with_octa}
+use Rattle.mx_ring.specs.Notes.{TakesBack, ring_noted, ring_noted_stored, octa_after_spill, spilled_by, above_room}
 use Rattle.mx_registers.specs.Registers.{Registers, value_of, is_marginal, with_value}
 use Rattle.mx_ring.specs.Stack.{windowed, with_register, with_stack_octa}
 use Rattle.mx_ring.specs.Window.{Window}
@@ -64,14 +62,8 @@ spills w k x r = ⊎_elim grown kept (cases_Bool (is_marginal w.visible k))
       are = ap (λ b. cond b (with_room w.hidden (length (with_value w.visible k x).locals) w.size) w.hidden) m ∙ sym (nothing-spilled w.hidden);
     }
 
--- an octa that was overwritten after others spilled
-exchanged-back : (h : HiddenPart) (i z n : ℕ) → n ≤ length h.resident → h.spilled + n ≤ length h.stack → i < length h.stack →
-    put_back (with_octa (with_octa (with_spilled h n) i z) i (get_or h.stack i 0)) h.spilled (take n (drop h.spilled h.stack)) 0 h.resident ≡ h
-exchanged-back h i z n low room inside =
-    let own : ℕ = get_or h.stack i 0 in
-    let twice : with_octa (with_octa (with_spilled h n) i z) i own ≡ with_octa (with_spilled h n) i own = ap (λ (xs : List ℕ). record (with_spilled h n) { stack = xs }) (set-set (with_spilled h n).stack i z own) in
-    let same : with_octa h i own ≡ h = ap (λ (xs : List ℕ). record h { stack = xs }) (set-get_or h.stack i 0) in
-    ap (λ k. put_back k h.spilled (take n (drop h.spilled h.stack)) 0 h.resident) (twice ∙ ap (λ k. with_octa (with_spilled k n) i own) (sym same)) ∙ stored-back h i own n low room inside
+pub spilled-few : (w : Window) (k : ℕ) → IsRing w → spilled_by (Set k 0) w ≤ length w.hidden.resident
+spilled-few w k r = let s : Spills w k 0 = spills w k 0 r in omega (arith, s.count, s.few)
 
 -- $255, which is never marginal
 last-apart : (v : Registers) → AreInBounds v → is_marginal v 255 ≡ false
@@ -84,20 +76,14 @@ pub set-steps : (w v : Window) (k x y : ℕ) → IsRing w → windowed v ≡ wit
 set-steps w v k x y r e = trip-back w (set-window w k x) v k x y r (sym (set-is w k x)) (e ∙ ap (λ s. with_register s 255 y) (set-is w k x))
 
 exchange-taken : (w : Window) (i z k x y : ℕ) → IsRing w → i < 2 ^ 20 → TakesBack (ring_noted_stored i k w) (record w { hidden = with_octa (set-hidden w k x) i z; visible = with_value (with_value w.visible k x) 255 y }) w
-unfolding ring_noted_stored registers_noted hidden_undone
 exchange-taken w i z k x y r f =
     let s : Spills w k x = spills w k x r in
-    let n : ℕ = s.number in
     let v : Registers = with_value w.visible k x in
     let b : AreInBounds v = with_value-bounds w.visible k x r.registers in
-    let all' : length (octas_of w.hidden) ≡ w.hidden.spilled + length w.hidden.resident = length-octas w.hidden (2 ^ 20) (fits-of w r) in
-    let room : w.hidden.spilled + n ≤ length w.hidden.stack = omega (arith, r.area, r.has_room, all', s.few) in
-    takes (ring_noted_stored i k w) _ w r (omega (arith, value-grows w.visible k x, last-length v y b)) f (over-fits w (spilled_by (Set k 0) w) r) (omega arith) (λ _. refl)
-    (undone-is (ring_noted_stored i k w) _ w refl
-    (ap (λ h. put_back (with_octa (with_octa h i z) i (get_or w.hidden.stack i 0)) w.hidden.spilled (take (spilled_by (Set k 0) w) (drop w.hidden.spilled w.hidden.stack)) 0 w.hidden.resident) s.are
-    ∙ ap (λ m. put_back (with_octa (with_octa (with_spilled w.hidden n) i z) i (get_or w.hidden.stack i 0)) w.hidden.spilled (take m (drop w.hidden.spilled w.hidden.stack)) 0 w.hidden.resident) (sym s.count)
-    ∙ exchanged-back w.hidden i z n s.few room (omega (arith, f, r.area)))
-    (last-undone v (length w.visible.locals) k y (value_of w.visible k) (value_of w.visible 255) b.one_is_global ∙ set-undone w.visible k x))
+    octa-taken w _ i k s.number r f s.count s.few refl
+    (ap (λ h. with_octa (with_octa h i z) i (octa_after_spill w.hidden s.number i)) s.are ∙ octa-back (with_spilled w.hidden s.number) i z)
+    (omega (arith, value-grows w.visible k x, last-length v y b))
+    (last-undone v (length w.visible.locals) k y (value_of w.visible k) (value_of w.visible 255) b.one_is_global ∙ set-undone w.visible k x)
 
 pub octa-steps : (w v : Window) (i z k x y : ℕ) → IsRing w → i < 2 ^ 20 → windowed v ≡ with_register (with_stack_octa (with_register (windowed w) k x) i z) 255 y → TakesBack (ring_noted_stored i k w) v w
 octa-steps w v i z k x y r f e =

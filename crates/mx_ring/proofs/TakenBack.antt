@@ -1,5 +1,5 @@
 -- What each work notes takes the window after it back to the one before.
-use Rattle.std.proofs.Common.{◌≡◌, ℕ, ◌+◌, ◌-◌, ◌^◌, ◌≤◌, ◌<◌, Bool, true, false, cond, List, [], ◌∷◌, ◌++◌, length, take, drop, min, None, arith, refl, sym, subst, ◌∙◌, ap, get_or, ⊎_elim}
+use Rattle.std.proofs.Common.{◌≡◌, ℕ, ◌+◌, ◌-◌, ◌^◌, ◌≤◌, ◌<◌, Bool, true, false, cond, List, [], ◌∷◌, ◌++◌, length, take, drop, min, None, arith, refl, sym, subst, ◌∙◌, ap, ⊎_elim}
 use Rattle.std.proofs.lemmas.Bool.{cases_Bool}
 use Rattle.std.proofs.lemmas.Bool.Decides.{nat_tests}
 use Rattle.std.proofs.lemmas.List.{append-nil, length-append, length-take, length-drop, length_push}
@@ -14,7 +14,7 @@ use Rattle.mx_ring.specs.Bounds.{IsRing}
 use Rattle.mx_ring.specs.Calls.{refused_where}
 use Rattle.mx_ring.specs.Frames.{frame, frame_length, frame_bottom, frame_registers}
 use Rattle.mx_registers.specs.HiddenPart.{HiddenPart, octas_of, with_hidden, with_spilled, with_room, with_first, with_octa, with_stack_first, put_back}
-use Rattle.mx_ring.specs.Notes.{some, RingWas, all, LocalsFit, OctaFits, TakesBack, IsGiven, WorkNeeds, worked, work_answer, plain_answer, ring_noted, ring_noted_stored, spilled_by, push_spills as spilled_by_push, staying, registers_noted, octa_noted, above_room, registers_undone, hidden_undone, ring_undone}
+use Rattle.mx_ring.specs.Notes.{some, RingWas, all, LocalsFit, OctaFits, TakesBack, IsGiven, WorkNeeds, worked, work_answer, plain_answer, ring_noted, ring_noted_stored, octa_after_spill, spilled_by, push_spills as spilled_by_push, staying, registers_noted, octa_noted, above_room, registers_undone, hidden_undone, ring_undone}
 use Rattle.mx_registers.specs.Registers.{Registers, value_of, is_marginal, with_value, with_locals_cut, with_globals_from, push_number, registers_below, registers_from, with_returned}
 use Rattle.mx_ring.specs.Stack.{windowed, visible, with_register, pushed, push_overfills, popped, pop_underflows, popped_octas, hole_in, saved, saved_registers, save_overfills, unsaved, octas_to, stack_index, cut_to, with_global_start, with_stack_octa}
 use Rattle.mx_ring.specs.Window.{Window}
@@ -242,19 +242,30 @@ value-grows v k x = ⊎_elim (λ m. marginal m) (λ m. kept m) (cases_Bool (is_m
         let local : k < v.first_global → k < length v.locals = grind (arith, nat_tests) in
         omega (arith, locals-kept v k x local)
 
+-- an octa that is given what it is after the spill, and then the spill is taken back
+pub octa-taken : (w v : Window) (i k n : ℕ) → IsRing w → i < 2 ^ 20 → n ≡ spilled_by (Set k 0) w → n ≤ length w.hidden.resident → v.size ≡ w.size → with_octa v.hidden i (octa_after_spill w.hidden n i) ≡ with_spilled w.hidden n →
+    length w.visible.locals ≤ length v.visible.locals → registers_undone (some (length w.visible.locals) k (value_of w.visible k) (value_of w.visible 255)) v.visible ≡ w.visible → TakesBack (ring_noted_stored i k w) v w
+unfolding ring_noted_stored ring_noted staying registers_noted hidden_undone
+octa-taken w v i k n r f count low size octa locals registers =
+    let spills : v.hidden.spilled ≡ w.hidden.spilled + n = ap (λ (h : HiddenPart). h.spilled) octa ∙ more-spilled w.hidden n in
+    takes (ring_noted_stored i k w) v w r locals f (over-fits w (spilled_by (Set k 0) w) r) (few-resident w r) (λ g. absurd (omega (arith, g, spills)))
+    (undone-is (ring_noted_stored i k w) v w size
+    (ap (λ m. put_back (with_octa v.hidden i (octa_after_spill w.hidden m i)) w.hidden.spilled (take m (drop w.hidden.spilled w.hidden.stack)) (length w.hidden.resident) (drop (length w.hidden.resident) w.hidden.resident)) (sym count)
+    ∙ ap (λ h. put_back h w.hidden.spilled (take n (drop w.hidden.spilled w.hidden.stack)) (length w.hidden.resident) (drop (length w.hidden.resident) w.hidden.resident)) octa
+    ∙ spilled-back w.hidden n (fits-of w r) low)
+    registers)
+
+-- there is room in the stack area for what spills
+pub spill-fits : (w : Window) (n : ℕ) → IsRing w → n ≤ length w.hidden.resident → w.hidden.spilled + n ≤ length w.hidden.stack
+spill-fits w n r low = omega (arith, r.area, r.has_room, length-octas w.hidden (2 ^ 20) (fits-of w r), low)
+
 stored-taken : (w v : Window) (i z k x n : ℕ) → IsRing w → i < 2 ^ 20 → n ≡ spilled_by (Set k 0) w → n ≤ length w.hidden.resident → v.size ≡ w.size → v.hidden ≡ with_spilled (with_octa w.hidden i z) n → v.visible ≡ with_value w.visible k x →
     TakesBack (ring_noted_stored i k w) v w
-unfolding ring_noted_stored registers_noted hidden_undone
 stored-taken w v i z k x n r f count low a b c =
-    let all' : length (octas_of w.hidden) ≡ w.hidden.spilled + length w.hidden.resident = length-octas w.hidden (2 ^ 20) (fits-of w r) in
-    let room : w.hidden.spilled + n ≤ length w.hidden.stack = omega (arith, r.area, r.has_room, all', low) in
-    let locals : length w.visible.locals ≤ length v.visible.locals = subst (λ u. length w.visible.locals ≤ length u.locals) (sym c) (value-grows w.visible k x) in
-    takes (ring_noted_stored i k w) v w r locals f (over-fits w (spilled_by (Set k 0) w) r) (omega arith) (λ _. refl)
-    (undone-is (ring_noted_stored i k w) v w a
-    (ap (λ h. put_back (with_octa h i (get_or w.hidden.stack i 0)) w.hidden.spilled (take (spilled_by (Set k 0) w) (drop w.hidden.spilled w.hidden.stack)) 0 w.hidden.resident) b
-    ∙ ap (λ m. put_back (with_octa (with_spilled (with_octa w.hidden i z) n) i (get_or w.hidden.stack i 0)) w.hidden.spilled (take m (drop w.hidden.spilled w.hidden.stack)) 0 w.hidden.resident) (sym count)
-    ∙ stored-back w.hidden i z n low room (omega (arith, f, r.area)))
-    (ap (registers_undone (some (length w.visible.locals) k (value_of w.visible k) (value_of w.visible 255))) c ∙ set-undone w.visible k x))
+    octa-taken w v i k n r f count low a
+    (ap (λ h. with_octa h i (octa_after_spill w.hidden n i)) b ∙ stored-back w.hidden i z n low (spill-fits w n r low) (omega (arith, f, r.area)))
+    (subst (λ u. length w.visible.locals ≤ length u.locals) (sym c) (value-grows w.visible k x))
+    (ap (registers_undone (some (length w.visible.locals) k (value_of w.visible k) (value_of w.visible 255))) c ∙ set-undone w.visible k x)
 
 stored-grown : (w : Window) (i z k x : ℕ) → IsRing w → i < 2 ^ 20 → is_marginal w.visible k ≡ true →
     TakesBack (ring_noted_stored i k w) (record w { hidden = with_room (with_octa w.hidden i z) (length (with_value w.visible k x).locals) w.size; visible = with_value w.visible k x }) w

@@ -9,7 +9,7 @@ use Rattle.mx_registers.proofs.Octas.{Fits, length-octas, spilled-below, spilled
 use Rattle.mx_registers.proofs.Spilled.{length-with_part}
 use Rattle.mx_registers.proofs.Values.{with_value-global, with_value-local, with_value-marginal}
 use Rattle.mx_registers.specs.HiddenPart.{HiddenPart, octas_of, with_hidden, with_spilled, with_room, with_first, with_octa, with_stack_first, put_back}
-use Rattle.mx_ring.specs.Notes.{some, given_back, registers_undone, above_room}
+use Rattle.mx_ring.specs.Notes.{some, given_back, registers_undone, above_room, octa_after_spill}
 use Rattle.mx_registers.specs.Registers.{Registers, is_marginal, value_of, with_value, with_locals_cut}
 
 -- LISTS
@@ -254,55 +254,72 @@ within-part xs ys s j f g l =
     let both : length (take s xs ++ ys) ≡ s + length ys = length-append (take s xs) ys ∙ ap (λ n. n + length ys) front in
     get_or_append_left (take s xs ++ ys) (drop (s + length ys) xs) 0 j (omega (arith, both, l)) ∙ get_or-append_right (take s xs) ys s j 0 front g
 
--- an item was overwritten, and then as many from a place on: both are put back
-both-back : (xs ys : List ℕ) (s n i z : ℕ) → n ≡ length ys → s + n ≤ length xs → i < length xs →
-    with_part (set (with_part (set xs i z) s ys) i (get_or xs i 0)) s (take n (drop s xs)) ≡ xs
-both-back xs ys s n i z e f inside = ext_get_or 0 _ xs (long ∙ whole) (λ j l. each j (omega (arith, l, long, whole)))
+-- an item is given what it is without the one that was overwritten before
+overwritten-back : (xs ys : List ℕ) (s i z : ℕ) → s + length ys ≤ length xs → i < length xs → set (with_part (set xs i z) s ys) i (get_or (with_part xs s ys) i 0) ≡ with_part xs s ys
+overwritten-back xs ys s i z f inside = ext_get_or 0 _ _ (long ∙ sym whole) (λ j l. each j)
   where
     changed : List ℕ
     changed = with_part (set xs i z) s ys
 
-    after : List ℕ
-    after = set changed i (get_or xs i 0)
-
-    others : List ℕ
-    others = take n (drop s xs)
-
-    size : length others ≡ n
-    size = length-take-le n (drop s xs) (omega (arith, f, length-drop s xs))
+    own : ℕ
+    own = get_or (with_part xs s ys) i 0
 
     room : s + length ys ≤ length (set xs i z)
-    room = omega (arith, length-set xs i z, e, f)
+    room = omega (arith, length-set xs i z, f)
 
-    whole : length after ≡ length xs
-    whole = length-set changed i (get_or xs i 0) ∙ length-with_part (set xs i z) ys s room ∙ length-set xs i z
+    whole : length (with_part xs s ys) ≡ length xs
+    whole = length-with_part xs ys s f
 
-    fits : s + length others ≤ length after
-    fits = omega (arith, size, whole, f)
+    same-length : length changed ≡ length xs
+    same-length = length-with_part (set xs i z) ys s room ∙ length-set xs i z
 
-    long : length (with_part after s others) ≡ length after
-    long = length-with_part after others s fits
+    long : length (set changed i own) ≡ length xs
+    long = length-set changed i own ∙ same-length
 
-    within : (j : ℕ) → s ≤ j → j < s + n → get_or (with_part after s others) j 0 ≡ get_or xs j 0
-    within j g l =
-        let here : s + (j - s) ≡ j = omega (arith, g) in
-        within-part after others s j fits g (omega (arith, l, size)) ∙ get_or-take n (drop s xs) (j - s) 0 (omega (arith, g, l)) ∙ get_or-drop s xs (j - s) 0 ∙ ap (λ k. get_or xs k 0) here
+    outside : (j : ℕ) → j ≢ i → (j < s) ⊎ (s + length ys ≤ j) → get_or changed j 0 ≡ get_or (with_part xs s ys) j 0
+    outside j ne o = outside-part (set xs i z) ys s j room o ∙ get_or-set_other xs i j z 0 ne ∙ sym (outside-part xs ys s j f o)
 
-    beside : (j : ℕ) → j ≢ i → (j < s) ⊎ (s + length ys ≤ j) → get_or after j 0 ≡ get_or xs j 0
-    beside j ne o = get_or-set_other changed i j (get_or xs i 0) 0 ne ∙ outside-part (set xs i z) ys s j room o ∙ get_or-set_other xs i j z 0 ne
+    within : (j : ℕ) → s ≤ j → j < s + length ys → get_or changed j 0 ≡ get_or (with_part xs s ys) j 0
+    within j g l = within-part (set xs i z) ys s j room g l ∙ sym (within-part xs ys s j f g l)
 
-    same : (j : ℕ) → j ≡ i → get_or after j 0 ≡ get_or xs j 0
-    same j d = ap (λ k. get_or after k 0) d ∙ get_or-set_same changed i (get_or xs i 0) 0 (omega (arith, inside, whole, length-set changed i (get_or xs i 0))) ∙ ap (λ k. get_or xs k 0) (sym d)
+    beside : (j : ℕ) → j ≢ i → get_or changed j 0 ≡ get_or (with_part xs s ys) j 0
+    beside j ne = ⊎_elim (λ b. outside j ne (inl b)) (λ g. ⊎_elim (λ b. within j g b) (λ h. outside j ne (inr h)) (cases_lt j (s + length ys))) (cases_lt j s)
 
-    outside : (j : ℕ) → (j < s) ⊎ (s + length ys ≤ j) → (j < s) ⊎ (s + length others ≤ j) → get_or (with_part after s others) j 0 ≡ get_or xs j 0
-    outside j o p = outside-part after others s j fits p ∙ ⊎_elim (λ d. same j d) (λ ne. beside j ne o) (cases_eq j i)
-
-    each : (j : ℕ) → j < length xs → get_or (with_part after s others) j 0 ≡ get_or xs j 0
-    each j l = ⊎_elim (λ b. outside j (inl b) (inl b)) (λ g. ⊎_elim (λ b. within j g b) (λ h. outside j (inr (omega (arith, h, e))) (inr (omega (arith, h, size)))) (cases_lt j (s + n))) (cases_lt j s)
+    each : (j : ℕ) → get_or (set changed i own) j 0 ≡ get_or (with_part xs s ys) j 0
+    each j = ⊎_elim (λ d. ap (λ k. get_or (set changed i own) k 0) d ∙ get_or-set_same changed i own 0 (omega (arith, inside, same-length)) ∙ ap (λ k. get_or (with_part xs s ys) k 0) (sym d))
+        (λ ne. get_or-set_other changed i j own 0 ne ∙ beside j ne) (cases_eq j i)
 
 pub stored-back : (h : HiddenPart) (i z n : ℕ) → n ≤ length h.resident → h.spilled + n ≤ length h.stack → i < length h.stack →
-    put_back (with_octa (with_spilled (with_octa h i z) n) i (get_or h.stack i 0)) h.spilled (take n (drop h.spilled h.stack)) 0 h.resident ≡ h
-unfolding put_back with_spilled
+    with_octa (with_spilled (with_octa h i z) n) i (octa_after_spill h n i) ≡ with_spilled h n
+unfolding with_spilled
 stored-back h i z n low room inside =
-    let size : n ≡ length (take n h.resident) = sym (length-take-le n h.resident low) in
-    λ t. record { stack = both-back h.stack (take n h.resident) h.spilled n i z size room inside t; spilled = h.spilled; resident = h.resident }
+    let size : length (take n h.resident) ≡ n = length-take-le n h.resident low in
+    λ t. record { stack = overwritten-back h.stack (take n h.resident) h.spilled i z (omega (arith, size, room)) inside t; spilled = h.spilled + n; resident = drop n h.resident }
+
+-- an octa of the stack area once others are spilled: it is one of the hidden ones, or it stays
+pub octa-spilled : (h : HiddenPart) (n i : ℕ) → n ≤ length h.resident → h.spilled + n ≤ length h.stack → i < h.spilled + n → get_or (octas_of h) i 0 ≡ octa_after_spill h n i
+unfolding with_spilled
+octa-spilled h n i low room inside = ⊎_elim (λ b. below b) (λ g. above g) (cases_lt i h.spilled)
+  where
+    size : length (take n h.resident) ≡ n
+    size = length-take-le n h.resident low
+
+    front : length (take h.spilled h.stack) ≡ h.spilled
+    front = length-take-le h.spilled h.stack (omega (arith, room))
+
+    fits : h.spilled + length (take n h.resident) ≤ length h.stack
+    fits = omega (arith, size, room)
+
+    below : i < h.spilled → get_or (octas_of h) i 0 ≡ get_or (with_part h.stack h.spilled (take n h.resident)) i 0
+    below b = get_or_append_left (take h.spilled h.stack) h.resident 0 i (omega (arith, front, b)) ∙ get_or-take h.spilled h.stack i 0 b ∙ sym (outside-part h.stack (take n h.resident) h.spilled i fits (inl b))
+
+    above : h.spilled ≤ i → get_or (octas_of h) i 0 ≡ get_or (with_part h.stack h.spilled (take n h.resident)) i 0
+    above g =
+        get_or-append_right (take h.spilled h.stack) h.resident h.spilled i 0 front g ∙ sym (get_or-take n h.resident (i - h.spilled) 0 (omega (arith, g, inside)))
+        ∙ sym (within-part h.stack (take n h.resident) h.spilled i fits g (omega (arith, inside, size)))
+
+pub octa-left : (h : HiddenPart) (n i : ℕ) → n ≤ length h.resident → h.spilled + n ≤ length h.stack → h.spilled + n ≤ i → get_or h.stack i 0 ≡ octa_after_spill h n i
+unfolding with_spilled
+octa-left h n i low room g =
+    let size : length (take n h.resident) ≡ n = length-take-le n h.resident low in
+    sym (outside-part h.stack (take n h.resident) h.spilled i (omega (arith, size, room)) (inr (omega (arith, size, g))))

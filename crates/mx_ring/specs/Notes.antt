@@ -4,7 +4,7 @@ use Rattle.mx_registers.specs.Bounds.{AreInBounds}
 use Rattle.mx_ring.specs.Bounds.{IsRing}
 use Rattle.mx_ring.specs.Calls.{set_answer, push_answer, pop_answer, save_answer, unsave_answer}
 use Rattle.mx_ring.specs.Frames.{frame_length}
-use Rattle.mx_registers.specs.HiddenPart.{HiddenPart, octas_of, with_octa, put_back}
+use Rattle.mx_registers.specs.HiddenPart.{HiddenPart, octas_of, with_spilled, with_octa, put_back}
 use Rattle.mx_registers.specs.Registers.{Registers, is_marginal, value_of, with_value, with_locals_cut, push_number}
 use Rattle.mx_ring.specs.Stack.{Stack, with_register, pushed, popped, hole_in, saved, unsaved, stack_index, cut_to, with_global_start, with_stack_octa}
 use Rattle.mx_ring.specs.Window.{Window}
@@ -140,16 +140,15 @@ ring_noted work w = record {
   octa = octa_noted work w.hidden.stack;
 }
 
--- where an octa of the stack area is overwritten, and then $k is given a value: the octa may be spilled over, so all
--- hidden octas in the ring are noted
+-- what an octa of the stack area is, once so many of the hidden octas in the ring are spilled
+abbrev pub octa_after_spill : HiddenPart → ℕ → ℕ → ℕ
+octa_after_spill h n i = slice_index (with_spilled h n).stack i
+
+-- where an octa of the stack area is overwritten, before or after $k is given a value: what the value overwrites, and the
+-- octa as it is once what the value spills is there. It is put back first, so the spilled octas are all there to be read.
 unfoldable pub ring_noted_stored : ℕ → ℕ → Window → RingWas
-ring_noted_stored i k w = record {
-  registers = registers_noted (Set k 0) w.visible;
-  spilled = w.hidden.spilled;
-  over = take (spilled_by (Set k 0) w) (drop w.hidden.spilled w.hidden.stack);
-  stays = 0;
-  gone = w.hidden.resident;
-  octa = Some (i, slice_index w.hidden.stack i);
+ring_noted_stored i k w = record (ring_noted (Set k 0) w) {
+  octa = Some (i, octa_after_spill w.hidden (spilled_by (Set k 0) w) i);
 }
 
 -- WHERE A NOTE FITS

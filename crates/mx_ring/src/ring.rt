@@ -33,6 +33,7 @@ pub const AREA_END: u64 = 0x6000_0000_0080_0000;
 /// The 256 registers, the hidden ones and the stack area. Contracts see it as a window.
 #[derive(Drop)]
 pub struct Ring {
+    alloc: Global,
     visible: Visible,
     hidden: Hidden,
     size: usize,
@@ -62,6 +63,7 @@ impl Ring {
         ensures memory { OnErr result (result ≡ Err RingFault.OutOfMemory) }
     {
         Ok(Ring {
+            alloc,
             visible: Visible::new(),
             hidden: Hidden::new(alloc)?,
             size: r.registers() as usize,

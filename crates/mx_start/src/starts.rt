@@ -67,7 +67,7 @@ fn without_memory(
         ≡ bare kept.g (globals_of kept) count (spec.pool + 8) (windowed (window_at_start r))) }
 {
     match globals_in(alloc, image) {
-        Ok(globals) => Machine::bare(alloc, g, globals.as_slice(), count, POOL + 8, r),
+        Ok(globals) => Machine::bare(alloc, g, &globals, count, POOL + 8, r),
         Err(fault) => Err(fault),
     }
 }

@@ -100,7 +100,7 @@ fn run_started<H: Host>(
         (plans.joint_plan order.now schedule.now (joint_of multi)) }
 {
     let mut multi = multi;
-    let end = run_turns(&mut multi, host, schedule, order.steps);
+    let end = run_turns(alloc, &mut multi, host, schedule, order.steps);
     tell_turns(alloc, host, order, &multi, end, count)
 }
 

@@ -1,6 +1,7 @@
 -- The tetras of a listing, joined, are the image of the two passes.
-use Rattle.std.proofs.Common.{◌≡◌, ℕ, ◌+◌, ◌*◌, ◌/◌, ◌%◌, ◌^◌, ◌<◌, List, [], ◌∷◌, ◌++◌, Bool, true, false, cond, arith, refl, sym, ap, subst, ◌∙◌, Option, None, Ok, Err, nat_lt, ◌==◌, ◌||◌}
+use Rattle.std.proofs.Common.{◌≡◌, length, map, ℕ, ◌+◌, ◌*◌, ◌/◌, ◌%◌, ◌^◌, ◌<◌, List, [], ◌∷◌, ◌++◌, Bool, true, false, cond, arith, refl, sym, ap, subst, ◌∙◌, Option, None, Ok, Err, nat_lt, ◌==◌, ◌||◌}
 use Rattle.std.proofs.lemmas.Bool.{eqb-true}
+use Rattle.std.specs.List.{AllByRecursion}
 use Rattle.std.proofs.lemmas.Bool.Decides.{nat_tests}
 use Rattle.mx_word.specs.Ranges.{AreBytes}
 use Rattle.mx_line.specs.Lines.{lines_of}
@@ -33,14 +34,16 @@ use Rattle.mx_files.specs.Sources.{source_meaning}
 use Rattle.mx_view.specs.declared.cells.Cell.{Cell}
 use Rattle.mx_view.specs.declared.cells.Wanted.TheVariants.{All}
 unfoldable use Rattle.mx_view.specs.Cells.{cells_of}
-use Rattle.mx_view.specs.Joined.{listed_tetra}
-use Rattle.mx_view.specs.Listing.{cells_behind}
-use Rattle.mx_view.specs.Rows.{Meaning, shown}
+use Rattle.mx_view.specs.Joined.{lines_once, listed_tetra, tetras_listed}
+use Rattle.mx_view.specs.Listing.{cells_behind, line_cells, lines_listed}
+use Rattle.mx_view.specs.Rows.{Meaning, is_loaded_at, listed_line, once, shown_cell}
 use Rattle.mx_type.specs.Lines.{tetra_address}
 use Rattle.mx_view.proofs.CoveredBytes.{covers}
 use Rattle.mx_view.proofs.EveryCell.{every-cell}
-use Rattle.mx_view.proofs.LoadedTetras.{has}
-use Rattle.mx_view.proofs.TwoPassViews.{tetra-shown}
+use Rattle.mx_view.proofs.LinesOnce.{once-accepted}
+use Rattle.mx_view.proofs.LoadedTetras.{has, has-append}
+use Rattle.mx_view.proofs.OnceLaws.{shown-all}
+use Rattle.mx_view.proofs.TwoPassViews.{not-refused, tetra-shown}
 
 -- ---- the bytes of a tetra
 
@@ -101,21 +104,52 @@ unfolding cells_of items_from accepted sights_from line_items
 lines-load [] a = refl
 lines-load (line ∷ lines) a = refl
 
-listed-is : (m : Meaning) (f : ℕ → ℕ) (cells : List Cell) (a : ℕ) → ((c : Cell) → c.address ≡ tetra_address a → shown m c ≡ tetra_of (f a) a) → (has cells a ≡ false → tetra_of (f a) a ≡ 0) →
-    tetra_of (f a) a ≡ listed_tetra m cells a
+-- tetras that each show what is at their address show it at all addresses that they hold
+abbrev Shows : ℕ → ℕ → Cell → Type 0
+Shows a x c = c.address ≡ tetra_address a → c.tetra ≡ x
+
+listed-is : (a x : ℕ) (cells : List Cell) → AllByRecursion (Shows a x) cells → (has cells a ≡ false → x ≡ 0) → x ≡ listed_tetra cells a
 unfolding has listed_tetra
-listed-is m f [] a here none = none refl
-listed-is m f (c ∷ cells) a here none = by (c.address == tetra_address a) refl (λ out. listed-is m f cells a here out)
+listed-is a x [] here none = none refl
+listed-is a x (c ∷ cells) here none = by (c.address == tetra_address a) refl (λ out. listed-is a x cells here.1 out)
   where
-    by : (b : Bool) → (c.address == tetra_address a) ≡ b → ((has cells a ≡ false → tetra_of (f a) a ≡ 0) → tetra_of (f a) a ≡ listed_tetra m cells a) → tetra_of (f a) a ≡ cond b (shown m c) (listed_tetra m cells a)
-    by true e rest = sym (here c (eqb-true c.address (tetra_address a) e))
+    by : (b : Bool) → (c.address == tetra_address a) ≡ b → ((has cells a ≡ false → x ≡ 0) → x ≡ listed_tetra cells a) → x ≡ cond b c.tetra (listed_tetra cells a)
+    by true e rest = sym (here.0 (eqb-true c.address (tetra_address a) e))
     by false e rest = rest (λ out. none (ap (λ b. b || has cells a) e ∙ out))
 
--- ---- the law
+-- the same of the tetras of lines
+has-is : (cells : List Cell) (a : ℕ) → has cells a ≡ is_loaded_at cells (tetra_address a)
+unfolding has
+has-is [] a = refl
+has-is (c ∷ cells) a = ap (λ b. c.address == tetra_address a || b) (has-is cells a)
 
-not-refused : (pages : Option ℕ) (refused : Option Refused) → run_refusal_with pages refused ≡ None → refused ≡ None
-not-refused None None h = refl
-not-refused pages refused h = absurd (cc)
+lines-hold : (m : Meaning) (before later : List Line) (a : ℕ) → has (tetras_listed (lines_once m before later)) a ≡ has (cells_behind All before later) a
+unfolding lines_once cells_behind
+lines-hold m before [] a = refl
+lines-hold m before (line ∷ later) a =
+    let cells = line_cells All before line in
+    let shown : List Cell = (listed_line m (length before + 1) line cells).cells in
+    has-append shown (tetras_listed (lines_once m (before ++ line ∷ []) later)) a
+    ∙ (λ i. (has-is shown a ∙ shown-all m (length before + 1) line cells (tetra_address a) ∙ sym (has-is cells a)) i || lines-hold m (before ++ line ∷ []) later a i)
+    ∙ sym (has-append cells (cells_behind All (before ++ line ∷ []) later) a)
+
+all-behind : (P : Cell → Type 0) (xs ys : List Cell) → AllByRecursion P xs → AllByRecursion P ys → AllByRecursion P (xs ++ ys)
+all-behind P [] ys h g = g
+all-behind P (x ∷ xs) ys h g = (h.0, all-behind P xs ys h.1 g)
+
+module _ (m : Meaning) (P : Cell → Type 0) (each : (c : Cell) → P (shown_cell m c)) where
+  cells-show : (cells : List Cell) → AllByRecursion P (map (shown_cell m) cells)
+  cells-show [] = tt
+  cells-show (c ∷ cells) = (each c, cells-show cells)
+
+  lines-show : (before later : List Line) → AllByRecursion P (tetras_listed (lines_once m before later))
+  unfolding lines_once
+  lines-show before [] = tt
+  lines-show before (line ∷ later) =
+      all-behind P (listed_line m (length before + 1) line (line_cells All before line)).cells (tetras_listed (lines_once m (before ++ line ∷ []) later))
+      (cells-show (once (line_cells All before line))) (lines-show (before ++ line ∷ []) later)
+
+-- ---- the law
 
 unlisted-is-zero : (source : List ℕ) (a : ℕ) → AreBytes source → refusal source ≡ None → has (cells_behind All [] (lines_of source)) a ≡ false →
     tetra_of ((image (statements_in (source_entries source))).memory a) a ≡ 0
@@ -131,11 +165,16 @@ unlisted-is-zero source a bytes none out =
     (has-same (cells_of All 0 (items_from first_head [] (sights_of statements))) q a e ∙ loads))
 
 pub joined : (source : List ℕ) (a : ℕ) → AreBytes source → run_refusal source ≡ None → a < 2 ^ 63 →
-    tetra_of ((image (statements_in (source_entries source))).memory a) a ≡ listed_tetra (source_meaning source) (cells_behind All [] (lines_of source)) a
-joined source a bytes none low =
+    tetra_of ((image (statements_in (source_entries source))).memory a) a ≡ listed_tetra (tetras_listed (lines_listed All source)) a
+joined source a bytes run low =
     let statements = statements_in (source_entries source) in
-    listed-is (source_meaning source) (image statements).memory (cells_behind All [] (lines_of source)) a
-    (λ c e. tetra-shown source c none (omega (arith, e, low)) ∙ tetra-alike (placed (placements (pieces statements))) a c.address e)
-    (unlisted-is-zero source a bytes (not-refused _ (refusal source) none))
+    let m = source_meaning source in
+    let lines = lines_of source in
+    let none : refusal source ≡ None = not-refused _ (refusal source) run in
+    let x = tetra_of ((image statements).memory a) a in
+    listed-is a x (tetras_listed (lines_once m [] lines))
+    (lines-show m (Shows a x) (λ c e. tetra-shown source c run (omega (arith, e, low)) ∙ tetra-alike (placed (placements (pieces statements))) a c.address e) [] lines)
+    (λ out. unlisted-is-zero source a bytes none (sym (lines-hold m [] lines a) ∙ out))
+    ∙ ap (λ l. listed_tetra (tetras_listed l) a) (sym (once-accepted source m none))
 
 pub ruleset joining = (joined)

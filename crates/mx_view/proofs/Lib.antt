@@ -12,3 +12,11 @@ pub mod WorkedRows
 pub mod TwoPassViews
 pub mod LineLoads
 pub mod CutFields
+pub mod CaretTurns
+pub mod FirstFaults
+pub mod OnceLaws
+pub mod WhereLaws
+pub mod WaitLines
+pub mod NamedLines
+pub mod LinesOfFaults
+pub mod Characters

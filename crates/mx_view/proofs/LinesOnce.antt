@@ -11,7 +11,7 @@ use Rattle.mx_view.specs.declared.cells.Cell.{Cell}
 use Rattle.mx_view.specs.declared.cells.Wanted.TheVariants.{All}
 use Rattle.mx_view.specs.Joined.{lines_once}
 use Rattle.mx_view.specs.Listing.{line_cells, line_listed, listed_behind, listed_unless}
-use Rattle.mx_view.specs.Rows.{Meaning, listed, listed_line}
+use Rattle.mx_view.specs.Rows.{Meaning, listed, listed_line, once}
 
 -- no front of lines that are not refused is refused
 lasting : (front later : List Line) (r : Refused) → lines_refusal front ≡ Some r → lines_refusal (front ++ later) ≡ Some r
@@ -34,6 +34,7 @@ open-front front later none = by (lines_refusal front) refl
     by (Some r) e = let h = lasting front later r e in absurd (cc)
 
 listed-of : (m : Meaning) (number : ℕ) (line : Line) (cells : List Cell) → listed m All number line cells ≡ listed_line m number line cells ∷ []
+unfolding once
 listed-of m number line [] = refl
 listed-of m number line (c ∷ cells) = refl
 
@@ -87,4 +88,4 @@ all-once m before (line ∷ later) none =
 pub once-accepted : (source : List ℕ) (m : Meaning) → refusal source ≡ None → listed_behind m All [] (lines_of source) ≡ lines_once m [] (lines_of source)
 once-accepted source m none = all-once m [] (lines_of source) (both-none (lines_refusal (lines_of source)) _ none).0
 
-pub ruleset once = (once-accepted, once-refused)
+pub ruleset each_once = (once-accepted, once-refused)

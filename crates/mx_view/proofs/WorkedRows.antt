@@ -7,10 +7,10 @@ use Rattle.mx_asm.specs.declared.faults.AsmFault.TheVariants as fault
 unfoldable use Rattle.mx_line.specs.Cutting.{cuts_within, statement_of}
 unfoldable use Rattle.mx_line.specs.Fields.{field_from}
 use Rattle.mx_view.specs.declared.cells.Wanted.TheVariants.{All, Holding}
-use Rattle.mx_view.specs.Carets.{caret_place, caret_text}
+use Rattle.mx_view.specs.Carets.{caret_place}
 use Rattle.mx_view.specs.Cells.{cells_of}
 use Rattle.mx_view.specs.Rows.{padded}
-use Rattle.mx_view.specs.Refusals.{with_blank, line_text}
+use Rattle.mx_view.specs.Refusals.{lines_with_blank, line_text}
 
 -- lambda leads each tetra to its address, a multiple of 4
 two-tetras : cells_of All 0 (Loc 0x102 ∷ Line 3 ∷ Load 7 ∷ Load 8 ∷ []) ≡ record { address = 0x100; tetra = 7 } ∷ record { address = 0x104; tetra = 8 } ∷ []
@@ -28,8 +28,8 @@ long-number : padded (codes "123456") ≡ codes "123456"
 long-number = refl
 
 -- the second of three lines is blank
-blank-line : with_blank 2 (codes "A SWYM\n B 1\nC") ≡ codes "A SWYM\n    \nC"
-unfolding with_blank
+blank-line : lines_with_blank 2 (codes "A SWYM" ∷ codes " B 1" ∷ codes "C" ∷ []) ≡ codes "A SWYM" ∷ codes " " ∷ codes "C" ∷ []
+unfolding lines_with_blank
 blank-line = refl
 
 second-line : line_text 2 (codes "A" ∷ codes "B" ∷ codes "C" ∷ []) ≡ codes "B"
@@ -37,7 +37,7 @@ unfolding line_text
 second-line = refl
 
 -- under the operands, behind a tab; under the label of the second statement; and under no field of one of two statements
-operands-marked : caret_text (codes "\tSET $0,70000") (caret_place (fault.Stmt Fit) (codes "\tSET $0,70000")) ≡ codes "    \t    ^\n"
+operands-marked : caret_place (fault.Stmt Fit) (codes "\tSET $0,70000") ≡ Some 5
 unfolding caret_place cuts_within statement_of field_from
 operands-marked = refl
 

@@ -1,6 +1,7 @@
--- Where a caret stands below the line of a fault: under the first byte of the field that the fault is about, if it is known
+-- Where a caret stands below the line of a fault: under the first character of the field that the fault is about, if it is known
 -- which statement of the line is meant. A rule of this program.
-use Rattle.std.specs.Prelude.{ℕ, ◌-◌, ◌==◌, List, [], ◌∷◌, ◌++◌, length, map, take, drop, if◌then◌else◌, Option, None, Some, Result, Ok, Err, codes}
+use Rattle.std.specs.Prelude.{ℕ, zero, suc, ◌+◌, ◌-◌, ◌==◌, List, [], ◌∷◌, ◌++◌, length, take, drop, if◌then◌else◌, Option, None, Some, Result, Ok, Err, codes}
+use Rattle.std.specs.Str.{continuation_len, is_utf8}
 use Rattle.mx_line.specs.Bytes.{is_blank, is_name_byte, past}
 use Rattle.mx_line.specs.Cutting.{cuts_from}
 use Rattle.mx_line.specs.declared.cutter.Cut.{Cut}
@@ -81,11 +82,25 @@ place_with line field place = None
 unfoldable pub caret_place : AsmFault → Line → Option ℕ
 caret_place why line = place_with line (field_of why) (statement_place why line)
 
--- a tab stands under a tab, and a blank under each other byte
+-- how many bytes the first character of a text has: those that its first byte announces, if they are UTF-8, or that byte alone
+unfoldable pub char_length : List ℕ → ℕ
+char_length [] = 0
+char_length (b ∷ bs) = if is_utf8 (take (continuation_len b + 1) (b ∷ bs)) then continuation_len b + 1 else 1
+
+-- a tab stands under a tab, and a blank under each other character
 abbrev pub under : ℕ → ℕ
 under b = if b == 9 then 9 else 32
 
--- below a line, behind so many of its bytes
+-- under the characters of a text, whose first n bytes belong to a character before them
+unfoldable pub under_behind : ℕ → List ℕ → List ℕ
+under_behind n [] = []
+under_behind (suc n) (b ∷ bs) = under_behind n bs
+under_behind zero (b ∷ bs) = under b ∷ under_behind (char_length (b ∷ bs) - 1) bs
+
+abbrev pub under_text : List ℕ → List ℕ
+under_text text = under_behind 0 text
+
+-- below a line, behind what stands under so many of its bytes
 abbrev pub caret_text : Line → Option ℕ → List ℕ
-caret_text line (Some place) = codes "    " ++ map under (take place line) ++ codes "^\n"
+caret_text line (Some place) = codes "    " ++ under_text (take place line) ++ codes "^\n"
 caret_text line None = []

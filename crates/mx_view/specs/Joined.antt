@@ -1,17 +1,22 @@
--- The tetras of a listing, joined; and its lines, each line of the source once.
-use Rattle.std.specs.Prelude.{ℕ, ◌+◌, ◌==◌, List, [], ◌∷◌, ◌++◌, length, if◌then◌else◌}
+-- What holds of a listing: its tetras, joined; its lines, each line of the source once; and the lines of an address among them.
+use Rattle.std.specs.Prelude.{ℕ, ◌+◌, ◌==◌, Bool, List, [], ◌∷◌, ◌++◌, length, if◌then◌else◌}
+use Rattle.std.specs.List.{filter, flat_map}
 use Rattle.mx_asm.specs.Whole.{Line}
 use Rattle.mx_type.specs.Lines.{tetra_address}
 use Rattle.mx_view.specs.declared.cells.Cell.{Cell}
 use Rattle.mx_view.specs.declared.cells.Wanted.TheVariants.{All}
 use Rattle.mx_view.specs.declared.lines.ListedLine.{ListedLine}
 use Rattle.mx_view.specs.Listing.{line_cells}
-use Rattle.mx_view.specs.Rows.{Meaning, listed_line, shown}
+use Rattle.mx_view.specs.Rows.{Meaning, listed_line}
 
--- what tetras that are listed show at an address: the first one that holds it, and 0 where none does
-unfoldable pub listed_tetra : Meaning → List Cell → ℕ → ℕ
-listed_tetra m [] a = 0
-listed_tetra m (c ∷ cells) a = if c.address == tetra_address a then shown m c else listed_tetra m cells a
+-- the tetras of lines, one after another
+abbrev pub tetras_listed : List ListedLine → List Cell
+tetras_listed lines = flat_map (λ (l : ListedLine). l.cells) lines
+
+-- what tetras show at an address: the first one that holds it, and 0 where none does
+unfoldable pub listed_tetra : List Cell → ℕ → ℕ
+listed_tetra [] a = 0
+listed_tetra (c ∷ cells) a = if c.address == tetra_address a then c.tetra else listed_tetra cells a
 
 -- ---- lines
 
@@ -20,3 +25,21 @@ unfoldable pub lines_once : Meaning → List Line → List Line → List ListedL
 lines_once m before [] = []
 lines_once m before (line ∷ later) =
     listed_line m (length before + 1) line (line_cells All before line) ∷ lines_once m (before ++ line ∷ []) later
+
+-- ---- the lines of an address
+
+-- whether a tetra holds an address
+abbrev pub holds : ℕ → Cell → Bool
+holds a c = tetra_address a == c.address
+
+-- a line with these of its tetras; with none it is left out
+abbrev pub kept_line : ListedLine → List Cell → List ListedLine
+kept_line l [] = []
+kept_line l (c ∷ cells) = record l { cells = c ∷ cells } ∷ []
+
+abbrev pub line_with : ℕ → ListedLine → List ListedLine
+line_with a l = kept_line l (filter (holds a) l.cells)
+
+-- of lines those with a tetra that holds an address, each with this tetra alone
+abbrev pub lines_with : ℕ → List ListedLine → List ListedLine
+lines_with a lines = flat_map (line_with a) lines

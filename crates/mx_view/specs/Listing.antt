@@ -1,7 +1,8 @@
--- The listing of a source: its lines, in order, up to the first one that is refused, and its symbols or why it is refused. As a text, each
--- line has its rows, and behind them stand the symbols or the refusal. (MMIXware, MMIXAL, the option -l.)
+-- The listing of a source: its lines, in order, up to the first one that is refused, and its symbols. As a text, each line has its
+-- rows, and the symbols follow. (MMIXware, MMIXAL, the option -l.)
 use Rattle.std.specs.Prelude.{ℕ, ◌+◌, List, [], ◌∷◌, ◌++◌, length, drop, Option, None, Some, Result, Ok, Err, codes}
 use Rattle.std.specs.List.{flat_map}
+use Rattle.std.specs.Result.{result_err}
 use Rattle.mx_word.specs.declared.symbols.Symbol.{Symbol}
 use Rattle.mx_line.specs.Lines.{lines_of}
 use Rattle.mx_mmo.specs.declared.items.Item.{Item}
@@ -9,11 +10,10 @@ use Rattle.mx_stab.specs.Reading.{trie_answer}
 use Rattle.mx_stab.specs.declared.faults.StabFault.{StabFault}
 use Rattle.mx_type.specs.Lambda.{lambda_of}
 use Rattle.mx_type.specs.Lines.{ended, symbol_line}
-use Rattle.mx_asm.specs.Faults.{fault_number}
 use Rattle.mx_asm.specs.Whole.{Line, lines_items, lines_refusal, assembled_source}
 use Rattle.mx_asm.specs.declared.refused.Refused.{Refused}
-use Rattle.mx_outcome.specs.Messages.{refused_text}
 use Rattle.mx_files.specs.Sources.{source_meaning}
+use Rattle.mx_files.specs.declared.refusal.Refusal.{Refusal}
 use Rattle.mx_view.specs.declared.cells.Cell.{Cell}
 use Rattle.mx_view.specs.declared.cells.Wanted.{Wanted}
 use Rattle.mx_view.specs.declared.cells.Wanted.TheVariants.{All, Holding}
@@ -53,8 +53,9 @@ cells_behind wanted before (line ∷ later) = line_cells wanted before line ++ c
 
 -- ---- the end
 
-unfoldable pub refusal_text : Refused → List ℕ
-refusal_text r = refused_text r.line (fault_number r.fault) r.from_line
+-- why a source is refused when it is run, if it is
+abbrev pub refusal_in : List ℕ → Option Refusal
+refusal_in source = result_err (source_meaning source)
 
 -- the symbols of a trie, in the order of their names
 abbrev pub symbols_told : Result (List Symbol) StabFault → List Symbol
@@ -62,19 +63,14 @@ symbols_told (Ok symbols) = symbols
 symbols_told (Err fault) = []
 
 -- those of a source, by the trie that it is assembled into; one that is refused has none
-abbrev pub symbols_at_end : Result (List ℕ) Refused → List Symbol
-symbols_at_end (Ok trie) = symbols_told (trie_answer trie)
-symbols_at_end (Err refused) = []
+abbrev pub symbols_at_end : Meaning → Result (List ℕ) Refused → List Symbol
+symbols_at_end (Ok image) (Ok trie) = symbols_told (trie_answer trie)
+symbols_at_end m ended = []
 
--- as a text, behind an empty line
-abbrev pub symbols_text : Wanted → Result (List Symbol) StabFault → List ℕ
-symbols_text All (Ok symbols) = codes "\n" ++ flat_map (λ s. ended (symbol_line s)) symbols
-symbols_text wanted answer = []
-
--- the symbols of the trie that a source is assembled into, or its refusal
-abbrev pub end_text : Wanted → Result (List ℕ) Refused → List ℕ
-end_text wanted (Ok trie) = symbols_text wanted (trie_answer trie)
-end_text wanted (Err refused) = refusal_text refused
+-- as a text, behind an empty line, unless the source is refused
+abbrev pub symbols_text : Wanted → Option Refusal → List Symbol → List ℕ
+symbols_text All None symbols = codes "\n" ++ flat_map (λ s. ended (symbol_line s)) symbols
+symbols_text wanted refused symbols = []
 
 -- ---- the whole
 
@@ -83,11 +79,11 @@ abbrev pub lines_listed : Wanted → List ℕ → List ListedLine
 lines_listed wanted source = listed_behind (source_meaning source) wanted [] (lines_of source)
 
 abbrev pub symbols_listed : List ℕ → List Symbol
-symbols_listed source = symbols_at_end (assembled_source source).1
+symbols_listed source = symbols_at_end (source_meaning source) (assembled_source source).1
 
 -- as a text
 abbrev pub shown_source : Wanted → List ℕ → List ℕ
-shown_source wanted source = flat_map rows_of (lines_listed wanted source) ++ end_text wanted (assembled_source source).1
+shown_source wanted source = flat_map rows_of (lines_listed wanted source) ++ symbols_text wanted (refusal_in source) (symbols_listed source)
 
 abbrev pub listing_of : List ℕ → List ℕ
 listing_of source = shown_source All source

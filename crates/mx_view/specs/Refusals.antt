@@ -1,7 +1,7 @@
--- All faults of a source, up to 100. The first is its refusal; each further one is the refusal of the source in which the
--- lines that were refused so far are blank. A fault of the source as a whole is the last: no line that is blank mends it.
+-- All faults of a source, up to 100. The first is the refusal of a run of it; each further one is the refusal of the source in which
+-- the lines that were refused so far are blank. A fault of the source as a whole is the last: no line that is blank mends it.
 -- The form of their text is this program's own.
-use Rattle.std.specs.Prelude.{ℕ, zero, suc, ◌-◌, ◌==◌, Bool, true, false, if◌then◌else◌, List, [], ◌∷◌, ◌++◌, Option, None, Some, codes}
+use Rattle.std.specs.Prelude.{◌≡◌, ◌≢◌, ℕ, zero, suc, ◌-◌, ◌==◌, Bool, true, false, if◌then◌else◌, List, [], ◌∷◌, ◌++◌, Option, None, Some, is_some, codes}
 use Rattle.std.specs.List.{flat_map}
 use Rattle.std.specs.Result.{result_err}
 use Rattle.mx_line.specs.Lines.{lines_of}
@@ -9,35 +9,39 @@ use Rattle.mx_asm.specs.Whole.{Line, assembled_source}
 use Rattle.mx_asm.specs.declared.faults.AsmFault.{AsmFault}
 use Rattle.mx_asm.specs.declared.faults.AsmFault.TheVariants.{MainUndefined, MainRegister, SymbolsTooMany, LocalAboveGlobals, SourceTooLong}
 use Rattle.mx_asm.specs.declared.refused.Refused.{Refused}
+use Rattle.mx_outcome.specs.Messages.{refused_text}
+use Rattle.mx_type.specs.Lines.{ended}
+use Rattle.mx_files.specs.Loading.{refusal_of}
+use Rattle.mx_files.specs.declared.refusal.Refusal.{Refusal}
 use Rattle.mx_view.specs.declared.checking.ToldFault.{ToldFault}
 use Rattle.mx_view.specs.Carets.{caret_place, caret_text}
-use Rattle.mx_view.specs.Listing.{refusal_text}
+use Rattle.mx_view.specs.Listing.{refusal_in}
 
 -- ---- a source with a blank line
-
--- a byte of a source in which line k is blank, where k counts from 1 at the line of the byte
-abbrev pub blanked_byte : ℕ → ℕ → ℕ
-blanked_byte k b = if b == 10 then 10 else if k == 1 then 32 else b
-
--- the same line, counted from the line of the next byte
-abbrev pub line_ahead : ℕ → ℕ → ℕ
-line_ahead k b = if b == 10 then k - 1 else k
-
--- the source in which line k, counted from 1, is blank: a space stands for each of its bytes
-unfoldable pub with_blank : ℕ → List ℕ → List ℕ
-with_blank k [] = []
-with_blank k (b ∷ bs) = blanked_byte k b ∷ with_blank (line_ahead k b) bs
 
 -- the text of line k, counted from 1
 unfoldable pub line_text : ℕ → List Line → Line
 line_text k [] = []
 line_text k (line ∷ later) = if k == 1 then line else line_text (k - 1) later
 
+-- a line, or a space in place of line k, where k counts from 1 at this line
+abbrev pub blanked : ℕ → Line → Line
+blanked k line = if k == 1 then codes " " else line
+
+-- lines, of which line k, counted from 1, is blank
+unfoldable pub lines_with_blank : ℕ → List Line → List Line
+lines_with_blank k [] = []
+lines_with_blank k (line ∷ later) = blanked k line ∷ lines_with_blank (k - 1) later
+
+-- the source in which line k is blank: its lines, each with a newline
+unfoldable pub with_blank : ℕ → List ℕ → List ℕ
+with_blank k source = flat_map ended (lines_with_blank k (lines_of source))
+
 -- ---- the faults
 
--- why a source is refused, if it is
-abbrev pub refusal_in : List ℕ → Option Refused
-refusal_in source = result_err (assembled_source source).1
+-- why a source is refused when it is assembled, if it is
+abbrev pub assembly_refusal : List ℕ → Option Refused
+assembly_refusal source = result_err (assembled_source source).1
 
 -- whether a fault is one of the source as a whole
 abbrev pub is_of_whole : AsmFault → Bool
@@ -59,31 +63,58 @@ caret_in fault (Some line) = caret_place fault line
 
 -- a refusal as a fault that is told
 abbrev pub told_with : Refused → Option Line → ToldFault
-told_with r line = record { refused = r; line = line; caret = caret_in r.fault line }
-
-abbrev pub told_faults : List ℕ → Option Refused → List ToldFault
-told_faults source None = []
-told_faults source (Some r) = told_with r (named_line source r) ∷ []
+told_with r line = record { refused = refusal_of r; line = line; caret = caret_in r.fault line }
 
 -- the source that is looked at next
-abbrev pub next_source : List ℕ → Option Refused → Option (List ℕ)
-next_source source None = None
-next_source source (Some r) = if is_of_whole r.fault then None else Some (with_blank r.line source)
+abbrev pub next_source : List ℕ → Refused → Option (List ℕ)
+next_source source r = if is_of_whole r.fault then None else Some (with_blank r.line source)
+
+-- too many pages are a fault of the source as a whole
+abbrev pub told_pages : Option Refusal → List ToldFault
+told_pages None = []
+told_pages (Some r) = record { refused = r; line = None; caret = None } ∷ []
+
+-- The fault of a source that is refused so when it is assembled; where it is not, it may have too many pages. And the source that is
+-- looked at next.
+abbrev pub first_told : List ℕ → Option Refused → List ToldFault
+first_told source None = told_pages (refusal_in source)
+first_told source (Some r) = told_with r (named_line source r) ∷ []
+
+abbrev pub next_behind : List ℕ → Option Refused → Option (List ℕ)
+next_behind source None = None
+next_behind source (Some r) = next_source source r
 
 abbrev pub and_next : (List ℕ → List ToldFault) → Option (List ℕ) → List ToldFault
 and_next more None = []
 and_next more (Some source) = more source
 
--- the first so many faults of a source
+-- the first so many faults of a source whose pages are not looked at before its lines
 unfoldable pub first_faults : ℕ → List ℕ → List ToldFault
 first_faults zero source = []
 first_faults (suc n) source =
-    told_faults source (refusal_in source) ++ and_next (first_faults n) (next_source source (refusal_in source))
+    first_told source (assembly_refusal source) ++ and_next (first_faults n) (next_behind source (assembly_refusal source))
+
+-- the faults of a source that is refused so when it is run; 90 is PagesFull
+abbrev pub faults_by : List ℕ → Option Refusal → List ToldFault
+faults_by source None = []
+faults_by source (Some r) = if r.fault == 90 then told_pages (Some r) else first_faults 100 source
 
 abbrev pub faults_in : List ℕ → List ToldFault
-faults_in source = first_faults 100 source
+faults_in source = faults_by source (refusal_in source)
+
+-- the refusal that the first fault tells
+abbrev pub first_refusal : List ToldFault → Option Refusal
+first_refusal [] = None
+first_refusal (f ∷ faults) = Some f.refused
+
+-- two faults that each name a line name different ones
+abbrev pub NameTwoLines : ToldFault → ToldFault → Type 0
+NameTwoLines f g = is_some f.line ≡ true → is_some g.line ≡ true → f.refused.line ≢ g.refused.line
 
 -- ---- as a text
+
+unfoldable pub refusal_text : Refusal → List ℕ
+refusal_text r = refused_text r.line r.fault r.from_line
 
 -- a line, and the caret below it
 abbrev pub with_caret : Line → Option ℕ → List ℕ

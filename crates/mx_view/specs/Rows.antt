@@ -1,10 +1,11 @@
 -- The lines of a listing, and their rows: the address and the bytes of a tetra, then the number and the text of the line that it came
 -- from; each further tetra of a line has a row of its own.
 -- The form of the rows is this program's own.
-use Rattle.std.specs.Prelude.{ℕ, ◌-◌, ◌^◌, nat_lt, List, [], ◌∷◌, ◌++◌, length, map, take, drop, Result, Ok, Err, if◌then◌else◌, codes, decimal}
-use Rattle.std.specs.List.{flat_map}
+use Rattle.std.specs.Prelude.{ℕ, ◌-◌, ◌^◌, ◌==◌, Bool, nat_lt, bit_xor, List, [], ◌∷◌, ◌++◌, length, map, take, drop, fold, Result, Ok, Err, if◌then◌else◌, codes, decimal}
+use Rattle.std.specs.List.{flat_map, list_any}
 use Rattle.mx_text.specs.Numbers.{hex_digits, hex_text}
 use Rattle.mx_mem.specs.Memory.{tetra_of}
+use Rattle.mx_load.specs.Kept.{Kept, image_of}
 use Rattle.mx_mmo.specs.Image.{Image}
 use Rattle.mx_files.specs.declared.refusal.Refusal.{Refusal}
 use Rattle.mx_view.specs.declared.cells.Cell.{Cell}
@@ -16,19 +17,42 @@ use Rattle.mx_view.specs.declared.lines.ListedLine.{ListedLine}
 abbrev pub Meaning : Type 0
 Meaning = Result Image Refusal
 
+-- as the code has it
+abbrev pub meaning_in : Result Kept Refusal → Meaning
+meaning_in (Ok image) = Ok (image_of image)
+meaning_in (Err refusal) = Err refusal
+
 -- The tetra that is shown: that of the image. Where a source has no image, the references that wait are shown as zeros.
 abbrev pub shown : Meaning → Cell → ℕ
 shown (Err refusal) c = c.tetra
 shown (Ok image) c = if nat_lt c.address (2 ^ 63) then tetra_of (image.memory c.address) c.address else c.tetra
+
+-- ---- the tetras of a line, each once
+
+-- whether one of these tetras is at an address
+abbrev pub is_loaded_at : List Cell → ℕ → Bool
+is_loaded_at cells a = list_any (λ c. c.address == a) cells
+
+-- a tetra, joined with another one that is loaded at its address: memory has the exclusive or of what is loaded there
+abbrev pub joined_with : Cell → Cell → Cell
+joined_with c d = if d.address == c.address then record { address = d.address; tetra = bit_xor d.tetra c.tetra } else d
+
+-- tetras of different addresses, with one that is loaded behind them
+abbrev pub with_cell : List Cell → Cell → List Cell
+with_cell cells c = if is_loaded_at cells c.address then map (joined_with c) cells else cells ++ c ∷ []
+
+-- the tetras that a line loads, each address once
+unfoldable pub once : List Cell → List Cell
+once cells = fold with_cell [] cells
 
 -- ---- lines
 
 abbrev pub shown_cell : Meaning → Cell → Cell
 shown_cell m c = record { address = c.address; tetra = shown m c }
 
--- the line with this number and this text, which loads these tetras
+-- the line with this number and this text, which loads these tetras: each tetra is shown once
 abbrev pub listed_line : Meaning → ℕ → List ℕ → List Cell → ListedLine
-listed_line m number line cells = record { number = number; text = line; cells = map (shown_cell m) cells }
+listed_line m number line cells = record { number = number; text = line; cells = map (shown_cell m) (once cells) }
 
 -- a line with no tetra is listed, unless tetras of an address are wanted
 abbrev pub bare_line : Wanted → ℕ → List ℕ → List ListedLine

@@ -8,44 +8,29 @@ use mx_line::cut_line;
 use mx_word::{Bytes, NoMemory};
 use std::alloc::Global;
 
-/// A byte of a source in which a line is blank, which is counted from 1 at the line of the byte.
-fn blanked_byte(line: u32, b: u8) -> u8
-    ensures { result ≡ spec.blanked_byte line b }
+/// A line, or a space in place of the line that is counted as 1.
+fn blanked(ahead: u32, line: &[u8]) -> &[u8]
+    ensures { result.now ≡ spec.blanked ahead line.now }
 {
-    if b == b'\n' {
-        b'\n'
-    } else if line == 1 {
-        b' '
-    } else {
-        b
-    }
+    if ahead == 1 { b" " } else { line }
 }
 
-/// The number of a line, counted from the line of the next byte.
-fn line_ahead(line: u32, b: u8) -> u32
-    ensures { result ≡ spec.line_ahead line b }
-{
-    if b == b'\n' {
-        line.saturating_sub(1)
-    } else {
-        line
-    }
-}
-
-/// The source in which a line, counted from 1, is blank.
+/// The source in which a line, counted from 1, is blank: a space is its text, however long it was.
 #[tactic(auto, using(crate::proofs::BlankTurns::blanks), unfolding(crate::specs::Refusals::with_blank))]
 pub(crate) fn with_blank(alloc: Global, line: u32, source: &[u8]) -> Result<Bytes, NoMemory>
     ensures { IfOk result (λ blanked. blanked ≡ spec.with_blank line source.now) }
 {
-    let mut blanked = Bytes::new(alloc);
+    let mut text = Bytes::new(alloc);
     let mut ahead = line;
     let mut rest = source;
-    while let [b, more @ ..] = rest {
-        blanked.push(blanked_byte(ahead, *b))?;
-        ahead = line_ahead(ahead, *b);
+    while !rest.is_empty() {
+        let (first, more) = cut_line(rest);
+        text.extend(blanked(ahead, first))?;
+        text.extend(b"\n")?;
+        ahead = ahead.saturating_sub(1);
         rest = more;
     }
-    Ok(blanked)
+    Ok(text)
 }
 
 /// The text of a line, counted from 1.

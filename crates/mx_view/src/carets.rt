@@ -1,6 +1,7 @@
 //! Carets below faulty lines.
 
-ghost use Rattle.std.specs.Prelude.{◌≡◌, ◌≤◌, ◌++◌, IfSome, OnOk, length, map, take};
+ghost use Rattle.std.specs.Prelude.{◌≡◌, ◌≤◌, ◌++◌, IfSome, OnOk, drop, length, take};
+ghost use Rattle.std.specs.Str.{continuation_len};
 ghost use Rattle.mx_line.specs.Bytes as bytes;
 ghost use Rattle.mx_line.specs.Cutting.{cuts_from};
 ghost use Rattle.mx_view.specs.Carets as spec;
@@ -157,26 +158,61 @@ fn under(b: u8) -> u8
     if b == b'\t' { b'\t' } else { b' ' }
 }
 
-/// Adds what stands under the front of a line.
-fn add_under(text: &mut Bytes, front: &[u8]) -> Result<(), NoMemory>
-    ensures { OnOk result (text.new ≡ text.old ++ map spec.under front.now) }
+/// The first bytes of a text, so many or all, and the others.
+#[tactic(auto, using(crate::proofs::FaultTurns::fronts))]
+fn parted(text: &[u8], count: usize) -> (&[u8], &[u8])
+    ensures front { result.0.now ≡ take count text.now }
+    ensures others { result.1.now ≡ drop count text.now }
 {
-    for b in front {
-        text.push(under(*b))?;
+    if count < text.len() {
+        (&text[..count], &text[count..])
+    } else {
+        (text, &[])
     }
-    Ok(())
 }
 
-/// The first bytes of a line: so many, or all.
-#[tactic(auto, using(crate::proofs::FaultTurns::fronts))]
-fn front_of(line: &[u8], place: usize) -> &[u8]
-    ensures { result.now ≡ take place line.now }
+/// How many bytes follow the first byte of a character.
+fn following(b: u8) -> usize
+    ensures count { result ≡ continuation_len b }
+    ensures few { result ≤ 3 }
 {
-    if place < line.len() {
-        &line[..place]
+    if b < 128 {
+        0
+    } else if b < 224 {
+        1
+    } else if b < 240 {
+        2
     } else {
-        line
+        3
     }
+}
+
+/// How many bytes the first character of a text has.
+#[tactic(auto, using(crate::proofs::CaretTurns::tests), unfolding(crate::specs::Carets::char_length))]
+fn char_length(text: &[u8]) -> usize
+    ensures { result ≡ spec.char_length text.now }
+{
+    let [b, ..] = text else {
+        return 0;
+    };
+    let count = following(*b) + 1;
+    match str::from_utf8(parted(text, count).0) {
+        Ok(_) => count,
+        Err(_) => 1,
+    }
+}
+
+/// Adds what stands under the characters of a text.
+#[tactic(auto, using(crate::proofs::CaretTurns::turns), unfolding(crate::specs::Carets::under_behind))]
+fn add_under(text: &mut Bytes, front: &[u8]) -> Result<(), NoMemory>
+    ensures { OnOk result (text.new ≡ text.old ++ spec.under_text front.now) }
+{
+    let mut rest = front;
+    while let [b, more @ ..] = rest {
+        text.push(under(*b))?;
+        rest = parted(more, char_length(rest).saturating_sub(1)).1;
+    }
+    Ok(())
 }
 
 /// Adds the caret below a line, if it has one, behind so many bytes of the line.
@@ -187,6 +223,6 @@ pub(crate) fn add_caret(text: &mut Bytes, line: &[u8], caret: Option<usize>) -> 
         return Ok(());
     };
     text.extend(b"    ")?;
-    add_under(text, front_of(line, place))?;
+    add_under(text, parted(line, place).0)?;
     text.extend(b"^\n")
 }

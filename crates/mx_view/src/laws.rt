@@ -1,6 +1,8 @@
 //! What holds of every listing.
 
-ghost use Rattle.std.specs.Prelude.{◌≡◌, ◌<◌, ◌≤◌, ◌-◌, ◌^◌, ◌++◌, ◌∷◌, [], ℕ, List, None, Ok, Some, drop, length};
+ghost use Rattle.std.specs.Prelude.{◌≡◌, ◌≢◌, ◌<◌, ◌≤◌, ◌-◌, ◌^◌, ◌++◌, ◌∷◌, [], true, ℕ, List, None, Ok, Some, drop, length};
+ghost use Rattle.std.specs.List.{AllPairs};
+ghost use Rattle.std.specs.Str.{all_scalars, encode_utf8_all};
 ghost use Rattle.mx_word.specs.Ranges.{AreBytes};
 ghost use Rattle.mx_line.specs.Cutting.{statement_of};
 ghost use Rattle.mx_line.specs.Lines.{lines_of};
@@ -10,21 +12,22 @@ ghost use Rattle.mx_asm.specs.Entries.{source_entries, statements_in};
 ghost use Rattle.mx_asm.specs.Image.{image, symbols_of};
 ghost use Rattle.mx_asm.specs.Pages.{run_refusal};
 ghost use Rattle.mx_asm.specs.Refusal.{refusal};
-ghost use Rattle.mx_asm.specs.Whole.{Line, assembled_source, lines_items, lines_refusal};
+ghost use Rattle.mx_asm.specs.Whole.{Line, lines_items, lines_refusal};
 ghost use Rattle.mx_asm.specs.declared.refused.Refused.{Refused};
 ghost use Rattle.mx_files.specs.Sources.{source_meaning};
-ghost use Rattle.mx_view.specs.Carets.{from_field};
+ghost use Rattle.mx_view.specs.Carets.{from_field, under_text};
 ghost use Rattle.mx_view.specs.Cells.{cells_of};
 ghost use Rattle.mx_view.specs.declared.carets.Field.TheVariants.{Operands, Operation};
-ghost use Rattle.mx_view.specs.Joined.{lines_once, listed_tetra};
-ghost use Rattle.mx_view.specs.Listing.{added_items, cells_behind, end_text, listed_behind, symbols_text};
-ghost use Rattle.mx_view.specs.Rows.{Meaning, shown};
+ghost use Rattle.mx_view.specs.Joined.{lines_once, lines_with, listed_tetra, tetras_listed};
+ghost use Rattle.mx_view.specs.Listing.{added_items, cells_behind, listed_behind, lines_listed, symbols_listed};
+ghost use Rattle.mx_view.specs.Refusals.{NameTwoLines, faults_in};
+ghost use Rattle.mx_view.specs.Rows.{Meaning, is_loaded_at, listed_line, shown};
 ghost use Rattle.mx_view.specs.declared.cells.Cell.{Cell};
-ghost use Rattle.mx_view.specs.declared.cells.Wanted.TheVariants.{All};
+ghost use Rattle.mx_view.specs.declared.cells.Wanted.TheVariants.{All, Holding};
 
 /// The items that lines add, one line after another, are the items of all lines: those that the object of a source
-/// has before its end, and that mean its image. The tetras that the lines have in a listing, one line after
-/// another, are all tetras that these items load, each once, in order and at its address.
+/// has before its end, and that mean its image. The tetras that the lines load, one line after another, are all tetras
+/// that these items load, in order and each at its address.
 #[tactic(auto, using(crate::proofs::EveryCell::cells))]
 pub fn every_loaded_tetra_is_listed()
     ensures items { (before : List Line) (line : Line) →
@@ -32,17 +35,30 @@ pub fn every_loaded_tetra_is_listed()
     ensures tetras { (lines : List Line) → cells_behind All [] lines ≡ cells_of All 0 (lines_items lines) }
 {}
 
+/// A line that is listed shows the tetra of each address that it loads, and no address twice.
+pub fn a_line_shows_each_tetra_once()
+    ensures once { (m : Meaning) (number : ℕ) (line : Line) (cells : List Cell) →
+        AllPairs (λ (c d : Cell). c.address ≢ d.address) (listed_line m number line cells).cells }
+    ensures all { (m : Meaning) (number : ℕ) (line : Line) (cells : List Cell) (a : ℕ) →
+        is_loaded_at (listed_line m number line cells).cells a ≡ is_loaded_at cells a }
+{}
+
+/// Of an address those lines are shown that the listing has with a tetra that holds it, each with this tetra alone.
+#[tactic(auto, using(crate::proofs::WhereLaws::addresses))]
+pub fn the_listed_tetra_that_holds_an_address_is_shown()
+    ensures { (source : List ℕ) (a : ℕ) →
+        lines_listed (Holding a) source ≡ lines_with a (lines_listed All source) }
+{}
+
 /// Of a source that is not refused when it is run, each tetra that is shown is the one that the image of the two
-/// passes has at its address. Behind the rows of a source that is not refused stand all its symbols in the byte
-/// order of their names.
+/// passes has at its address, and all its symbols are listed in the byte order of their names.
 #[tactic(auto, using(crate::proofs::TwoPassViews::views))]
 pub fn the_image_and_the_symbols_are_shown()
     ensures tetra { (source : List ℕ) (c : Cell) → run_refusal source ≡ None → c.address < 2 ^ 63 →
         shown (source_meaning source) c
         ≡ tetra_of ((image (statements_in (source_entries source))).memory c.address) c.address }
-    ensures symbols { (source : List ℕ) → AreBytes source → refusal source ≡ None →
-        end_text All (assembled_source source).1
-        ≡ symbols_text All (Ok (symbols_of (statements_in (source_entries source)))) }
+    ensures symbols { (source : List ℕ) → AreBytes source → run_refusal source ≡ None →
+        symbols_listed source ≡ symbols_of (statements_in (source_entries source)) }
 {}
 
 /// The tetras of a listing, joined, are the image: of a source that is not refused when it is run, the image of the
@@ -51,12 +67,12 @@ pub fn the_image_and_the_symbols_are_shown()
 pub fn the_listing_is_the_image()
     ensures { (source : List ℕ) (a : ℕ) → AreBytes source → run_refusal source ≡ None → a < 2 ^ 63 →
         tetra_of ((image (statements_in (source_entries source))).memory a) a
-        ≡ listed_tetra (source_meaning source) (cells_behind All [] (lines_of source)) a }
+        ≡ listed_tetra (tetras_listed (lines_listed All source)) a }
 {}
 
 /// Each line of a source that is not refused is listed once, in order, with its number, its text and its tetras. Of a
 /// source that is refused at a line, so are all lines up to this one, and no later line.
-#[tactic(auto, using(crate::proofs::LinesOnce::once))]
+#[tactic(auto, using(crate::proofs::LinesOnce::each_once))]
 pub fn each_line_is_listed_once_in_order()
     ensures accepted { (source : List ℕ) (m : Meaning) → refusal source ≡ None →
         listed_behind m All [] (lines_of source) ≡ lines_once m [] (lines_of source) }
@@ -75,4 +91,17 @@ pub fn carets_stand_under_their_fields()
     ensures operands { (line : Line) (place : ℕ) (cut : Cut) → place ≤ length line →
         statement_of line place ≡ Ok (Some cut) →
         length line - length (from_field Operands (drop place line)) ≡ cut.operands.from }
+{}
+
+/// A caret stands behind as many characters as stand in front of its field: under a text that is the UTF-8 of
+/// characters there is a blank or a tab for each of them.
+#[tactic(auto, using(crate::proofs::Characters::characters))]
+pub fn carets_count_characters()
+    ensures { (chars : List ℕ) → all_scalars chars ≡ true →
+        length (under_text (encode_utf8_all chars)) ≡ length chars }
+{}
+
+/// No line is told twice: of any two faults of a source that each name a line, they name different ones.
+pub fn no_line_is_told_twice()
+    ensures { (source : List ℕ) → AllPairs NameTwoLines (faults_in source) }
 {}

@@ -1,11 +1,10 @@
 //! The lines of a listing.
 
-ghost use Rattle.std.specs.Prelude.{◌≡◌, ◌++◌, OnOk, map};
-ghost use Rattle.mx_files.specs.Loading.{image_from};
+ghost use Rattle.std.specs.Prelude.{◌≡◌, ◌++◌, IfOk, OnOk, map};
 ghost use Rattle.mx_view.specs.Rows as spec;
 
 use crate::cells::{Cell, Cells, Wanted};
-use mx_files::SourceFault;
+use mx_files::Refusal;
 use mx_load::Image;
 use mx_word::{Bytes, NoMemory, Sequence};
 use std::alloc::Global;
@@ -22,15 +21,15 @@ pub struct ListedLine {
 /// A list of lines.
 pub type ListedLines = Sequence<ListedLine>;
 
-/// The image of a source, or why there is none.
-pub(crate) type Meaning = Result<Image, SourceFault>;
+/// The image of a source, or its refusal.
+pub(crate) type Meaning = Result<Image, Refusal>;
 
 /// The first address that no memory has.
 const MEMORY_END: u64 = 1 << 63;
 
 /// The tetra that is shown.
 fn shown(meaning: &Meaning, cell: Cell) -> u32
-    ensures { result ≡ spec.shown (image_from meaning.now) cell }
+    ensures { result ≡ spec.shown (spec.meaning_in meaning.now) cell }
 {
     match meaning {
         Ok(image) if cell.address < MEMORY_END => image.memory().tetra(cell.address),
@@ -40,7 +39,7 @@ fn shown(meaning: &Meaning, cell: Cell) -> u32
 
 /// A cell with the tetra that is shown.
 fn shown_cell(meaning: &Meaning, cell: Cell) -> Cell
-    ensures { result ≡ spec.shown_cell (image_from meaning.now) cell }
+    ensures { result ≡ spec.shown_cell (spec.meaning_in meaning.now) cell }
 {
     Cell {
         address: cell.address,
@@ -51,12 +50,67 @@ fn shown_cell(meaning: &Meaning, cell: Cell) -> Cell
 /// Adds cells with the tetras that are shown.
 fn add_shown(shown: &mut Cells, meaning: &Meaning, cells: &[Cell]) -> Result<(), NoMemory>
     ensures { OnOk result (
-        shown.new ≡ shown.old ++ map (spec.shown_cell (image_from meaning.now)) cells.now) }
+        shown.new ≡ shown.old ++ map (spec.shown_cell (spec.meaning_in meaning.now)) cells.now) }
 {
     for cell in cells {
         shown.push(shown_cell(meaning, *cell))?;
     }
     Ok(())
+}
+
+/// Whether one of these tetras is at an address.
+fn is_loaded_at(cells: &[Cell], address: u64) -> bool
+    ensures { result ≡ spec.is_loaded_at cells.now address }
+{
+    cells.iter().any(|cell| cell.address == address)
+}
+
+/// A tetra, joined with another one that is loaded at its address.
+fn joined_with(cell: Cell, with: Cell) -> Cell
+    ensures { result ≡ spec.joined_with with cell }
+{
+    if cell.address == with.address {
+        Cell {
+            tetra: cell.tetra ^ with.tetra,
+            ..cell
+        }
+    } else {
+        cell
+    }
+}
+
+/// Tetras, each joined with one that is loaded at its address.
+fn all_joined(alloc: Global, cells: &[Cell], with: Cell) -> Result<Cells, NoMemory>
+    ensures { IfOk result (λ joined. joined ≡ map (spec.joined_with with) cells.now) }
+{
+    let mut joined = Cells::new(alloc);
+    for cell in cells {
+        joined.push(joined_with(*cell, with))?;
+    }
+    Ok(joined)
+}
+
+/// Adds a tetra to those of a line, or joins it to the one at its address.
+fn join(alloc: Global, cells: &mut Cells, cell: Cell) -> Result<(), NoMemory>
+    ensures { OnOk result (cells.new ≡ spec.with_cell cells.old cell) }
+{
+    if is_loaded_at(cells.as_slice(), cell.address) {
+        *cells = all_joined(alloc, cells.as_slice(), cell)?;
+        return Ok(());
+    }
+    cells.push(cell)
+}
+
+/// The tetras that a line loads, each address once.
+#[tactic(auto, unfolding(crate::specs::Rows::once))]
+fn once(alloc: Global, cells: &[Cell]) -> Result<Cells, NoMemory>
+    ensures { IfOk result (λ joined. joined ≡ spec.once cells.now) }
+{
+    let mut joined = Cells::new(alloc);
+    for cell in cells {
+        join(alloc, &mut joined, *cell)?;
+    }
+    Ok(joined)
 }
 
 /// Adds a line that has no tetra, unless only a tetra is wanted.
@@ -93,13 +147,14 @@ pub(crate) fn add_listed(
     cells: &[Cell],
 ) -> Result<(), NoMemory>
     ensures { OnOk result (lines.new
-        ≡ lines.old ++ spec.listed (image_from meaning.now) wanted number line.now cells.now) }
+        ≡ lines.old ++ spec.listed (spec.meaning_in meaning.now) wanted number line.now cells.now) }
 {
     if cells.is_empty() {
         return add_bare(alloc, lines, wanted, number, line);
     }
+    let joined = once(alloc, cells)?;
     let mut shown = Cells::new(alloc);
-    add_shown(&mut shown, meaning, cells)?;
+    add_shown(&mut shown, meaning, joined.as_slice())?;
     let text = Bytes::copy(alloc, line)?;
     lines.push(ListedLine {
         number,

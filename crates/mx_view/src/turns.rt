@@ -4,10 +4,10 @@ ghost use Rattle.std.specs.Prelude.{◌≡◌, ◌≢◌, ◌++◌, true, Ok, Er
 ghost use Rattle.std.specs.Result.{is_ok};
 ghost use Rattle.mx_asm.specs.Faults.{no_memory};
 ghost use Rattle.mx_asm.specs.OnePass.{line_behind};
-ghost use Rattle.mx_files.specs.Loading.{image_from};
 ghost use Rattle.mx_line.specs.Lines.{lines_of};
 ghost use Rattle.mx_type.specs.Lambda as lambdas;
 ghost use Rattle.mx_view.specs.InTurn as spec;
+ghost use Rattle.mx_view.specs.Rows.{meaning_in};
 
 use crate::cells::{Wanted, cells_of, lambda_behind};
 use crate::lines::{ListedLines, Meaning, add_listed};
@@ -58,7 +58,7 @@ fn add_line(
     line: &[u8],
 ) -> Result<bool, NoMemory>
     ensures listed { OnOk result (lines.new ≡ lines.old
-        ++ spec.listed_at (image_from meaning.now) wanted number lambda.old assembler.old line.now) }
+        ++ spec.listed_at (meaning_in meaning.now) wanted number lambda.old assembler.old line.now) }
     ensures lambda { OnOk result (
         lambda.new ≡ lambdas.lambda_behind lambda.old (spec.items_at assembler.old line.now)) }
     ensures standing { OnOk result (assembler.new ≡ spec.standing_at assembler.old line.now) }
@@ -96,7 +96,7 @@ pub(crate) fn add_lines(
 ) -> Result<(), NoMemory>
     requires open { is_ok assembler.old ≡ true }
     ensures listed { OnOk result (lines.new ≡ lines.old
-        ++ spec.listed_in_turn (image_from meaning.now) wanted 1 0 assembler.old (lines_of source.now)) }
+        ++ spec.listed_in_turn (meaning_in meaning.now) wanted 1 0 assembler.old (lines_of source.now)) }
     ensures standing { OnOk result (
         assembler.new ≡ spec.standing_behind assembler.old (lines_of source.now)) }
 {

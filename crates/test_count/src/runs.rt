@@ -7,7 +7,7 @@ use mx_outcome::Outcome;
 use mx_words::read;
 use std::alloc::Global;
 
-/// The source prints a text and halts: LDA, TRAP and SET have steps, and Halt has none.
+/// The source prints a text and halts: LDA and SET cost υ, and each TRAP 5υ, also the one that halts.
 static PRINTS: &str = " LOC Data_Segment
  GREG @
 Text BYTE \"hi\",#a,0
@@ -62,7 +62,7 @@ fn comes_to(
 
 #[test]
 fn a_run_that_halts(rt: HostRuntime) {
-    let last = "          3          0          7          0  all steps\n";
+    let last = "          4          0         12          0  all steps\n";
     let got = comes_to(rt.alloc(), PRINTS, &["run", "a.mms"], "hi\n", last);
     assert_eq!(rt; got, Some((Outcome::Done(3), true, true)));
 }
@@ -113,18 +113,25 @@ fn counted_lines(alloc: Global, host: &mut MemHost) -> Option<CountedLines> {
     ))
 }
 
-/// The tallies of line 1, of line 5 and of all steps.
-fn tallies(sheet: &LineSheet) -> Option<(Option<Tally>, Option<Tally>, Tally)> {
+/// The tallies of line 1, of line 5, of line 8 and of all steps.
+type Tallies = (Option<Tally>, Option<Tally>, Option<Tally>, Tally);
+
+fn tallies(sheet: &LineSheet) -> Option<Tallies> {
     let lines = sheet.lines.as_slice();
-    Some((lines.first()?.tally, lines.get(4)?.tally, sheet.total))
+    Some((
+        lines.first()?.tally,
+        lines.get(4)?.tally,
+        lines.get(7)?.tally,
+        sheet.total,
+    ))
 }
 
 /// The outcome, and these tallies.
-fn comes_to_lines(alloc: Global) -> Option<(Outcome, Option<Tally>, Option<Tally>, Tally)> {
+fn comes_to_lines(alloc: Global) -> Option<(Outcome, Tallies)> {
     let mut host = host(alloc, PRINTS)?;
     let counted = counted_lines(alloc, &mut host)?;
-    let (first, fifth, total) = tallies(counted.sheet.as_ref()?)?;
-    Some((counted.outcome, first, fifth, total))
+    let tallies = tallies(counted.sheet.as_ref()?)?;
+    Some((counted.outcome, tallies))
 }
 
 #[test]
@@ -135,14 +142,20 @@ fn lines_as_data(rt: HostRuntime) {
         oops: 1,
         mems: 0,
     };
-    let all = Tally {
-        times: 3,
+    let halt = Tally {
+        times: 1,
         away: 0,
-        oops: 7,
+        oops: 5,
+        mems: 0,
+    };
+    let all = Tally {
+        times: 4,
+        away: 0,
+        oops: 12,
         mems: 0,
     };
     assert_eq!(rt;
         comes_to_lines(rt.alloc()),
-        Some((Outcome::Done(3), None, Some(once), all))
+        Some((Outcome::Done(3), (None, Some(once), Some(halt), all)))
     );
 }

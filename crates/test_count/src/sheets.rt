@@ -33,13 +33,13 @@ static TURNS: [Row; 8] = [
 static COUNTED: &str = "
 --------------------------------------------------------
       times       away       oops       mems
-                                                1:  LOC #100
-          1          0          1          0    2: Main SETL $0,3
-          3          0          3          0    3: Loop SUB $0,$0,1
-          3          3          3          0    4:  PBNZ $0,Loop
-          -                                     5:  SWYM 0
-          1          0          1          0    6:  BYTE #fd; BYTE 0
-          1          0          1          0    7:  WYDE 0
+                                                 1:  LOC #100
+          1          0          1          0     2: Main SETL $0,3
+          3          0          3          0     3: Loop SUB $0,$0,1
+          3          3          3          0     4:  PBNZ $0,Loop
+          -                                      5:  SWYM 0
+          1          0          1          0     6:  BYTE #fd; BYTE 0
+          1          0          1          0     7:  WYDE 0
           8          3          8          0  all steps
 ";
 
@@ -54,9 +54,15 @@ static FAR: [Row; 4] = [
 static FAR_COUNTED: &str = "
 --------------------------------------------------------
       times       away       oops       mems
-                                                1:  LOC #100
-          2          1          2          0    2: Main SETL $0,3
+                                                 1:  LOC #100
+          2          1          2          0     2: Main SETL $0,3
           4          3          4          2  all steps
+";
+
+/// The row of a line whose number has five digits.
+static FAR_DOWN: &str = "
+          1          0          1          0 10000: Main SWYM 0
+          1          0          1          0  all steps
 ";
 
 /// The sheet of a source and traces.
@@ -97,4 +103,41 @@ fn steps_elsewhere_are_in_the_sum(rt: HostRuntime) {
             FAR_COUNTED
         )
     );
+}
+
+/// A source of this line behind so many empty ones.
+fn far_down(alloc: Global, empty: usize, line: &str) -> Option<Bytes> {
+    let mut source = Bytes::new(alloc);
+    for _line in 0..empty {
+        source.extend(b"\n").ok()?;
+    }
+    source.extend(line.as_bytes()).ok()?;
+    Some(source)
+}
+
+/// The sheet of a source and of one step at 0.
+fn one_step(alloc: Global, source: &Bytes, word: u32) -> Option<Bytes> {
+    let mut counts = Counts::new(alloc, source.as_slice()).ok()?;
+    let trace = Trace {
+        pc: 0,
+        word,
+        dest: None,
+        reads: None,
+        writes: None,
+        next: 4,
+    };
+    counts.tell(&trace).ok()?;
+    counts.summary().ok()
+}
+
+/// Whether the sheet of a step at line 10,000 ends so.
+fn ends_with(alloc: Global, last: &str) -> Option<bool> {
+    let source = far_down(alloc, 9999, "Main SWYM 0\n")?;
+    let sheet = one_step(alloc, &source, 0xfd00_0000)?;
+    Some(sheet.as_slice().ends_with(last.as_bytes()))
+}
+
+#[test]
+fn numbers_of_lines_stand_apart(rt: HostRuntime) {
+    assert_eq!(rt; ends_with(rt.alloc(), FAR_DOWN), Some(true));
 }

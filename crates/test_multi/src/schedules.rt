@@ -1,62 +1,77 @@
 //! Turns by schedules: their end, the steps of two processors, and what stands in memory and on standard output. Counts of
 //! steps are worked out by hand.
 
+ghost use Rattle.mx_multi.specs.Turns.{AreNames};
+
 use crate::programs::{
     CHANGES, COUNTS, DATA, IN_AREA, PRINTS, Program, STOPS, STORES, TELLS_COUNT, WRITES, host,
     processors,
 };
-use mx_multi::{MultiEnd, first_unnamed, run_turns};
+use mx_multi::{MultiEnd, run_turns};
 use std::alloc::Global;
 use std::process::Abort;
-
-/// A schedule of two processors, a bound on the steps, and the size of the rings.
-type Row = (&'static [u8], u64, u32);
 
 /// The end, the steps of both processors, and the octa at Data_Segment.
 type Due = (MultiEnd, [u64; 2], u64);
 
 /// Two processors add 1 each.
-static COUNTED: [(Row, Due); 10] = [
+static COUNTED: [Due; 10] = [
     // one is faster, and the other turns once more
-    ((&[0, 1], 1000, 256), (MultiEnd::AllHalted, [6, 11], 2)),
-    ((&[0, 1], 1000, 2048), (MultiEnd::AllHalted, [6, 11], 2)),
-    ((&[0, 1], 1000, 65536), (MultiEnd::AllHalted, [6, 11], 2)),
+    (MultiEnd::AllHalted, [6, 11], 2),
+    (MultiEnd::AllHalted, [6, 11], 2),
+    (MultiEnd::AllHalted, [6, 11], 2),
     // one behind the other
-    (
-        (&[0, 0, 0, 0, 0, 0, 1], 1000, 256),
-        (MultiEnd::AllHalted, [6, 6], 2),
-    ),
+    (MultiEnd::AllHalted, [6, 6], 2),
     // the bound is on the sum
-    ((&[0, 1], 5, 256), (MultiEnd::Spent, [3, 2], 0)),
-    ((&[0, 1], 16, 256), (MultiEnd::Spent, [6, 10], 2)),
+    (MultiEnd::Spent, [3, 2], 0),
+    (MultiEnd::Spent, [6, 10], 2),
     // all have halted as the last step is made
-    ((&[0, 1], 17, 256), (MultiEnd::AllHalted, [6, 11], 2)),
-    ((&[0, 1], 0, 256), (MultiEnd::Spent, [0, 0], 0)),
+    (MultiEnd::AllHalted, [6, 11], 2),
+    (MultiEnd::Spent, [0, 0], 0),
     // a schedule that names one of two
-    ((&[1], 1000, 256), (MultiEnd::AllHalted, [0, 6], 1)),
-    ((&[0], 3, 256), (MultiEnd::Spent, [3, 0], 0)),
+    (MultiEnd::AllHalted, [0, 6], 1),
+    (MultiEnd::Spent, [3, 0], 0),
 ];
 
 #[test]
 fn counters_count(rt: HostRuntime) {
-    for (row, due) in &COUNTED {
-        assert_eq!(rt; outcome(&rt, rt.alloc(), &COUNTS, row), Some(*due));
-    }
+    let alloc = rt.alloc();
+    assert_eq!(rt; counted(&rt, alloc), COUNTED);
 }
 
-/// What comes of two processors with a program; nothing where the schedule names another.
-fn outcome(rt: &impl Abort, alloc: Global, program: &Program, row: &Row) -> Option<Due> {
-    if first_unnamed(row.0, 2).is_some() {
-        return None;
-    }
-    let mut multi = processors(rt, alloc, program, 2, row.2);
+/// What comes of two processors with COUNTS by schedules, bounds on the steps, and sizes of the rings.
+fn counted(rt: &impl Abort, alloc: Global) -> [Due; 10] {
+    [
+        outcome(rt, alloc, &COUNTS, &[0, 1], 1000, 256),
+        outcome(rt, alloc, &COUNTS, &[0, 1], 1000, 2048),
+        outcome(rt, alloc, &COUNTS, &[0, 1], 1000, 65536),
+        outcome(rt, alloc, &COUNTS, &[0, 0, 0, 0, 0, 0, 1], 1000, 256),
+        outcome(rt, alloc, &COUNTS, &[0, 1], 5, 256),
+        outcome(rt, alloc, &COUNTS, &[0, 1], 16, 256),
+        outcome(rt, alloc, &COUNTS, &[0, 1], 17, 256),
+        outcome(rt, alloc, &COUNTS, &[0, 1], 0, 256),
+        outcome(rt, alloc, &COUNTS, &[1], 1000, 256),
+        outcome(rt, alloc, &COUNTS, &[0], 3, 256),
+    ]
+}
+
+/// What comes of two processors with a program.
+fn outcome(
+    rt: &impl Abort,
+    alloc: Global,
+    program: &Program,
+    schedule: &[u8],
+    steps: u64,
+    ring: u32,
+) -> Due
+    requires { AreNames 2 schedule.now }
+{
+    let mut multi = processors(rt, alloc, program, 2, ring);
     let mut host = host(rt, alloc);
-    let end = run_turns(&mut multi, &mut host, row.0, row.1);
-    let steps = [multi.processor(0).steps(), multi.processor(1).steps()];
-    Some((end, steps, multi.octa(DATA)))
+    let end = run_turns(alloc, &mut multi, &mut host, schedule, steps);
+    let made = [multi.processor(0).steps(), multi.processor(1).steps()];
+    (end, made, multi.octa(DATA))
 }
-
-static IN_TURN: Row = (&[0, 1], 1000, 256);
 
 static STOPPED: Due = (
     MultiEnd::Stopped {
@@ -72,13 +87,10 @@ static STOPPED: Due = (
 fn programs_end(rt: HostRuntime) {
     let alloc = rt.alloc();
     // a stop ends all, at the processor's own address, and is no step
-    assert_eq!(rt; outcome(&rt, alloc, &STOPS, &IN_TURN), Some(STOPPED));
+    assert_eq!(rt; outcome(&rt, alloc, &STOPS, &[0, 1], 1000, 256), STOPPED);
     // processor 0 changes what processor 1 performs next, again and again
     let changed = (MultiEnd::AllHalted, [4, 4], 0);
-    assert_eq!(rt;
-        outcome(&rt, alloc, &CHANGES, &(&[1, 0], 1000, 256)),
-        Some(changed)
-    );
+    assert_eq!(rt; outcome(&rt, alloc, &CHANGES, &[1, 0], 1000, 256), changed);
 }
 
 #[test]
@@ -103,7 +115,7 @@ fn what_is_shared(rt: HostRuntime) {
 fn eight(rt: &impl Abort, alloc: Global) -> (MultiEnd, [u64; 7], Option<(u64, u64)>) {
     let mut multi = processors(rt, alloc, &STORES, 8, 256);
     let mut host = host(rt, alloc);
-    let end = run_turns(&mut multi, &mut host, &[7, 6, 5, 4, 3, 2, 1, 0], 24);
+    let end = run_turns(alloc, &mut multi, &mut host, &[7, 6, 5, 4, 3, 2, 1, 0], 24);
     let octas = [
         multi.octa(DATA + 8),
         multi.octa(DATA + 16),
@@ -120,7 +132,7 @@ fn eight(rt: &impl Abort, alloc: Global) -> (MultiEnd, [u64; 7], Option<(u64, u6
 fn areas(rt: &impl Abort, alloc: Global) -> (MultiEnd, [u64; 2], u64) {
     let mut multi = processors(rt, alloc, &IN_AREA, 2, 256);
     let mut host = host(rt, alloc);
-    let end = run_turns(&mut multi, &mut host, &[0, 1], 100);
+    let end = run_turns(alloc, &mut multi, &mut host, &[0, 1], 100);
     let last = [
         multi.processor(0).register(255),
         multi.processor(1).register(255),
@@ -136,46 +148,36 @@ fn areas(rt: &impl Abort, alloc: Global) -> (MultiEnd, [u64; 2], u64) {
 fn both_print(rt: &impl Abort, alloc: Global) -> bool {
     let mut multi = processors(rt, alloc, &PRINTS, 2, 256);
     let mut host = host(rt, alloc);
-    let end = run_turns(&mut multi, &mut host, &[0, 1], 6);
+    let end = run_turns(alloc, &mut multi, &mut host, &[0, 1], 6);
     end == MultiEnd::AllHalted && host.output() == b"hi\nhi\n".as_slice()
 }
 
-/// What the file of two processors has in the end, by their schedule, and their steps.
-static WRITTEN: [(&[u8], &[u8], [u64; 2]); 3] = [
-    // the second is the first one to write into the file that the first has opened
-    (&[0, 1], b"yx", [7, 5]),
-    (&[0, 0, 0, 0, 0, 0, 0, 1], b"xy", [7, 5]),
-    // it is not open yet when the second writes
-    (&[1, 1, 1, 1, 1, 0], b"x", [7, 5]),
-];
-
 #[test]
 fn files_are_shared(rt: HostRuntime) {
-    for (schedule, text, steps) in &WRITTEN {
-        assert!(rt;
-            both_write(&rt, rt.alloc(), schedule, text, *steps),
-            "{:?}",
-            schedule
-        );
-    }
+    let alloc = rt.alloc();
+    // the second is the first one to write into the file that the first has opened
+    assert!(rt; both_write(&rt, alloc, &[0, 1], b"yx"), "in turn");
+    // the first one makes all its turns, three of them file traps, before the second has one more
+    assert!(rt;
+        both_write(&rt, alloc, &[0, 0, 0, 0, 0, 0, 0, 1], b"xy"),
+        "in a row"
+    );
+    // it is not open yet when the second writes
+    assert!(rt;
+        both_write(&rt, alloc, &[1, 1, 1, 1, 1, 0], b"x"),
+        "too early"
+    );
 }
 
-/// Whether two processors by a schedule come to a file of this text, after so many steps each.
-fn both_write(
-    rt: &impl Abort,
-    alloc: Global,
-    schedule: &[u8],
-    text: &[u8],
-    steps: [u64; 2],
-) -> bool {
-    if first_unnamed(schedule, 2).is_some() {
-        return false;
-    }
+/// Whether two processors by a schedule come to a file of this text, after 7 and 5 steps.
+fn both_write(rt: &impl Abort, alloc: Global, schedule: &[u8], text: &[u8]) -> bool
+    requires { AreNames 2 schedule.now }
+{
     let mut multi = processors(rt, alloc, &WRITES, 2, 256);
     let mut host = host(rt, alloc);
-    let end = run_turns(&mut multi, &mut host, schedule, 1000);
+    let end = run_turns(alloc, &mut multi, &mut host, schedule, 1000);
     let made = [multi.processor(0).steps(), multi.processor(1).steps()];
-    end == MultiEnd::AllHalted && made == steps && host.file(b"f") == Some(text)
+    end == MultiEnd::AllHalted && made == [7, 5] && host.file(b"f") == Some(text)
 }
 
 #[test]
@@ -193,9 +195,9 @@ fn halted_ones_make_no_steps(rt: HostRuntime) {
 fn after_halt(rt: &impl Abort, alloc: Global) -> ([MultiEnd; 3], [u64; 2]) {
     let mut multi = processors(rt, alloc, &TELLS_COUNT, 2, 256);
     let mut host = host(rt, alloc);
-    let first = run_turns(&mut multi, &mut host, &[0], 2);
-    let again = run_turns(&mut multi, &mut host, &[0], 5);
-    let other = run_turns(&mut multi, &mut host, &[0, 0, 1], 1);
+    let first = run_turns(alloc, &mut multi, &mut host, &[0], 2);
+    let again = run_turns(alloc, &mut multi, &mut host, &[0], 5);
+    let other = run_turns(alloc, &mut multi, &mut host, &[0, 0, 1], 1);
     (
         [first, again, other],
         [multi.processor(0).steps(), multi.processor(1).steps()],

@@ -100,16 +100,96 @@ fn missing_files(rt: HostRuntime) -> Result<(), Fail> {
     Ok(())
 }
 
-/// Numbers of faults, and their names.
-static NAMES: [(u16, &str); 8] = [
+/// All numbers of faults and of reasons of a stop, in order, and their names.
+static NAMES: [(u16, &str); 75] = [
+    (1, "TooLong"),
+    (2, "BadLabel"),
+    (3, "BadLocal"),
+    (4, "BadOpcode"),
+    (5, "OpenString"),
+    (6, "OpenChar"),
     (7, "NoOpcode"),
+    (10, "Syntax"),
+    (11, "TooWide"),
+    (12, "DivZero"),
+    (13, "FractionTooBig"),
+    (14, "PureOnly"),
+    (15, "TwoRegisters"),
+    (16, "RegisterFromPure"),
+    (17, "Future"),
+    (18, "TooDeep"),
+    (19, "EmptyString"),
     (21, "RegisterNumber"),
+    (30, "Twice"),
+    (31, "Predefined"),
+    (33, "NameTooLong"),
+    (39, "UnknownOpcode"),
+    (40, "Operands"),
+    (41, "NotRegister"),
+    (42, "NotPure"),
+    (43, "Fit"),
+    (44, "NoBase"),
+    (45, "TooFar"),
+    (46, "NotMultiple"),
+    (47, "TooManyGregs"),
+    (48, "LabelNotAllowed"),
     (49, "BadPlace"),
+    (60, "NotTetras"),
+    (61, "NoPre"),
+    (62, "BadLop"),
+    (63, "BadFields"),
+    (64, "Truncated"),
+    (65, "TooLong"),
+    (70, "Truncated"),
+    (71, "Padding"),
+    (72, "Wide"),
+    (73, "Twice"),
+    (74, "TooLong"),
+    (76, "BadSerial"),
+    (80, "UndefinedSymbol"),
+    (81, "UndefinedLocal"),
+    (82, "MainUndefined"),
+    (83, "MainRegister"),
+    (84, "FutureRegister"),
+    (85, "FutureTooFar"),
+    (86, "SymbolsTooMany"),
+    (87, "LocalAboveGlobals"),
+    (88, "SourceTooLong"),
+    (89, "FutureNotMultiple"),
     (90, "PagesFull"),
+    (95, "BadPlace"),
+    (96, "NoFile"),
+    (100, "StackFull"),
+    (101, "Underflow"),
+    (102, "BadFrame"),
+    (110, "Float"),
+    (111, "Illegal"),
+    (112, "Privileged"),
+    (113, "Negative"),
+    (114, "StackFull"),
+    (115, "Underflow"),
+    (116, "BadFrame"),
+    (117, "UnhandledTrip"),
+    (118, "PagesFull"),
     (120, "ResumeInsert"),
-    (119, ""),
+    (121, "WideTrap"),
+    (122, "TransferTooLarge"),
+    (123, "TrapPagesFull"),
     (124, "UnknownTrap"),
-    (130, ""),
+    (140, "NothingKept"),
+];
+
+/// All kinds of faulty words, in order, and their names.
+static KINDS: [(u16, &str); 9] = [
+    (1, "NoCommand"),
+    (2, "UnknownCommand"),
+    (3, "UnknownOption"),
+    (4, "MissingValue"),
+    (5, "BadNumber"),
+    (6, "BadRing"),
+    (7, "MissingFile"),
+    (8, "TooMany"),
+    (10, "Conflict"),
 ];
 
 /// Outcomes, and the statuses with which the program ends.
@@ -128,14 +208,22 @@ static STATUSES: [(Outcome, u8); 6] = [
     (Outcome::OutOfMemory, 71),
 ];
 
-/// The first fault that has another name.
-fn first_misnamed() -> Option<u16> {
-    for (number, name) in &NAMES {
-        if fault_name(*number) != *name {
-            return Some(*number);
-        }
+/// The name that a table in order of its numbers has for a number: the empty text where it has no row.
+fn name_in(table: &[(u16, &'static str)], number: u16) -> &'static str {
+    match table.binary_search_by_key(&number, |row| row.0) {
+        Ok(at) => table[at].1,
+        Err(_) => "",
     }
-    None
+}
+
+/// The first number, of all that there are, whose name is not that of the table.
+fn first_misnamed() -> Option<u16> {
+    (0..=u16::MAX).find(|number| fault_name(*number) != name_in(&NAMES, *number))
+}
+
+/// The first kind, of all that there are, whose name is not that of the table.
+fn first_misnamed_kind() -> Option<u16> {
+    (0..=u16::MAX).find(|kind| usage_name(*kind) != name_in(&KINDS, *kind))
 }
 
 /// The first outcome, by the status that is due, that has another status.
@@ -150,6 +238,6 @@ fn first_other_status() -> Option<u8> {
 
 #[test]
 fn names_and_statuses(rt: HostRuntime) {
-    assert_eq!(rt; (first_misnamed(), first_other_status()), (None, None));
-    assert!(rt; usage_name(6) == "BadRing" && usage_name(9) == "");
+    assert_eq!(rt; (first_misnamed(), first_misnamed_kind()), (None, None));
+    assert_eq!(rt; first_other_status(), None);
 }

@@ -42,10 +42,10 @@ fn seen(ring: &Ring) -> Seen {
 }
 
 /// What is seen after a call, and once it is taken back.
-fn there_and_back(rt: &impl Abort, alloc: Global, ring: &mut Ring, work: RingWork) -> (Seen, Seen)
+fn there_and_back(rt: &impl Abort, ring: &mut Ring, work: RingWork) -> (Seen, Seen)
     requires { WorkNeeds work ring.old }
 {
-    let (note, _) = ring.noted(alloc, work).expect(rt, "the call");
+    let (note, _) = ring.noted(work).expect(rt, "the call");
     let there = seen(ring);
     ring.undo(note);
     (there, seen(ring))
@@ -75,7 +75,7 @@ fn a_spill(rt: HostRuntime) {
     let mut ring = spilled_before(&rt, rt.alloc());
     let work = RingWork::Set(99, 5);
     assert_eq!(rt;
-        there_and_back(&rt, rt.alloc(), &mut ring, work),
+        there_and_back(&rt, &mut ring, work),
         (((100, 255), (201, 46), (0, 5, 0), (9, 0, 0)), BEFORE)
     );
 }
@@ -88,7 +88,7 @@ fn a_call(rt: HostRuntime) {
     ring.set(0, 3).expect(&rt, "room");
     let work = RingWork::Push(100);
     assert_eq!(rt;
-        there_and_back(&rt, rt.alloc(), &mut ring, work),
+        there_and_back(&rt, &mut ring, work),
         (
             ((0, 255), (302, 47), (0, 0, 0), (9, 0, 0)),
             ((1, 255), (201, 0), (3, 0, 0), (7, 0, 0))
@@ -105,7 +105,7 @@ fn a_return(rt: HostRuntime) {
     ring.set(0, 3).expect(&rt, "room");
     let work = RingWork::Pop(1);
     assert_eq!(rt;
-        there_and_back(&rt, rt.alloc(), &mut ring, work),
+        there_and_back(&rt, &mut ring, work),
         (
             ((201, 255), (0, 0), (9, 0, 0), (9, 0, 0)),
             ((100, 255), (201, 46), (3, 5, 0), (9, 0, 0))
@@ -122,7 +122,7 @@ fn a_frame(rt: HostRuntime) {
     ring.know_stack_area();
     let work = RingWork::Save(255, SPECIALS);
     assert_eq!(rt;
-        there_and_back(&rt, rt.alloc(), &mut ring, work),
+        there_and_back(&rt, &mut ring, work),
         (
             (
                 (0, 255),
@@ -147,7 +147,7 @@ fn a_frame_that_is_left(rt: HostRuntime) {
     ring.push(100).expect(&rt, "room");
     let work = RingWork::Unsave(0x6000_0000_0000_06c0);
     assert_eq!(rt;
-        there_and_back(&rt, rt.alloc(), &mut ring, work),
+        there_and_back(&rt, &mut ring, work),
         (
             ((1, 255), (201, 201), (3, 0, 0), (9, 0, 3)),
             (

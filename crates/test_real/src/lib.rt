@@ -2,4 +2,10 @@
 #![tactic(auto)]
 
 #[cfg(test)]
+mod failures;
+#[cfg(test)]
+mod generated;
+#[cfg(test)]
+mod openings;
+#[cfg(test)]
 mod streams;

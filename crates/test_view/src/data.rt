@@ -1,7 +1,7 @@
 //! Views as data. The tetras are worked out by hand, as in the texts.
 
 use mx_view::{Cell, ListedLine, ToldFault, Wanted, list_source, tell_faults};
-use std::alloc::Global;
+use std::alloc::{AllocError, Global};
 
 /// Two lines that place bytes in one tetra, and the second in a further one.
 static SHARED: &str = " LOC #102
@@ -85,4 +85,69 @@ fn no_symbols_of_a_refused_source(rt: HostRuntime) {
 fn faults_have_their_places(rt: HostRuntime) {
     let due = [(2, true, Some(2)), (2, false, None)];
     assert_eq!(rt; places(rt.alloc(), FAULTY), Some(due));
+}
+
+/// A text so many times, and then another one.
+fn repeated(alloc: Global, text: &str, count: u32, last: &str) -> Result<String, AllocError> {
+    let mut source = String::new(alloc);
+    for _ in 0..count {
+        source.push_str(text)?;
+    }
+    source.push_str(last)?;
+    Ok(source)
+}
+
+/// The places of two faults of such a text.
+fn places_of_repeated(
+    alloc: Global,
+    text: &str,
+    count: u32,
+    last: &str,
+) -> Option<[(u32, bool, Option<usize>); 2]> {
+    let source = repeated(alloc, text, count, last).ok()?;
+    places(alloc, source.as_str())
+}
+
+/// A line of 4,097 bytes and a faulty operation.
+#[test]
+fn a_line_that_is_too_long_is_told_once(rt: HostRuntime) {
+    let due = [(1, true, None), (2, true, Some(1))];
+    assert_eq!(rt;
+        places_of_repeated(rt.alloc(), " ", 4097, "\n FOO\nMain SWYM\n"),
+        Some(due)
+    );
+}
+
+/// A byte on each of 65,537 pages.
+fn far_apart(alloc: Global) -> Result<String, AllocError> {
+    repeated(alloc, " LOC @+4095\n BYTE 1\n", 65537, "Main SWYM\n")
+}
+
+/// The line and the number of the only fault.
+fn only_fault(alloc: Global) -> Option<(u32, u16)> {
+    let source = far_apart(alloc).ok()?;
+    let faults = tell_faults(alloc, source.as_bytes()).ok()?;
+    match faults.as_slice() {
+        [fault] => Some((fault.refused.line, fault.refused.fault)),
+        _ => None,
+    }
+}
+
+/// The line and the number of the refusal of a listing.
+fn refused_listing(alloc: Global) -> Option<(u32, u16)> {
+    let source = far_apart(alloc).ok()?;
+    let listed = list_source(alloc, Wanted::Holding(0), source.as_bytes()).ok()?;
+    let refused = listed.refused?;
+    Some((refused.line, refused.fault))
+}
+
+/// Page 65,537 is refused at its line, as in a run.
+#[test]
+fn too_many_pages_are_a_fault(rt: HostRuntime) {
+    assert_eq!(rt; only_fault(rt.alloc()), Some((131_074, 90)));
+}
+
+#[test]
+fn too_many_pages_refuse_a_listing(rt: HostRuntime) {
+    assert_eq!(rt; refused_listing(rt.alloc()), Some((131_074, 90)));
 }

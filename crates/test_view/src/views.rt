@@ -37,6 +37,45 @@ static SHARED_FOUND: &str = "#0000000000000100: 00000102      2: Main BYTE 1
 #0000000000000100: 00000102      3:  BYTE 2,3
 ";
 
+/// Three statements of one line that place bytes in one tetra, which is shown once.
+static ONE_TETRA: &str = " LOC #100
+Main BYTE 1; BYTE 2; BYTE 3
+";
+
+static ONE_TETRA_LISTED: &str = "                                 1:  LOC #100
+#0000000000000100: 01020300      2: Main BYTE 1; BYTE 2; BYTE 3
+
+symbol :Main #0000000000000100 1
+";
+
+static ONE_TETRA_FOUND: &str = "#0000000000000100: 01020300      2: Main BYTE 1; BYTE 2; BYTE 3
+";
+
+/// A source that is refused has no memory: what its line places is joined.
+static ONE_TETRA_REFUSED: &str = " BYTE 1; BYTE 2; BYTE 3
+";
+
+static ONE_TETRA_REFUSED_LISTED: &str = "#0000000000000000: 01020300      1:  BYTE 1; BYTE 2; BYTE 3
+";
+
+/// A character of two bytes counts as one, and so does a byte that is no UTF-8.
+static CHARACTERS: &[u8] = b"f\xc3\xbc FOO
+f\xfc FOO
+\xe2\x82 FOO
+";
+
+static CHARACTERS_TOLD: &[u8] = b"line 1: 39 UnknownOpcode
+    f\xc3\xbc FOO
+       ^
+line 2: 39 UnknownOpcode
+    f\xfc FOO
+       ^
+line 3: 39 UnknownOpcode
+    \xe2\x82 FOO
+       ^
+line 3: 82 MainUndefined
+";
+
 /// Faulty lines, with a line behind them.
 static FAULTY: &str = "x FOO
 y BAR
@@ -44,7 +83,6 @@ y BAR
 ";
 
 static FAULTY_LISTED: &str = "                                 1: x FOO
-line 1: 39 UnknownOpcode
 ";
 
 static FAULTY_TOLD: &str = "line 1: 39 UnknownOpcode
@@ -89,7 +127,17 @@ line 6: 80 UndefinedSymbol
 /// Whether this is what is shown.
 fn is_shown(shown: Result<Sheet, NoMemory>, text: &str, accepted: bool) -> bool {
     match shown {
-        Ok(sheet) => sheet.text.as_slice() == text.as_bytes() && sheet.accepted == accepted,
+        Ok(sheet) => {
+            sheet.text.as_slice() == text.as_bytes() && sheet.refused.is_none() == accepted
+        }
+        Err(_) => false,
+    }
+}
+
+/// Whether these are the faults that are told.
+fn are_told(told: Result<Sheet, NoMemory>, text: &[u8]) -> bool {
+    match told {
+        Ok(sheet) => sheet.text.as_slice() == text,
         Err(_) => false,
     }
 }
@@ -144,4 +192,42 @@ fn faults_with_places(rt: HostRuntime) {
 #[test]
 fn no_faults(rt: HostRuntime) {
     assert!(rt; is_shown(faults(rt.alloc(), AHEAD.as_bytes()), "", true));
+}
+
+#[test]
+fn a_tetra_of_a_line_is_shown_once(rt: HostRuntime) {
+    assert!(rt;
+        is_shown(
+            listing(rt.alloc(), ONE_TETRA.as_bytes()),
+            ONE_TETRA_LISTED,
+            true
+        )
+    );
+}
+
+#[test]
+fn a_tetra_of_a_line_is_found_once(rt: HostRuntime) {
+    assert!(rt;
+        is_shown(
+            lines_holding(rt.alloc(), 0x101, ONE_TETRA.as_bytes()),
+            ONE_TETRA_FOUND,
+            true
+        )
+    );
+}
+
+#[test]
+fn a_tetra_of_a_refused_line_is_joined(rt: HostRuntime) {
+    assert!(rt;
+        is_shown(
+            listing(rt.alloc(), ONE_TETRA_REFUSED.as_bytes()),
+            ONE_TETRA_REFUSED_LISTED,
+            false
+        )
+    );
+}
+
+#[test]
+fn carets_behind_characters(rt: HostRuntime) {
+    assert!(rt; are_told(faults(rt.alloc(), CHARACTERS), CHARACTERS_TOLD));
 }

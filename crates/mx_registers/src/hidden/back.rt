@@ -7,19 +7,18 @@ ghost use Rattle.mx_registers.specs.HiddenPart.{octas_of, put_back, rewound};
 use super::{Hidden, ROOM};
 use crate::RingFault;
 use crate::slices::append;
-use std::alloc::Global;
 
 impl Hidden {
     /// The octas of the stack area behind the spilled ones: so many, or as many as there are.
     ///
     /// Errors: `OutOfMemory` alone.
-    pub fn behind(&mut self, alloc: Global, count: usize) -> Result<Vec<u64>, RingFault>
+    pub fn behind(&mut self, count: usize) -> Result<Vec<u64>, RingFault>
         ensures same { self.new ≡ self.old }
         ensures octas { IfOk result (λ list. list.items ≡ take count (drop self.old.spilled self.old.stack)) }
         ensures memory { OnErr result (result ≡ Err RingFault.OutOfMemory) }
     {
         let count = count.min(ROOM - self.spilled);
-        let mut list = Vec::with_capacity(alloc, count)?;
+        let mut list = Vec::with_capacity(self.alloc, count)?;
         self.stack
             .append_to(self.spilled, self.spilled + count, &mut list);
         Ok(list)
@@ -28,13 +27,13 @@ impl Hidden {
     /// The hidden octas in the ring without the first so many.
     ///
     /// Errors: `OutOfMemory` alone.
-    pub fn residents_from(&self, alloc: Global, stays: usize) -> Result<Vec<u64>, RingFault>
+    pub fn residents_from(&self, stays: usize) -> Result<Vec<u64>, RingFault>
         ensures octas { IfOk result (λ list. list.items ≡ drop stays self.now.resident) }
         ensures memory { OnErr result (result ≡ Err RingFault.OutOfMemory) }
     {
         let resident = &self.octas[self.spilled..];
         let gone = &resident[stays.min(resident.len())..];
-        let mut list = Vec::with_capacity(alloc, gone.len())?;
+        let mut list = Vec::with_capacity(self.alloc, gone.len())?;
         append(&mut list, gone);
         Ok(list)
     }

@@ -3,8 +3,8 @@
 ghost use Rattle.std.specs.Prelude.{◌≡◌, ◌≢◌, ◌≤◌, ◌<◌, ◌+◌, ◌-◌, ◌*◌, ◌^◌, length, IfOk, OnOk, OnErr, Ok, Err};
 ghost use Rattle.mx_ring.specs.Bounds.{IsRing};
 ghost use Rattle.mx_ring.specs.Notes.{worked, work_answer, WorkNeeds, ring_noted, ring_noted_stored, ring_undone};
-ghost use Rattle.mx_ring.specs.Notes.{octa_noted, spilled_by, push_spills, above_room, staying, plain_answer};
-ghost use Rattle.mx_ring.specs.Notes.{specials_answer, FitsRing, TakesBack};
+ghost use Rattle.mx_ring.specs.Notes.{octa_noted, octa_after_spill, spilled_by, push_spills, above_room, staying};
+ghost use Rattle.mx_ring.specs.Notes.{plain_answer, specials_answer, FitsRing, TakesBack};
 ghost use Rattle.mx_registers.specs.HiddenPart.{octas_of};
 ghost use Rattle.mx_ring.specs.Stack.{windowed, hole_in};
 ghost use Rattle.mx_word.specs.Results.{map_ok};
@@ -12,18 +12,13 @@ ghost use Rattle.mx_word.specs.Results.{map_ok};
 use super::{Ring, hole};
 use crate::notes::{RingNote, RingWork, note_registers};
 use crate::{RingFault, Saved};
-use std::alloc::Global;
 
 impl Ring {
     /// Does the call that `work` names, and notes what it overwrites. The special registers are those of the frame that
     /// UNSAVE brings back. It may take memory for the note.
     ///
     /// Errors: those of the call, and `OutOfMemory`; then nothing changed.
-    pub fn noted(
-        &mut self,
-        alloc: Global,
-        work: RingWork,
-    ) -> Result<(RingNote, Option<Saved>), RingFault>
+    pub fn noted(&mut self, work: RingWork) -> Result<(RingNote, Option<Saved>), RingFault>
         requires { WorkNeeds work self.old }
         ensures answer { result ≢ Err RingFault.OutOfMemory
             → map_ok (λ r. r.1) result ≡ work_answer work (windowed self.old) }
@@ -32,7 +27,7 @@ impl Ring {
         ensures back { IfOk result (λ r. TakesBack r.0 self.new self.old) }
         ensures err { OnErr result (self.new ≡ self.old) }
     {
-        match self.note(alloc, work) {
+        match self.note(work) {
             Ok(note) => match self.work(work) {
                 Ok(specials) => Ok((note, specials)),
                 Err(fault) => Err(fault),
@@ -55,19 +50,19 @@ impl Ring {
     ///
     /// Errors: `OutOfMemory` alone.
     #[tactic(auto, unfolding(crate::specs::Notes::ring_noted))]
-    pub fn note(&mut self, alloc: Global, work: RingWork) -> Result<RingNote, RingFault>
+    pub fn note(&mut self, work: RingWork) -> Result<RingNote, RingFault>
         requires { WorkNeeds work self.old }
         ensures note { IfOk result (λ note. note ≡ ring_noted work self.old) }
         ensures bounds { IsRing self.old }
         ensures same { self.new ≡ self.old }
         ensures memory { OnErr result (result ≡ Err RingFault.OutOfMemory) }
     {
-        let registers = note_registers(alloc, work, &self.visible)?;
+        let registers = note_registers(self.alloc, work, &self.visible)?;
         let count = self.spilled_by(work);
         let stays = self.staying(work);
         let octa = self.octa_noted(work);
-        let over = self.hidden.behind(alloc, count)?;
-        let gone = self.hidden.residents_from(alloc, stays)?;
+        let over = self.hidden.behind(count)?;
+        let gone = self.hidden.residents_from(stays)?;
         Ok(RingNote {
             registers,
             spilled: self.hidden.spilled(),
@@ -78,30 +73,36 @@ impl Ring {
         })
     }
 
-    /// Notes the octa of the stack area at an index below 2^20, and what a value for $k overwrites: for a store, and a
-    /// value behind it.
+    /// Notes what a value for $k overwrites, and the octa of the stack area at an index below 2^20 as it is once $k has that
+    /// value: for a store, before the value or after it.
     ///
     /// Errors: `OutOfMemory` alone.
-    #[tactic(auto, unfolding(crate::specs::Notes::ring_noted_stored))]
-    pub fn note_store(&mut self, alloc: Global, i: u32, k: u8) -> Result<RingNote, RingFault>
+    #[tactic(auto, unfolding(crate::specs::Notes::ring_noted_stored, crate::specs::Notes::WorkNeeds))]
+    pub fn note_store(&mut self, i: u32, k: u8) -> Result<RingNote, RingFault>
         requires { i < 2 ^ 20 }
         ensures note { IfOk result (λ note. note ≡ ring_noted_stored i k self.old) }
         ensures same { self.new ≡ self.old }
         ensures memory { OnErr result (result ≡ Err RingFault.OutOfMemory) }
     {
-        let registers = note_registers(alloc, RingWork::Set(k, 0), &self.visible)?;
-        let count = self.spilled_by(RingWork::Set(k, 0));
-        let octa = Some((i, self.hidden.octa(i as usize)));
-        let over = self.hidden.behind(alloc, count)?;
-        let gone = self.hidden.residents_from(alloc, 0)?;
-        Ok(RingNote {
-            registers,
-            spilled: self.hidden.spilled(),
-            over,
-            stays: 0,
-            gone,
-            octa,
-        })
+        let work = RingWork::Set(k, 0);
+        let count = self.spilled_by(work);
+        let octa = self.octa_after_spill(count, i as usize);
+        let mut note = self.note(work)?;
+        note.octa = Some((i, octa));
+        Ok(note)
+    }
+
+    /// What the octa of the stack area at an index is, once so many of the hidden octas in the ring are spilled.
+    fn octa_after_spill(&self, count: usize, i: usize) -> u64
+        requires few { count ≤ length self.now.hidden.resident }
+        requires inside { i < 2 ^ 20 }
+        ensures { result ≡ octa_after_spill self.now.hidden count i }
+    {
+        if i < self.hidden.spilled() + count {
+            self.hidden.octas()[i]
+        } else {
+            self.hidden.octa(i)
+        }
     }
 
     /// Does the call that `work` names.
@@ -136,7 +137,8 @@ impl Ring {
     /// How many octas the call spills.
     #[tactic(auto, unfolding(crate::specs::Notes::spilled_by))]
     fn spilled_by(&self, work: RingWork) -> usize
-        ensures { result ≡ spilled_by work self.now }
+        ensures value { result ≡ spilled_by work self.now }
+        ensures bounds { IsRing self.now }
     {
         let resident = self.hidden.len() - self.hidden.spilled();
         match work {

@@ -5,7 +5,7 @@ use Rattle.mx_run.proofs.Later.{stepped-later, called-later, unmade-later}
 use Rattle.mx_run.proofs.Runners.{turn-keeps}
 use Rattle.mx_run.proofs.TurnAnswers.{call-told}
 use Rattle.mx_back.specs.KeptRuns.{ComesStep, ended_at}
-use Rattle.mx_back.proofs.KeptSteps.{went-keeps, stopped-keeps, called-keeps, went-step, stopped-step-at, called-step, unnoted-step}
+use Rattle.mx_back.proofs.KeptSteps.{went-keeps, stopped-keeps, called-keeps, went-step, stopped-step-at, called-step, unnoted-step, unnoted-lacks, call-lacks}
 use Rattle.mx_back.proofs.running.keep_any_step.Goals as goal
 
 pub returns-in-Went : goal.returns-in-Went
@@ -19,6 +19,7 @@ returns-in-Went g c =
       keeps = keeps-all _ _;
       fits = e.fits;
       kept = λ t ne. went-keeps _ _ _ _ _ _ answer e.kept;
+      lacking = λ t o. absurd (cc);
     }
 
 pub trap_kept-requires : goal.trap_kept-requires
@@ -35,6 +36,7 @@ returns-in-Trap g c =
       keeps = turn-keeps _ _ _ _ _ _ _ _ e.told e.stands;
       fits = e.fits;
       kept = λ t ne. called-keeps _ _ _ _ _ _ _ _ _ _ answer (e.told t) (λ o. ne (c.ended_at.ensures ∙ ap (ended_at _) o)) e.kept c.in-Trap.ensures.kept;
+      lacking = λ t o. call-lacks _ _ _ _ _ _ _ _ _ _ _ _ answer (e.told t) e.kept c.ended_at.ensures o;
     }
 
 pub returns-in-Stopped : goal.returns-in-Stopped
@@ -48,6 +50,7 @@ returns-in-Stopped g c =
       keeps = keeps-all _ _;
       fits = e.fits;
       kept = λ t ne. stopped-keeps _ _ _ _ _ _ answer e.kept;
+      lacking = λ t o. absurd (cc);
     }
 
 pub returns-in-OutOfMemory : goal.returns-in-OutOfMemory
@@ -60,4 +63,5 @@ returns-in-OutOfMemory g c =
       keeps = keeps-all _ _;
       fits = e.fits;
       kept = λ t ne. absurd (ne refl);
+      lacking = λ t o. unnoted-lacks _ _ _ _ _ (e.memory refl) e.kept;
     }

@@ -14,4 +14,5 @@ returns-then-step_if_usual g c =
       keeps = keeps-all _ _;
       fits = e.fits;
       kept = λ t ne. usual-keeps _ _ _ _ _ made (e.kept c.if-step_if_usual.true);
+      lacking = λ t o. absurd (cc);
     }

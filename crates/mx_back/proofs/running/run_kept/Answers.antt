@@ -1,4 +1,4 @@
-use Rattle.std.proofs.Common.{arith, sym, subst, IsTrue, false}
+use Rattle.std.proofs.Common.{arith, sym, subst, ap, Err, IsTrue, false}
 use Rattle.mx_host.specs.HostModel.{contents}
 use Rattle.mx_core.specs.Kept.{state_of}
 use Rattle.mx_plan.proofs.Standing.{stands-all, stands-kept, stands-then}
@@ -8,7 +8,7 @@ use Rattle.mx_run.proofs.Later.{begun-later, few-later, turned-later, last-later
 use Rattle.mx_run.proofs.ListSteps.{list-begun, list-spent}
 use Rattle.mx_run.proofs.PlanEnds.{rest-begun}
 use Rattle.mx_back.proofs.KeptLists.{begun-beside, went-kept-beside, ended-kept-beside, spent-kept-beside}
-use Rattle.mx_back.proofs.KeptSteps.{begun-kept, went-kept-on, ended-kept, ended-kept-so, spent-kept-so}
+use Rattle.mx_back.proofs.KeptSteps.{begun-kept, went-kept-on, ended-kept, ended-kept-so, spent-kept-so, none-kept, went-turns, lacking-turns}
 use Rattle.mx_back.proofs.running.run_kept.Goals as goal
 
 pub loop-made-init : goal.loop-made-init
@@ -20,6 +20,7 @@ loop-made-init g c = record {
   stands = stands-all (g.H.Host.told c.args.host.now) (g.H.Host.faults c.args.host.now);
   fits = c.requires;
   kept = λ t. begun-kept _ _ _ _;
+  turns = λ t. none-kept _ _ _;
   kept_listed = λ t u a. begun-beside _ _ _ _ _ a;
 }
 
@@ -41,6 +42,7 @@ loop-made-preserved g c =
       kept = λ t.
           let now = subst IsTrue (sym was.stands.0) t in
           went-kept-on _ _ _ _ _ _ _ _ _ _ inside (e.told now) (e.kept now (λ o. absurd (cc))) (was.kept t);
+      turns = λ t. went-turns _ _ _ _ _ _ (was.made t) (e.kept (subst IsTrue (sym was.stands.0) t) (λ o. absurd (cc))) (was.turns t);
       kept_listed = λ t u a.
           let now = subst IsTrue (sym was.stands.0) t in
           went-kept-beside _ _ _ _ _ _ _ _ _ _ _ inside e.over (e.told now) (e.kept now (λ o. absurd (cc))) (was.listed t u) (was.kept_listed t u a);
@@ -69,6 +71,11 @@ returns-in-Err-clause-kept g c = λ t ne.
     let was = c.loop-made.invariant in
     let now = subst IsTrue (sym was.stands.0) t in
     ended-kept-so _ _ _ _ _ _ _ _ _ _ c.loop-made-test.true ne (c.in-Err.ensures.told now) (c.in-Err.ensures.kept now (λ e. ne (cc))) (was.kept t)
+
+pub returns-in-Err-clause-front : goal.returns-in-Err-clause-front
+returns-in-Err-clause-front g c = λ t o.
+    let was = c.loop-made.invariant in
+    lacking-turns _ _ _ _ _ _ _ _ c.loop-made-test.true (was.made t) (was.turns t) (c.in-Err.ensures.lacking (subst IsTrue (sym was.stands.0) t) (ap Err o))
 
 pub returns-in-Err-clause-kept_listed : goal.returns-in-Err-clause-kept_listed
 returns-in-Err-clause-kept_listed g c = λ t ne u a.

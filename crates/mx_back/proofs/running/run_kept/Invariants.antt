@@ -30,6 +30,8 @@ invariant-loop-made g l = record {
   kept : IsTrue (tells (g.H.Host.told l.fn.host)) →
       states_kept (turns_of (l.n - l._made) (state_of l.machine) (contents (g.H.Host.told l.host))) (states_before l.back (state_of l.machine))
       ≡ states_kept (turns_of l.n (state_of l.fn.machine) (contents (g.H.Host.told l.fn.host))) (states_before l.fn.back (state_of l.fn.machine));
+  turns : IsTrue (tells (g.H.Host.told l.fn.host)) →
+      states_before l.back (state_of l.machine) ≡ states_kept (turns_of l._made (state_of l.fn.machine) (contents (g.H.Host.told l.fn.host))) (states_before l.fn.back (state_of l.fn.machine));
   kept_listed : IsTrue (tells (g.H.Host.told l.fn.host)) → (state_of l.fn.machine).touched ≡ false → AreUntouched (states_before l.fn.back (state_of l.fn.machine)) →
       KeptSoFar (list_run (g.H.Host.told l.fn.host) (state_of l.fn.machine) l.n) (l.n - l._made) (state_of l.machine) (contents (g.H.Host.told l.host)) (states_before l.back (state_of l.machine))
       (list_kept (g.H.Host.told l.fn.host) (state_of l.fn.machine) l.n (states_before l.fn.back (state_of l.fn.machine)));

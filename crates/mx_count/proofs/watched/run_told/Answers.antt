@@ -1,9 +1,10 @@
 use Rattle.mx_count.proofs.Alone.{report-alone}
+use Rattle.mx_count.proofs.CountedRuns.{ended-told}
 use Rattle.mx_count.proofs.watched.run_told.Goals as goal
 
 pub returns-in-Ok-clause-told : goal.returns-in-Ok-clause-told
 returns-in-Ok-clause-told g c = λ w alone none tells.
-    let enough = c.is_lacking.ensures c.if-is_lacking.false in (
-      c.watched_run-end.ensures.run.told tells enough,
-      report-alone w _ _ _ _ _ c.in-Ok.text alone none (c.watched_run-end.ensures.heard tells enough) c.in-Ok.ensures,
-    )
+    let enough = c.is_lacking.ensures c.if-is_lacking.false in
+    let ended = c.watched_run-end.ensures.run.told tells enough in
+    let heard = report-alone w _ _ _ _ _ _ c.in-Ok.text alone none (c.watched_run-end.ensures.heard tells enough) c.in-Ok.ensures in
+    (ended, ended-told w _ _ _ _ _ _ _ c.in-Ok.text heard c.pc-at.ensures.value ended)

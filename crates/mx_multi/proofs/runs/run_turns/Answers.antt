@@ -1,102 +1,90 @@
-use Rattle.std.proofs.Common.{Ok, Err, drop, arith, sym, subst, refl, ◌∙◌, IsTrue}
-use Rattle.mx_host.specs.HostModel.{contents}
-use Rattle.mx_host.proofs.Keeping.{keeps-then, keeps-all}
-use Rattle.mx_multi.specs.Clauses.{as_lists}
+use Rattle.std.proofs.Common.{ℕ, ◌+◌, ◌-◌, ◌<◌, List, length, ◌∙◌, refl, subst, sym}
 use Rattle.mx_multi.specs.Joint.{joint_of}
-use Rattle.mx_multi.proofs.RowTurns.{rest-self, start-made, row-rest, row-listed, row-made, stayed, one-rest, one-ended, one-follows, one-more, none-left, none-left-listed}
-use Rattle.mx_multi.proofs.Schedules.{last-all}
-use Rattle.mx_multi.proofs.StepSums.{few-made}
-use Rattle.mx_multi.proofs.TurnPlans.{turns-told}
+use Rattle.mx_multi.specs.Stretches.{Over}
+use Rattle.mx_multi.proofs.Names.{name-runs, names-of}
+use Rattle.mx_multi.proofs.Schedules.{name-below}
+use Rattle.mx_multi.proofs.Underway.{Queued, all-spent, begins, ended-named, halted-lacks, halted-named, no-memory-left, none-named, none-spent, placed, row-named}
 use Rattle.mx_multi.proofs.runs.run_turns.Goals as goal
+
+-- ---- the start
+
+pub returns-in-Err-clause-turns : goal.returns-in-Err-clause-turns
+returns-in-Err-clause-turns g c =
+    let start : Over = (g.H.Host.told c.args.host.now, g.H.Host.faults c.args.host.now, joint_of c.args.multi.now) in
+    no-memory-left c.args.schedule.now c.args.n start c.args.n c.args.schedule.now start (begins c.args.schedule.now c.args.n start) c.in-Err.ensures.none
 
 pub loop-left-init : goal.loop-left-init
 loop-left-init g c = record {
-  told = λ t. rest-self _ _;
-  listed = λ t u. as_lists u refl;
-  few = omega arith;
-  bound = start-made c.args.n (joint_of c.args.multi.now);
+  queue = record { rest = c.args.schedule.now; under = begins _ _ _; named = c.in-Ok.ensures.names; place = c.in-Ok.ensures.place };
   count = refl;
-  keeps = keeps-all _ _;
 }
 
 -- ---- a row
 
-pub loop-left-preserved-then-made-gt0 : goal.loop-left-preserved-then-made-gt0
-loop-left-preserved-then-made-gt0 g c =
+pub run_row-requires-clause-inside : goal.run_row-requires-clause-inside
+run_row-requires-clause-inside g c =
+    rw c.loop-left.invariant.count
+    (name-below _ _ _ _ c.in-Some.ensures.some.inside (names-of _ _ _ _ (c.as_slice-names.ensures ∙ c.loop-left.invariant.queue.named) c.requires))
+
+pub run_row-requires-clause-runs : goal.run_row-requires-clause-runs
+run_row-requires-clause-runs g c = name-runs _ _ _ _ (c.as_slice-names.ensures ∙ c.loop-left.invariant.queue.named) c.in-Some.ensures.some.inside
+
+pub loop-left-preserved-in-Went : goal.loop-left-preserved-in-Went
+loop-left-preserved-in-Went g c =
     let was = c.loop-left.invariant in
-    let e = c.walk_row-made.ensures in
+    let row = c.row_length-length.ensures in
+    let queue = placed _ _ _ _ _ _ _ _ _ c.as_slice-names.ensures was.queue c.in-Some.ensures.some in
+    let start : Over = (g.H.Host.told c.args.host.now, g.H.Host.faults c.args.host.now, joint_of c.args.multi.now) in
+    let after : Over = (g.H.Host.told c.run_row.new.host, g.H.Host.faults c.run_row.new.host, joint_of c.run_row.new.multi) in
+    let made = c.row_length-length.result in
     record {
-      told = λ t. row-rest _ _ _ _ _ _ _ _ _ c.if-made-gt0.true e.few e.row e.runs e.turns (was.told t);
-      listed = λ t u. row-listed _ _ _ _ _ _ _ _ c.if-made-gt0.true e.few e.row e.runs e.turns (was.listed t u);
-      few = (let few = was.few in omega (arith, few));
-      bound = row-made _ _ _ _ _ _ _ was.few e.few was.bound e.turns;
-      count = e.count ∙ was.count;
-      keeps = was.keeps;
+      queue = subst (λ (ns : List ℕ). Queued c.args.schedule.now c.args.n start (c.loop-left.left - made) ns (c.in-Some.place + made) after) c.as_slice-names.ensures
+          (row-named c.args.schedule.now c.args.n start _ made c.in-Some.place c.loop-left.left _ _ after row.few row.row c.in-Went.ensures.row queue);
+      count = c.run_row.ensures.count ∙ was.count;
     }
 
--- ---- a turn
+-- ---- a halt
 
-pub next_step-requires : goal.next_step-requires
-next_step-requires g c = rw (c.walk_row-made.ensures.count, c.loop-left.invariant.count) c.requires
+pub queue_of-requires-in-Halted-clause-names : goal.queue_of-requires-in-Halted-clause-names
+queue_of-requires-in-Halted-clause-names g c =
+    rw (c.run_row.ensures.count, c.loop-left.invariant.count) (names-of _ _ _ _ (c.as_slice-names.ensures ∙ c.loop-left.invariant.queue.named) c.requires)
+
+pub returns-in-Err-queue_of-clause-turns : goal.returns-in-Err-queue_of-clause-turns
+returns-in-Err-queue_of-clause-turns g c =
+    let row = c.row_length-length.ensures in
+    let queue = placed _ _ _ _ _ _ _ _ _ c.as_slice-names.ensures c.loop-left.invariant.queue c.in-Some.ensures.some in
+    halted-lacks _ _ _ _ _ _ _ _ _ _ _ _ row.few row.row c.in-Halted.ensures.row.1 queue c.in-Err-queue_of.ensures.none
 
 pub loop-left-preserved : goal.loop-left-preserved
 loop-left-preserved g c =
     let was = c.loop-left.invariant in
-    let e = c.in-Ok.ensures in
-    let stay = stayed _ _ _ _ c.if-made-gt0.false c.walk_row-made.ensures.turns in
+    let row = c.row_length-length.ensures in
+    let queue = placed _ _ _ _ _ _ _ _ _ c.as_slice-names.ensures was.queue c.in-Some.ensures.some in
     record {
-      told = λ t. one-rest _ _ _ _ _ _ _ _ _ _ c.loop-left-test.true stay (was.told t) (e.told (subst IsTrue (sym was.keeps.telling) t));
-      listed = λ t u. one-follows c.args.schedule.now _ _ _ _ (joint_of c.walk_row-made.new.multi) (joint_of c.next_step.new.multi) (contents (g.H.Host.told c.loop-left.host)) (contents (g.H.Host.told c.next_step.new.host)) (Ok (drop c.in-Ok.next c.args.schedule.now))
-          c.loop-left-test.true stay (was.listed t u) (λ v. e.listed _ (subst IsTrue (sym was.keeps.telling) t) (λ h. absurd (cc)) v) (e.keeps.growing (subst IsTrue (sym was.keeps.telling) t));
-      few = (let few = was.few in omega (arith, few));
-      bound = one-more _ _ _ _ _ _ was.few c.loop-left-test.true was.bound stay e.bound;
-      count = e.count ∙ c.walk_row-made.ensures.count ∙ was.count;
-      keeps = keeps-then _ _ _ _ _ _ was.keeps e.keeps;
+      queue = halted-named _ _ _ _ _ _ _ _ _ _ _ _ row.few row.row c.in-Halted.ensures.row.1 queue _ _ c.in-Ok-queue_of.ensures.names c.in-Ok-queue_of.ensures.place;
+      count = c.run_row.ensures.count ∙ was.count;
     }
 
--- ---- the end at a turn
+-- ---- the end
 
-pub returns-in-Err-clause-plan : goal.returns-in-Err-clause-plan
-returns-in-Err-clause-plan g c =
-    let was = c.loop-left.invariant in
-    let stay = stayed _ _ _ _ c.if-made-gt0.false c.walk_row-made.ensures.turns in
-    λ t. one-ended _ _ _ _ _ _ _ _ _ _ c.loop-left-test.true stay (was.told t) (c.in-Err.ensures.told (subst IsTrue (sym was.keeps.telling) t))
+pub returns-in-None-clause-turns : goal.returns-in-None-clause-turns
+returns-in-None-clause-turns g c =
+    none-named _ _ _ _ _ _ _ c.loop-left-test.true (sym c.as_slice-names.ensures ∙ c.in-None.ensures.none refl) c.loop-left.invariant.queue
 
-pub returns-in-Err-clause-told : goal.returns-in-Err-clause-told
-returns-in-Err-clause-told g c =
-    let was = c.loop-left.invariant in
-    let stay = stayed _ _ _ _ c.if-made-gt0.false c.walk_row-made.ensures.turns in
-    λ t ne. turns-told _ _ _ _ _ _ _ _ (one-ended _ _ _ _ _ _ _ _ _ _ c.loop-left-test.true stay (was.told t) (c.in-Err.ensures.told (subst IsTrue (sym was.keeps.telling) t))) ne
-
-pub returns-in-Err-clause-listed : goal.returns-in-Err-clause-listed
-returns-in-Err-clause-listed g c =
-    let was = c.loop-left.invariant in
-    let e = c.in-Err.ensures in
-    let stay = stayed _ _ _ _ c.if-made-gt0.false c.walk_row-made.ensures.turns in
-    λ t ne u. one-follows c.args.schedule.now _ _ _ _ (joint_of c.walk_row-made.new.multi) (joint_of c.next_step.new.multi) (contents (g.H.Host.told c.loop-left.host)) (contents (g.H.Host.told c.next_step.new.host)) (Err c.in-Err.end)
-    c.loop-left-test.true stay (was.listed t u) (λ v. e.listed _ (subst IsTrue (sym was.keeps.telling) t) (λ h. ne (cc)) v) (e.keeps.growing (subst IsTrue (sym was.keeps.telling) t))
-
-pub returns-in-Err-clause-bound : goal.returns-in-Err-clause-bound
-returns-in-Err-clause-bound g c =
-    let was = c.loop-left.invariant in
-    let few = was.few in
-    let stay = stayed _ _ _ _ c.if-made-gt0.false c.walk_row-made.ensures.turns in
-    few-made _ _ _ _ (omega (arith, few)) (one-more _ _ _ _ _ _ was.few c.loop-left-test.true was.bound stay c.in-Err.ensures.bound)
-
-pub returns-in-Err-clause-halted : goal.returns-in-Err-clause-halted
-returns-in-Err-clause-halted g c = c.in-Err.ensures.halted c.in-Err.end refl
+pub returns-in-Ended-clause-turns : goal.returns-in-Ended-clause-turns
+returns-in-Ended-clause-turns g c =
+    let row = c.row_length-length.ensures in
+    let queue = placed _ _ _ _ _ _ _ _ _ c.as_slice-names.ensures c.loop-left.invariant.queue c.in-Some.ensures.some in
+    let end = c.in-Ended.ensures.row in
+    ended-named _ _ _ _ _ _ _ _ _ _ _ _ _ row.few row.row end.1.1.0 end.1.1.1 queue
 
 -- ---- the end where no step is left
 
-pub returns-clause-plan : goal.returns-clause-plan
-returns-clause-plan g c = λ t. none-left _ _ _ _ _ _ _ c.loop-left-test.false c.last_end.ensures (c.loop-left.invariant.told t)
+pub returns-in-Some-next_place-clause-turns : goal.returns-in-Some-next_place-clause-turns
+returns-in-Some-next_place-clause-turns g c =
+    let next = c.in-Some-next_place in
+    all-spent _ _ _ _ _ _ next.field-0 _ c.loop-left-test.false (subst (λ (ns : List ℕ). next.field-0 < length ns) c.as_slice.ensures next.ensures.some.inside) c.loop-left.invariant.queue
 
-pub returns-clause-told : goal.returns-clause-told
-returns-clause-told g c = λ t ne. turns-told _ _ _ _ _ _ _ _ (none-left _ _ _ _ _ _ _ c.loop-left-test.false c.last_end.ensures (c.loop-left.invariant.told t)) ne
-
-pub returns-clause-listed : goal.returns-clause-listed
-returns-clause-listed g c = λ t ne u.
-    none-left-listed c.args.schedule.now _ _ _ (joint_of c.loop-left.multi) (contents (g.H.Host.told c.loop-left.host)) _ c.loop-left-test.false c.last_end.ensures (c.loop-left.invariant.listed t u)
-
-pub returns-clause-halted : goal.returns-clause-halted
-returns-clause-halted g c = last-all _ _ _ c.last_end.ensures
+pub returns-clause-turns : goal.returns-clause-turns
+returns-clause-turns g c =
+    none-spent _ _ _ _ _ _ _ c.loop-left-test.false (sym c.as_slice.ensures ∙ c.in-None-next_place.ensures.none refl) c.loop-left.invariant.queue

@@ -24,15 +24,15 @@ returns g c =
       both = record {
         window = λ t.
             turns-follow steps c.args.schedule.now _ after _ _ _ c.run_turns-end.result c.tell_turns.result
-            (λ x. telling (multi_outcome steps x.0) (multi_lines dump x.0 x.1)) (c.run_turns-end.ensures.plan t)
+            (λ x. telling (multi_outcome steps x.0) (multi_lines dump x.0 x.1)) (c.run_turns-end.ensures.turns.plan t)
             (λ e. let none = told.lacked (ap (multi_outcome steps) e) in (none.0, ap (λ h. contents (g.H.Host.told h)) none.1))
-            (λ ne. told.plan (turned-well steps c.run_turns-end.result ne) (subst IsTrue (sym c.run_turns-end.ensures.keeps.telling) t));
+            (λ ne. told.plan (turned-well steps c.run_turns-end.result ne) (subst IsTrue (sym c.run_turns-end.ensures.turns.keeps.telling) t));
         list = λ t ne.
-            let there = subst IsTrue (sym c.run_turns-end.ensures.keeps.telling) t in
+            let there = subst IsTrue (sym c.run_turns-end.ensures.turns.keeps.telling) t in
             turns-listed steps c.args.schedule.now _ after _ _ _ c.run_turns-end.result c.tell_turns.result
-            (λ x. telling (multi_outcome steps x.0) (multi_lines dump x.0 x.1)) (c.run_turns-end.ensures.listed t (some ne) c.requires.untouched) (told.causes.3.growing there)
+            (λ x. telling (multi_outcome steps x.0) (multi_lines dump x.0 x.1)) (c.run_turns-end.ensures.turns.listed t (some ne) c.requires.untouched) (told.causes.3.growing there)
             (same-told dump (multi_outcome steps c.run_turns-end.result) c.run_turns-end.result after)
             ((told.plan (turned-well steps c.run_turns-end.result (some ne)) there).ending ne);
       };
-      causes = fails-behind g.H.Host.told g.H.Host.faults _ _ _ _ c.run_turns-end.ensures.keeps told.causes;
+      causes = fails-behind g.H.Host.told g.H.Host.faults _ _ _ _ c.run_turns-end.ensures.turns.keeps told.causes;
     }

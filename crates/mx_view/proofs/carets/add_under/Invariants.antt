@@ -1,6 +1,9 @@
-use Rattle.std.proofs.Common.{◌≡◌, ◌++◌, map, take}
-use Rattle.mx_view.specs.Carets.{under}
+use Rattle.std.proofs.Common.{◌≡◌, ◌++◌, length}
+use Rattle.mx_view.specs.Carets.{under_text}
 use Rattle.mx_view.proofs.carets.add_under.Given as goal
 
-abbrev pub invariant-loop-b : goal.invariant-loop-b
-invariant-loop-b l = l.text ≡ l.fn.text ++ map under (take l.b-index l.front)
+abbrev pub invariant-loop-rest : goal.invariant-loop-rest
+invariant-loop-rest l = l.fn.text ++ under_text l.front ≡ l.text ++ under_text l.rest
+
+abbrev pub decreases-loop-rest : goal.decreases-loop-rest
+decreases-loop-rest l = length l.rest

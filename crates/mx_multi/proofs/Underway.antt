@@ -1,0 +1,362 @@
+-- Turns by a schedule that are under way: how many steps are left, and what of the schedule.
+use Rattle.std.proofs.Common.{◌≡◌, ◌≢◌, ◌<◌, ◌≤◌, ℕ, zero, suc, ◌+◌, ◌-◌, Bool, IsTrue, true, List, [], ◌∷◌, drop, length, Option, None, Some, Ok, Err, inl, inr, arith, refl, sym, subst, ap, ◌∙◌}
+use Rattle.std.specs.Prelude.{◌⊎◌}
+use Rattle.std.proofs.lemmas.Bool.{cases_lt}
+use Rattle.std.proofs.lemmas.List.{drop_all}
+use Rattle.mx_host.specs.HostModel.{HostModel, tells, contents}
+use Rattle.mx_host.specs.Keeping.{Keeps}
+use Rattle.mx_host.proofs.Keeping.{keeps-then, keeps-all}
+use Rattle.mx_plan.specs.Plan.{Comes, IsRest, Stops, bind, end_of, end_after}
+use Rattle.mx_plan.proofs.Plans.{end_bind}
+use Rattle.mx_run.specs.WildRuns.{list_machine}
+use Rattle.mx_multi.specs.Clauses.{Beside, as_lists, Follows, MakesAtMost, TakesTurns}
+use Rattle.mx_multi.specs.Joint.{Joint, NoneTouched, as_list_joint, has_halted}
+use Rattle.mx_multi.specs.JointTurns.{JointWorld, halted_by}
+use Rattle.mx_multi.specs.MultiPlans.{MultiPlan, multi, look, step_plan, turn_if, turns_next, turns_plan}
+use Rattle.mx_multi.specs.Stretches.{IsRow, IsPlaceFrom, EndsRow, Over, Row, Taken, running}
+use Rattle.mx_multi.specs.Turns.{TurnsEnd, AllHaveHalted, end_at_last, end_of_turn, next_in, next_turn, or_again, turn_by, turns}
+use Rattle.mx_multi.specs.declared.end.MultiEnd.{MultiEnd}
+use Rattle.mx_multi.specs.declared.end.MultiEnd.TheVariants.{AllHalted, OutOfMemory, Spent}
+use Rattle.mx_multi.specs.declared.turn.Turn.{Turn}
+use Rattle.mx_multi.specs.declared.turn.Turn.TheVariants as turned
+use Rattle.mx_multi.proofs.Followed.{lists-follow, lists-spent, next-follows, none-follows, turn-follows}
+use Rattle.mx_multi.proofs.Names.{run-next, run-none, run-again, still-halted, all-kept, one-runs, row-at, row-first, row-front, row-rest}
+use Rattle.mx_multi.proofs.Schedules.{all-none, found-turn, last-all}
+use Rattle.mx_multi.proofs.StepSums.{both-made, few-made, none-made, one-made}
+use Rattle.mx_multi.proofs.TurnPlans.{halted-comes, rest-ended, rest-spent, rest-went, some-comes, turned-comes, turns-told, step-end}
+
+none-less : (n : ℕ) → n - 0 ≡ n
+none-less n = omega arith
+
+abbrev pub world : Over → JointWorld
+world v = (v.2, contents v.0)
+
+-- ---- what a turn comes to
+
+goes-not : (who : ℕ) (after : List ℕ) (a : Turn) → end_of_turn who after a ≡ Ok after → a ≢ turned.OutOfMemory
+goes-not who after a ok e = let no : Err OutOfMemory ≡ Ok after = sym (ap (end_of_turn who after) e) ∙ ok in absurd (cc)
+
+ends-not : (who : ℕ) (after : List ℕ) (a : Turn) → end_of_turn who after a ≡ Err AllHalted → ⊥
+ends-not who after turned.Went e = absurd (cc)
+ends-not who after (turned.Halted status) e = absurd (cc)
+ends-not who after turned.Idle e = absurd (cc)
+ends-not who after (turned.Stopped pc reason) e = absurd (cc)
+ends-not who after turned.OutOfMemory e = absurd (cc)
+
+ends-memory : (who : ℕ) (after : List ℕ) (a : Turn) (end : MultiEnd) → end_of_turn who after a ≡ Err end → end ≢ OutOfMemory → a ≢ turned.OutOfMemory
+ends-memory who after a end err ne e = let same : Err OutOfMemory ≡ Err end = sym (ap (end_of_turn who after) e) ∙ err in ne (cc)
+
+ends-marked : (who : ℕ) (after : List ℕ) (a : Turn) (end : MultiEnd) (halted : List Bool) → end_of_turn who after a ≡ Err end → halted_by halted who a ≡ halted
+ends-marked who after turned.Went end halted e = absurd (cc)
+ends-marked who after (turned.Halted status) end halted e = absurd (cc)
+ends-marked who after turned.Idle end halted e = absurd (cc)
+ends-marked who after (turned.Stopped pc reason) end halted e = refl
+ends-marked who after turned.OutOfMemory end halted e = refl
+
+-- the end does not depend on what follows in the schedule
+pub ends-so : (who : ℕ) (after : List ℕ) (a : Turn) (end : MultiEnd) → end_of_turn who [] a ≡ Err end → end_of_turn who after a ≡ Err end
+ends-so who after turned.Went end e = absurd (cc)
+ends-so who after (turned.Halted status) end e = absurd (cc)
+ends-so who after turned.Idle end e = absurd (cc)
+ends-so who after (turned.Stopped pc reason) end e = cc
+ends-so who after turned.OutOfMemory end e = cc
+
+-- ---- behind the end of the schedule it begins again
+
+or-self : (x : Option (ℕ × List ℕ)) → or_again x x ≡ x
+or-self None = refl
+or-self (Some p) = refl
+
+again-next : (halted : List Bool) (schedule rest : List ℕ) → next_in halted rest ≡ None → next_turn halted schedule rest ≡ next_turn halted schedule schedule
+again-next halted schedule rest e = ap (λ x. or_again x (next_in halted schedule)) e ∙ sym (or-self (next_in halted schedule))
+
+again-end : (schedule rest : List ℕ) (n : ℕ) (w : JointWorld) → next_in w.0.halted rest ≡ None → end_of multi (turns_plan schedule n rest) w ≡ end_of multi (turns_plan schedule n schedule) w
+unfolding turns_plan
+again-end schedule rest zero w e = refl
+again-end schedule rest (suc n) w e =
+    end_bind multi (turns_next (turns_plan schedule n)) (step_plan schedule rest) w
+    ∙ ap (end_after multi (turns_next (turns_plan schedule n))) (step-end schedule rest w ∙ ap (λ x. end_of multi (turn_if x) w) (again-next w.0.halted schedule rest e) ∙ sym (step-end schedule schedule w))
+    ∙ sym (end_bind multi (turns_next (turns_plan schedule n)) (step_plan schedule schedule) w)
+
+again-stops : (schedule rest : List ℕ) (n : ℕ) (u w : JointWorld) → next_in w.0.halted rest ≡ None → Stops multi u (turns_plan schedule n schedule) w → Stops multi u (turns_plan schedule n rest) w
+unfolding turns_plan step_plan bind look multi Stops
+again-stops schedule rest zero u w e s = s
+again-stops schedule rest (suc n) u w e s =
+    subst (λ x. (u ≡ w) ⊎ Stops multi u (bind (turns_next (turns_plan schedule n)) (turn_if x)) w) (sym (again-next w.0.halted schedule rest e)) s
+
+again-turns : (schedule rest : List ℕ) (n : ℕ) (j : Joint) (m : HostModel) → next_in j.halted rest ≡ None → turns list_machine schedule n rest j m ≡ turns list_machine schedule n schedule j m
+unfolding turns
+again-turns schedule rest zero j m e = refl
+again-turns schedule rest (suc n) j m e = ap (turn_by list_machine (turns list_machine schedule n) j m) (again-next j.halted schedule rest e)
+
+-- a look may lack memory
+look-lacks : (schedule rest : List ℕ) (n : ℕ) (w : JointWorld) → Stops multi w (turns_plan schedule n rest) w
+unfolding turns_plan step_plan bind look multi Stops
+look-lacks schedule rest zero w = inl refl
+look-lacks schedule rest (suc n) w = inl refl
+
+-- ---- under way
+
+-- from a start on, with n steps in all, of which some are left, and with what is left of the schedule
+pub record Underway (schedule : List ℕ) (n : ℕ) (start : Over) (left : ℕ) (rest : List ℕ) (v : Over) : Type 0 where
+  pub told : IsTrue (tells start.0) → IsRest multi (turns_plan schedule left rest) (world v) (turns_plan schedule n schedule) (world start)
+  pub listed : IsTrue (tells start.0) → NoneTouched start.2.processors →
+      Beside (turns list_machine schedule n schedule (as_list_joint start.2) (contents start.0)) (turns list_machine schedule left rest (as_list_joint v.2) (contents v.0)) v.2 (contents v.0)
+  pub few : left ≤ n
+  pub bound : MakesAtMost (n - left) start.2 v.2
+  pub keeps : Keeps start.0 v.0 start.1 v.1
+
+abbrev pub Done : List ℕ → ℕ → Over → Over → MultiEnd → Type 0
+Done schedule n start w end = TakesTurns schedule n start.0 w.0 start.1 w.1 start.2 w.2 end
+
+pub begins : (schedule : List ℕ) (n : ℕ) (start : Over) → Underway schedule n start n schedule start
+begins schedule n start = record {
+  told = λ t. record { ending = refl; stopping = λ w h. h };
+  listed = λ t u. as_lists u refl;
+  few = omega arith;
+  bound = few-made (n - n) 0 start.2 start.2 (omega arith) (none-made start.2);
+  keeps = keeps-all start.0 start.1;
+}
+
+module _ (schedule : List ℕ) (n : ℕ) (start : Over) where
+  abbrev whole : MultiPlan MultiEnd
+  whole = turns_plan schedule n schedule
+
+  abbrev whole-listed : TurnsEnd
+  whole-listed = turns list_machine schedule n schedule (as_list_joint start.2) (contents start.0)
+
+  begins-again : (left : ℕ) (rest : List ℕ) (v : Over) → next_in v.2.halted rest ≡ None → Underway schedule n start left rest v → Underway schedule n start left schedule v
+  begins-again left rest v e u = record {
+    told = λ t. record {
+      ending = (u.told t).ending ∙ again-end schedule rest left (world v) e;
+      stopping = λ w h. (u.told t).stopping w (again-stops schedule rest left w (world v) e h);
+    };
+    listed = λ t un. subst (λ r. Beside whole-listed r v.2 (contents v.0)) (again-turns schedule rest left (as_list_joint v.2) (contents v.0) e) (u.listed t un);
+    few = u.few;
+    bound = u.bound;
+    keeps = u.keeps;
+  }
+
+  there : (v : Over) → Keeps start.0 v.0 start.1 v.1 → IsTrue (tells start.0) → IsTrue (tells v.0)
+  there v k t = subst IsTrue (sym k.telling) t
+
+  -- ---- a turn
+
+  module _ (left : ℕ) (rest : List ℕ) (v w : Over) (who : ℕ) (after : List ℕ) (a : Turn) (some : 0 < left) (next : next_turn v.2.halted schedule rest ≡ Some (who, after)) (taken : Taken who a v w) (u : Underway schedule n start left rest v) where
+    steps : IsTrue (tells start.0) → Comes multi (world v) (world w) (Err OutOfMemory) (end_of_turn who after a) (step_plan schedule rest)
+    steps t =
+        some-comes schedule rest after who (world v) (world w) (end_of_turn who after a) (sym next) (turned-comes who after a (world v) (world w) (taken.plan (there v u.keeps t)))
+
+    follows : IsTrue (tells start.0) → NoneTouched start.2.processors → a ≢ turned.OutOfMemory → Follows whole-listed (turns list_machine schedule (left - 1)) (end_of_turn who after a) w.2 (contents w.0)
+    follows t un ne =
+        lists-follow schedule rest left 0 whole-listed v.2 w.2 (contents v.0) (contents w.0) (end_of_turn who after a) some
+        (subst (λ c. Beside whole-listed (turns list_machine schedule c rest (as_list_joint v.2) (contents v.0)) v.2 (contents v.0)) (sym (none-less left)) (u.listed t un))
+        (λ touched. next-follows (turns list_machine schedule (left - 1)) v.2 w.2 (contents v.0) (contents w.0) (end_of_turn who after a) (Some (who, after)) (next_turn v.2.halted schedule rest) (sym next)
+        (turn-follows (turns list_machine schedule (left - 1)) who after v.2 w.2 (contents v.0) (contents w.0) a (found-turn v.2.halted schedule rest who after next) (taken.listed (there v u.keeps t) ne touched)))
+        (taken.keeps.growing (there v u.keeps t))
+
+    rest-now : IsTrue (tells start.0) → IsRest multi (turns_plan schedule (left - 0) rest) (world v) whole (world start)
+    rest-now t = subst (λ b. IsRest multi (turns_plan schedule b rest) (world v) whole (world start)) (sym (none-less left)) (u.told t)
+
+    one-more : MakesAtMost (n - (left - 1)) start.2 w.2
+    one-more =
+        let f = u.few in
+        few-made (n - (left - 1)) (n - left + 1) start.2 w.2 (omega (arith, f, some)) (both-made (n - left) 1 start.2 v.2 w.2 u.bound (one-made who v.2 w.2 taken.bound))
+
+    pub goes-on : end_of_turn who after a ≡ Ok after → Underway schedule n start (left - 1) after w
+    goes-on ok = record {
+      told = λ t. rest-went schedule rest after left 0 (world v) (world w) (world start) whole some (rest-now t) (subst (λ x. Comes multi (world v) (world w) (Err OutOfMemory) x (step_plan schedule rest)) ok (steps t));
+      listed = λ t un. subst (λ x. Follows whole-listed (turns list_machine schedule (left - 1)) x w.2 (contents w.0)) ok (follows t un (goes-not who after a ok));
+      few = (let f = u.few in omega (arith, f));
+      bound = one-more;
+      keeps = keeps-then start.0 v.0 w.0 start.1 v.1 w.1 u.keeps taken.keeps;
+    }
+
+    pub ends-here : (end : MultiEnd) → end_of_turn who after a ≡ Err end → (AllHaveHalted v.2.halted schedule → ⊥) → Done schedule n start w end
+    ends-here end err some-run =
+        let comes : IsTrue (tells start.0) → Comes multi (world start) (world w) OutOfMemory end whole = λ t.
+        rest-ended schedule rest left 0 (world v) (world w) (world start) whole end some (rest-now t) (subst (λ x. Comes multi (world v) (world w) (Err OutOfMemory) x (step_plan schedule rest)) err (steps t)) in
+        record {
+          plan = comes;
+          told = λ t ne. turns-told schedule schedule n start.2 w.2 (contents start.0) (contents w.0) end (comes t) ne;
+          listed = λ t ne un. subst (λ x. Follows whole-listed (turns list_machine schedule (left - 1)) x w.2 (contents w.0)) err (follows t un (ends-memory who after a end err ne));
+          halted = (
+            λ e. absurd (ends-not who after a (err ∙ ap Err e)),
+            λ all. absurd (some-run (subst (λ hs. AllHaveHalted hs schedule) (taken.marked ∙ ends-marked who after a end v.2.halted err) all)),
+          );
+          bound = (let f = u.few in few-made n (n - (left - 1)) start.2 w.2 (omega (arith, f)) one-more);
+          keeps = keeps-then start.0 v.0 w.0 start.1 v.1 w.1 u.keeps taken.keeps;
+        }
+
+  -- ---- the end without a turn
+
+  module _ (left : ℕ) (rest : List ℕ) (v : Over) (u : Underway schedule n start left rest v) where
+    at-most : MakesAtMost n start.2 v.2
+    at-most = let f = u.few in few-made n (n - left) start.2 v.2 (omega (arith, f)) u.bound
+
+    pub none-runs : 0 < left → running v.2.halted rest ≡ [] → running v.2.halted schedule ≡ [] → Done schedule n start v AllHalted
+    none-runs some e f =
+        let none = ap (λ x. or_again x (next_in v.2.halted schedule)) (run-none v.2.halted rest e) ∙ run-none v.2.halted schedule f in
+        let comes : IsTrue (tells start.0) → Comes multi (world start) (world v) OutOfMemory AllHalted whole = λ t.
+        rest-ended schedule rest left 0 (world v) (world v) (world start) whole AllHalted some (subst (λ b. IsRest multi (turns_plan schedule b rest) (world v) whole (world start)) (sym (none-less left)) (u.told t)) (halted-comes schedule rest (world v) (sym none)) in
+        record {
+          plan = comes;
+          told = λ t ne. turns-told schedule schedule n start.2 v.2 (contents start.0) (contents v.0) AllHalted (comes t) ne;
+          listed = λ t ne un.
+              lists-follow schedule rest left 0 whole-listed v.2 v.2 (contents v.0) (contents v.0) (Err AllHalted) some
+              (subst (λ c. Beside whole-listed (turns list_machine schedule c rest (as_list_joint v.2) (contents v.0)) v.2 (contents v.0)) (sym (none-less left)) (u.listed t un))
+              (λ touched. none-follows (turns list_machine schedule (left - 1)) v.2 (contents v.0) (next_turn v.2.halted schedule rest) (sym none) touched)
+              ((keeps-all v.0 v.1).growing (there v u.keeps t));
+          halted = (λ a. all-none v.2.halted schedule (run-none v.2.halted schedule f), λ all. refl);
+          bound = at-most;
+          keeps = u.keeps;
+        }
+
+    pub all-made : (end : MultiEnd) → left ≤ 0 → end ≡ end_at_last (next_in v.2.halted schedule) → Done schedule n start v end
+    all-made end none e =
+        let comes : IsTrue (tells start.0) → Comes multi (world start) (world v) OutOfMemory end whole = λ t.
+        rest-spent schedule rest left 0 (world v) (world start) whole end none e (subst (λ b. IsRest multi (turns_plan schedule b rest) (world v) whole (world start)) (sym (none-less left)) (u.told t)) in
+        record {
+          plan = comes;
+          told = λ t ne. turns-told schedule schedule n start.2 v.2 (contents start.0) (contents v.0) end (comes t) ne;
+          listed = λ t ne un.
+              lists-spent schedule rest left 0 whole-listed v.2 (contents v.0) end none e
+              (subst (λ c. Beside whole-listed (turns list_machine schedule c rest (as_list_joint v.2) (contents v.0)) v.2 (contents v.0)) (sym (none-less left)) (u.listed t un));
+          halted = last-all v.2.halted schedule end e;
+          bound = at-most;
+          keeps = u.keeps;
+        }
+
+    pub no-memory-left : (AllHaveHalted v.2.halted schedule → ⊥) → Done schedule n start v OutOfMemory
+    no-memory-left some-run = record {
+      plan = λ t. record { ending = λ ne. absurd (ne refl); stopping = λ e. (u.told t).stopping (world v) (look-lacks schedule rest left (world v)) };
+      told = λ t ne. absurd (ne refl);
+      listed = λ t ne un. absurd (ne refl);
+      halted = (λ e. absurd (cc), λ all. absurd (some-run all));
+      bound = at-most;
+      keeps = u.keeps;
+    }
+
+-- ---- by the names of those that run
+
+-- the names of a schedule that are those of processors which have not halted, and the place of the next turn in them
+pub record Queued (schedule : List ℕ) (n : ℕ) (start : Over) (left : ℕ) (names : List ℕ) (at : ℕ) (v : Over) : Type 0 where
+  pub rest : List ℕ
+  pub under : Underway schedule n start left rest v
+  pub named : names ≡ running v.2.halted schedule
+  pub place : drop at names ≡ running v.2.halted rest
+
+module _ (schedule : List ℕ) (n : ℕ) (start : Over) (names : List ℕ) where
+  at-place : (left at place : ℕ) (v : Over) → Queued schedule n start left names at v → IsPlaceFrom names at place → (at < length names) ⊎ (length names ≤ at) → Queued schedule n start left names place v
+  at-place left at place v q p (inl l) = subst (λ k. Queued schedule n start left names k v) (sym (p.same l)) q
+  at-place left at place v q p (inr l) =
+      let none : running v.2.halted q.rest ≡ [] = sym q.place ∙ drop_all at names l in
+      record {
+        rest = schedule;
+        under = begins-again schedule n start left q.rest v (run-none v.2.halted q.rest none) q.under;
+        named = q.named;
+        place = ap (λ k. drop k names) (p.again l) ∙ q.named;
+      }
+
+  pub placed : (held : List ℕ) (left at place : ℕ) (v : Over) → names ≡ held → Queued schedule n start left held at v → IsPlaceFrom names at place → Queued schedule n start left names place v
+  placed held left at place v e q p = at-place left at place v (subst (λ ns. Queued schedule n start left ns at v) (sym e) q) p (cases_lt at (length names))
+
+  -- the next turn of the schedule is that of a name
+  next-named : (place left who : ℕ) (others : List ℕ) (v : Over) (q : Queued schedule n start left names place v) → drop place names ≡ who ∷ others →
+      (after : List ℕ) × ((next_turn v.2.halted schedule q.rest ≡ Some (who, after)) × (running v.2.halted after ≡ others))
+  next-named place left who others v q e =
+      let f = run-next v.2.halted q.rest who others (sym q.place ∙ e) in
+      (f.after, (ap (λ x. or_again x (next_in v.2.halted schedule)) f.next, f.others))
+
+  went-so : (who : ℕ) (after : List ℕ) → end_of_turn who after turned.Went ≡ Ok after
+  went-so who after = refl
+
+  one-named : (k place left who : ℕ) (v u : Over) → 0 < left → IsRow names place (suc k) who → Taken who turned.Went v u → Queued schedule n start left names place v → Queued schedule n start (left - 1) names (place + 1) u
+  one-named k place left who v u some row taken q =
+      let f = next-named place left who (drop (place + 1) names) v q (row-first names place k who row) in
+      record {
+        rest = f.0;
+        under = goes-on schedule n start left q.rest v u who f.0 turned.Went some f.1.0 taken q.under refl;
+        named = q.named ∙ ap (λ hs. running hs schedule) (sym taken.marked);
+        place = sym f.1.1 ∙ ap (λ hs. running hs f.0) (sym taken.marked);
+      }
+
+  pub row-named : (k place left who : ℕ) (v u : Over) → k ≤ left → IsRow names place k who → Row k who v u → Queued schedule n start left names place v → Queued schedule n start (left - k) names (place + k) u
+  unfolding Row
+  row-named zero place left who v u l row r q =
+      let less : left ≡ left - 0 = omega arith in
+      let more : place ≡ place + 0 = omega arith in
+      subst (λ x. Queued schedule n start (left - 0) names (place + 0) x) r (subst (λ c. Queued schedule n start c names (place + 0) v) less (subst (λ p. Queued schedule n start left names p v) more q))
+  row-named (suc k) place left who v u l row r q =
+      let less : left - 1 - k ≡ left - suc k = omega arith in
+      let more : place + 1 + k ≡ place + suc k = omega arith in
+      subst (λ c. Queued schedule n start c names (place + suc k) u) less (subst (λ p. Queued schedule n start (left - 1 - k) names p u) more
+      (row-named k (place + 1) (left - 1) who r.0 u (omega (arith, l)) (row-rest names place k who row) r.1.1
+      (one-named k place left who v r.0 (omega (arith, l)) row r.1.0 q)))
+
+  -- ---- the turn that ends a row
+
+  -- before it, and what then follows
+  record Before (made place left who : ℕ) (v : Over) : Type 0 where
+    pub queue : Queued schedule n start (left - made) names (place + made) v
+    pub after : List ℕ
+    pub next : next_turn v.2.halted schedule queue.rest ≡ Some (who, after)
+    pub others : running v.2.halted after ≡ drop (place + made + 1) names
+
+  before-last : (most made place left who : ℕ) (a : Turn) (v w : Over) → most ≤ left → IsRow names place most who → (e : EndsRow who most made a v w) → Queued schedule n start left names place v → Before made place left who e.before
+  before-last most made place left who a v w l row e q =
+      let few = e.few in
+      let queue = row-named made place left who v e.before (omega (arith, l, few)) (row-front names place most made who (omega (arith, few)) row) e.row q in
+      let f = next-named (place + made) (left - made) who (drop (place + made + 1) names) e.before queue (row-first names (place + made) 0 who (row-at names place most made who few row)) in
+      record { queue = queue; after = f.0; next = f.1.0; others = f.1.1 }
+
+  still : (who status : ℕ) (v w : Over) → Taken who (turned.Halted status) v w → (x : ℕ) → has_halted v.2.halted x ≡ true → has_halted w.2.halted x ≡ true
+  still who status v w taken x e = subst (λ hs. has_halted hs x ≡ true) (sym taken.marked) (still-halted v.2.halted who x e)
+
+  module _ (most made place left who status : ℕ) (v w : Over) (l : most ≤ left) (row : IsRow names place most who) (e : EndsRow who most made (turned.Halted status) v w) (q : Queued schedule n start left names place v) where
+    abbrev last : Before made place left who e.before
+    last = before-last most made place left who (turned.Halted status) v w l row e q
+
+    after-halt : Underway schedule n start (left - (made + 1)) last.after w
+    after-halt =
+        let few = e.few in
+        let less : left - made - 1 ≡ left - (made + 1) = omega arith in
+        subst (λ c. Underway schedule n start c last.after w) less
+        (goes-on schedule n start (left - made) last.queue.rest e.before w who last.after (turned.Halted status) (omega (arith, l, few)) last.next e.last last.queue.under refl)
+
+    pub halted-named : (others : List ℕ) (at : ℕ) → others ≡ running w.2.halted names → drop at others ≡ running w.2.halted (drop (place + made + 1) names) → Queued schedule n start (left - (made + 1)) others at w
+    halted-named others at f g = record {
+      rest = last.after;
+      under = after-halt;
+      named = f ∙ ap (running w.2.halted) last.queue.named ∙ run-again e.before.2.halted w.2.halted schedule (still who status e.before w e.last);
+      place = g ∙ ap (running w.2.halted) (sym last.others) ∙ run-again e.before.2.halted w.2.halted last.after (still who status e.before w e.last);
+    }
+
+    pub halted-lacks : (AllHaveHalted w.2.halted names → ⊥) → Done schedule n start w OutOfMemory
+    halted-lacks some =
+        no-memory-left schedule n start (left - (made + 1)) last.after w after-halt (λ all. some (subst (AllHaveHalted w.2.halted) (sym last.queue.named) (all-kept w.2.halted e.before.2.halted schedule all)))
+
+  pub ended-named : (most made place left who : ℕ) (a : Turn) (end : MultiEnd) (v w : Over) → most ≤ left → IsRow names place most who → EndsRow who most made a v w → end_of_turn who [] a ≡ Err end → Queued schedule n start left names place v → Done schedule n start w end
+  ended-named most made place left who a end v w l row e err q =
+      let few = e.few in
+      let last = before-last most made place left who a v w l row e q in
+      ends-here schedule n start (left - made) last.queue.rest e.before w who last.after a (omega (arith, l, few)) last.next e.last last.queue.under end (ends-so who last.after a end err)
+      (λ all. one-runs e.before.2.halted schedule names (place + made) last.queue.named (let i = row.inside in omega (arith, i, few)) all)
+
+  -- ---- no name, or no step, is left
+
+  pub none-named : (left at : ℕ) (v : Over) → 0 < left → names ≡ [] → Queued schedule n start left names at v → Done schedule n start v AllHalted
+  none-named left at v some e q =
+      let none : running v.2.halted q.rest ≡ [] = sym q.place ∙ ap (drop at) e ∙ drop_all at [] (omega arith) in
+      none-runs schedule n start left q.rest v q.under some none (sym q.named ∙ e)
+
+  some-next : (halted : List Bool) (held : List ℕ) (place : ℕ) → held ≡ running halted schedule → place < length held → Spent ≡ end_at_last (next_in halted schedule)
+  some-next halted [] place e l = absurd (omega arith)
+  some-next halted (x ∷ xs) place e l = let f = run-next halted schedule x xs (sym e) in ap end_at_last (sym f.next)
+
+  pub all-spent : (left at place : ℕ) (v : Over) → left ≤ 0 → place < length names → Queued schedule n start left names at v → Done schedule n start v Spent
+  all-spent left at place v none l q = all-made schedule n start left q.rest v q.under Spent none (some-next v.2.halted names place q.named l)
+
+  pub none-spent : (left at : ℕ) (v : Over) → left ≤ 0 → names ≡ [] → Queued schedule n start left names at v → Done schedule n start v AllHalted
+  none-spent left at v none e q =
+      all-made schedule n start left q.rest v q.under AllHalted none (ap end_at_last (sym (run-none v.2.halted schedule (sym q.named ∙ e))))

@@ -1,0 +1,256 @@
+# Shows the rows of runs in a form: awk -v form=FORM -v rows=ROWS .. -f rows.awk. In the room are the names of the
+# solutions and the tests, each with its points; run.sh says what a row has.
+#   form      table, json, tap, junit or gradescope
+#   points    what all tests together are worth, if not the sum of theirs
+#   detailed  expected beside printed, in the table
+#   counting  the steps that were used
+#   revealed  hidden tests are shown as others are
+#   progress  how many solutions are over, on standard error
+
+BEGIN {
+  FS = "\t"
+  while ((getline line <"names") > 0) {
+    name[++names] = line
+    if (length(line) > wide) wide = length(line)
+  }
+  while ((getline line <"tests") > 0) add_test(line)
+  if (points != "" && sum) for (i = 1; i <= tests; i++) worth[i] = worth[i] * points / sum
+  has_points = has_points || points != ""
+  if (form == "tap") printf "TAP version 13\n1..%d\n", names * tests
+  else if (form == "junit") print "<?xml version=\"1.0\" encoding=\"UTF-8\"?>\n<testsuites>"
+  show_progress()
+}
+
+function add_test(line,    part) {
+  split(line, part, "\t")
+  tests++
+  worth[tests] = part[2]
+  sum += part[2]
+  if (part[2] != 1) has_points = 1
+  label[tests] = part[3] != "" && !revealed ? "hidden " ++hidden : part[1]
+  is_hidden[tests] = part[3] != ""
+}
+
+{ take_row() }
+
+END {
+  clear_progress()
+  if (form == "junit") print "</testsuites>"
+  else if (counting) show_least()
+}
+
+# keeps a row, and shows the solution once it has all of its rows
+function take_row() {
+  at++
+  verdict[at] = $3; status[at] = $4; detail[at] = $5; message[at] = $6; expected[at] = $7; printed[at] = $8; steps[at] = $9
+  earned[at] = $3 == "right" ? worth[at] : 0
+  if ($9 != "" && (!(at in least) || $9 < least[at])) {
+    least[at] = $9
+    by[at] = name[$1]
+  }
+  if (form == "json") show_json_row()
+  if (at < tests) return
+  clear_progress()
+  if (form == "table") show_in_table()
+  else if (form == "tap") show_tap()
+  else if (form == "junit") show_suite()
+  else if (form == "gradescope") show_results()
+  at = 0
+  over++
+  show_progress()
+  fflush()
+}
+
+function show_progress() {
+  if (progress && over < names) {
+    printf "\rgrade: %d of %d", over, names >"/dev/stderr"
+    fflush("/dev/stderr")
+  }
+}
+
+function clear_progress() {
+  if (progress) {
+    printf "\r\033[K" >"/dev/stderr"
+    fflush("/dev/stderr")
+  }
+}
+
+# ---- what a solution comes to
+
+function total(what,    i, n) {
+  for (i = 1; i <= tests; i++) n += what[i]
+  return n + 0
+}
+
+function how_many(which,    i, n) {
+  for (i = 1; i <= tests; i++) n += verdict[i] == which
+  return n + 0
+}
+
+# a number with two digits after the point at most
+function number(n,    text) {
+  text = sprintf("%.2f", n)
+  sub(/[.]?0+$/, "", text)
+  return text
+}
+
+# what is so of the whole solution
+function is_whole(i) {
+  return verdict[i] == "refused" && detail[i] ~ /^refused: / || detail[i] ~ /^not graded: /
+}
+
+# the steps of all tests, or nothing where one has none
+function all_steps(    i) {
+  for (i = 1; i <= tests; i++) if (steps[i] == "" && !is_hidden[i]) return ""
+  return total(steps)
+}
+
+# ---- the table
+
+# what is said of a test that is not right
+function complaint(i) {
+  return (is_whole(i) ? "" : label[i] ": ") detail[i] (message[i] == "" ? "" : " (\"" message[i] "\")")
+}
+
+function show_in_table(    i, first, listed) {
+  for (i = 1; i <= tests; i++) {
+    if (verdict[i] != "right" && !first) first = i
+    listed = listed (i == 1 ? "" : " ") (steps[i] == "" ? "-" : steps[i])
+  }
+  printf "%-" wide "s  %d/%d%s%s%s\n", name[$1], how_many("right"), tests,
+    has_points ? "  " number(total(earned)) "/" number(total(worth)) : "", counting ? "  " listed " steps" : "",
+    first && !detailed ? "  " complaint(first) : ""
+  if (detailed && first) show_details()
+}
+
+function show_details(    i) {
+  for (i = 1; i <= tests; i++) {
+    if (verdict[i] == "right") continue
+    print "  " complaint(i)
+    if (is_whole(i)) return
+    if (expected[i] != "" || printed[i] != "") printf "    expected  %s\n    printed   %s\n", expected[i], printed[i]
+  }
+}
+
+function show_least(    i, listed) {
+  for (i = 1; i <= tests; i++)
+    if (form == "json")
+      printf "{\"test\":%s,\"least\":%s,\"solution\":%s}\n", quoted(label[i]), or_null(least[i]), i in by ? quoted(by[i]) : "null"
+    else listed = listed " " (i in least ? least[i] : "-")
+  if (form == "tap") print "# least steps:" listed
+  else if (form == "table") printf "%-" wide "s  %s\n", "least", substr(listed, 2) " steps"
+}
+
+# ---- JSON
+
+function quoted(text) {
+  gsub(/[\\"]/, "\\\\&", text)
+  return "\"" text "\""
+}
+
+function or_null(text) {
+  return text == "" ? "null" : text
+}
+
+function show_json_row(    differs) {
+  differs = expected[at] != "" || printed[at] != ""
+  printf "{\"solution\":%s,\"test\":%s,\"verdict\":\"%s\",\"status\":%s,\"detail\":%s,\"message\":%s,\"points\":%s,\"of\":%s," \
+    "\"expected\":%s,\"printed\":%s,\"steps\":%s}\n", quoted(name[$1]), quoted(label[at]), verdict[at], or_null(status[at]),
+    quoted(detail[at]), quoted(message[at]), number(earned[at]), number(worth[at]), differs ? quoted(expected[at]) : "null",
+    differs ? quoted(printed[at]) : "null", or_null(steps[at])
+}
+
+# ---- TAP, version 13
+
+# a hash sign begins what could make a test one that counts for nothing
+function plain(text) {
+  gsub(/#/, "\\x23", text)
+  return text
+}
+
+function yaml(key, text) {
+  if (text == "") return
+  gsub(/'/, "''", text)
+  printf "  %s: '%s'\n", key, text
+}
+
+function show_tap(    i) {
+  for (i = 1; i <= tests; i++) {
+    printf "%s %d - %s\n", (verdict[i] == "right" ? "ok" : "not ok"), ++number_of, plain(name[$1] ": " label[i])
+    print "  ---"
+    yaml("verdict", verdict[i])
+    yaml("detail", detail[i])
+    yaml("message", message[i])
+    yaml("expected", expected[i])
+    yaml("printed", printed[i])
+    yaml("points", number(earned[i]) " of " number(worth[i]))
+    yaml("steps", steps[i])
+    print "  ..."
+  }
+}
+
+# ---- JUnit
+
+function xml(text) {
+  gsub(/&/, "\\&amp;", text)
+  gsub(/</, "\\&lt;", text)
+  gsub(/>/, "\\&gt;", text)
+  gsub(/"/, "\\&quot;", text)
+  return text
+}
+
+function property(key, value) {
+  if (value != "") printf "<property name=\"%s\" value=\"%s\"/>", key, value
+}
+
+function show_suite(    i) {
+  printf "<testsuite name=\"%s\" tests=\"%d\" failures=\"%d\" errors=\"%d\" skipped=\"0\">\n", xml(name[$1]), tests,
+    tests - how_many("right") - how_many("failed"), how_many("failed")
+  printf "<properties>"
+  property("points", number(total(earned)))
+  property("of", number(total(worth)))
+  if (counting) property("steps", all_steps())
+  print "</properties>"
+  for (i = 1; i <= tests; i++) show_case(i)
+  print "</testsuite>"
+}
+
+function show_case(i,    kind) {
+  printf "<testcase classname=\"%s\" name=\"%s\"", xml(name[$1]), xml(label[i])
+  if (verdict[i] == "right") {
+    print "/>"
+    return
+  }
+  kind = verdict[i] == "failed" ? "error" : "failure"
+  printf "><%s type=\"%s\" message=\"%s\">%s</%s></testcase>\n", kind, verdict[i], xml(detail[i]), xml(explained(i)), kind
+}
+
+# what is said of a test in lines
+function explained(i,    text) {
+  text = detail[i]
+  if (expected[i] != "" || printed[i] != "") text = text "\nexpected: " expected[i] "\nprinted:  " printed[i]
+  if (message[i] != "") text = text "\nstandard error ends with: " message[i]
+  return text
+}
+
+# ---- results.json of Gradescope
+
+function show_results(    i) {
+  if (names > 1) {
+    if (over == 0) printf "{\"score\":0,\"output\":\"%d programs are there, and one is wanted\"}\n", names
+    return
+  }
+  printf "{%s\"tests\":[", is_whole(1) ? "\"output\":" quoted(detail[1]) "," : ""
+  for (i = 1; i <= tests; i++) show_result(i)
+  printf "]"
+  if (counting && all_steps() != "") printf ",\"leaderboard\":[{\"name\":\"steps\",\"value\":%s,\"order\":\"asc\"}]", all_steps()
+  print "}"
+}
+
+function show_result(i,    text) {
+  text = verdict[i] == "right" ? "" : quoted(explained(i))
+  gsub(/\n/, "\\n", text)
+  printf "%s{\"name\":%s,\"score\":%s,\"max_score\":%s,\"status\":\"%s\"%s,\"visibility\":\"%s\"}", (i == 1 ? "" : ","),
+    quoted(label[i]), number(earned[i]), number(worth[i]), (verdict[i] == "right" ? "passed" : "failed"),
+    (text == "" ? "" : ",\"output\":" text), (is_hidden[i] ? "hidden" : "visible")
+}
