@@ -14,32 +14,15 @@ use mx_view::Cell;
 use mx_word::{Bytes, NoMemory, Sequence, octa_bytes, octa_of};
 use std::alloc::Global;
 
-/// Adds a number as an octa.
-#[tactic(auto, unfolding(crate::specs::Reports::number_bytes))]
-fn add_number(text: &mut Bytes, n: u64) -> Result<(), NoMemory>
-    ensures { OnOk result (text.new ≡ text.old ++ spec.number_bytes n) }
-{
-    text.extend(&octa_bytes(n))
-}
-
 /// Adds a tally as octas.
-#[tactic(auto, unfolding(crate::specs::Reports::tally_bytes))]
+#[tactic(auto, unfolding(crate::specs::Reports::tally_bytes, crate::specs::Reports::number_bytes))]
 fn add_tally(text: &mut Bytes, tally: Tally) -> Result<(), NoMemory>
     ensures { OnOk result (text.new ≡ text.old ++ spec.tally_bytes tally) }
 {
-    add_number(text, tally.times)?;
-    add_number(text, tally.away)?;
-    add_number(text, tally.oops)?;
-    add_number(text, tally.mems)
-}
-
-/// A tally as octas.
-fn first_bytes(alloc: Global, tally: Tally) -> Result<Bytes, NoMemory>
-    ensures { IfOk result (λ text. text ≡ spec.tally_bytes tally) }
-{
-    let mut text = Bytes::new(alloc);
-    add_tally(&mut text, tally)?;
-    Ok(text)
+    text.extend(&octa_bytes(tally.times))?;
+    text.extend(&octa_bytes(tally.away))?;
+    text.extend(&octa_bytes(tally.oops))?;
+    text.extend(&octa_bytes(tally.mems))
 }
 
 /// Adds the tally of a line that loads these tetras.
@@ -84,7 +67,8 @@ pub(crate) fn octas(
 {
     let sums = sums_of(alloc, entries)?;
     let all = total(entries)?;
-    let mut text = first_bytes(alloc, all)?;
+    let mut text = Bytes::new(alloc);
+    add_tally(&mut text, all)?;
     add_line_tallies(alloc, &mut text, &sums, loads)?;
     Ok(text)
 }

@@ -49,17 +49,8 @@ fn tell_halt(watcher: &mut Box<dyn Watcher>, pc: u64) -> Result<(), NoMemory>
     let Some(step) = halting_step(pc) else {
         return Err(NoMemory);
     };
-    match watcher.tell(&step) {
-        Ok(_) => Ok(()),
-        Err(_) => Err(NoMemory),
-    }
-}
-
-/// The report of a watcher.
-fn report_of(watcher: &Box<dyn Watcher>) -> Result<Bytes, NoMemory>
-    ensures { IfOk result (λ text. text ≡ (meaning watcher.now).text []) }
-{
-    watcher.summary()
+    watcher.tell(&step)?;
+    Ok(())
 }
 
 /// Whether a program halted.
@@ -75,9 +66,8 @@ fn last_report(watcher: &mut Box<dyn Watcher>, end: End, pc: u64) -> Result<Byte
 {
     if is_halted(end) {
         tell_halt(watcher, pc)?;
-        return report_of(watcher);
     }
-    report_of(watcher)
+    watcher.summary()
 }
 
 /// The report of the only watcher of a run that ended so at an address.
@@ -118,10 +108,8 @@ fn run_told<H: Host>(
         return Err(NoMemory);
     }
     let at = machine.pc();
-    match only_report(&mut watchers, end, at) {
-        Ok(text) => Ok((end, text)),
-        Err(_) => Err(NoMemory),
-    }
+    let text = only_report(&mut watchers, end, at)?;
+    Ok((end, text))
 }
 
 /// Makes at most n steps of a machine, and counts them. The end, and the sheet.
