@@ -15,7 +15,7 @@ use Rattle.mx_run.specs.WildRuns.{window_machine}
 use Rattle.mx_run.proofs.HeldRuns.{run-held}
 use Rattle.mx_multi.specs.Joint.{Joint, has_halted, state_at}
 use Rattle.mx_multi.specs.JointTurns.{JointWorld, joined, turn_of}
-use Rattle.mx_multi.specs.MultiPlans.{MultiCall, turning, looking, multi, turns_plan}
+use Rattle.mx_multi.specs.MultiPlans.{MultiCall, starting, turning, looking, multi, turns_plan}
 use Rattle.mx_multi.specs.Turns.{TurnsEnd, turns_ended, turns_wild, turns}
 use Rattle.mx_multi.specs.declared.turn.Turn.{Turn}
 use Rattle.mx_multi.specs.declared.turn.Turn.TheVariants.{Idle}
@@ -47,20 +47,23 @@ multi-held Rel h = record {
 }
   where
     acts : (o : MultiCall) (w : JointWorld) → Rel w.1 (multi.act o w).1.1
+    acts starting w = h.self w.1
     acts (turning who) w =
         either-turn Rel w.1 w (joined w.0 who (turn_answer (turn (state_at w.0 who) w.1))) (has_halted w.0.halted who) (h.self w.1)
         ((run-held Rel h).acting run.turning (state_at w.0 who, w.1))
     acts looking w = h.self w.1
 
     lacks : (o : MultiCall) (w v : JointWorld) → multi.Lacks o w v → Rel w.1 v.1
+    lacks starting w v l = subst (λ (u : JointWorld). Rel w.1 u.1) (sym l) (h.self w.1)
     lacks (turning who) w v l = (run-held Rel h).lacking run.turning (state_at w.0 who, w.1) (l.state, v.1) l.lacks
-    lacks looking w v l = subst (λ (u : JointWorld). Rel w.1 u.1) (sym l) (h.self w.1)
+    lacks looking w v l = absurd l
 
     between : (o : MultiCall) (w v : JointWorld) → multi.Lacks o w v → Rel v.1 (multi.act o w).1.1
+    between starting w v l = subst (λ (u : JointWorld). Rel u.1 w.1) (sym l) (h.self w.1)
     between (turning who) w v l =
         going-turn Rel v.1 w (joined w.0 who (turn_answer (turn (state_at w.0 who) w.1))) (has_halted w.0.halted who) l.runs
         ((run-held Rel h).between run.turning (state_at w.0 who, w.1) (l.state, v.1) l.lacks)
-    between looking w v l = subst (λ (u : JointWorld). Rel u.1 w.1) (sym l) (h.self w.1)
+    between looking w v l = absurd l
 
 -- what standard output then has
 abbrev pub turns_output : TurnsEnd → List ℕ

@@ -1,9 +1,10 @@
 -- The names of a schedule that are those of processors which have not halted.
-use Rattle.std.proofs.Common.{◌≡◌, ◌<◌, ◌≤◌, ℕ, zero, suc, ◌+◌, not, Bool, true, false, cond, IsTrue, List, [], ◌∷◌, drop, take, length, get_or, set, None, Some, arith, refl, sym, subst, ap, ◌∙◌}
+use Rattle.std.proofs.Common.{◌≡◌, ◌<◌, ◌≤◌, ℕ, zero, suc, ◌+◌, ◌==◌, not, Bool, true, false, cond, IsTrue, List, [], ◌∷◌, drop, take, length, get_or, set, None, Some, arith, refl, sym, subst, ap, ◌∙◌}
+use Rattle.std.proofs.Math.Dec.{eqb-suc-zero, eqb-zero-suc, eqb-suc-suc}
 use Rattle.std.proofs.lemmas.List.{at_drop_more}
 use Rattle.std.proofs.lemmas.List.Elements.{filter_passes, All-get_or}
 use Rattle.mx_multi.specs.Joint.{has_halted}
-use Rattle.mx_multi.specs.Stretches.{IsRow, running}
+use Rattle.mx_multi.specs.Stretches.{IsRow, others, running}
 use Rattle.mx_multi.specs.Turns.{next_in, AllHaveHalted, AreNames}
 
 -- ---- the next of them, and that of the schedule
@@ -79,14 +80,23 @@ still-halted (b ∷ halted) zero (suc x) e = e
 still-halted (b ∷ halted) (suc who) zero e = e
 still-halted (b ∷ halted) (suc who) (suc x) e = still-halted halted who x e
 
-again-by : (halted further : List Bool) (x : ℕ) (xs : List ℕ) (b : Bool) → has_halted halted x ≡ b → (b ≡ true → has_halted further x ≡ true) → running further (running halted xs) ≡ running further xs →
-    running further (cond (not b) (x ∷ running halted xs) (running halted xs)) ≡ running further (x ∷ xs)
-again-by halted further x xs true h still e = rw (still refl) e
-again-by halted further x xs false h still e = ap (λ l. cond (not (has_halted further x)) (x ∷ l) l) e
+pub one-halted : (halted : List Bool) (who x : ℕ) → has_halted halted x ≡ false → has_halted (set halted who true) x ≡ (x == who)
+one-halted [] who x e = absurd (cc)
+one-halted (b ∷ halted) zero zero e = refl
+one-halted (b ∷ halted) zero (suc x) e = e ∙ sym (eqb-suc-zero x)
+one-halted (b ∷ halted) (suc who) zero e = e ∙ sym (eqb-zero-suc who)
+one-halted (b ∷ halted) (suc who) (suc x) e = one-halted halted who x e ∙ sym (eqb-suc-suc x who)
 
-pub run-again : (halted further : List Bool) (part : List ℕ) → ((x : ℕ) → has_halted halted x ≡ true → has_halted further x ≡ true) → running further (running halted part) ≡ running further part
-run-again halted further [] still = refl
-run-again halted further (x ∷ xs) still = again-by halted further x xs (has_halted halted x) refl (λ e. still x e) (run-again halted further xs still)
+left-by : (halted further : List Bool) (who x : ℕ) (xs : List ℕ) (b : Bool) → has_halted halted x ≡ b → (b ≡ true → has_halted further x ≡ true) → (b ≡ false → has_halted further x ≡ (x == who)) →
+    others who (running halted xs) ≡ running further xs → others who (cond (not b) (x ∷ running halted xs) (running halted xs)) ≡ running further (x ∷ xs)
+left-by halted further who x xs true h still one e = rw (still refl) e
+left-by halted further who x xs false h still one e = rw (one refl) (ap (λ l. cond (not (x == who)) (x ∷ l) l) e)
+
+-- those that are left are those of the others
+pub run-left : (halted : List Bool) (who : ℕ) (part : List ℕ) → others who (running halted part) ≡ running (set halted who true) part
+run-left halted who [] = refl
+run-left halted who (x ∷ xs) =
+    left-by halted (set halted who true) who x xs (has_halted halted x) refl (λ e. still-halted halted who x e) (λ e. one-halted halted who x e) (run-left halted who xs)
 
 -- ---- places
 
@@ -102,21 +112,12 @@ row-rest names place n who row = record {
   names = λ i h. (let then : place + (i + 1) ≡ place + 1 + i = omega arith in subst (λ p. get_or names p 0 ≡ who) then (row.names (i + 1) (omega (arith, h))));
 }
 
--- ---- a part of them, one after another
+-- ---- parts of them
 
 pub part-runs : (halted : List Bool) (part : List ℕ) (i : ℕ) → i < length part → has_halted halted (get_or part i 0) ≡ false → AllHaveHalted halted part → ⊥
 part-runs halted [] i l e h = absurd (omega arith)
 part-runs halted (x ∷ xs) zero l e h = let no : false ≡ true = sym e ∙ h.0 in absurd (cc)
 part-runs halted (x ∷ xs) (suc i) l e h = part-runs halted xs i (omega (arith, l)) e h.1
-
-all-one : (halted : List Bool) (x : ℕ) (xs : List ℕ) (b : Bool) → IsTrue (has_halted halted x) → AllHaveHalted halted xs → AllHaveHalted halted (cond b (x ∷ xs) xs)
-all-one halted x xs true h more = (h, more)
-all-one halted x xs false h more = more
-
--- all that a schedule names, all of a part of its names
-pub all-kept : (halted earlier : List Bool) (part : List ℕ) → AllHaveHalted halted part → AllHaveHalted halted (running earlier part)
-all-kept halted earlier [] h = tt
-all-kept halted earlier (x ∷ xs) h = all-one halted x (running earlier xs) (not (has_halted earlier x)) h.0 (all-kept halted earlier xs h.1)
 
 pub one-runs : (halted : List Bool) (schedule names : List ℕ) (place : ℕ) → names ≡ running halted schedule → place < length names → AllHaveHalted halted schedule → ⊥
 one-runs halted schedule names place e l all =
@@ -133,24 +134,14 @@ row-at names place most made who l row = record {
 pub row-front : (names : List ℕ) (place most made who : ℕ) → made ≤ most → IsRow names place most who → IsRow names place made who
 row-front names place most made who l row = record { inside = (let i = row.inside in omega (arith, i, l)); names = λ i h. row.names i (omega (arith, h, l)) }
 
--- ---- the parts before and from a place
+-- ---- the place in those that are left
 
-pub names-take : (count n : ℕ) (names : List ℕ) → AreNames count names → AreNames count (take n names)
-names-take count zero names h = tt
-names-take count (suc n) [] h = tt
-names-take count (suc n) (x ∷ xs) h = (h.0, names-take count n xs h.1)
+place-by : (at who x : ℕ) (xs : List ℕ) (b : Bool) → drop (length (others who (take at xs))) (others who xs) ≡ others who (drop at xs) →
+    drop (length (cond b (x ∷ others who (take at xs)) (others who (take at xs)))) (cond b (x ∷ others who xs) (others who xs)) ≡ others who (drop at xs)
+place-by at who x xs true e = e
+place-by at who x xs false e = e
 
-pub names-drop : (count n : ℕ) (names : List ℕ) → AreNames count names → AreNames count (drop n names)
-names-drop count zero names h = h
-names-drop count (suc n) [] h = tt
-names-drop count (suc n) (x ∷ xs) h = names-drop count n xs h.1
-
-pub all-take : (halted : List Bool) (n : ℕ) (names : List ℕ) → AllHaveHalted halted names → AllHaveHalted halted (take n names)
-all-take halted zero names h = tt
-all-take halted (suc n) [] h = tt
-all-take halted (suc n) (x ∷ xs) h = (h.0, all-take halted n xs h.1)
-
-pub all-drop : (halted : List Bool) (n : ℕ) (names : List ℕ) → AllHaveHalted halted names → AllHaveHalted halted (drop n names)
-all-drop halted zero names h = h
-all-drop halted (suc n) [] h = tt
-all-drop halted (suc n) (x ∷ xs) h = all-drop halted n xs h.1
+pub place-left : (at who : ℕ) (names : List ℕ) → drop (length (others who (take at names))) (others who names) ≡ others who (drop at names)
+place-left zero who names = refl
+place-left (suc at) who [] = refl
+place-left (suc at) who (x ∷ xs) = place-by at who x xs (not (x == who)) (place-left at who xs)

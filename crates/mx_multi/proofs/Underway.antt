@@ -12,15 +12,15 @@ use Rattle.mx_run.specs.WildRuns.{list_machine}
 use Rattle.mx_multi.specs.Clauses.{Beside, as_lists, Follows, MakesAtMost, TakesTurns}
 use Rattle.mx_multi.specs.Joint.{Joint, NoneTouched, as_list_joint, has_halted}
 use Rattle.mx_multi.specs.JointTurns.{JointWorld, halted_by}
-use Rattle.mx_multi.specs.MultiPlans.{MultiPlan, multi, look, step_plan, turn_if, turns_next, turns_plan}
-use Rattle.mx_multi.specs.Stretches.{IsRow, IsPlaceFrom, EndsRow, Over, Row, Taken, running}
+use Rattle.mx_multi.specs.MultiPlans.{MultiPlan, multi, look, step_plan, steps_plan, turn_if, turns_next, turns_plan}
+use Rattle.mx_multi.specs.Stretches.{IsRow, IsPlaceFrom, EndsRow, Over, Row, Taken, running, others}
 use Rattle.mx_multi.specs.Turns.{TurnsEnd, AllHaveHalted, end_at_last, end_of_turn, next_in, next_turn, or_again, turn_by, turns}
 use Rattle.mx_multi.specs.declared.end.MultiEnd.{MultiEnd}
 use Rattle.mx_multi.specs.declared.end.MultiEnd.TheVariants.{AllHalted, OutOfMemory, Spent}
 use Rattle.mx_multi.specs.declared.turn.Turn.{Turn}
 use Rattle.mx_multi.specs.declared.turn.Turn.TheVariants as turned
 use Rattle.mx_multi.proofs.Followed.{lists-follow, lists-spent, next-follows, none-follows, turn-follows}
-use Rattle.mx_multi.proofs.Names.{run-next, run-none, run-again, still-halted, all-kept, one-runs, row-at, row-first, row-front, row-rest}
+use Rattle.mx_multi.proofs.Names.{run-next, run-none, run-left, one-runs, row-at, row-first, row-front, row-rest}
 use Rattle.mx_multi.proofs.Schedules.{all-none, found-turn, last-all}
 use Rattle.mx_multi.proofs.StepSums.{both-made, few-made, none-made, one-made}
 use Rattle.mx_multi.proofs.TurnPlans.{halted-comes, rest-ended, rest-spent, rest-went, some-comes, turned-comes, turns-told, step-end}
@@ -70,36 +70,30 @@ or-self (Some p) = refl
 again-next : (halted : List Bool) (schedule rest : List ℕ) → next_in halted rest ≡ None → next_turn halted schedule rest ≡ next_turn halted schedule schedule
 again-next halted schedule rest e = ap (λ x. or_again x (next_in halted schedule)) e ∙ sym (or-self (next_in halted schedule))
 
-again-end : (schedule rest : List ℕ) (n : ℕ) (w : JointWorld) → next_in w.0.halted rest ≡ None → end_of multi (turns_plan schedule n rest) w ≡ end_of multi (turns_plan schedule n schedule) w
-unfolding turns_plan
+again-end : (schedule rest : List ℕ) (n : ℕ) (w : JointWorld) → next_in w.0.halted rest ≡ None → end_of multi (steps_plan schedule n rest) w ≡ end_of multi (steps_plan schedule n schedule) w
+unfolding steps_plan
 again-end schedule rest zero w e = refl
 again-end schedule rest (suc n) w e =
-    end_bind multi (turns_next (turns_plan schedule n)) (step_plan schedule rest) w
-    ∙ ap (end_after multi (turns_next (turns_plan schedule n))) (step-end schedule rest w ∙ ap (λ x. end_of multi (turn_if x) w) (again-next w.0.halted schedule rest e) ∙ sym (step-end schedule schedule w))
-    ∙ sym (end_bind multi (turns_next (turns_plan schedule n)) (step_plan schedule schedule) w)
+    end_bind multi (turns_next (steps_plan schedule n)) (step_plan schedule rest) w
+    ∙ ap (end_after multi (turns_next (steps_plan schedule n))) (step-end schedule rest w ∙ ap (λ x. end_of multi (turn_if x) w) (again-next w.0.halted schedule rest e) ∙ sym (step-end schedule schedule w))
+    ∙ sym (end_bind multi (turns_next (steps_plan schedule n)) (step_plan schedule schedule) w)
 
-again-stops : (schedule rest : List ℕ) (n : ℕ) (u w : JointWorld) → next_in w.0.halted rest ≡ None → Stops multi u (turns_plan schedule n schedule) w → Stops multi u (turns_plan schedule n rest) w
-unfolding turns_plan step_plan bind look multi Stops
+again-stops : (schedule rest : List ℕ) (n : ℕ) (u w : JointWorld) → next_in w.0.halted rest ≡ None → Stops multi u (steps_plan schedule n schedule) w → Stops multi u (steps_plan schedule n rest) w
+unfolding steps_plan step_plan bind look multi Stops
 again-stops schedule rest zero u w e s = s
 again-stops schedule rest (suc n) u w e s =
-    subst (λ x. (u ≡ w) ⊎ Stops multi u (bind (turns_next (turns_plan schedule n)) (turn_if x)) w) (sym (again-next w.0.halted schedule rest e)) s
+    subst (λ x. ⊥ ⊎ Stops multi u (bind (turns_next (steps_plan schedule n)) (turn_if x)) w) (sym (again-next w.0.halted schedule rest e)) s
 
 again-turns : (schedule rest : List ℕ) (n : ℕ) (j : Joint) (m : HostModel) → next_in j.halted rest ≡ None → turns list_machine schedule n rest j m ≡ turns list_machine schedule n schedule j m
 unfolding turns
 again-turns schedule rest zero j m e = refl
 again-turns schedule rest (suc n) j m e = ap (turn_by list_machine (turns list_machine schedule n) j m) (again-next j.halted schedule rest e)
 
--- a look may lack memory
-look-lacks : (schedule rest : List ℕ) (n : ℕ) (w : JointWorld) → Stops multi w (turns_plan schedule n rest) w
-unfolding turns_plan step_plan bind look multi Stops
-look-lacks schedule rest zero w = inl refl
-look-lacks schedule rest (suc n) w = inl refl
-
 -- ---- under way
 
 -- from a start on, with n steps in all, of which some are left, and with what is left of the schedule
 pub record Underway (schedule : List ℕ) (n : ℕ) (start : Over) (left : ℕ) (rest : List ℕ) (v : Over) : Type 0 where
-  pub told : IsTrue (tells start.0) → IsRest multi (turns_plan schedule left rest) (world v) (turns_plan schedule n schedule) (world start)
+  pub told : IsTrue (tells start.0) → IsRest multi (steps_plan schedule left rest) (world v) (turns_plan schedule n schedule) (world start)
   pub listed : IsTrue (tells start.0) → NoneTouched start.2.processors →
       Beside (turns list_machine schedule n schedule (as_list_joint start.2) (contents start.0)) (turns list_machine schedule left rest (as_list_joint v.2) (contents v.0)) v.2 (contents v.0)
   pub few : left ≤ n
@@ -110,11 +104,24 @@ abbrev pub Done : List ℕ → ℕ → Over → Over → MultiEnd → Type 0
 Done schedule n start w end = TakesTurns schedule n start.0 w.0 start.1 w.1 start.2 w.2 end
 
 pub begins : (schedule : List ℕ) (n : ℕ) (start : Over) → Underway schedule n start n schedule start
+unfolding turns_plan end_of multi Stops
 begins schedule n start = record {
-  told = λ t. record { ending = refl; stopping = λ w h. h };
+  told = λ t. record { ending = refl; stopping = λ w h. inr h };
   listed = λ t u. as_lists u refl;
   few = omega arith;
   bound = few-made (n - n) 0 start.2 start.2 (omega arith) (none-made start.2);
+  keeps = keeps-all start.0 start.1;
+}
+
+-- the start may lack memory
+pub start-lacks : (schedule : List ℕ) (n : ℕ) (start : Over) → (AllHaveHalted start.2.halted schedule → ⊥) → Done schedule n start start OutOfMemory
+unfolding turns_plan multi Stops
+start-lacks schedule n start some-run = record {
+  plan = λ t. record { ending = λ ne. absurd (ne refl); stopping = λ e. inl refl };
+  told = λ t ne. absurd (ne refl);
+  listed = λ t ne un. absurd (ne refl);
+  halted = (λ e. absurd (cc), λ all. absurd (some-run all));
+  bound = few-made n 0 start.2 start.2 (omega arith) (none-made start.2);
   keeps = keeps-all start.0 start.1;
 }
 
@@ -155,8 +162,8 @@ module _ (schedule : List ℕ) (n : ℕ) (start : Over) where
         (turn-follows (turns list_machine schedule (left - 1)) who after v.2 w.2 (contents v.0) (contents w.0) a (found-turn v.2.halted schedule rest who after next) (taken.listed (there v u.keeps t) ne touched)))
         (taken.keeps.growing (there v u.keeps t))
 
-    rest-now : IsTrue (tells start.0) → IsRest multi (turns_plan schedule (left - 0) rest) (world v) whole (world start)
-    rest-now t = subst (λ b. IsRest multi (turns_plan schedule b rest) (world v) whole (world start)) (sym (none-less left)) (u.told t)
+    rest-now : IsTrue (tells start.0) → IsRest multi (steps_plan schedule (left - 0) rest) (world v) whole (world start)
+    rest-now t = subst (λ b. IsRest multi (steps_plan schedule b rest) (world v) whole (world start)) (sym (none-less left)) (u.told t)
 
     one-more : MakesAtMost (n - (left - 1)) start.2 w.2
     one-more =
@@ -198,7 +205,7 @@ module _ (schedule : List ℕ) (n : ℕ) (start : Over) where
     none-runs some e f =
         let none = ap (λ x. or_again x (next_in v.2.halted schedule)) (run-none v.2.halted rest e) ∙ run-none v.2.halted schedule f in
         let comes : IsTrue (tells start.0) → Comes multi (world start) (world v) OutOfMemory AllHalted whole = λ t.
-        rest-ended schedule rest left 0 (world v) (world v) (world start) whole AllHalted some (subst (λ b. IsRest multi (turns_plan schedule b rest) (world v) whole (world start)) (sym (none-less left)) (u.told t)) (halted-comes schedule rest (world v) (sym none)) in
+        rest-ended schedule rest left 0 (world v) (world v) (world start) whole AllHalted some (subst (λ b. IsRest multi (steps_plan schedule b rest) (world v) whole (world start)) (sym (none-less left)) (u.told t)) (halted-comes schedule rest (world v) (sym none)) in
         record {
           plan = comes;
           told = λ t ne. turns-told schedule schedule n start.2 v.2 (contents start.0) (contents v.0) AllHalted (comes t) ne;
@@ -215,7 +222,7 @@ module _ (schedule : List ℕ) (n : ℕ) (start : Over) where
     pub all-made : (end : MultiEnd) → left ≤ 0 → end ≡ end_at_last (next_in v.2.halted schedule) → Done schedule n start v end
     all-made end none e =
         let comes : IsTrue (tells start.0) → Comes multi (world start) (world v) OutOfMemory end whole = λ t.
-        rest-spent schedule rest left 0 (world v) (world start) whole end none e (subst (λ b. IsRest multi (turns_plan schedule b rest) (world v) whole (world start)) (sym (none-less left)) (u.told t)) in
+        rest-spent schedule rest left 0 (world v) (world start) whole end none e (subst (λ b. IsRest multi (steps_plan schedule b rest) (world v) whole (world start)) (sym (none-less left)) (u.told t)) in
         record {
           plan = comes;
           told = λ t ne. turns-told schedule schedule n start.2 v.2 (contents start.0) (contents v.0) end (comes t) ne;
@@ -226,16 +233,6 @@ module _ (schedule : List ℕ) (n : ℕ) (start : Over) where
           bound = at-most;
           keeps = u.keeps;
         }
-
-    pub no-memory-left : (AllHaveHalted v.2.halted schedule → ⊥) → Done schedule n start v OutOfMemory
-    no-memory-left some-run = record {
-      plan = λ t. record { ending = λ ne. absurd (ne refl); stopping = λ e. (u.told t).stopping (world v) (look-lacks schedule rest left (world v)) };
-      told = λ t ne. absurd (ne refl);
-      listed = λ t ne un. absurd (ne refl);
-      halted = (λ e. absurd (cc), λ all. absurd (some-run all));
-      bound = at-most;
-      keeps = u.keeps;
-    }
 
 -- ---- by the names of those that run
 
@@ -310,8 +307,8 @@ module _ (schedule : List ℕ) (n : ℕ) (start : Over) (names : List ℕ) where
       let f = next-named (place + made) (left - made) who (drop (place + made + 1) names) e.before queue (row-first names (place + made) 0 who (row-at names place most made who few row)) in
       record { queue = queue; after = f.0; next = f.1.0; others = f.1.1 }
 
-  still : (who status : ℕ) (v w : Over) → Taken who (turned.Halted status) v w → (x : ℕ) → has_halted v.2.halted x ≡ true → has_halted w.2.halted x ≡ true
-  still who status v w taken x e = subst (λ hs. has_halted hs x ≡ true) (sym taken.marked) (still-halted v.2.halted who x e)
+  still-left : (who status : ℕ) (v w : Over) (part : List ℕ) → Taken who (turned.Halted status) v w → others who (running v.2.halted part) ≡ running w.2.halted part
+  still-left who status v w part taken = run-left v.2.halted who part ∙ ap (λ hs. running hs part) (sym taken.marked)
 
   module _ (most made place left who status : ℕ) (v w : Over) (l : most ≤ left) (row : IsRow names place most who) (e : EndsRow who most made (turned.Halted status) v w) (q : Queued schedule n start left names place v) where
     abbrev last : Before made place left who e.before
@@ -324,17 +321,13 @@ module _ (schedule : List ℕ) (n : ℕ) (start : Over) (names : List ℕ) where
         subst (λ c. Underway schedule n start c last.after w) less
         (goes-on schedule n start (left - made) last.queue.rest e.before w who last.after (turned.Halted status) (omega (arith, l, few)) last.next e.last last.queue.under refl)
 
-    pub halted-named : (others : List ℕ) (at : ℕ) → others ≡ running w.2.halted names → drop at others ≡ running w.2.halted (drop (place + made + 1) names) → Queued schedule n start (left - (made + 1)) others at w
-    halted-named others at f g = record {
+    pub halted-named : (held : List ℕ) (at : ℕ) → held ≡ others who names → drop at held ≡ others who (drop (place + made + 1) names) → Queued schedule n start (left - (made + 1)) held at w
+    halted-named held at f g = record {
       rest = last.after;
       under = after-halt;
-      named = f ∙ ap (running w.2.halted) last.queue.named ∙ run-again e.before.2.halted w.2.halted schedule (still who status e.before w e.last);
-      place = g ∙ ap (running w.2.halted) (sym last.others) ∙ run-again e.before.2.halted w.2.halted last.after (still who status e.before w e.last);
+      named = f ∙ ap (others who) last.queue.named ∙ still-left who status e.before w schedule e.last;
+      place = g ∙ ap (others who) (sym last.others) ∙ still-left who status e.before w last.after e.last;
     }
-
-    pub halted-lacks : (AllHaveHalted w.2.halted names → ⊥) → Done schedule n start w OutOfMemory
-    halted-lacks some =
-        no-memory-left schedule n start (left - (made + 1)) last.after w after-halt (λ all. some (subst (AllHaveHalted w.2.halted) (sym last.queue.named) (all-kept w.2.halted e.before.2.halted schedule all)))
 
   pub ended-named : (most made place left who : ℕ) (a : Turn) (end : MultiEnd) (v w : Over) → most ≤ left → IsRow names place most who → EndsRow who most made a v w → end_of_turn who [] a ≡ Err end → Queued schedule n start left names place v → Done schedule n start w end
   ended-named most made place left who a end v w l row e err q =

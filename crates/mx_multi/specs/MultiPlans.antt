@@ -14,30 +14,35 @@ use Rattle.mx_multi.specs.declared.end.MultiEnd.TheVariants.{AllHalted}
 
 -- ---- the calls
 
--- a turn of a processor, or a look at which have halted
+-- the start by a schedule, a turn of a processor, or a look at which have halted
 pub data MultiCall : Type 0 where
+  starting : MultiCall
   turning : ℕ → MultiCall
   looking : MultiCall
 
 abbrev pub MultiSays : MultiCall → Type 0
+MultiSays starting = Unit {0}
 MultiSays (turning who) = Turn
 MultiSays looking = List Bool
 
 abbrev pub multi_act : (o : MultiCall) → JointWorld → MultiSays o × JointWorld
+multi_act starting w = (tt, w)
 multi_act (turning who) w = turn_of who w
 multi_act looking w = (w.0.halted, w)
 
 -- A turn lacks memory where the step of its processor on the one memory does. That processor and the memory are then as the
--- step leaves them, and nothing else changed. A look may lack memory for the names of those that have not halted, and changes nothing.
+-- step leaves them, and nothing else changed.
 pub record TurnLacks (who : ℕ) (w v : JointWorld) : Type 0 where
   pub state : State
   pub runs : has_halted w.0.halted who ≡ false
   pub lacks : RunLacks run.turning (state_at w.0 who, w.1) (state, v.1)
   pub left : v.0 ≡ with_processor w.0 who state
 
+-- The start may lack memory for the names of the schedule, and changes nothing. A look lacks none.
 abbrev pub MultiLacks : MultiCall → JointWorld → JointWorld → Type 0
+MultiLacks starting w v = v ≡ w
 MultiLacks (turning who) w v = TurnLacks who w v
-MultiLacks looking w v = v ≡ w
+MultiLacks looking w v = ⊥
 
 unfoldable pub multi : Acts MultiCall MultiSays JointWorld
 multi = record { act = multi_act; Lacks = MultiLacks }
@@ -67,6 +72,10 @@ turns_next more (Ok rest) = more rest
 turns_next more (Err end) = returns end
 
 -- at most n steps
+unfoldable pub steps_plan : List ℕ → ℕ → List ℕ → MultiPlan MultiEnd
+steps_plan schedule zero rest = bind (λ halted. returns (end_at_last (next_in halted schedule))) look
+steps_plan schedule (suc n) rest = bind (turns_next (steps_plan schedule n)) (step_plan schedule rest)
+
+-- the start, and then at most n steps
 unfoldable pub turns_plan : List ℕ → ℕ → List ℕ → MultiPlan MultiEnd
-turns_plan schedule zero rest = bind (λ halted. returns (end_at_last (next_in halted schedule))) look
-turns_plan schedule (suc n) rest = bind (turns_next (turns_plan schedule n)) (step_plan schedule rest)
+turns_plan schedule n rest = plan.calls starting (λ _. steps_plan schedule n rest)

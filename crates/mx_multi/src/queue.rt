@@ -1,18 +1,18 @@
 //! The turns of a schedule that are steps: those of processors that have not halted.
 
-ghost use Rattle.std.specs.Prelude.{◌≡◌, ◌≤◌, ◌<◌, ◌++◌, IfErr, IfOk, IfSome, OnErr, OnOk, None, [], drop, length};
+ghost use Rattle.std.specs.Prelude.{◌≡◌, ◌≤◌, ◌<◌, IfErr, IfOk, IfSome, None, [], drop, length};
 ghost use Rattle.mx_multi.specs.Joint.{processor_count};
-ghost use Rattle.mx_multi.specs.Stretches.{IsPlaceFrom, running};
+ghost use Rattle.mx_multi.specs.Stretches.{IsPlaceFrom, others, running};
 ghost use Rattle.mx_multi.specs.Turns.{AllHaveHalted, AreNames};
 
 use crate::Multi;
-use mx_word::{Bytes, NoMemory};
+use mx_word::NoMemory;
 use std::alloc::Global;
 
 /// The names of a schedule that are those of processors which have not halted, and the place of the next turn.
 #[derive(Drop)]
 pub(crate) struct Queue {
-    pub(crate) names: Bytes,
+    pub(crate) names: Vec<u8>,
     pub(crate) at: usize,
 }
 
@@ -30,37 +30,41 @@ pub(crate) fn next_place(names: &[u8], at: usize) -> Option<usize>
     }
 }
 
-/// Leaves out the names of processors that have halted, and finds the place again. It takes no memory where all have.
-pub(crate) fn queue_of(
-    alloc: Global,
-    multi: &Multi,
-    names: &[u8],
-    at: usize,
-) -> Result<Queue, NoMemory>
-    requires names { AreNames (processor_count multi.now) names.now }
-    requires inside { at ≤ length names.now }
-    ensures names { IfOk result (λ q. q.names ≡ running multi.now.halted names.now) }
-    ensures place { IfOk result (λ q. drop q.at q.names ≡ running multi.now.halted (drop at names.now)) }
-    ensures none { IfErr result (λ _. AllHaveHalted multi.now.halted names.now → ⊥) }
+/// The names of a schedule, from its first turn on. It takes no memory where all their processors have halted.
+pub(crate) fn queue_of(alloc: Global, multi: &Multi, schedule: &[u8]) -> Result<Queue, NoMemory>
+    requires { AreNames (processor_count multi.now) schedule.now }
+    ensures names { IfOk result (λ q. q.names.items ≡ running multi.now.halted schedule.now) }
+    ensures first { IfOk result (λ q. q.at ≡ 0) }
+    ensures none { IfErr result (λ _. AllHaveHalted multi.now.halted schedule.now → ⊥) }
 {
-    let (front, rest) = names.split_at(at);
-    let mut running = Bytes::new(alloc);
-    append_running(multi, front, &mut running)?;
-    let at = running.as_slice().len();
-    append_running(multi, rest, &mut running)?;
-    Ok(Queue { names: running, at })
-}
-
-/// Adds the names of a part of a schedule that are those of processors which have not halted.
-fn append_running(multi: &Multi, part: &[u8], names: &mut Bytes) -> Result<(), NoMemory>
-    requires { AreNames (processor_count multi.now) part.now }
-    ensures ok { OnOk result (names.new ≡ names.old ++ running multi.now.halted part.now) }
-    ensures err { OnErr result (AllHaveHalted multi.now.halted part.now → ⊥) }
-{
-    for who in part {
+    let mut names = Vec::new(alloc);
+    for who in schedule {
         if !multi.halted(*who) {
             names.push(*who)?;
         }
     }
-    Ok(())
+    Ok(Queue { names, at: 0 })
+}
+
+/// Leaves out the names of a processor, and finds the place again. It takes no memory.
+pub(crate) fn leave_out(queue: &mut Queue, who: u8)
+    requires { queue.now.at ≤ length queue.now.names.items }
+    ensures names { queue.new.names.items ≡ others who queue.old.names.items }
+    ensures place { drop queue.new.at queue.new.names.items ≡ others who (drop queue.old.at queue.old.names.items) }
+{
+    queue.at = count_others(&queue.names[..queue.at], who);
+    queue.names.retain(move |name| *name != who);
+}
+
+/// How many names are not those of a processor.
+fn count_others(names: &[u8], who: u8) -> usize
+    ensures { result ≡ length (others who names.now) }
+{
+    let mut count = 0;
+    for name in names {
+        if *name != who {
+            count += 1;
+        }
+    }
+    count
 }

@@ -5,7 +5,7 @@ ghost use Rattle.mx_multi.specs.Clauses.{TakesTurns};
 ghost use Rattle.mx_multi.specs.Joint.{joint_of, processor_count};
 ghost use Rattle.mx_multi.specs.Turns.{AreNames};
 
-use crate::queue::{next_place, queue_of};
+use crate::queue::{leave_out, next_place, queue_of};
 use crate::rows::{RowEnd, row_length, run_row};
 use crate::{Multi, MultiEnd};
 use mx_host::Host;
@@ -17,8 +17,8 @@ use std::alloc::Global;
 ///
 /// Processors that nobody touched go as machines over unbounded lists of registers that take one step each on one memory,
 /// up to the first turn that looks at rS or at the memory of a register stack. Out of memory, the turns that were made
-/// stay, and of the last one what it leaves then. At the start and after each halt memory is taken for the names of those
-/// that have not halted, so that names of halted ones cost no time.
+/// stay, and of the last one what it leaves then. At the start memory is taken for the names of those that have not
+/// halted; after a halt those that are left are moved together, so that names of halted ones cost no time.
 pub fn run_turns<H: Host>(
     alloc: Global,
     multi: &mut Multi,
@@ -31,7 +31,7 @@ pub fn run_turns<H: Host>(
         (joint_of multi.old) (joint_of multi.new) result }
     ensures count { processor_count multi.new ≡ processor_count multi.old }
 {
-    let mut queue = match queue_of(alloc, multi, schedule, 0) {
+    let mut queue = match queue_of(alloc, multi, schedule) {
         Ok(all) => all,
         Err(_) => return MultiEnd::OutOfMemory,
     };
@@ -43,16 +43,15 @@ pub fn run_turns<H: Host>(
             None => return MultiEnd::AllHalted,
         };
         let length = row_length(names, place, left);
-        match run_row(multi, host, names[place], length) {
+        let who = names[place];
+        match run_row(multi, host, who, length) {
             RowEnd::Went => {
                 queue.at = place + length as usize;
                 left -= length;
             }
             RowEnd::Halted(made) => {
-                match queue_of(alloc, multi, names, place + made as usize + 1) {
-                    Ok(others) => queue = others,
-                    Err(_) => return MultiEnd::OutOfMemory,
-                }
+                queue.at = place + made as usize + 1;
+                leave_out(&mut queue, who);
                 left -= made + 1;
             }
             RowEnd::Ended(end) => return end,

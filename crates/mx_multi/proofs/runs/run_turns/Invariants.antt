@@ -5,7 +5,7 @@ use Rattle.mx_multi.proofs.runs.run_turns.Given as goal
 
 abbrev pub invariant-loop-left : goal.invariant-loop-left
 invariant-loop-left g l = record {
-  queue : Queued l.schedule l.n (g.H.Host.told l.fn.host, g.H.Host.faults l.fn.host, joint_of l.fn.multi) l.left l.queue.names l.queue.at
+  queue : Queued l.schedule l.n (g.H.Host.told l.fn.host, g.H.Host.faults l.fn.host, joint_of l.fn.multi) l.left l.queue.names.items l.queue.at
       (g.H.Host.told l.host, g.H.Host.faults l.host, joint_of l.multi);
   count : processor_count l.multi ≡ processor_count l.fn.multi;
 }
