@@ -1,5 +1,5 @@
 -- Turns by a schedule that are under way: how many steps are left, and what of the schedule.
-use Rattle.std.proofs.Common.{◌≡◌, ◌≢◌, ◌<◌, ◌≤◌, ℕ, zero, suc, ◌+◌, ◌-◌, Bool, IsTrue, true, List, [], ◌∷◌, drop, length, Option, None, Some, Ok, Err, inl, inr, arith, refl, sym, subst, ap, ◌∙◌}
+use Rattle.std.proofs.Common.{◌≡◌, ◌≢◌, ◌<◌, ◌≤◌, ℕ, zero, suc, ◌+◌, ◌-◌, Bool, IsTrue, List, [], ◌∷◌, drop, length, Option, None, Some, Ok, Err, inl, inr, arith, refl, sym, subst, ap, ◌∙◌}
 use Rattle.std.specs.Prelude.{◌⊎◌}
 use Rattle.std.proofs.lemmas.Bool.{cases_lt}
 use Rattle.std.proofs.lemmas.List.{drop_all}
@@ -10,7 +10,7 @@ use Rattle.mx_plan.specs.Plan.{Comes, IsRest, Stops, bind, end_of, end_after}
 use Rattle.mx_plan.proofs.Plans.{end_bind}
 use Rattle.mx_run.specs.WildRuns.{list_machine}
 use Rattle.mx_multi.specs.Clauses.{Beside, as_lists, Follows, MakesAtMost, TakesTurns}
-use Rattle.mx_multi.specs.Joint.{Joint, NoneTouched, as_list_joint, has_halted}
+use Rattle.mx_multi.specs.Joint.{Joint, NoneTouched, as_list_joint}
 use Rattle.mx_multi.specs.JointTurns.{JointWorld, halted_by}
 use Rattle.mx_multi.specs.MultiPlans.{MultiPlan, multi, look, step_plan, steps_plan, turn_if, turns_next, turns_plan}
 use Rattle.mx_multi.specs.Stretches.{IsRow, IsPlaceFrom, EndsRow, Over, Row, Taken, running, others}
