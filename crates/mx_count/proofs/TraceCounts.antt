@@ -6,7 +6,7 @@ use Rattle.std.specs.List.{filter, sum_by}
 use Rattle.mx_code.specs.declared.trace.Trace.{Trace}
 use Rattle.mx_view.specs.declared.cells.Cell.{Cell}
 use Rattle.mx_word.proofs.Comparisons.{same-number}
-use Rattle.mx_count.specs.Costs.{mems, oops}
+use Rattle.mx_costs.specs.Costs.{mems, oops}
 use Rattle.mx_count.specs.Sheets.{is_among}
 use Rattle.mx_count.specs.Tallies.{added, code_in, goes_away, nothing, step_tally, tally_in}
 use Rattle.mx_count.specs.declared.tally.Tally.{Tally}

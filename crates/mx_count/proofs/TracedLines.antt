@@ -15,7 +15,7 @@ use Rattle.mx_files.specs.Sources.{source_meaning}
 use Rattle.mx_files.specs.declared.refusal.Refusal.{Refusal}
 use Rattle.mx_outcome.specs.declared.outcome.Outcome.{Outcome}
 use Rattle.mx_begin.specs.Begun.{started}
-use Rattle.mx_count.specs.Costs.{is_within, oops, mems}
+use Rattle.mx_costs.specs.Costs.{is_within, oops, mems}
 use Rattle.mx_count.specs.Reports.{HasOctas}
 use Rattle.mx_count.specs.Runs.{as_data, halting_after, halting_step, is_halted, lines_as, lines_counted, lines_traced, machine_counted, machine_traced, meaning_counted, meaning_traced, source_lines, source_traced, start_counted, start_traced, steps_counted}
 use Rattle.mx_count.specs.Tallies.{added, code_in, goes_away, nothing, tally_in}

@@ -1,4 +1,3 @@
-pub mod Costs
 pub mod Tallies
 pub mod Sheets
 pub mod Reports

@@ -1,7 +1,7 @@
 -- What is counted of the steps of a run, by their traces.
 use Rattle.std.specs.Prelude.{ℕ, ◌+◌, ◌/◌, ◌^◌, ◌==◌, not, Bool, if◌then◌else◌, List, [], ◌∷◌}
 use Rattle.mx_code.specs.declared.trace.Trace.{Trace}
-use Rattle.mx_count.specs.Costs.{oops, mems}
+use Rattle.mx_costs.specs.Costs.{oops, mems}
 use Rattle.mx_count.specs.declared.tally.Tally.{Tally}
 
 -- the tally of no steps, and that of these steps and those

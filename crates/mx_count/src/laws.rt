@@ -7,7 +7,7 @@ ghost use Rattle.mx_run.specs.Runs.{no_flags, run};
 ghost use Rattle.mx_code.specs.declared.trace.Trace.{Trace};
 ghost use Rattle.mx_host.specs.HostModel.{HostModel};
 ghost use Rattle.mx_view.specs.declared.cells.Cell.{Cell};
-ghost use Rattle.mx_count.specs.Costs.{mems, oops};
+ghost use Rattle.mx_costs.specs.Costs.{mems, oops};
 ghost use Rattle.mx_view.specs.Loads.{loads_of};
 ghost use Rattle.mx_count.specs.Reports.{HasOctas, report_data, report_of};
 ghost use Rattle.mx_count.specs.Runs.{lines_counted, lines_traced, steps_counted};

@@ -1,7 +1,6 @@
 //! Counts of a run: how often each line of a source was carried out, and what that costs.
 #![tactic(auto)]
 
-mod costs;
 mod count;
 mod counted;
 mod counts;

@@ -3,7 +3,7 @@
 ghost use Rattle.std.specs.Prelude.{◌≡◌, ◌+◌, IfOk};
 ghost use Rattle.mx_count.specs.Tallies as spec;
 
-use crate::costs::{mems, oops};
+use mx_costs::{mems, oops};
 use mx_core::Trace;
 use mx_word::NoMemory;
 

@@ -1,7 +1,7 @@
 //! What instructions cost.
 
 ghost use Rattle.std.specs.Prelude.{◌≡◌};
-ghost use Rattle.mx_count.specs.Costs as spec;
+ghost use Rattle.mx_costs.specs.Costs as spec;
 
 /// Whether a code is one of a row of codes.
 fn is_within(first: u8, last: u8, code: u8) -> bool
@@ -27,7 +27,7 @@ fn probable_oops(taken: bool) -> u64
 /// The υ of an instruction, by its code and whether the step went away from the next address. (TAOCP 1, Fascicle 1,
 /// Table 1.)
 #[tactic(auto, unfolding(crate::specs::Costs::oops))]
-pub(crate) fn oops(code: u8, away: bool) -> u64
+pub fn oops(code: u8, away: bool) -> u64
     ensures { result ≡ spec.oops code away }
 {
     if is_within(0x40, 0x4f, code) {
@@ -62,7 +62,7 @@ pub(crate) fn oops(code: u8, away: bool) -> u64
 
 /// The μ of an instruction, by its code. (TAOCP 1, Fascicle 1, Table 1.)
 #[tactic(auto, unfolding(crate::specs::Costs::mems))]
-pub(crate) fn mems(code: u8) -> u64
+pub fn mems(code: u8) -> u64
     ensures { result ≡ spec.mems code }
 {
     if is_within(0x80, 0x93, code) {

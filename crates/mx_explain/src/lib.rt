@@ -1,0 +1,22 @@
+//! What a number or a name means that the program prints or that MMIXAL has: rows of sentences, and the text of a row.
+#![tactic(auto)]
+
+mod facts;
+mod kinds;
+mod matching;
+mod near;
+mod objects;
+mod operands;
+mod row;
+mod sources;
+mod stops;
+mod text;
+
+pub use kinds::{INSIDE, KINDS};
+pub use matching::fits;
+pub use near::is_near;
+pub use objects::OBJECTS;
+pub use row::{Example, Row, Topic};
+pub use sources::SOURCES;
+pub use stops::STOPS;
+pub use text::{add_label, add_row};

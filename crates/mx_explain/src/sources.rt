@@ -1,0 +1,295 @@
+//! The faults of a source.
+
+use crate::row::{Example, Row, Topic};
+
+/// The faults of a source, in the order of their numbers.
+pub static SOURCES: [Row; 43] = [
+    Row {
+        topic: Topic::Source(1),
+        says: "A line may have 4,096 bytes, and this one has more, blanks and comments included.",
+        example: Example::Faulty(
+            "a line of 4,097 blanks",
+            "break it: a long list of data goes on in a further BYTE",
+        ),
+    },
+    Row {
+        topic: Topic::Source(2),
+        says: "A label ends at a blank. It has letters, digits, colons and underlines, and\n\
+        begins with none of the digits; what is in front of the first blank is no label.\n\
+        If the line looks right, look for bytes that cannot be seen, above all in line 1.",
+        example: Example::Faulty("Main, SWYM 0", "Main SWYM 0"),
+    },
+    Row {
+        topic: Topic::Source(3),
+        says: "A label that begins with a digit is a local label: one digit and H, as 2H.",
+        example: Example::Faulty("2X SWYM 0", "2H SWYM 0"),
+    },
+    Row {
+        topic: Topic::Source(4),
+        says: "An operation ends at a blank or a semicolon, and here another character comes\n\
+        right after it. If it is no operation: in the first column it would be a label.",
+        example: Example::Faulty(" SET=1", " SET $0,1"),
+    },
+    Row {
+        topic: Topic::Source(5),
+        says: "A string begins with a double quote and has to end with one on the same line.\n\
+        It has no escapes; a double quote within a text is written as #22.",
+        example: Example::Faulty(" BYTE \"ab", " BYTE \"ab\""),
+    },
+    Row {
+        topic: Topic::Source(6),
+        says: "A character constant is one byte between two single quotes. A text, and each\n\
+        letter that takes several bytes, is a string in double quotes.",
+        example: Example::Faulty(" BYTE 'ab'", " BYTE \"ab\""),
+    },
+    Row {
+        topic: Topic::Source(7),
+        says: "A word in the first column is a label, and nothing comes after it. Either it is\n\
+        an operation, which needs a blank in front, or the label needs an operation.",
+        example: Example::Faulty("Main", "Main IS @"),
+    },
+    Row {
+        topic: Topic::Source(10),
+        says: "The operands are no list of expressions. There are no blanks in operands: what\n\
+        follows a blank is a comment. Numbers are decimal, or hexadecimal after #; an\n\
+        operand such as 2B or 2F is a local label, and 2H never is one.",
+        example: Example::Faulty(" BYTE 1,,2", " BYTE 1,0,2"),
+    },
+    Row {
+        topic: Topic::Source(11),
+        says: "A constant is a number below 2^64, which is 18446744073709551616.",
+        example: Example::Faulty(" OCTA 18446744073709551616", " OCTA 18446744073709551615"),
+    },
+    Row {
+        topic: Topic::Source(12),
+        says: "The right side of / or % is 0. The assembler computes it, not the program: look\n\
+        at the value of the symbol there.",
+        example: Example::Faulty(" BYTE 1/0", " BYTE 1/1"),
+    },
+    Row {
+        topic: Topic::Source(13),
+        says: "x//y is the fraction x/y, with its point at the left of an octa, so x has to be\n\
+        less than y. The quotient of whole numbers is x/y.",
+        example: Example::Faulty(" OCTA 3//3", " OCTA 2//3"),
+    },
+    Row {
+        topic: Topic::Source(14),
+        says: "Only + and - work on registers; every other operator wants plain numbers. It is\n\
+        the number of the register that the assembler would compute with, and never\n\
+        what the register holds.",
+        example: Example::Faulty(" BYTE $1*2", "x IS $(1*2)"),
+    },
+    Row {
+        topic: Topic::Source(15),
+        says: "Two registers cannot be added by the assembler, which knows their numbers only.\n\
+        The program adds what they hold, by ADD.",
+        example: Example::Faulty("x IS $1+$2", " ADD $3,$1,$2"),
+    },
+    Row {
+        topic: Topic::Source(16),
+        says: "A register cannot be subtracted from a number by the assembler. The program does\n\
+        that with what the register holds, by NEG or SUB.",
+        example: Example::Faulty("x IS 7-$2", " NEG $3,7,$2"),
+    },
+    Row {
+        topic: Topic::Source(17),
+        says: "A symbol has to be known here, and no line up to this one defines it. Look for a\n\
+        misspelling, for a register without its $, for a comment that was taken for\n\
+        operands because these are missing, and for a prefix that is still in force.\n\
+        Only a whole relative address and a whole operand of OCTA may be known later;\n\
+        for LDA of a later label take GETA.",
+        example: Example::Faulty(" BYTE later", "later IS 5; BYTE later"),
+    },
+    Row {
+        topic: Topic::Source(18),
+        says: "More than 255 parentheses are open at once.",
+        example: Example::Faulty(
+            "256 open parentheses",
+            "give a part of the expression a name by IS, and write that name",
+        ),
+    },
+    Row {
+        topic: Topic::Source(19),
+        says: "A string has at least one byte. A text without bytes, as Fputs wants it, is the\n\
+        zero byte alone.",
+        example: Example::Faulty(" BYTE \"\"", " BYTE 0"),
+    },
+    Row {
+        topic: Topic::Source(21),
+        says: "Registers are $0 to $255, and this comes to another number.",
+        example: Example::Faulty("x IS $256", "x IS $255"),
+    },
+    Row {
+        topic: Topic::Source(30),
+        says: "A symbol is defined once, and an earlier line has defined this one, maybe under\n\
+        the same prefix. A label for a short way is better a local one, as 1H.",
+        example: Example::Faulty("x IS 1;x IS 2", "x IS 1;y IS 2"),
+    },
+    Row {
+        topic: Topic::Source(31),
+        says: "MMIXAL defines this name itself, as it does rA, Halt and StdOut. The command\n\
+        mmixview explain lists all of them. Under a prefix the name is free.",
+        example: Example::Faulty("Halt IS 0", "Stop IS 0"),
+    },
+    Row {
+        topic: Topic::Source(33),
+        says: "A name with its prefix has more than 1,024 bytes.",
+        example: Example::Faulty("a label of 1,024 letters", "take a shorter one"),
+    },
+    Row {
+        topic: Topic::Source(39),
+        says: "There is no operation of this name. Operations are in capitals. A semicolon\n\
+        begins the next statement and no comment. A label begins in the first column,\n\
+        and a word after a blank is an operation.",
+        example: Example::Faulty(" SUBTRACT $0,$0,1", " SUB $0,$0,1"),
+    },
+    Row {
+        topic: Topic::Source(40),
+        says: "The operation takes another number of operands, or operands of another form.\n\
+        The command mmixview explain, with the name of the operation, shows its form.",
+        example: Example::Faulty(" ADD $1,$2", " ADD $1,$1,$2"),
+    },
+    Row {
+        topic: Topic::Source(41),
+        says: "A register is wanted, and this is a number. Registers have a $ in front, or are\n\
+        the symbol of an IS or GREG that gave them a name.",
+        example: Example::Faulty(" ADD $1,2,3", " ADD $1,$2,3"),
+    },
+    Row {
+        topic: Topic::Source(42),
+        says: "A number is wanted, and this is a register. What a register holds is known to\n\
+        the program only when it runs, and to the assembler never.",
+        example: Example::Faulty(" BYTE $1", " BYTE 1"),
+    },
+    Row {
+        topic: Topic::Source(43),
+        says: "A number does not fit its place. Z of most instructions has room for 0 to 255,\n\
+        and SET for 16 bits, 0 to 65535; no instruction takes a negative number. Put a\n\
+        larger one into a register first: by SET, by SETML and INCL, or by a GREG; and\n\
+        one below 0 by NEG.",
+        example: Example::Faulty(" ADD $0,$0,1000", " SET $1,1000; ADD $0,$0,$1"),
+    },
+    Row {
+        topic: Topic::Source(44),
+        says: "An address in memory is reached from a register that holds one at most 255 below\n\
+        it, and no GREG so far gives such a register. Write GREG @ in front of the data,\n\
+        and another one for every 256 bytes. The address of a text in the program\n\
+        itself is put into a register by GETA.",
+        example: Example::Faulty(
+            " LDO $0,Data_Segment",
+            " LOC Data_Segment; GREG @;k OCTA 5; LOC #100; LDO $0,k",
+        ),
+    },
+    Row {
+        topic: Topic::Source(45),
+        says: "A branch reaches from 65,536 instructions before to 65,535 after its own place,\n\
+        and this target is further away. JMP reaches 256 times as far, so branch around\n\
+        one on the opposite condition; GO reaches everything.",
+        example: Example::Faulty(" BZ $0,@+4*65536", " BNZ $0,@+8; JMP @+4*65535"),
+    },
+    Row {
+        topic: Topic::Source(46),
+        says: "Branches, JMP, PUSHJ and GETA count distances in tetras, and this target is no\n\
+        multiple of 4 away. Bring it there, as by a TETRA in front of a text; or take\n\
+        LDA with a base.",
+        example: Example::Faulty(" GETA $0,@+2", " GETA $0,@+4"),
+    },
+    Row {
+        topic: Topic::Source(47),
+        says: "GREG gives the registers from $254 downwards, and the last one, $32, is given.\n\
+        A GREG shares a register with an earlier one of the same nonzero value.",
+        example: Example::Faulty(
+            "224 lines ` GREG 0`",
+            "let addresses that lie near each other share a base",
+        ),
+    },
+    Row {
+        topic: Topic::Source(48),
+        says: "PREFIX and LOCAL define nothing, so that they take no label.",
+        example: Example::Faulty("x PREFIX y:", " PREFIX y:"),
+    },
+    Row {
+        topic: Topic::Source(49),
+        says: "A byte would lie at #6000000000000000 or above. Those addresses are the register\n\
+        stack's, and the machine's own.",
+        example: Example::Faulty(" LOC Stack_Segment; BYTE 1", " LOC Data_Segment; BYTE 1"),
+    },
+    Row {
+        topic: Topic::Source(80),
+        says: "A name is used, and no line of the whole source defines it. Look for a\n\
+        misspelling, for another prefix, and for a colon after the label: the colon is a\n\
+        letter, so that Later: is another name than Later.",
+        example: Example::Faulty("Main JMP Later", "Main JMP Later;Later TRAP 0,Halt,0"),
+    },
+    Row {
+        topic: Topic::Source(81),
+        says: "An operand such as 1F means the next 1H after its line, and there is none. The\n\
+        last one before it is 1B.",
+        example: Example::Faulty("Main JMP 1F", "Main JMP 1F;1H TRAP 0,Halt,0"),
+    },
+    Row {
+        topic: Topic::Source(82),
+        says: "A program starts at the label Main, and no line has it. Small letters are\n\
+        others: main is another name. So is Main: with a colon, which is a letter.\n\
+        Under a prefix it is written as :Main.",
+        example: Example::Faulty(" SWYM 0", "Main SWYM 0"),
+    },
+    Row {
+        topic: Topic::Source(83),
+        says: "Main is the place where the program starts, and here it is a register.",
+        example: Example::Faulty("Main IS $0", "Main SWYM 0"),
+    },
+    Row {
+        topic: Topic::Source(84),
+        says: "An earlier line refers to this name as an address, and now it is a register.\n\
+        Define registers above the lines that use them.",
+        example: Example::Faulty("Main JMP x;x IS $1", "x IS $1;Main GO $0,x"),
+    },
+    Row {
+        topic: Topic::Source(85),
+        says: "An earlier line branches to this label, and it is further away than a branch\n\
+        reaches: 65,535 instructions ahead. Branch around a JMP, which reaches 256 times\n\
+        as far.",
+        example: Example::Faulty(
+            "Main BZ $0,x; LOC 4*65536;x SWYM 0",
+            "Main BNZ $0,@+8; JMP x; LOC 4*65536;x SWYM 0",
+        ),
+    },
+    Row {
+        topic: Topic::Source(86),
+        says: "An object holds the names of the source in 65,535 tetras, and these take more.",
+        example: Example::Faulty(
+            "some 100,000 long names",
+            "use local labels, as 1H, which are not in the object",
+        ),
+    },
+    Row {
+        topic: Topic::Source(87),
+        says: "LOCAL asks that a register stays below those that GREG gives, and a GREG has\n\
+        been given it, or one below it.",
+        example: Example::Faulty(
+            " LOCAL $254; GREG 0;Main SWYM 0",
+            " LOCAL $253; GREG 0;Main SWYM 0",
+        ),
+    },
+    Row {
+        topic: Topic::Source(88),
+        says: "A source may have 4,194,304 bytes, and the lines up to this one have more.",
+        example: Example::Faulty(
+            "a source of 5 MB",
+            "cut comments, or make the data when the program runs",
+        ),
+    },
+    Row {
+        topic: Topic::Source(89),
+        says: "An earlier line branches to this label, or takes its address by GETA, and the\n\
+        distance is no multiple of 4.",
+        example: Example::Faulty("Main BZ $0,x;x IS 2", "Main BZ $0,x;x IS 4"),
+    },
+    Row {
+        topic: Topic::Source(90),
+        says: "The program places bytes on more than 65,536 pages of 4,096 bytes, which are all\n\
+        that the machine has. Only run and gen ask for that; asm does not.",
+        example: Example::Faulty("65,537 places far apart", "place them closer"),
+    },
+];
