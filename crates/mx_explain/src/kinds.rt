@@ -1,4 +1,4 @@
-//! The kinds of faulty words, and numbers that no message has.
+//! The kinds of faulty words.
 
 use crate::row::{Example, Row, Topic};
 
@@ -6,8 +6,8 @@ use crate::row::{Example, Row, Topic};
 pub static KINDS: [Row; 9] = [
     Row {
         topic: Topic::Kind(1),
-        says: "There are no words after the name of the program. The first one is the command: run,\n\
-        asm, sim, gen, type or multi; --help lists them.",
+        says: "There are no words after the name of the program. The first one is the\n\
+        command: run, asm, sim, gen, type or multi; --help lists them.",
         example: Example::Faulty("mmixware", "mmixware run hello.mms"),
     },
     Row {
@@ -17,9 +17,10 @@ pub static KINDS: [Row; 9] = [
     },
     Row {
         topic: Topic::Kind(3),
-        says: "A word before the file begins with a dash and is no option of this command. run and\n\
-        sim have all options; multi has --ring, --steps and --dump; gen has --ring; asm and\n\
-        type have none. A file whose name begins with a dash is written as ./-x.",
+        says: "A word before the file begins with a dash and is no option of this command.\n\
+        run and sim have all options; multi has --ring, --steps and --dump; gen has\n\
+        --ring; asm and type have none. A file whose name begins with a dash is\n\
+        written as ./-x.",
         example: Example::Faulty("mmixware run -x a.mms", "mmixware run ./-x"),
     },
     Row {
@@ -29,8 +30,8 @@ pub static KINDS: [Row; 9] = [
     },
     Row {
         topic: Topic::Kind(5),
-        says: "A value has 1 to 13 decimal digits and a range: --steps takes 1 to 1000000000000,\n\
-        --last 1 to 1024, and gen 1 to 10000.",
+        says: "A value has 1 to 13 decimal digits and a range: --steps takes 1 to\n\
+        1000000000000, --last 1 to 1024, and gen 1 to 10000.",
         example: Example::Faulty(
             "mmixware run --steps 0 a.mms",
             "mmixware run --steps 1 a.mms",
@@ -51,8 +52,8 @@ pub static KINDS: [Row; 9] = [
     },
     Row {
         topic: Topic::Kind(8),
-        says: "A word follows the last one of asm, gen, type or multi. Only run and sim pass further\n\
-        words on, to the program.",
+        says: "A word follows the last one of asm, gen, type or multi. Only run and sim\n\
+        pass further words on, to the program.",
         example: Example::Faulty("mmixware asm a b c", "mmixware asm a b"),
     },
     Row {
@@ -62,30 +63,5 @@ pub static KINDS: [Row; 9] = [
             "mmixware run -i --report a.mms",
             "mmixware run --report a.mms",
         ),
-    },
-];
-
-/// Numbers of parts of the program, which no message has.
-pub static INSIDE: [Row; 4] = [
-    Row {
-        topic: Topic::Inside(100),
-        says: "The number of the crate mx_registers for what the program tells as 114 StackFull.",
-        example: Example::Without,
-    },
-    Row {
-        topic: Topic::Inside(101),
-        says: "The number of the crate mx_registers for what the program tells as 115 Underflow.",
-        example: Example::Without,
-    },
-    Row {
-        topic: Topic::Inside(102),
-        says: "The number of the crate mx_registers for what the program tells as 116 BadFrame.",
-        example: Example::Without,
-    },
-    Row {
-        topic: Topic::Inside(140),
-        says: "The answer of the crate mx_back where no step is kept that could be taken back. The\n\
-        program asks only for steps that are kept, so that it never tells it.",
-        example: Example::Without,
     },
 ];

@@ -2,9 +2,9 @@
 #![tactic(auto)]
 
 mod facts;
+mod inside;
 mod kinds;
 mod matching;
-mod near;
 mod objects;
 mod operands;
 mod row;
@@ -12,11 +12,11 @@ mod sources;
 mod stops;
 mod text;
 
-pub use kinds::{INSIDE, KINDS};
+pub use inside::INSIDE;
+pub use kinds::KINDS;
 pub use matching::fits;
-pub use near::is_near;
 pub use objects::OBJECTS;
-pub use row::{Example, Row, Topic};
+pub use row::{Example, Row, Topic, name_of};
 pub use sources::SOURCES;
 pub use stops::STOPS;
 pub use text::{add_label, add_row};

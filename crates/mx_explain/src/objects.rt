@@ -22,14 +22,14 @@ pub static OBJECTS: [Row; 15] = [
     },
     Row {
         topic: Topic::Object(62),
-        says: "A tetra that begins with 98 is a lopcode, and this one does not exist, or has no\n\
-        place here: after pre come data, then post, stab and end.",
+        says: "A tetra that begins with 98 is a lopcode, and this one does not exist, or\n\
+        has no place here: after pre come data, then post, stab and end.",
         example: Example::Faulty("98090101 00000000 980d0000", "make it again by asm"),
     },
     Row {
         topic: Topic::Object(63),
-        says: "The bytes Y and Z of a lopcode, or what follows it, have to fit: the Z of loc, for\n\
-        instance, is 1 or 2.",
+        says: "The bytes Y and Z of a lopcode, or what follows it, have to fit: the Z of\n\
+        loc, for instance, is 1 or 2.",
         example: Example::Faulty("98090101 00000000 98010003", "make it again by asm"),
     },
     Row {
@@ -55,8 +55,8 @@ pub static OBJECTS: [Row; 15] = [
     },
     Row {
         topic: Topic::Object(71),
-        says: "After the trie of symbols up to three zero bytes fill its last tetra. Here there\n\
-        are more, or one that is not zero.",
+        says: "After the trie of symbols up to three zero bytes fill its last tetra. Here\n\
+        there are more, or one that is not zero.",
         example: Example::Faulty(
             "98090101 00000000 980a00ff 00000000 00000000 980b0000 00000001 980c0001",
             "make it again by asm",
@@ -64,7 +64,8 @@ pub static OBJECTS: [Row; 15] = [
     },
     Row {
         topic: Topic::Object(72),
-        says: "A node of the trie says that its character has two bytes, and these are none.",
+        says: "A node of the trie says that its character has two bytes, and these are\n\
+        none.",
         example: Example::Faulty(
             "98090101 00000000 980a00ff 00000000 00000000 980b0000 80000000 980c0001",
             "make it again by asm",
@@ -96,8 +97,8 @@ pub static OBJECTS: [Row; 15] = [
     },
     Row {
         topic: Topic::Object(90),
-        says: "The object loads tetras on more than 65,536 pages of 4,096 bytes, which are all\n\
-        that the machine has.",
+        says: "The object loads tetras on more than 65,536 pages of 4,096 bytes, which are\n\
+        all that the machine has.",
         example: Example::Faulty(
             "65,537 places far apart",
             "place them closer in the source, and make it again by asm",
@@ -105,8 +106,8 @@ pub static OBJECTS: [Row; 15] = [
     },
     Row {
         topic: Topic::Object(95),
-        says: "A tetra would lie at #6000000000000000 or above. Those addresses are the register\n\
-        stack's, and the machine's own.",
+        says: "A tetra would lie at #6000000000000000 or above. Those addresses are the\n\
+        register stack's, and the machine's own.",
         example: Example::Faulty(
             "98090101 00000000 98016001 00000000 00000001",
             "place the data below in the source, and make it again by asm",
@@ -114,8 +115,8 @@ pub static OBJECTS: [Row; 15] = [
     },
     Row {
         topic: Topic::Object(96),
-        says: "The lopcode line names a line of a file, and no lopcode file has named one; or\n\
-        file chooses one without a name that was not named before.",
+        says: "The lopcode line names a line of a file, and no lopcode file has named one;\n\
+        or file chooses one without a name that was not named before.",
         example: Example::Faulty("98090101 00000000 98070001", "make it again by asm"),
     },
 ];

@@ -59,8 +59,8 @@ pub(crate) fn number_of(topic: Topic) -> Option<u16>
     }
 }
 
-/// The name of a topic.
-pub(crate) fn name_of(topic: Topic) -> &'static str
+/// The name of a topic: no text where the tables have no name of its number.
+pub fn name_of(topic: Topic) -> &'static str
     ensures { result.now ≡ spec.name_of topic }
 {
     match topic {

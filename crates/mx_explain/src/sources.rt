@@ -6,7 +6,8 @@ use crate::row::{Example, Row, Topic};
 pub static SOURCES: [Row; 43] = [
     Row {
         topic: Topic::Source(1),
-        says: "A line may have 4,096 bytes, and this one has more, blanks and comments included.",
+        says: "A line may have 4,096 bytes, and this one has more, blanks and comments\n\
+        included.",
         example: Example::Faulty(
             "a line of 4,097 blanks",
             "break it: a long list of data goes on in a further BYTE",
@@ -15,8 +16,9 @@ pub static SOURCES: [Row; 43] = [
     Row {
         topic: Topic::Source(2),
         says: "A label ends at a blank. It has letters, digits, colons and underlines, and\n\
-        begins with none of the digits; what is in front of the first blank is no label.\n\
-        If the line looks right, look for bytes that cannot be seen, above all in line 1.",
+        begins with none of the digits; what is in front of the first blank is no\n\
+        label. If the line looks right, look for bytes that cannot be seen, above\n\
+        all in line 1.",
         example: Example::Faulty("Main, SWYM 0", "Main SWYM 0"),
     },
     Row {
@@ -26,14 +28,15 @@ pub static SOURCES: [Row; 43] = [
     },
     Row {
         topic: Topic::Source(4),
-        says: "An operation ends at a blank or a semicolon, and here another character comes\n\
-        right after it. If it is no operation: in the first column it would be a label.",
+        says: "An operation ends at a blank or a semicolon, and here another character\n\
+        comes right after it. If it is no operation: in the first column it would be\n\
+        a label.",
         example: Example::Faulty(" SET=1", " SET $0,1"),
     },
     Row {
         topic: Topic::Source(5),
-        says: "A string begins with a double quote and has to end with one on the same line.\n\
-        It has no escapes; a double quote within a text is written as #22.",
+        says: "A string begins with a double quote and has to end with one on the same\n\
+        line. It has no escapes; a double quote within a text is written as #22.",
         example: Example::Faulty(" BYTE \"ab", " BYTE \"ab\""),
     },
     Row {
@@ -44,15 +47,16 @@ pub static SOURCES: [Row; 43] = [
     },
     Row {
         topic: Topic::Source(7),
-        says: "A word in the first column is a label, and nothing comes after it. Either it is\n\
-        an operation, which needs a blank in front, or the label needs an operation.",
+        says: "A word in the first column is a label, and nothing comes after it. Either it\n\
+        is an operation, which needs a blank in front, or the label needs an\n\
+        operation.",
         example: Example::Faulty("Main", "Main IS @"),
     },
     Row {
         topic: Topic::Source(10),
-        says: "The operands are no list of expressions. There are no blanks in operands: what\n\
-        follows a blank is a comment. Numbers are decimal, or hexadecimal after #; an\n\
-        operand such as 2B or 2F is a local label, and 2H never is one.",
+        says: "The operands are no list of expressions. There are no blanks in operands:\n\
+        what follows a blank is a comment. Numbers are decimal, or hexadecimal after\n\
+        #; an operand such as 2B or 2F is a local label, and 2H never is one.",
         example: Example::Faulty(" BYTE 1,,2", " BYTE 1,0,2"),
     },
     Row {
@@ -62,42 +66,42 @@ pub static SOURCES: [Row; 43] = [
     },
     Row {
         topic: Topic::Source(12),
-        says: "The right side of / or % is 0. The assembler computes it, not the program: look\n\
-        at the value of the symbol there.",
+        says: "The right side of / or % is 0. The assembler computes it, not the program:\n\
+        look at the value of the symbol there.",
         example: Example::Faulty(" BYTE 1/0", " BYTE 1/1"),
     },
     Row {
         topic: Topic::Source(13),
-        says: "x//y is the fraction x/y, with its point at the left of an octa, so x has to be\n\
-        less than y. The quotient of whole numbers is x/y.",
+        says: "x//y is the fraction x/y, with its point at the left of an octa, so x has to\n\
+        be less than y. The quotient of whole numbers is x/y.",
         example: Example::Faulty(" OCTA 3//3", " OCTA 2//3"),
     },
     Row {
         topic: Topic::Source(14),
-        says: "Only + and - work on registers; every other operator wants plain numbers. It is\n\
-        the number of the register that the assembler would compute with, and never\n\
-        what the register holds.",
+        says: "Only + and - work on registers; every other operator wants plain numbers. It\n\
+        is the number of the register that the assembler would compute with, and\n\
+        never what the register holds.",
         example: Example::Faulty(" BYTE $1*2", "x IS $(1*2)"),
     },
     Row {
         topic: Topic::Source(15),
-        says: "Two registers cannot be added by the assembler, which knows their numbers only.\n\
-        The program adds what they hold, by ADD.",
+        says: "Two registers cannot be added by the assembler, which knows their numbers\n\
+        only. The program adds what they hold, by ADD.",
         example: Example::Faulty("x IS $1+$2", " ADD $3,$1,$2"),
     },
     Row {
         topic: Topic::Source(16),
-        says: "A register cannot be subtracted from a number by the assembler. The program does\n\
-        that with what the register holds, by NEG or SUB.",
+        says: "A register cannot be subtracted from a number by the assembler. The program\n\
+        does that with what the register holds, by NEG or SUB.",
         example: Example::Faulty("x IS 7-$2", " NEG $3,7,$2"),
     },
     Row {
         topic: Topic::Source(17),
-        says: "A symbol has to be known here, and no line up to this one defines it. Look for a\n\
-        misspelling, for a register without its $, for a comment that was taken for\n\
-        operands because these are missing, and for a prefix that is still in force.\n\
-        Only a whole relative address and a whole operand of OCTA may be known later;\n\
-        for LDA of a later label take GETA.",
+        says: "A symbol has to be known here, and no line up to this one defines it. Look\n\
+        for a misspelling, for a register without its $, for a comment that was\n\
+        taken for operands because these are missing, and for a prefix that is still\n\
+        in force. Only a whole relative address and a whole operand of OCTA may be\n\
+        known later; for LDA of a later label take GETA.",
         example: Example::Faulty(" BYTE later", "later IS 5; BYTE later"),
     },
     Row {
@@ -110,8 +114,8 @@ pub static SOURCES: [Row; 43] = [
     },
     Row {
         topic: Topic::Source(19),
-        says: "A string has at least one byte. A text without bytes, as Fputs wants it, is the\n\
-        zero byte alone.",
+        says: "A string has at least one byte. A text without bytes, as Fputs wants it, is\n\
+        the zero byte alone.",
         example: Example::Faulty(" BYTE \"\"", " BYTE 0"),
     },
     Row {
@@ -121,8 +125,8 @@ pub static SOURCES: [Row; 43] = [
     },
     Row {
         topic: Topic::Source(30),
-        says: "A symbol is defined once, and an earlier line has defined this one, maybe under\n\
-        the same prefix. A label for a short way is better a local one, as 1H.",
+        says: "A symbol is defined once, and an earlier line has defined this one, maybe\n\
+        under the same prefix. A label for a short way is better a local one, as 1H.",
         example: Example::Faulty("x IS 1;x IS 2", "x IS 1;y IS 2"),
     },
     Row {
@@ -139,42 +143,43 @@ pub static SOURCES: [Row; 43] = [
     Row {
         topic: Topic::Source(39),
         says: "There is no operation of this name. Operations are in capitals. A semicolon\n\
-        begins the next statement and no comment. A label begins in the first column,\n\
-        and a word after a blank is an operation.",
+        begins the next statement and no comment. A label begins in the first\n\
+        column, and a word after a blank is an operation.",
         example: Example::Faulty(" SUBTRACT $0,$0,1", " SUB $0,$0,1"),
     },
     Row {
         topic: Topic::Source(40),
         says: "The operation takes another number of operands, or operands of another form.\n\
-        The command mmixview explain, with the name of the operation, shows its form.",
+        The command mmixview explain, with the name of the operation, shows its\n\
+        form.",
         example: Example::Faulty(" ADD $1,$2", " ADD $1,$1,$2"),
     },
     Row {
         topic: Topic::Source(41),
-        says: "A register is wanted, and this is a number. Registers have a $ in front, or are\n\
-        the symbol of an IS or GREG that gave them a name.",
+        says: "A register is wanted, and this is a number. Registers have a $ in front, or\n\
+        are the symbol of an IS or GREG that gave them a name.",
         example: Example::Faulty(" ADD $1,2,3", " ADD $1,$2,3"),
     },
     Row {
         topic: Topic::Source(42),
-        says: "A number is wanted, and this is a register. What a register holds is known to\n\
-        the program only when it runs, and to the assembler never.",
+        says: "A number is wanted, and this is a register. What a register holds is known\n\
+        to the program only when it runs, and to the assembler never.",
         example: Example::Faulty(" BYTE $1", " BYTE 1"),
     },
     Row {
         topic: Topic::Source(43),
-        says: "A number does not fit its place. Z of most instructions has room for 0 to 255,\n\
-        and SET for 16 bits, 0 to 65535; no instruction takes a negative number. Put a\n\
-        larger one into a register first: by SET, by SETML and INCL, or by a GREG; and\n\
-        one below 0 by NEG.",
+        says: "A number does not fit its place. Z of most instructions has room for 0 to\n\
+        255, and SET for 16 bits, 0 to 65535; no instruction takes a negative\n\
+        number. Put a larger one into a register first: by SET, by SETML and INCL,\n\
+        or by a GREG; and one below 0 by NEG.",
         example: Example::Faulty(" ADD $0,$0,1000", " SET $1,1000; ADD $0,$0,$1"),
     },
     Row {
         topic: Topic::Source(44),
-        says: "An address in memory is reached from a register that holds one at most 255 below\n\
-        it, and no GREG so far gives such a register. Write GREG @ in front of the data,\n\
-        and another one for every 256 bytes. The address of a text in the program\n\
-        itself is put into a register by GETA.",
+        says: "An address in memory is reached from a register that holds one at most 255\n\
+        below it, and no GREG so far gives such a register. Write GREG @ in front of\n\
+        the data, and another one for every 256 bytes. The address of a text in the\n\
+        program itself is put into a register by GETA.",
         example: Example::Faulty(
             " LDO $0,Data_Segment",
             " LOC Data_Segment; GREG @;k OCTA 5; LOC #100; LDO $0,k",
@@ -182,22 +187,23 @@ pub static SOURCES: [Row; 43] = [
     },
     Row {
         topic: Topic::Source(45),
-        says: "A branch reaches from 65,536 instructions before to 65,535 after its own place,\n\
-        and this target is further away. JMP reaches 256 times as far, so branch around\n\
-        one on the opposite condition; GO reaches everything.",
+        says: "A branch reaches from 65,536 instructions before to 65,535 after its own\n\
+        place, and this target is further away. JMP reaches 256 times as far, so\n\
+        branch around one on the opposite condition; GO reaches everything.",
         example: Example::Faulty(" BZ $0,@+4*65536", " BNZ $0,@+8; JMP @+4*65535"),
     },
     Row {
         topic: Topic::Source(46),
-        says: "Branches, JMP, PUSHJ and GETA count distances in tetras, and this target is no\n\
-        multiple of 4 away. Bring it there, as by a TETRA in front of a text; or take\n\
-        LDA with a base.",
+        says: "Branches, JMP, PUSHJ and GETA count distances in tetras, and this target is\n\
+        no multiple of 4 away. Bring it there, as by a TETRA in front of a text; or\n\
+        take LDA with a base.",
         example: Example::Faulty(" GETA $0,@+2", " GETA $0,@+4"),
     },
     Row {
         topic: Topic::Source(47),
-        says: "GREG gives the registers from $254 downwards, and the last one, $32, is given.\n\
-        A GREG shares a register with an earlier one of the same nonzero value.",
+        says: "GREG gives the registers from $254 downwards, and the last one, $32, is\n\
+        given. A GREG shares a register with an earlier one of the same nonzero\n\
+        value.",
         example: Example::Faulty(
             "224 lines ` GREG 0`",
             "let addresses that lie near each other share a base",
@@ -210,21 +216,21 @@ pub static SOURCES: [Row; 43] = [
     },
     Row {
         topic: Topic::Source(49),
-        says: "A byte would lie at #6000000000000000 or above. Those addresses are the register\n\
-        stack's, and the machine's own.",
+        says: "A byte would lie at #6000000000000000 or above. Those addresses are the\n\
+        register stack's, and the machine's own.",
         example: Example::Faulty(" LOC Stack_Segment; BYTE 1", " LOC Data_Segment; BYTE 1"),
     },
     Row {
         topic: Topic::Source(80),
         says: "A name is used, and no line of the whole source defines it. Look for a\n\
-        misspelling, for another prefix, and for a colon after the label: the colon is a\n\
-        letter, so that Later: is another name than Later.",
+        misspelling, for another prefix, and for a colon after the label: the colon\n\
+        is a letter, so that Later: is another name than Later.",
         example: Example::Faulty("Main JMP Later", "Main JMP Later;Later TRAP 0,Halt,0"),
     },
     Row {
         topic: Topic::Source(81),
-        says: "An operand such as 1F means the next 1H after its line, and there is none. The\n\
-        last one before it is 1B.",
+        says: "An operand such as 1F means the next 1H after its line, and there is none.\n\
+        The last one before it is 1B.",
         example: Example::Faulty("Main JMP 1F", "Main JMP 1F;1H TRAP 0,Halt,0"),
     },
     Row {
@@ -248,8 +254,8 @@ pub static SOURCES: [Row; 43] = [
     Row {
         topic: Topic::Source(85),
         says: "An earlier line branches to this label, and it is further away than a branch\n\
-        reaches: 65,535 instructions ahead. Branch around a JMP, which reaches 256 times\n\
-        as far.",
+        reaches: 65,535 instructions ahead. Branch around a JMP, which reaches 256\n\
+        times as far.",
         example: Example::Faulty(
             "Main BZ $0,x; LOC 4*65536;x SWYM 0",
             "Main BNZ $0,@+8; JMP x; LOC 4*65536;x SWYM 0",
@@ -257,7 +263,8 @@ pub static SOURCES: [Row; 43] = [
     },
     Row {
         topic: Topic::Source(86),
-        says: "An object holds the names of the source in 65,535 tetras, and these take more.",
+        says: "An object holds the names of the source in 65,535 tetras, and these take\n\
+        more.",
         example: Example::Faulty(
             "some 100,000 long names",
             "use local labels, as 1H, which are not in the object",
@@ -282,14 +289,14 @@ pub static SOURCES: [Row; 43] = [
     },
     Row {
         topic: Topic::Source(89),
-        says: "An earlier line branches to this label, or takes its address by GETA, and the\n\
-        distance is no multiple of 4.",
+        says: "An earlier line branches to this label, or takes its address by GETA, and\n\
+        the distance is no multiple of 4.",
         example: Example::Faulty("Main BZ $0,x;x IS 2", "Main BZ $0,x;x IS 4"),
     },
     Row {
         topic: Topic::Source(90),
-        says: "The program places bytes on more than 65,536 pages of 4,096 bytes, which are all\n\
-        that the machine has. Only run and gen ask for that; asm does not.",
+        says: "The program places bytes on more than 65,536 pages of 4,096 bytes, which are\n\
+        all that the machine has. Only run and gen ask for that; asm does not.",
         example: Example::Faulty("65,537 places far apart", "place them closer"),
     },
 ];

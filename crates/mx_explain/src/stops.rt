@@ -6,28 +6,30 @@ use crate::row::{Example, Row, Topic};
 pub static STOPS: [Row; 14] = [
     Row {
         topic: Topic::Stop(110),
-        says: "An instruction on floating-point numbers, which this machine does not perform.",
+        says: "An instruction on floating-point numbers, which this machine does not\n\
+        perform.",
         example: Example::Faulty("Main FADD $0,$1,$2", "Main ADD $0,$1,$2; TRAP 0,Halt,0"),
     },
     Row {
         topic: Topic::Stop(111),
-        says: "The fields X, Y and Z of the instruction are not allowed: for instance, GET with a\n\
-        special register above 31, PUT of a value that the register cannot take, or a\n\
-        RESUME that would insert what cannot be inserted. If the source has no such line,\n\
-        data ran as instructions.",
+        says: "The fields X, Y and Z of the instruction are not allowed: for instance, GET\n\
+        with a special register above 31, PUT of a value that the register cannot\n\
+        take, or a RESUME that would insert what cannot be inserted. If the source\n\
+        has no such line, data ran as instructions.",
         example: Example::Faulty("Main GET $0,32", "Main GET $0,31; TRAP 0,Halt,0"),
     },
     Row {
         topic: Topic::Stop(112),
-        says: "An instruction, or a special register in PUT, that only an operating system may\n\
-        use: rC, rI, rK, rQ, rT, rTT, rU and rV, SYNC 4 to 7, and LDVTS.",
+        says: "An instruction, or a special register in PUT, that only an operating system\n\
+        may use: rC, rI, rK, rQ, rT, rTT, rU and rV, SYNC 4 to 7, and LDVTS.",
         example: Example::Faulty("Main PUT rK,0", "leave it out"),
     },
     Row {
         topic: Topic::Stop(113),
-        says: "An address is 2^63 or more, which is a negative number: that of the instruction\n\
-        itself, of what it loads or stores, or one that a file trap uses. Look at the\n\
-        register with the address; it may have gone below 0, or hold data.",
+        says: "An address is 2^63 or more, which is a negative number: that of the\n\
+        instruction itself, of what it loads or stores, or one that a file trap\n\
+        uses. Look at the register with the address; it may have gone below 0, or\n\
+        hold data.",
         example: Example::Faulty(
             "Main SETH $0,#8000; LDO $0,$0",
             "Main SETH $0,#2000; LDO $0,$0; TRAP 0,Halt,0",
@@ -35,8 +37,8 @@ pub static STOPS: [Row; 14] = [
     },
     Row {
         topic: Topic::Stop(114),
-        says: "The registers that are local or hidden by PUSHJ would be more than 1,048,576. A\n\
-        recursion does not end, or a subroutine is left without POP.",
+        says: "The registers that are local or hidden by PUSHJ would be more than\n\
+        1,048,576. A recursion does not end, or a subroutine is left without POP.",
         example: Example::Faulty(
             "Main PUSHJ $255,Main",
             "Main PUSHJ $0,Sub; TRAP 0,Halt,0;Sub POP 0,0",
@@ -44,9 +46,9 @@ pub static STOPS: [Row; 14] = [
     },
     Row {
         topic: Topic::Stop(115),
-        says: "POP brings back what PUSHJ has hidden, and there is nothing. A subroutine was\n\
-        reached without PUSHJ, or returns twice; or one that calls another did not keep\n\
-        rJ before that PUSHJ, and put it back after it.",
+        says: "POP brings back what PUSHJ has hidden, and there is nothing. A subroutine\n\
+        was reached without PUSHJ, or returns twice; or one that calls another did\n\
+        not keep rJ before that PUSHJ, and put it back after it.",
         example: Example::Faulty(
             "Main POP 0,0",
             "Main PUSHJ $0,Sub; TRAP 0,Halt,0;Sub POP 0,0",
@@ -54,8 +56,8 @@ pub static STOPS: [Row; 14] = [
     },
     Row {
         topic: Topic::Stop(116),
-        says: "UNSAVE wants the address that SAVE gave. This one is outside the stack area, or\n\
-        there is no frame.",
+        says: "UNSAVE wants the address that SAVE gave. This one is outside the stack area,\n\
+        or there is no frame.",
         example: Example::Faulty(
             "Main UNSAVE $0",
             "Main SAVE $255,0; UNSAVE $255; TRAP 0,Halt,0",
@@ -63,9 +65,9 @@ pub static STOPS: [Row; 14] = [
     },
     Row {
         topic: Topic::Stop(117),
-        says: "A trip jumps to its handler: at 0 for TRIP, at 16 for a division by zero, at 32 for\n\
-        an overflow. There the program has nothing, a tetra of zeros. Place a handler, or\n\
-        do not enable the event in rA.",
+        says: "A trip jumps to its handler: at 0 for TRIP, at 16 for a division by zero, at\n\
+        32 for an overflow. There the program has nothing, a tetra of zeros. Place a\n\
+        handler, or do not enable the event in rA.",
         example: Example::Faulty(
             " LOC #100;Main TRIP 0,0,0",
             " LOC 0; RESUME 0; LOC #100;Main TRIP 0,0,0; TRAP 0,Halt,0",
@@ -73,9 +75,9 @@ pub static STOPS: [Row; 14] = [
     },
     Row {
         topic: Topic::Stop(118),
-        says: "Every store, also of zero, makes its page of 4,096 bytes, and there are 65,536. The\n\
-        program stores on one more, or the arguments at the start lie on it. Look at the\n\
-        loop that fills memory.",
+        says: "Every store, also of zero, makes its page of 4,096 bytes, and there are\n\
+        65,536. The program stores on one more, or the arguments at the start lie on\n\
+        it. Look at the loop that fills memory.",
         example: Example::Faulty(
             "a loop that stores without end",
             "let the loop end, or store closer",
@@ -83,9 +85,9 @@ pub static STOPS: [Row; 14] = [
     },
     Row {
         topic: Topic::Stop(120),
-        says: "RESUME 0 goes back to rW where the top bit of rX is 1, as a trip leaves it. Here it\n\
-        is 0, so that RESUME inserts an instruction; and that is a TRAP, or it would set a\n\
-        register with further bits in rX.",
+        says: "RESUME 0 goes back to rW where the top bit of rX is 1, as a trip leaves it.\n\
+        Here it is 0, so that RESUME inserts an instruction; and that is a TRAP, or\n\
+        it would set a register with further bits in rX.",
         example: Example::Faulty(
             "Main RESUME 0",
             "Main SETH $0,#8000; PUT rX,$0; GETA $0,@+12; PUT rW,$0; RESUME 0; TRAP 0,Halt,0",
@@ -101,9 +103,9 @@ pub static STOPS: [Row; 14] = [
     },
     Row {
         topic: Topic::Stop(122),
-        says: "A file trap would move more than 16,777,216 bytes. For Fread, Fgets and Fwrite $255\n\
-        has the address of two octas, the buffer and its size, and not that of the buffer.\n\
-        A text of Fputs may have lost the zero byte at its end.",
+        says: "A file trap would move more than 16,777,216 bytes. For Fread, Fgets and\n\
+        Fwrite $255 has the address of two octas, the buffer and its size, and not\n\
+        that of the buffer. A text of Fputs may have lost the zero byte at its end.",
         example: Example::Faulty(
             " LOC #100;A OCTA 0,#1000001;Main GETA $255,A; TRAP 0,Fread,StdIn",
             " LOC #100;A OCTA Data_Segment,8;Main GETA $255,A; TRAP 0,Fread,StdIn; TRAP 0,Halt,0",
@@ -111,8 +113,8 @@ pub static STOPS: [Row; 14] = [
     },
     Row {
         topic: Topic::Stop(123),
-        says: "A file trap stores what it has read, and this needs a page of 4,096 bytes beyond the\n\
-        65,536 that there are. The bytes before it stay.",
+        says: "A file trap stores what it has read, and this needs a page of 4,096 bytes\n\
+        beyond the 65,536 that there are. The bytes before it stay.",
         example: Example::Faulty(
             "an Fread beyond the last page",
             "read less, or read to a buffer that is used again",
@@ -120,9 +122,10 @@ pub static STOPS: [Row; 14] = [
     },
     Row {
         topic: Topic::Stop(124),
-        says: "TRAP 0,Y,Z calls the service Y, and there are Halt, 0, up to Ftell, 10. Here X is not\n\
-        0, Y is above 10, or the Z of Halt is not 0. If the source has no such line, data ran\n\
-        as instructions: look where the program went, or for a missing TRAP 0,Halt,0.",
+        says: "TRAP 0,Y,Z calls the service Y, and there are Halt, 0, up to Ftell, 10. Here\n\
+        X is not 0, Y is above 10, or the Z of Halt is not 0. If the source has no\n\
+        such line, data ran as instructions: look where the program went, or for a\n\
+        missing TRAP 0,Halt,0.",
         example: Example::Faulty("Main TRAP 0,11,0", "Main TRAP 0,Halt,0"),
     },
 ];

@@ -2,7 +2,7 @@
 use Rattle.std.proofs.Common.{◌≡◌, ℕ, Bool, true, false, List, [], ◌∷◌, refl, length}
 use Rattle.std.specs.Char.{eq_ignore_ascii_case}
 use Rattle.std.proofs.lemmas.Bool.{cond-false, cond-true}
-use Rattle.mx_explain.specs.Near.{is_within_one, is_one_off}
+use Rattle.face_explain.specs.Near.{is_within_one, is_one_off}
 
 pub near-none : (word name : List ℕ) → length word ≡ 0 → is_within_one word name ≡ is_one_off word name
 unfolding is_within_one

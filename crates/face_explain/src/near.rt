@@ -1,9 +1,9 @@
 //! Words that differ by a letter.
 
 ghost use Rattle.std.specs.Prelude.{◌≡◌};
-ghost use Rattle.mx_explain.specs.Near as spec;
+ghost use Rattle.face_explain.specs.Near as spec;
 
-use crate::row::{Row, name_of};
+use mx_explain::{Row, name_of};
 
 /// A text without its first byte.
 fn without_first(text: &[u8]) -> &[u8]
@@ -46,7 +46,7 @@ fn is_within_one(word: &[u8], name: &[u8]) -> bool
 }
 
 /// Whether a word is within one letter of the name of a row.
-pub fn is_near(word: &str, row: Row) -> bool
+pub(crate) fn is_near(word: &str, row: Row) -> bool
     ensures { result ≡ spec.is_near word.now row }
 {
     is_within_one(word.as_bytes(), name_of(row.topic).as_bytes())
