@@ -1,10 +1,11 @@
-//! x
+//! What `mmixview explain` answers: the rows of the whole table that a word is about, the nearest word, and a list of all.
 #![tactic(auto)]
 
-mod choices;
-mod floats;
-mod inside;
-mod memory;
+mod answer;
+mod list;
 mod near;
-mod numbers;
-mod pseudo;
+mod nearest;
+mod symbols;
+
+pub use answer::{Answer, explain};
+pub use list::list;

@@ -236,13 +236,17 @@ pub(crate) static SYMBOLS: [Row; 44] = [
         topic: Topic::Symbol("D_Handler"),
         says: "The address where a division by zero goes to, if D_BIT<<8 in rA enables the\n\
         trip. There is room for four instructions, up to the next handler.",
-        example: Example::Good(" LOC D_Handler; PUSHJ $255,Fix; PUT rJ,$255; GET $255,rB; RESUME 0;Fix POP 0,0"),
+        example: Example::Good(
+            " LOC D_Handler; PUSHJ $255,Fix; PUT rJ,$255; GET $255,rB; RESUME 0;Fix POP 0,0",
+        ),
     },
     Row {
         topic: Topic::Symbol("V_Handler"),
         says: "The address where an overflow goes to, if V_BIT<<8 in rA enables the trip.\n\
         There is room for four instructions, up to the next handler.",
-        example: Example::Good(" LOC V_Handler; PUSHJ $255,Fix; PUT rJ,$255; GET $255,rB; RESUME 0;Fix POP 0,0"),
+        example: Example::Good(
+            " LOC V_Handler; PUSHJ $255,Fix; PUT rJ,$255; GET $255,rB; RESUME 0;Fix POP 0,0",
+        ),
     },
     Row {
         topic: Topic::Symbol("W_Handler"),
@@ -403,7 +407,7 @@ pub(crate) static SYMBOLS: [Row; 44] = [
         says: "Where the memory begins that holds the arguments: the first free address,\n\
         and from the next octa on the pointers to them. At the start $1 has the\n\
         address of these pointers.",
-        example: Example::Good(" LDO $0,$1,0"),
+        example: Example::Good(" SETH $0,Pool_Segment>>48; LDO $0,$0,8"),
     },
     Row {
         topic: Topic::Symbol("Stack_Segment"),

@@ -1,0 +1,70 @@
+-- The rows that a word is about, table by table.
+use Rattle.std.proofs.Common.{◌≡◌, ◌≢◌, ℕ, Bool, true, false, ◌+◌, ◌<◌, ◌≤◌, List, [], ◌∷◌, ◌++◌, length, length-append, filter, append_assoc, refl, sym, ap, ◌∙◌, arith, rules, codes}
+use Rattle.std.proofs.lemmas.Bool.{cond_both}
+use Rattle.std.proofs.lemmas.Grind.{flat_map-append}
+use Rattle.std.specs.List.{flat_map}
+use Rattle.mx_explain.specs.declared.row.Row.{Row}
+use Rattle.mx_explain.specs.Matching.{fits, found}
+use Rattle.mx_explain.specs.Texts.{row_text, head, front, sentences, example_text, back, label, kind_of}
+use Rattle.face_explain.specs.Answers.{fitting, texts, explanation, answer, answer_with, unknown_text}
+use Rattle.face_explain.specs.declared.answer.Answer.{Answer}
+use Rattle.face_explain.specs.declared.answer.Answer.TheVariants.{Explained, Unknown}
+use Rattle.face_explain.specs.Tables.{table, fault_rows, operation_rows, symbol_rows}
+
+-- ---- the texts of the rows that are found
+
+chosen : (word : List ℕ) (row : Row) (rows : List Row) (b : Bool) → fits word row ≡ b → flat_map (fitting word) rows ≡ texts (found word rows) → flat_map (fitting word) (row ∷ rows) ≡ texts (found word (row ∷ rows))
+chosen word row rows true e more = rw e (rw e (ap (λ t. row_text row ++ t) more))
+chosen word row rows false e more = rw e (rw e more)
+
+pub fitting-texts : (word : List ℕ) (rows : List Row) → flat_map (fitting word) rows ≡ texts (found word rows)
+fitting-texts word [] = refl
+fitting-texts word (row ∷ rows) = chosen word row rows (fits word row) refl (fitting-texts word rows)
+
+pub whole-text : (word : List ℕ) → (flat_map (fitting word) fault_rows ++ flat_map (fitting word) operation_rows) ++ flat_map (fitting word) symbol_rows ≡ explanation word
+unfolding explanation table
+whole-text word =
+    let f = fitting word in
+    ap (λ t. t ++ flat_map f symbol_rows) (sym (flat_map-append f fault_rows operation_rows)) ∙ sym (flat_map-append f (fault_rows ++ operation_rows) symbol_rows)
+    ∙ fitting-texts word ((fault_rows ++ operation_rows) ++ symbol_rows)
+
+pub ruleset parts = (flat_map-append, append_assoc)
+
+pub ruleset whole = (whole-text)
+
+-- ---- a row has a text
+
+longer : {A : Type 0} (xs ys : List A) → 0 < length xs → 0 < length (xs ++ ys)
+longer xs ys some = rw (length-append xs ys) (omega (arith, some))
+
+ended : {A : Type 0} (xs ys : List A) → 0 < length ys → 0 < length (xs ++ ys)
+ended xs ys some = rw (length-append xs ys) (omega (arith, some))
+
+head-some : (row : Row) → 0 < length (head row)
+unfolding head
+head-some row = ended ((label row ++ codes ": ") ++ kind_of row.topic) (codes "\n") (omega arith)
+
+row-some : (row : Row) → 0 < length (row_text row)
+unfolding row_text
+row-some row =
+    longer _ (back row.topic) (longer _ (example_text row.example) (longer _ (sentences row.says.now) (longer _ (front row.topic) (head-some row))))
+
+-- ---- the answer
+
+none-found : (word : List ℕ) (rows : List Row) → length (texts rows) ≡ 0 → answer_with word rows ≡ Unknown (unknown_text word)
+none-found word [] none = refl
+none-found word (row ∷ rows) none = absurd (omega (arith, none, longer (row_text row) (texts rows) (row-some row)))
+
+some-found : (word : List ℕ) (rows : List Row) → length (texts rows) ≢ 0 → answer_with word rows ≡ Explained (texts rows)
+some-found word [] some = absurd (some refl)
+some-found word (row ∷ rows) some = refl
+
+pub answer-unknown : (word text : List ℕ) → text ≡ explanation word → length text ≡ 0 → answer word ≡ Unknown (unknown_text word)
+unfolding answer explanation
+answer-unknown word text e none = none-found word (found word table) (rw (← e) none)
+
+pub answer-known : (word text : List ℕ) → text ≡ explanation word → length text ≢ 0 → answer word ≡ Explained text
+unfolding answer explanation
+answer-known word text e some = rw e (some-found word (found word table) (rw (← e) some))
+
+pub ruleset answers = (answer-unknown, answer-known)

@@ -1,0 +1,42 @@
+-- What is answered on a word: the texts of the rows of the table that it is about.
+use Rattle.std.specs.Prelude.{ℕ, List, [], ◌∷◌, ◌++◌, Option, None, Some, codes, find, if◌then◌else◌}
+use Rattle.std.specs.List.{flat_map}
+use Rattle.mx_explain.specs.declared.row.Row.{Row}
+use Rattle.mx_explain.specs.Topics.{name_of}
+use Rattle.mx_explain.specs.Matching.{fits, found}
+use Rattle.mx_explain.specs.Texts.{row_text}
+use Rattle.face_explain.specs.Near.{is_near}
+use Rattle.face_explain.specs.Tables.{table, operation_rows, symbol_rows, fault_rows}
+use Rattle.face_explain.specs.declared.answer.Answer.{Answer}
+use Rattle.face_explain.specs.declared.answer.Answer.TheVariants.{Explained, Unknown}
+
+-- the text of a row, if a word is about it
+abbrev pub fitting : List ℕ → Row → List ℕ
+fitting word row = if fits word row then row_text row else []
+
+-- the texts of rows
+abbrev pub texts : List Row → List ℕ
+texts rows = flat_map row_text rows
+
+unfoldable pub explanation : List ℕ → List ℕ
+explanation word = texts (found word table)
+
+-- the first row whose name a word is within one letter of: of operations, symbols, and then of the others
+unfoldable pub nearest : List ℕ → Option Row
+nearest word = find (is_near word) (operation_rows ++ symbol_rows ++ fault_rows)
+
+-- the nearest word, if there is one, or where to find all
+abbrev pub advice : Option Row → List ℕ
+advice None = codes "; mmixview explain lists all that is\n"
+advice (Some row) = codes "; the nearest word is " ++ name_of row.topic ++ codes "\n"
+
+abbrev pub unknown_text : List ℕ → List ℕ
+unknown_text word = codes "error: " ++ word ++ codes " is not explained" ++ advice (nearest word)
+
+abbrev pub answer_with : List ℕ → List Row → Answer
+answer_with word [] = Unknown (unknown_text word)
+answer_with word (row ∷ rows) = Explained (texts (row ∷ rows))
+
+-- what is answered
+unfoldable pub answer : List ℕ → Answer
+answer word = answer_with word (found word table)

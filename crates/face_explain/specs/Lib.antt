@@ -1,0 +1,4 @@
+pub mod Near
+pub mod Tables
+pub mod Answers
+pub mod Lists

@@ -1,0 +1,98 @@
+//! The rows that a word is about.
+
+ghost use Rattle.std.specs.Prelude.{◌≡◌, ◌++◌, IfOk, OnOk};
+ghost use Rattle.std.specs.List.{flat_map};
+ghost use Rattle.face_explain.specs.Answers as spec;
+ghost use Rattle.face_explain.specs.Tables as tables;
+
+use crate::nearest::unknown_text;
+use crate::symbols::{REGISTERS, SYMBOLS};
+use mx_explain::{INSIDE, KINDS, OBJECTS, Row, SOURCES, STOPS, add_row, fits};
+use mx_operations::{CHOICES, FLOATS, MEMORY, NUMBERS, PSEUDO};
+use mx_word::{Bytes, NoMemory};
+use std::alloc::Global;
+
+/// What is answered on a word: what it means; or, where no row is about it, that it is not known, in a line for standard error.
+#[derive(Drop)]
+pub enum Answer {
+    Explained(Bytes),
+    Unknown(Bytes),
+}
+
+/// Adds the text of a row that a word is about.
+fn add_fitting(alloc: Global, text: &mut Bytes, word: &str, row: Row) -> Result<(), NoMemory>
+    ensures { OnOk result (text.new ≡ text.old ++ spec.fitting word.now row) }
+{
+    if fits(word, row) {
+        return add_row(alloc, text, row);
+    }
+    Ok(())
+}
+
+/// Adds the texts of the rows of a table that a word is about.
+fn add_found(alloc: Global, text: &mut Bytes, word: &str, rows: &[Row]) -> Result<(), NoMemory>
+    ensures { OnOk result (text.new ≡ text.old ++ flat_map (spec.fitting word.now) rows.now) }
+{
+    for row in rows {
+        add_fitting(alloc, text, word, *row)?;
+    }
+    Ok(())
+}
+
+/// Adds the texts of the faults, reasons and kinds that a word is about.
+#[tactic(auto, using(crate::proofs::WholeTable::parts), unfolding(crate::specs::Tables::fault_rows))]
+fn add_faults(alloc: Global, text: &mut Bytes, word: &str) -> Result<(), NoMemory>
+    ensures { OnOk result (text.new ≡ text.old ++ flat_map (spec.fitting word.now) tables.fault_rows) }
+{
+    add_found(alloc, text, word, &SOURCES)?;
+    add_found(alloc, text, word, &OBJECTS)?;
+    add_found(alloc, text, word, &STOPS)?;
+    add_found(alloc, text, word, &KINDS)?;
+    add_found(alloc, text, word, &INSIDE)
+}
+
+/// Adds the texts of the operations that a word is about.
+#[tactic(auto, using(crate::proofs::WholeTable::parts), unfolding(crate::specs::Tables::operation_rows))]
+fn add_operations(alloc: Global, text: &mut Bytes, word: &str) -> Result<(), NoMemory>
+    ensures { OnOk result (text.new ≡ text.old ++ flat_map (spec.fitting word.now) tables.operation_rows) }
+{
+    add_found(alloc, text, word, &NUMBERS)?;
+    add_found(alloc, text, word, &CHOICES)?;
+    add_found(alloc, text, word, &MEMORY)?;
+    add_found(alloc, text, word, &FLOATS)?;
+    add_found(alloc, text, word, &PSEUDO)
+}
+
+/// Adds the texts of the predefined symbols that a word is about.
+#[tactic(auto, using(crate::proofs::WholeTable::parts), unfolding(crate::specs::Tables::symbol_rows))]
+fn add_symbols(alloc: Global, text: &mut Bytes, word: &str) -> Result<(), NoMemory>
+    ensures { OnOk result (text.new ≡ text.old ++ flat_map (spec.fitting word.now) tables.symbol_rows) }
+{
+    add_found(alloc, text, word, &REGISTERS)?;
+    add_found(alloc, text, word, &SYMBOLS)
+}
+
+/// The texts of all rows that a word is about.
+#[tactic(auto, using(crate::proofs::WholeTable::whole), unfolding(crate::specs::Tables::table))]
+fn explanation(alloc: Global, word: &str) -> Result<Bytes, NoMemory>
+    ensures { IfOk result (λ text. text ≡ spec.explanation word.now) }
+{
+    let mut text = Bytes::new(alloc);
+    add_faults(alloc, &mut text, word)?;
+    add_operations(alloc, &mut text, word)?;
+    add_symbols(alloc, &mut text, word)?;
+    Ok(text)
+}
+
+/// What a word means: the texts of all rows of the table whose number or name it is, in their order; upper and lower case do not
+/// matter. It refuses only where it is out of memory.
+#[tactic(auto, using(crate::proofs::WholeTable::answers), unfolding(crate::specs::Answers::answer))]
+pub fn explain(alloc: Global, word: &str) -> Result<Answer, NoMemory>
+    ensures { IfOk result (λ given. given ≡ spec.answer word.now) }
+{
+    let text = explanation(alloc, word)?;
+    if text.as_slice().is_empty() {
+        return Ok(Answer::Unknown(unknown_text(alloc, word)?));
+    }
+    Ok(Answer::Explained(text))
+}

@@ -1,0 +1,133 @@
+//! A list of all that is explained, in columns.
+
+ghost use Rattle.std.specs.Prelude.{◌≡◌, ◌++◌, ◌-◌, IfOk, OnOk, is_empty, length, replicate};
+ghost use Rattle.face_explain.specs.Lists as spec;
+
+use crate::symbols::{REGISTERS, SYMBOLS};
+use mx_explain::{INSIDE, KINDS, OBJECTS, Row, SOURCES, STOPS, add_label};
+use mx_operations::{CHOICES, FLOATS, MEMORY, NUMBERS, PSEUDO};
+use mx_word::{Bytes, NoMemory};
+use std::alloc::Global;
+
+/// Adds blanks.
+fn add_blanks(text: &mut Bytes, count: usize) -> Result<(), NoMemory>
+    ensures { OnOk result (text.new ≡ text.old ++ replicate count 32) }
+{
+    for _ in 0..count {
+        text.push(b' ')?;
+    }
+    Ok(())
+}
+
+/// Adds what follows a cell: the end of the list, or of its line, or blanks up to the next column.
+fn add_gap(text: &mut Bytes, is_last: bool, left: usize, blanks: usize) -> Result<(), NoMemory>
+    ensures { OnOk result (text.new ≡ text.old ++ spec.gap is_last left blanks) }
+{
+    if is_last {
+        return text.push(b'\n');
+    }
+    if left == 0 {
+        return text.extend(b"\n  ");
+    }
+    add_blanks(text, blanks)
+}
+
+/// Adds a cell of a list, and what follows it.
+fn add_cell(
+    text: &mut Bytes,
+    row: Row,
+    is_last: bool,
+    left: usize,
+    width: usize,
+) -> Result<(), NoMemory>
+    ensures { OnOk result (text.new ≡ text.old ++ spec.cell width is_last left row) }
+{
+    let before = text.as_slice().len();
+    add_label(text, row)?;
+    let length = text.as_slice().len().saturating_sub(before);
+    add_gap(text, is_last, left, width.saturating_sub(length))
+}
+
+/// How many cells have one to their right after a cell.
+fn next_left(left: usize, most: usize) -> usize
+    ensures { result ≡ spec.next_left most left }
+{
+    if left == 0 { most } else { left - 1 }
+}
+
+/// Adds the cells of a list in columns of a width, where so many cells of a line have one to their right.
+#[tactic(auto, using(crate::proofs::ListTurns::turns))]
+fn add_cells(text: &mut Bytes, rows: &[Row], width: usize, most: usize) -> Result<(), NoMemory>
+    ensures { OnOk result (text.new ≡ text.old ++ spec.cells width most most rows.now) }
+{
+    let mut left = most;
+    let mut rest = rows;
+    while let [row, more @ ..] = rest {
+        add_cell(text, *row, more.is_empty(), left, width)?;
+        left = next_left(left, most);
+        rest = more;
+    }
+    Ok(())
+}
+
+/// Adds a part of the list.
+#[tactic(auto, unfolding(crate::specs::Lists::part))]
+fn add_part(
+    text: &mut Bytes,
+    title: &str,
+    rows: &[Row],
+    width: usize,
+    most: usize,
+) -> Result<(), NoMemory>
+    ensures { OnOk result (text.new ≡ text.old ++ spec.part title.now rows.now width most) }
+{
+    text.extend(title.as_bytes())?;
+    text.extend(b"\n  ")?;
+    add_cells(text, rows, width, most)
+}
+
+/// Adds the part of faults, reasons and kinds.
+#[tactic(auto, unfolding(crate::specs::Lists::fault_list))]
+fn add_faults(text: &mut Bytes) -> Result<(), NoMemory>
+    ensures { OnOk result (text.new ≡ text.old ++ spec.fault_list) }
+{
+    add_part(text, "Faults of a source", &SOURCES, 24, 2)?;
+    add_part(text, "Faults of an object", &OBJECTS, 24, 2)?;
+    add_part(text, "Reasons of a stop", &STOPS, 24, 2)?;
+    add_part(text, "Kinds of faulty words", &KINDS, 24, 2)?;
+    add_part(text, "Numbers inside the program", &INSIDE, 24, 2)
+}
+
+/// Adds the part of operations.
+#[tactic(auto, unfolding(crate::specs::Lists::operation_list))]
+fn add_operations(text: &mut Bytes) -> Result<(), NoMemory>
+    ensures { OnOk result (text.new ≡ text.old ++ spec.operation_list) }
+{
+    add_part(text, "Instructions on numbers and bits", &NUMBERS, 8, 8)?;
+    add_part(text, "Instructions that choose", &CHOICES, 8, 8)?;
+    add_part(text, "Instructions on memory and control", &MEMORY, 8, 8)?;
+    add_part(text, "Instructions that are not performed", &FLOATS, 8, 8)?;
+    add_part(text, "Pseudo-operations", &PSEUDO, 8, 8)
+}
+
+/// Adds the part of predefined symbols.
+#[tactic(auto, unfolding(crate::specs::Lists::symbol_list))]
+fn add_symbols(text: &mut Bytes) -> Result<(), NoMemory>
+    ensures { OnOk result (text.new ≡ text.old ++ spec.symbol_list) }
+{
+    add_part(text, "Special registers", &REGISTERS, 8, 8)?;
+    add_part(text, "Other predefined symbols", &SYMBOLS, 18, 3)
+}
+
+/// A list of all that is explained: each row of the table by its number and its name, in columns below titles. It refuses only
+/// where it is out of memory.
+#[tactic(auto, unfolding(crate::specs::Lists::whole_list))]
+pub fn list(alloc: Global) -> Result<Bytes, NoMemory>
+    ensures { IfOk result (λ text. text ≡ spec.whole_list) }
+{
+    let mut text = Bytes::new(alloc);
+    add_faults(&mut text)?;
+    add_operations(&mut text)?;
+    add_symbols(&mut text)?;
+    Ok(text)
+}
