@@ -2,3 +2,4 @@ pub mod Near
 pub mod Tables
 pub mod Answers
 pub mod Lists
+pub mod Known

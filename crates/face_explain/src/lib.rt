@@ -2,10 +2,12 @@
 #![tactic(auto)]
 
 mod answer;
+mod laws;
 mod list;
 mod near;
 mod nearest;
 mod symbols;
 
 pub use answer::{Answer, explain};
+pub use laws::{what_is_explained_is_in_the_tables, what_the_tables_have_is_explained};
 pub use list::list;
