@@ -4,8 +4,8 @@
 usage: checks/picture.py          writes the picture
        checks/picture.py --check  says whether the picture is that of crates.txt, and no chain is too long
 A crate stands in the column of its area and in a layer above all that it stands on; a line leads from a crate to
-each one that it stands on and that no other line leads to. To mx_word, on which all stand but mx_ops
-and mx_spec, no line is drawn; crates of tests (test_...) and of laws alone (law_...) have none. No chain may have more than eight
+each one that it stands on and that no other line leads to. To mx_word, on which all stand but mx_ops,
+mx_spec and mx_costs, no line is drawn; crates of tests (test_...) and of laws alone (law_...) have none. No chain may have more than eight
 crates, those of tests aside.
 """
 import os
@@ -19,7 +19,7 @@ AREAS = [
     ("machine", "mx_mem mx_alu mx_registers mx_ring mx_trip mx_spec mx_code mx_core mx_start"),
     ("host and runs", "mx_host mx_plan mx_trap mx_run mx_back mx_watch mx_multi mx_real"),
     ("console", "mx_text mx_cmd mx_show mx_con"),
-    ("program", "mx_words mx_outcome mx_files mx_begin mx_dump mx_top mx_view mx_count mmixware mmixview"),
+    ("program", "mx_words mx_outcome mx_files mx_begin mx_dump mx_top mx_view mx_costs mx_count mx_explain mx_operations face_explain mmixware mmixview"),
 ]
 BASE = "mx_word"
 CHAIN = 8
