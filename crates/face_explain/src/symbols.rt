@@ -6,8 +6,8 @@ use mx_explain::{Example, Row, Topic};
 pub(crate) static REGISTERS: [Row; 32] = [
     Row {
         topic: Topic::Symbol("rB"),
-        says: "The bootstrap register of trips. A trip keeps $255 here; the handler gets it\n\
-        by GET and RESUME 0 leaves it to the handler to put it back.",
+        says: "The bootstrap register of trips. A trip keeps $255 here, and its handler\n\
+        puts it back by GET $255,rB in front of RESUME 0.",
         example: Example::Good(" GET $255,rB"),
     },
     Row {

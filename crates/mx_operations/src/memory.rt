@@ -33,15 +33,15 @@ pub static MEMORY: [Row; 43] = [
     Row {
         topic: Topic::Operation("LDT"),
         says: "s($X) <- s(M4[A]), where A = $Y + $Z\n\
-        Loads a signed tetra from memory, -2^31 to 2^31 - 1. The address is lowered\n\
-        to a multiple of 4.",
+        Loads a signed tetra from memory, -2^31 to 2^31-1. The address is lowered to\n\
+        a multiple of 4.",
         example: Example::Good(" LDT $0,$1,0"),
     },
     Row {
         topic: Topic::Operation("LDTU"),
         says: "u($X) <- u(M4[A]), where A = $Y + $Z\n\
-        Loads an unsigned tetra from memory, 0 to 2^32 - 1. The address is lowered\n\
-        to a multiple of 4.",
+        Loads an unsigned tetra from memory, 0 to 2^32-1. The address is lowered to\n\
+        a multiple of 4.",
         example: Example::Good(" LDTU $0,$1,0"),
     },
     Row {
@@ -70,9 +70,8 @@ pub static MEMORY: [Row; 43] = [
     },
     Row {
         topic: Topic::Operation("LDVTS"),
-        says: "the state of the page at A, where A = $Y + $Z Loads the state of a\n\
-        translated address. Only an operating system may use it: the run stops with\n\
-        112 Privileged.",
+        says: "Loads the state of a translated address. Only an operating system may use\n\
+        it: the run stops with 112 Privileged.",
         example: Example::Good(" LDVTS $0,$1,0"),
     },
     Row {
@@ -236,8 +235,8 @@ pub static MEMORY: [Row; 43] = [
         topic: Topic::Operation("POP"),
         says: "pop(X), then @ <- rJ + 4 * YZ\n\
         Returns from a subroutine with X results, $0 to $(X-1): $(X-1) is the main\n\
-        one, which the $X of the PUSHJ gets, and the others come after it. With YZ =\n\
-        0 it goes on after the PUSHJ. What PUSHJ has hidden comes back.",
+        one, which the $X of the PUSHJ gets, and the others come after it. Where YZ\n\
+        is 0, it goes on after the PUSHJ. What PUSHJ has hidden comes back.",
         example: Example::Good(" POP 1,0"),
     },
     Row {

@@ -7,7 +7,7 @@ pub static NUMBERS: [Row; 54] = [
     Row {
         topic: Topic::Operation("MUL"),
         says: "s($X) <- s($Y) * s($Z)\n\
-        Multiplies two signed numbers. A product outside -2^63 to 2^63 - 1 is an\n\
+        Multiplies two signed numbers. A product outside -2^63 to 2^63-1 is an\n\
         overflow, the event V; $X then has its low 64 bits.",
         example: Example::Good(" MUL $0,$0,10"),
     },
@@ -36,7 +36,7 @@ pub static NUMBERS: [Row; 54] = [
     Row {
         topic: Topic::Operation("ADD"),
         says: "s($X) <- s($Y) + s($Z)\n\
-        Adds two signed numbers. A sum outside -2^63 to 2^63 - 1 is an overflow, the\n\
+        Adds two signed numbers. A sum outside -2^63 to 2^63-1 is an overflow, the\n\
         event V; $X then has its low 64 bits.",
         example: Example::Good(" ADD $0,$0,1"),
     },
@@ -49,7 +49,7 @@ pub static NUMBERS: [Row; 54] = [
     Row {
         topic: Topic::Operation("SUB"),
         says: "s($X) <- s($Y) - s($Z)\n\
-        Subtracts signed numbers. A difference outside -2^63 to 2^63 - 1 is an\n\
+        Subtracts signed numbers. A difference outside -2^63 to 2^63-1 is an\n\
         overflow, the event V; $X then has its low 64 bits.",
         example: Example::Good(" SUB $0,$0,1"),
     },
@@ -101,8 +101,8 @@ pub static NUMBERS: [Row; 54] = [
         topic: Topic::Operation("NEG"),
         says: "s($X) <- Y - s($Z)\n\
         Negates a signed number, or subtracts it from the number Y, which is 0 where\n\
-        it is left out. So it gives numbers below 0. A result outside -2^63 to 2^63\n\
-        - 1 is the event V.",
+        it is left out. So it gives numbers below 0. A result outside -2^63 to\n\
+        2^63-1 is the event V.",
         example: Example::Good(" NEG $0,1                 $0 is -1"),
     },
     Row {
@@ -115,8 +115,8 @@ pub static NUMBERS: [Row; 54] = [
     Row {
         topic: Topic::Operation("SL"),
         says: "s($X) <- s($Y) * 2^u($Z)\n\
-        Shifts left: each place doubles the number. A result outside -2^63 to 2^63 -\n\
-        1 is an overflow, the event V; $X then has its low 64 bits.",
+        Shifts left: each place doubles the number. A result outside -2^63 to 2^63-1\n\
+        is an overflow, the event V; $X then has its low 64 bits.",
         example: Example::Good(" SL $0,$0,3               eight times $0"),
     },
     Row {

@@ -35,9 +35,8 @@ pub static PSEUDO: [Row; 9] = [
     },
     Row {
         topic: Topic::Operation("LOCAL"),
-        says: "the assembler asks that $X is below the global registers Says that the\n\
-        program uses $X as a local register. The source is refused where GREG has\n\
-        been given that register.",
+        says: "Says that the program uses $X as a local register. The source is refused\n\
+        where GREG has been given that register.",
         example: Example::Good(" LOCAL $40"),
     },
     Row {
