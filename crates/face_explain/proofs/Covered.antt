@@ -17,7 +17,7 @@ use Rattle.mx_explain.specs.declared.row.Row.{Row}
 use Rattle.mx_explain.specs.Topics.{number_of, name_of}
 use Rattle.mx_explain.specs.Facts.{value_of}
 use Rattle.mx_explain.specs.Matching.{fits, found, is_number}
-use Rattle.face_explain.specs.Tables.{table, fault_rows, operation_rows, symbol_rows}
+use Rattle.face_explain.specs.Tables.{table, fault_rows, operation_rows, symbol_rows, sources, objects, stops, word_kinds, inside, numbers, choices, memory, floats, pseudos, registers, others}
 use Rattle.face_explain.specs.Known.{is_fault, is_kind, is_operation, is_symbol, explains, is_known}
 
 -- ---- a row is found by its number and by its name
@@ -105,11 +105,11 @@ kind-covered : ℕ → Bool
 kind-covered n = is_empty (usage_name_of n) || has (is_kind n)
 
 faults-below : below fault-covered 141 ≡ true
-unfolding table fault_rows operation_rows symbol_rows
+unfolding table fault_rows operation_rows symbol_rows sources objects stops word_kinds inside numbers choices memory floats pseudos registers others
 faults-below = refl
 
 kinds-below : below kind-covered 11 ≡ true
-unfolding table fault_rows operation_rows symbol_rows
+unfolding table fault_rows operation_rows symbol_rows sources objects stops word_kinds inside numbers choices memory floats pseudos registers others
 kinds-below = refl
 
 no-fault : (n : ℕ) → 141 ≤ n → fault_name_of n ≡ []
@@ -149,11 +149,11 @@ listed p name (entry ∷ entries) v all e =
     listed-step p name entry.0 entry.1 (first_of name entries) (bytes_eq entry.0 name) refl (and_parts (p entry.0) _ all).0 v (λ more. listed p name entries v (and_parts (p entry.0) _ all).1 more) e
 
 operations-covered : list_all (λ (e : List ℕ × Op). has (is_operation e.0)) operations ≡ true
-unfolding table fault_rows operation_rows symbol_rows operations opcode_names opcode_rows pseudo_operations chosen_operations
+unfolding table fault_rows operation_rows symbol_rows sources objects stops word_kinds inside numbers choices memory floats pseudos registers others operations opcode_names opcode_rows pseudo_operations chosen_operations
 operations-covered = refl
 
 symbols-covered : list_all (λ (e : List ℕ × ℕ). has (is_symbol e.0)) predefined_names ≡ true
-unfolding table fault_rows operation_rows symbol_rows predefined_names special_registers
+unfolding table fault_rows operation_rows symbol_rows sources objects stops word_kinds inside numbers choices memory floats pseudos registers others predefined_names special_registers
 symbols-covered = refl
 
 operation-there : (name : List ℕ) (op : Op) → operation_of name ≡ Some op → has (is_operation name) ≡ true
@@ -185,7 +185,7 @@ pub symbols-explained : (name : List ℕ) (v : ℕ) → value_of name ≡ Some v
 symbols-explained name v e = by name (is_symbol name) (λ row at. by-name name row (symbol-name name row.topic at)) (symbol-there name v e)
 
 pub all-known : list_all (λ (row : Row). is_known row.topic) table ≡ true
-unfolding table fault_rows operation_rows symbol_rows operation_of operations opcode_names opcode_rows pseudo_operations chosen_operations predefined_value predefined_names special_registers
+unfolding table fault_rows operation_rows symbol_rows sources objects stops word_kinds inside numbers choices memory floats pseudos registers others operation_of operations opcode_names opcode_rows pseudo_operations chosen_operations predefined_value predefined_names special_registers
 all-known = refl
 
 pub ruleset covered = (faults-explained, names-explained, kinds-explained, kind-names-explained, operations-explained, symbols-explained)

@@ -2,17 +2,7 @@
 use Rattle.std.specs.Prelude.{ℕ, ◌-◌, ◌==◌, Bool, List, [], ◌∷◌, ◌++◌, length, replicate, is_empty, codes, if◌then◌else◌}
 use Rattle.mx_explain.specs.declared.row.Row.{Row}
 use Rattle.mx_explain.specs.Texts.{label}
-use Rattle.mx_explain.specs.declared.sources.TheConstants.{SOURCES}
-use Rattle.mx_explain.specs.declared.objects.TheConstants.{OBJECTS}
-use Rattle.mx_explain.specs.declared.stops.TheConstants.{STOPS}
-use Rattle.mx_explain.specs.declared.kinds.TheConstants.{KINDS}
-use Rattle.mx_explain.specs.declared.inside.TheConstants.{INSIDE}
-use Rattle.mx_operations.specs.declared.numbers.TheConstants.{NUMBERS}
-use Rattle.mx_operations.specs.declared.choices.TheConstants.{CHOICES}
-use Rattle.mx_operations.specs.declared.memory.TheConstants.{MEMORY}
-use Rattle.mx_operations.specs.declared.floats.TheConstants.{FLOATS}
-use Rattle.mx_operations.specs.declared.pseudo.TheConstants.{PSEUDO}
-use Rattle.face_explain.specs.declared.symbols.TheConstants.{REGISTERS, SYMBOLS}
+use Rattle.face_explain.specs.Tables.{sources, objects, stops, word_kinds, inside, numbers, choices, memory, floats, pseudos, registers, others}
 
 -- what follows a cell: the end of the list; the end of a line, if no cell is left to its right; or blanks up to the next column
 abbrev pub gap : Bool → ℕ → ℕ → List ℕ
@@ -36,18 +26,18 @@ part title rows width most = title ++ codes "\n  " ++ cells width most most rows
 
 unfoldable pub fault_list : List ℕ
 fault_list =
-    part (codes "Faults of a source") SOURCES 24 2 ++ part (codes "Faults of an object") OBJECTS 24 2
-    ++ part (codes "Reasons of a stop") STOPS 24 2 ++ part (codes "Kinds of faulty words") KINDS 24 2
-    ++ part (codes "Numbers inside the program") INSIDE 24 2
+    part (codes "Faults of a source") sources 24 2 ++ part (codes "Faults of an object") objects 24 2
+    ++ part (codes "Reasons of a stop") stops 24 2 ++ part (codes "Kinds of faulty words") word_kinds 24 2
+    ++ part (codes "Numbers inside the program") inside 24 2
 
 unfoldable pub operation_list : List ℕ
 operation_list =
-    part (codes "Instructions on numbers and bits") NUMBERS 8 8 ++ part (codes "Instructions that choose") CHOICES 8 8
-    ++ part (codes "Instructions on memory and control") MEMORY 8 8
-    ++ part (codes "Instructions that are not performed") FLOATS 8 8 ++ part (codes "Pseudo-operations") PSEUDO 8 8
+    part (codes "Instructions on numbers and bits") numbers 8 8 ++ part (codes "Instructions that choose") choices 8 8
+    ++ part (codes "Instructions on memory and control") memory 8 8
+    ++ part (codes "Instructions that are not performed") floats 8 8 ++ part (codes "Pseudo-operations") pseudos 8 8
 
 unfoldable pub symbol_list : List ℕ
-symbol_list = part (codes "Special registers") REGISTERS 8 8 ++ part (codes "Other predefined symbols") SYMBOLS 18 3
+symbol_list = part (codes "Special registers") registers 8 8 ++ part (codes "Other predefined symbols") others 18 3
 
 unfoldable pub whole_list : List ℕ
 whole_list = fault_list ++ operation_list ++ symbol_list

@@ -6,9 +6,11 @@ ghost use Rattle.face_explain.specs.Answers as spec;
 ghost use Rattle.face_explain.specs.Tables as tables;
 
 use crate::nearest::unknown_text;
-use crate::symbols::{REGISTERS, SYMBOLS};
-use mx_explain::{INSIDE, KINDS, OBJECTS, Row, SOURCES, STOPS, add_row, fits};
-use mx_operations::{CHOICES, FLOATS, MEMORY, NUMBERS, PSEUDO};
+use crate::parts::{
+    choices, floats, inside, memory, numbers, objects, others, pseudos, registers, sources, stops,
+    word_kinds,
+};
+use mx_explain::{Row, add_row, fits};
 use mx_word::{Bytes, NoMemory};
 use std::alloc::Global;
 
@@ -44,11 +46,11 @@ fn add_found(alloc: Global, text: &mut Bytes, word: &str, rows: &[Row]) -> Resul
 fn add_faults(alloc: Global, text: &mut Bytes, word: &str) -> Result<(), NoMemory>
     ensures { OnOk result (text.new ≡ text.old ++ flat_map (spec.fitting word.now) tables.fault_rows) }
 {
-    add_found(alloc, text, word, &SOURCES)?;
-    add_found(alloc, text, word, &OBJECTS)?;
-    add_found(alloc, text, word, &STOPS)?;
-    add_found(alloc, text, word, &KINDS)?;
-    add_found(alloc, text, word, &INSIDE)
+    add_found(alloc, text, word, sources())?;
+    add_found(alloc, text, word, objects())?;
+    add_found(alloc, text, word, stops())?;
+    add_found(alloc, text, word, word_kinds())?;
+    add_found(alloc, text, word, inside())
 }
 
 /// Adds the texts of the operations that a word is about.
@@ -56,11 +58,11 @@ fn add_faults(alloc: Global, text: &mut Bytes, word: &str) -> Result<(), NoMemor
 fn add_operations(alloc: Global, text: &mut Bytes, word: &str) -> Result<(), NoMemory>
     ensures { OnOk result (text.new ≡ text.old ++ flat_map (spec.fitting word.now) tables.operation_rows) }
 {
-    add_found(alloc, text, word, &NUMBERS)?;
-    add_found(alloc, text, word, &CHOICES)?;
-    add_found(alloc, text, word, &MEMORY)?;
-    add_found(alloc, text, word, &FLOATS)?;
-    add_found(alloc, text, word, &PSEUDO)
+    add_found(alloc, text, word, numbers())?;
+    add_found(alloc, text, word, choices())?;
+    add_found(alloc, text, word, memory())?;
+    add_found(alloc, text, word, floats())?;
+    add_found(alloc, text, word, pseudos())
 }
 
 /// Adds the texts of the predefined symbols that a word is about.
@@ -68,8 +70,8 @@ fn add_operations(alloc: Global, text: &mut Bytes, word: &str) -> Result<(), NoM
 fn add_symbols(alloc: Global, text: &mut Bytes, word: &str) -> Result<(), NoMemory>
     ensures { OnOk result (text.new ≡ text.old ++ flat_map (spec.fitting word.now) tables.symbol_rows) }
 {
-    add_found(alloc, text, word, &REGISTERS)?;
-    add_found(alloc, text, word, &SYMBOLS)
+    add_found(alloc, text, word, registers())?;
+    add_found(alloc, text, word, others())
 }
 
 /// The texts of all rows that a word is about.

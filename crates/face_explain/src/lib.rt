@@ -2,12 +2,13 @@
 #![tactic(auto)]
 
 mod answer;
+mod columns;
 mod laws;
-mod list;
 mod near;
 mod nearest;
+mod parts;
 mod symbols;
 
 pub use answer::{Answer, explain};
+pub use columns::list;
 pub use laws::{what_is_explained_is_in_the_tables, what_the_tables_have_is_explained};
-pub use list::list;

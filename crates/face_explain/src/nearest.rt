@@ -1,14 +1,16 @@
 //! Words that no row is about.
 
-ghost use Rattle.std.specs.Prelude.{◌≡◌, ◌++◌, IfOk, OnOk, find, option_copied};
+ghost use Rattle.std.specs.Prelude.{◌≡◌, ◌++◌, IfOk, OnOk, find};
 ghost use Rattle.face_explain.specs.Answers as spec;
 ghost use Rattle.face_explain.specs.Near.{is_near};
 ghost use Rattle.face_explain.specs.Tables as tables;
 
 use crate::near::is_near;
-use crate::symbols::{REGISTERS, SYMBOLS};
-use mx_explain::{KINDS, OBJECTS, Row, SOURCES, STOPS, name_of};
-use mx_operations::{CHOICES, FLOATS, MEMORY, NUMBERS, PSEUDO};
+use crate::parts::{
+    choices, floats, inside, memory, numbers, objects, others, pseudos, registers, sources, stops,
+    word_kinds,
+};
+use mx_explain::{Row, name_of};
 use mx_word::{Bytes, NoMemory};
 use std::alloc::Global;
 
@@ -24,22 +26,46 @@ fn first_near(word: &str, rows: &'static [Row]) -> Option<Row>
     None
 }
 
-/// The first row of the whole table whose name a word is within one letter of.
-#[tactic(auto, using(crate::proofs::Firsts::firsts), unfolding(crate::specs::Answers::nearest, crate::specs::Tables::fault_rows, crate::specs::Tables::operation_rows, crate::specs::Tables::symbol_rows))]
+/// The first operation whose name a word is within one letter of.
+#[tactic(auto, using(crate::proofs::Firsts::firsts), unfolding(crate::specs::Tables::operation_rows))]
+fn nearest_operation(word: &str) -> Option<Row>
+    ensures { result ≡ find (is_near word.now) tables.operation_rows }
+{
+    first_near(word, numbers())
+        .or(first_near(word, choices()))
+        .or(first_near(word, memory()))
+        .or(first_near(word, floats()))
+        .or(first_near(word, pseudos()))
+}
+
+/// The first predefined symbol whose name a word is within one letter of.
+#[tactic(auto, using(crate::proofs::Firsts::firsts), unfolding(crate::specs::Tables::symbol_rows))]
+fn nearest_symbol(word: &str) -> Option<Row>
+    ensures { result ≡ find (is_near word.now) tables.symbol_rows }
+{
+    first_near(word, registers()).or(first_near(word, others()))
+}
+
+/// The first fault, reason or kind whose name a word is within one letter of.
+#[tactic(auto, using(crate::proofs::Firsts::firsts), unfolding(crate::specs::Tables::fault_rows))]
+fn nearest_fault(word: &str) -> Option<Row>
+    ensures { result ≡ find (is_near word.now) tables.fault_rows }
+{
+    first_near(word, sources())
+        .or(first_near(word, objects()))
+        .or(first_near(word, stops()))
+        .or(first_near(word, word_kinds()))
+        .or(first_near(word, inside()))
+}
+
+/// The first row of all whose name a word is within one letter of.
+#[tactic(auto, using(crate::proofs::Firsts::firsts), unfolding(crate::specs::Answers::nearest))]
 fn nearest(word: &str) -> Option<Row>
     ensures { result ≡ spec.nearest word.now }
 {
-    first_near(word, &NUMBERS)
-        .or(first_near(word, &CHOICES))
-        .or(first_near(word, &MEMORY))
-        .or(first_near(word, &FLOATS))
-        .or(first_near(word, &PSEUDO))
-        .or(first_near(word, &REGISTERS))
-        .or(first_near(word, &SYMBOLS))
-        .or(first_near(word, &SOURCES))
-        .or(first_near(word, &OBJECTS))
-        .or(first_near(word, &STOPS))
-        .or(first_near(word, &KINDS))
+    nearest_operation(word)
+        .or(nearest_symbol(word))
+        .or(nearest_fault(word))
 }
 
 /// Adds the nearest word, if there is one, or where to find all.

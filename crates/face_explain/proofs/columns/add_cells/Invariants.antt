@@ -1,6 +1,6 @@
 use Rattle.std.proofs.Common.{◌≡◌, ◌++◌, length}
 use Rattle.face_explain.specs.Lists.{cells}
-use Rattle.face_explain.proofs.list.add_cells.Given as goal
+use Rattle.face_explain.proofs.columns.add_cells.Given as goal
 
 abbrev pub invariant-loop-left : goal.invariant-loop-left
 invariant-loop-left l = l.fn.text ++ cells l.width l.most l.most l.rows ≡ l.text ++ cells l.width l.most l.left l.rest

@@ -3,9 +3,11 @@
 ghost use Rattle.std.specs.Prelude.{◌≡◌, ◌++◌, ◌-◌, IfOk, OnOk, is_empty, length, replicate};
 ghost use Rattle.face_explain.specs.Lists as spec;
 
-use crate::symbols::{REGISTERS, SYMBOLS};
-use mx_explain::{INSIDE, KINDS, OBJECTS, Row, SOURCES, STOPS, add_label};
-use mx_operations::{CHOICES, FLOATS, MEMORY, NUMBERS, PSEUDO};
+use crate::parts::{
+    choices, floats, inside, memory, numbers, objects, others, pseudos, registers, sources, stops,
+    word_kinds,
+};
+use mx_explain::{Row, add_label};
 use mx_word::{Bytes, NoMemory};
 use std::alloc::Global;
 
@@ -91,11 +93,11 @@ fn add_part(
 fn add_faults(text: &mut Bytes) -> Result<(), NoMemory>
     ensures { OnOk result (text.new ≡ text.old ++ spec.fault_list) }
 {
-    add_part(text, "Faults of a source", &SOURCES, 24, 2)?;
-    add_part(text, "Faults of an object", &OBJECTS, 24, 2)?;
-    add_part(text, "Reasons of a stop", &STOPS, 24, 2)?;
-    add_part(text, "Kinds of faulty words", &KINDS, 24, 2)?;
-    add_part(text, "Numbers inside the program", &INSIDE, 24, 2)
+    add_part(text, "Faults of a source", sources(), 24, 2)?;
+    add_part(text, "Faults of an object", objects(), 24, 2)?;
+    add_part(text, "Reasons of a stop", stops(), 24, 2)?;
+    add_part(text, "Kinds of faulty words", word_kinds(), 24, 2)?;
+    add_part(text, "Numbers inside the program", inside(), 24, 2)
 }
 
 /// Adds the part of operations.
@@ -103,11 +105,11 @@ fn add_faults(text: &mut Bytes) -> Result<(), NoMemory>
 fn add_operations(text: &mut Bytes) -> Result<(), NoMemory>
     ensures { OnOk result (text.new ≡ text.old ++ spec.operation_list) }
 {
-    add_part(text, "Instructions on numbers and bits", &NUMBERS, 8, 8)?;
-    add_part(text, "Instructions that choose", &CHOICES, 8, 8)?;
-    add_part(text, "Instructions on memory and control", &MEMORY, 8, 8)?;
-    add_part(text, "Instructions that are not performed", &FLOATS, 8, 8)?;
-    add_part(text, "Pseudo-operations", &PSEUDO, 8, 8)
+    add_part(text, "Instructions on numbers and bits", numbers(), 8, 8)?;
+    add_part(text, "Instructions that choose", choices(), 8, 8)?;
+    add_part(text, "Instructions on memory and control", memory(), 8, 8)?;
+    add_part(text, "Instructions that are not performed", floats(), 8, 8)?;
+    add_part(text, "Pseudo-operations", pseudos(), 8, 8)
 }
 
 /// Adds the part of predefined symbols.
@@ -115,8 +117,8 @@ fn add_operations(text: &mut Bytes) -> Result<(), NoMemory>
 fn add_symbols(text: &mut Bytes) -> Result<(), NoMemory>
     ensures { OnOk result (text.new ≡ text.old ++ spec.symbol_list) }
 {
-    add_part(text, "Special registers", &REGISTERS, 8, 8)?;
-    add_part(text, "Other predefined symbols", &SYMBOLS, 18, 3)
+    add_part(text, "Special registers", registers(), 8, 8)?;
+    add_part(text, "Other predefined symbols", others(), 18, 3)
 }
 
 /// A list of all that is explained: each row of the table by its number and its name, in columns below titles. It refuses only
