@@ -1,5 +1,5 @@
 -- The whole table against the tables of the program and of MMIXAL, by computing.
-use Rattle.std.proofs.Common.{◌≡◌, ◌≢◌, ℕ, zero, suc, Bool, true, false, not, ◌&&◌, ◌||◌, ◌+◌, ◌<◌, ◌≤◌, List, [], ◌∷◌, ◌++◌, length, is_empty, Option, Some, None, IsTrue, inl, inr, cond, bytes_eq, decimal, refl, sym, ap, ◌∙◌, arith, rules}
+use Rattle.std.proofs.Common.{◌≡◌, ◌≢◌, ℕ, zero, suc, Bool, true, false, not, ◌&&◌, ◌||◌, ◌+◌, ◌<◌, ◌≤◌, List, [], ◌∷◌, ◌++◌, length, Option, Some, None, IsTrue, inl, inr, cond, bytes_eq, decimal, refl, sym, ap, ◌∙◌, arith, rules}
 use Rattle.std.proofs.lemmas.Bool.{and_parts, eqb-true, cond_both, cases_lt}
 use Rattle.std.proofs.lemmas.Bool.Decides.{nat_tests}
 use Rattle.std.proofs.lemmas.Slice.Eq.{bytes_eq-Decides}
@@ -17,7 +17,10 @@ use Rattle.mx_explain.specs.declared.row.Row.{Row}
 use Rattle.mx_explain.specs.Topics.{number_of, name_of}
 use Rattle.mx_explain.specs.Facts.{value_of}
 use Rattle.mx_explain.specs.Matching.{fits, found, is_number}
-use Rattle.face_explain.specs.Tables.{table, fault_rows, operation_rows, symbol_rows, sources, objects, stops, word_kinds, inside, numbers, choices, memory, floats, pseudos, registers, others}
+use Rattle.face_explain.specs.Tables.{table, fault_rows, operation_rows, symbol_rows}
+use Rattle.mx_explain.specs.Parts.{source_rows, object_rows, stop_rows, kind_rows, inside_rows}
+use Rattle.mx_operations.specs.Parts.{number_rows, choice_rows, memory_rows, float_rows, pseudo_rows}
+use Rattle.face_explain.specs.Parts.{register_rows, other_rows}
 use Rattle.face_explain.specs.Known.{is_fault, is_kind, is_operation, is_symbol, explains, is_known}
 
 -- ---- a row is found by its number and by its name
@@ -97,19 +100,23 @@ each-below p (suc k) n all less =
       | inr there ↦ let same : n ≡ k = omega (arith, less, there) in rw same (and_parts (p k) (below p k) all).0
     ]
 
+no_bytes : List ℕ → Bool
+no_bytes [] = true
+no_bytes (b ∷ bs) = false
+
 -- a number has no name, or the table has a row on it
 fault-covered : ℕ → Bool
-fault-covered n = is_empty (fault_name_of n) || has (is_fault n)
+fault-covered n = no_bytes (fault_name_of n) || has (is_fault n)
 
 kind-covered : ℕ → Bool
-kind-covered n = is_empty (usage_name_of n) || has (is_kind n)
+kind-covered n = no_bytes (usage_name_of n) || has (is_kind n)
 
 faults-below : below fault-covered 141 ≡ true
-unfolding table fault_rows operation_rows symbol_rows sources objects stops word_kinds inside numbers choices memory floats pseudos registers others
+unfolding table fault_rows operation_rows symbol_rows source_rows object_rows stop_rows kind_rows inside_rows number_rows choice_rows memory_rows float_rows pseudo_rows register_rows other_rows
 faults-below = refl
 
 kinds-below : below kind-covered 11 ≡ true
-unfolding table fault_rows operation_rows symbol_rows sources objects stops word_kinds inside numbers choices memory floats pseudos registers others
+unfolding table fault_rows operation_rows symbol_rows source_rows object_rows stop_rows kind_rows inside_rows number_rows choice_rows memory_rows float_rows pseudo_rows register_rows other_rows
 kinds-below = refl
 
 no-fault : (n : ℕ) → 141 ≤ n → fault_name_of n ≡ []
@@ -118,7 +125,7 @@ no-fault n most = grind (arith, nat_tests, most)
 no-kind : (n : ℕ) → 11 ≤ n → usage_name_of n ≡ []
 no-kind n most = grind (arith, nat_tests, most)
 
-named : (name : List ℕ) (b : Bool) → name ≢ [] → (is_empty name || b) ≡ true → b ≡ true
+named : (name : List ℕ) (b : Bool) → name ≢ [] → (no_bytes name || b) ≡ true → b ≡ true
 named [] b some e = absurd (some refl)
 named (c ∷ cs) b some e = e
 
@@ -149,11 +156,11 @@ listed p name (entry ∷ entries) v all e =
     listed-step p name entry.0 entry.1 (first_of name entries) (bytes_eq entry.0 name) refl (and_parts (p entry.0) _ all).0 v (λ more. listed p name entries v (and_parts (p entry.0) _ all).1 more) e
 
 operations-covered : list_all (λ (e : List ℕ × Op). has (is_operation e.0)) operations ≡ true
-unfolding table fault_rows operation_rows symbol_rows sources objects stops word_kinds inside numbers choices memory floats pseudos registers others operations opcode_names opcode_rows pseudo_operations chosen_operations
+unfolding table fault_rows operation_rows symbol_rows source_rows object_rows stop_rows kind_rows inside_rows number_rows choice_rows memory_rows float_rows pseudo_rows register_rows other_rows operations opcode_names opcode_rows pseudo_operations chosen_operations
 operations-covered = refl
 
 symbols-covered : list_all (λ (e : List ℕ × ℕ). has (is_symbol e.0)) predefined_names ≡ true
-unfolding table fault_rows operation_rows symbol_rows sources objects stops word_kinds inside numbers choices memory floats pseudos registers others predefined_names special_registers
+unfolding table fault_rows operation_rows symbol_rows source_rows object_rows stop_rows kind_rows inside_rows number_rows choice_rows memory_rows float_rows pseudo_rows register_rows other_rows predefined_names special_registers
 symbols-covered = refl
 
 operation-there : (name : List ℕ) (op : Op) → operation_of name ≡ Some op → has (is_operation name) ≡ true
@@ -185,7 +192,7 @@ pub symbols-explained : (name : List ℕ) (v : ℕ) → value_of name ≡ Some v
 symbols-explained name v e = by name (is_symbol name) (λ row at. by-name name row (symbol-name name row.topic at)) (symbol-there name v e)
 
 pub all-known : list_all (λ (row : Row). is_known row.topic) table ≡ true
-unfolding table fault_rows operation_rows symbol_rows sources objects stops word_kinds inside numbers choices memory floats pseudos registers others operation_of operations opcode_names opcode_rows pseudo_operations chosen_operations predefined_value predefined_names special_registers
+unfolding table fault_rows operation_rows symbol_rows source_rows object_rows stop_rows kind_rows inside_rows number_rows choice_rows memory_rows float_rows pseudo_rows register_rows other_rows operation_of operations opcode_names opcode_rows pseudo_operations chosen_operations predefined_value predefined_names special_registers
 all-known = refl
 
 pub ruleset covered = (faults-explained, names-explained, kinds-explained, kind-names-explained, operations-explained, symbols-explained)

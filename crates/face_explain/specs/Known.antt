@@ -1,5 +1,5 @@
 -- What the table has to have: a row for each number and name of the tables of the program and of MMIXAL.
-use Rattle.std.specs.Prelude.{ℕ, Bool, true, false, not, ◌==◌, List, is_empty, is_some, bytes_eq, decimal}
+use Rattle.std.specs.Prelude.{ℕ, Bool, true, false, not, ◌==◌, List, length, is_some, bytes_eq, decimal}
 use Rattle.std.specs.List.{list_any}
 use Rattle.mx_ops.specs.Opcodes.{operation_of}
 use Rattle.mx_outcome.specs.Names.{fault_name_of, usage_name_of}
@@ -40,11 +40,11 @@ explains word test = list_any (λ row. test row.topic) (found word table)
 
 -- whether the tables of the program and of MMIXAL have the number or the name of a topic
 abbrev pub is_known : Topic → Bool
-is_known (Source n) = not (is_empty (fault_name_of n))
-is_known (Object n) = not (is_empty (fault_name_of n))
-is_known (Stop n) = not (is_empty (fault_name_of n))
-is_known (Inside n) = not (is_empty (fault_name_of n))
-is_known (Kind n) = not (is_empty (usage_name_of n))
+is_known (Source n) = not (length (fault_name_of n) == 0)
+is_known (Object n) = not (length (fault_name_of n) == 0)
+is_known (Stop n) = not (length (fault_name_of n) == 0)
+is_known (Inside n) = not (length (fault_name_of n) == 0)
+is_known (Kind n) = not (length (usage_name_of n) == 0)
 is_known (Operation name) = is_some (operation_of name.now)
 is_known (Unperformed name) = is_some (operation_of name.now)
 is_known (Symbol name) = is_some (value_of name.now)

@@ -1,4 +1,5 @@
 pub mod Near
+pub mod Parts
 pub mod Tables
 pub mod Answers
 pub mod Lists

@@ -6,11 +6,9 @@ ghost use Rattle.face_explain.specs.Answers as spec;
 ghost use Rattle.face_explain.specs.Tables as tables;
 
 use crate::nearest::unknown_text;
-use crate::parts::{
-    choices, floats, inside, memory, numbers, objects, others, pseudos, registers, sources, stops,
-    word_kinds,
-};
-use mx_explain::{Row, add_row, fits};
+use crate::parts::{other_rows, register_rows};
+use mx_explain::{Row, add_row, fits, inside_rows, kind_rows, object_rows, source_rows, stop_rows};
+use mx_operations::{choice_rows, float_rows, memory_rows, number_rows, pseudo_rows};
 use mx_word::{Bytes, NoMemory};
 use std::alloc::Global;
 
@@ -46,11 +44,11 @@ fn add_found(alloc: Global, text: &mut Bytes, word: &str, rows: &[Row]) -> Resul
 fn add_faults(alloc: Global, text: &mut Bytes, word: &str) -> Result<(), NoMemory>
     ensures { OnOk result (text.new ≡ text.old ++ flat_map (spec.fitting word.now) tables.fault_rows) }
 {
-    add_found(alloc, text, word, sources())?;
-    add_found(alloc, text, word, objects())?;
-    add_found(alloc, text, word, stops())?;
-    add_found(alloc, text, word, word_kinds())?;
-    add_found(alloc, text, word, inside())
+    add_found(alloc, text, word, source_rows())?;
+    add_found(alloc, text, word, object_rows())?;
+    add_found(alloc, text, word, stop_rows())?;
+    add_found(alloc, text, word, kind_rows())?;
+    add_found(alloc, text, word, inside_rows())
 }
 
 /// Adds the texts of the operations that a word is about.
@@ -58,11 +56,11 @@ fn add_faults(alloc: Global, text: &mut Bytes, word: &str) -> Result<(), NoMemor
 fn add_operations(alloc: Global, text: &mut Bytes, word: &str) -> Result<(), NoMemory>
     ensures { OnOk result (text.new ≡ text.old ++ flat_map (spec.fitting word.now) tables.operation_rows) }
 {
-    add_found(alloc, text, word, numbers())?;
-    add_found(alloc, text, word, choices())?;
-    add_found(alloc, text, word, memory())?;
-    add_found(alloc, text, word, floats())?;
-    add_found(alloc, text, word, pseudos())
+    add_found(alloc, text, word, number_rows())?;
+    add_found(alloc, text, word, choice_rows())?;
+    add_found(alloc, text, word, memory_rows())?;
+    add_found(alloc, text, word, float_rows())?;
+    add_found(alloc, text, word, pseudo_rows())
 }
 
 /// Adds the texts of the predefined symbols that a word is about.
@@ -70,8 +68,8 @@ fn add_operations(alloc: Global, text: &mut Bytes, word: &str) -> Result<(), NoM
 fn add_symbols(alloc: Global, text: &mut Bytes, word: &str) -> Result<(), NoMemory>
     ensures { OnOk result (text.new ≡ text.old ++ flat_map (spec.fitting word.now) tables.symbol_rows) }
 {
-    add_found(alloc, text, word, registers())?;
-    add_found(alloc, text, word, others())
+    add_found(alloc, text, word, register_rows())?;
+    add_found(alloc, text, word, other_rows())
 }
 
 /// The texts of all rows that a word is about.

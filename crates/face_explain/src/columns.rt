@@ -1,13 +1,11 @@
 //! A list of all that is explained, in columns.
 
-ghost use Rattle.std.specs.Prelude.{◌≡◌, ◌++◌, ◌-◌, IfOk, OnOk, is_empty, length, replicate};
+ghost use Rattle.std.specs.Prelude.{◌≡◌, ◌++◌, ◌-◌, IfOk, OnOk, length, replicate};
 ghost use Rattle.face_explain.specs.Lists as spec;
 
-use crate::parts::{
-    choices, floats, inside, memory, numbers, objects, others, pseudos, registers, sources, stops,
-    word_kinds,
-};
-use mx_explain::{Row, add_label};
+use crate::parts::{other_rows, register_rows};
+use mx_explain::{Row, add_label, inside_rows, kind_rows, object_rows, source_rows, stop_rows};
+use mx_operations::{choice_rows, float_rows, memory_rows, number_rows, pseudo_rows};
 use mx_word::{Bytes, NoMemory};
 use std::alloc::Global;
 
@@ -93,11 +91,11 @@ fn add_part(
 fn add_faults(text: &mut Bytes) -> Result<(), NoMemory>
     ensures { OnOk result (text.new ≡ text.old ++ spec.fault_list) }
 {
-    add_part(text, "Faults of a source", sources(), 24, 2)?;
-    add_part(text, "Faults of an object", objects(), 24, 2)?;
-    add_part(text, "Reasons of a stop", stops(), 24, 2)?;
-    add_part(text, "Kinds of faulty words", word_kinds(), 24, 2)?;
-    add_part(text, "Numbers inside the program", inside(), 24, 2)
+    add_part(text, "Faults of a source", source_rows(), 24, 2)?;
+    add_part(text, "Faults of an object", object_rows(), 24, 2)?;
+    add_part(text, "Reasons of a stop", stop_rows(), 24, 2)?;
+    add_part(text, "Kinds of faulty words", kind_rows(), 24, 2)?;
+    add_part(text, "Numbers inside the program", inside_rows(), 24, 2)
 }
 
 /// Adds the part of operations.
@@ -105,11 +103,29 @@ fn add_faults(text: &mut Bytes) -> Result<(), NoMemory>
 fn add_operations(text: &mut Bytes) -> Result<(), NoMemory>
     ensures { OnOk result (text.new ≡ text.old ++ spec.operation_list) }
 {
-    add_part(text, "Instructions on numbers and bits", numbers(), 8, 8)?;
-    add_part(text, "Instructions that choose", choices(), 8, 8)?;
-    add_part(text, "Instructions on memory and control", memory(), 8, 8)?;
-    add_part(text, "Instructions that are not performed", floats(), 8, 8)?;
-    add_part(text, "Pseudo-operations", pseudos(), 8, 8)
+    add_part(
+        text,
+        "Instructions on numbers and bits",
+        number_rows(),
+        8,
+        8,
+    )?;
+    add_part(text, "Instructions that choose", choice_rows(), 8, 8)?;
+    add_part(
+        text,
+        "Instructions on memory and control",
+        memory_rows(),
+        8,
+        8,
+    )?;
+    add_part(
+        text,
+        "Instructions that are not performed",
+        float_rows(),
+        8,
+        8,
+    )?;
+    add_part(text, "Pseudo-operations", pseudo_rows(), 8, 8)
 }
 
 /// Adds the part of predefined symbols.
@@ -117,8 +133,8 @@ fn add_operations(text: &mut Bytes) -> Result<(), NoMemory>
 fn add_symbols(text: &mut Bytes) -> Result<(), NoMemory>
     ensures { OnOk result (text.new ≡ text.old ++ spec.symbol_list) }
 {
-    add_part(text, "Special registers", registers(), 8, 8)?;
-    add_part(text, "Other predefined symbols", others(), 18, 3)
+    add_part(text, "Special registers", register_rows(), 8, 8)?;
+    add_part(text, "Other predefined symbols", other_rows(), 18, 3)
 }
 
 /// A list of all that is explained: each row of the table by its number and its name, in columns below titles. It refuses only

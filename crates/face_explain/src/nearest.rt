@@ -6,11 +6,9 @@ ghost use Rattle.face_explain.specs.Near.{is_near};
 ghost use Rattle.face_explain.specs.Tables as tables;
 
 use crate::near::is_near;
-use crate::parts::{
-    choices, floats, inside, memory, numbers, objects, others, pseudos, registers, sources, stops,
-    word_kinds,
-};
-use mx_explain::{Row, name_of};
+use crate::parts::{other_rows, register_rows};
+use mx_explain::{Row, inside_rows, kind_rows, name_of, object_rows, source_rows, stop_rows};
+use mx_operations::{choice_rows, float_rows, memory_rows, number_rows, pseudo_rows};
 use mx_word::{Bytes, NoMemory};
 use std::alloc::Global;
 
@@ -31,11 +29,11 @@ fn first_near(word: &str, rows: &'static [Row]) -> Option<Row>
 fn nearest_operation(word: &str) -> Option<Row>
     ensures { result ≡ find (is_near word.now) tables.operation_rows }
 {
-    first_near(word, numbers())
-        .or(first_near(word, choices()))
-        .or(first_near(word, memory()))
-        .or(first_near(word, floats()))
-        .or(first_near(word, pseudos()))
+    first_near(word, number_rows())
+        .or(first_near(word, choice_rows()))
+        .or(first_near(word, memory_rows()))
+        .or(first_near(word, float_rows()))
+        .or(first_near(word, pseudo_rows()))
 }
 
 /// The first predefined symbol whose name a word is within one letter of.
@@ -43,7 +41,7 @@ fn nearest_operation(word: &str) -> Option<Row>
 fn nearest_symbol(word: &str) -> Option<Row>
     ensures { result ≡ find (is_near word.now) tables.symbol_rows }
 {
-    first_near(word, registers()).or(first_near(word, others()))
+    first_near(word, register_rows()).or(first_near(word, other_rows()))
 }
 
 /// The first fault, reason or kind whose name a word is within one letter of.
@@ -51,11 +49,11 @@ fn nearest_symbol(word: &str) -> Option<Row>
 fn nearest_fault(word: &str) -> Option<Row>
     ensures { result ≡ find (is_near word.now) tables.fault_rows }
 {
-    first_near(word, sources())
-        .or(first_near(word, objects()))
-        .or(first_near(word, stops()))
-        .or(first_near(word, word_kinds()))
-        .or(first_near(word, inside()))
+    first_near(word, source_rows())
+        .or(first_near(word, object_rows()))
+        .or(first_near(word, stop_rows()))
+        .or(first_near(word, kind_rows()))
+        .or(first_near(word, inside_rows()))
 }
 
 /// The first row of all whose name a word is within one letter of.

@@ -3,3 +3,4 @@ pub mod Matching
 pub mod Operands
 pub mod Facts
 pub mod Texts
+pub mod Parts

@@ -3,7 +3,7 @@
 use crate::row::{Example, Row, Topic};
 
 /// Numbers of parts of the program, which no message has.
-pub static INSIDE: [Row; 4] = [
+pub(crate) static INSIDE: [Row; 4] = [
     Row {
         topic: Topic::Inside(100),
         says: "The number of the crate mx_registers for what the program tells as 114\n\

@@ -3,7 +3,7 @@
 use crate::row::{Example, Row, Topic};
 
 /// The kinds of faulty words, in their order.
-pub static KINDS: [Row; 9] = [
+pub(crate) static KINDS: [Row; 9] = [
     Row {
         topic: Topic::Kind(1),
         says: "There are no words after the name of the program. The first one is the\n\

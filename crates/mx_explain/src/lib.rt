@@ -7,16 +7,13 @@ mod kinds;
 mod matching;
 mod objects;
 mod operands;
+mod parts;
 mod row;
 mod sources;
 mod stops;
 mod text;
 
-pub use inside::INSIDE;
-pub use kinds::KINDS;
 pub use matching::fits;
-pub use objects::OBJECTS;
+pub use parts::{inside_rows, kind_rows, object_rows, source_rows, stop_rows};
 pub use row::{Example, Row, Topic, name_of};
-pub use sources::SOURCES;
-pub use stops::STOPS;
 pub use text::{add_label, add_row};

@@ -3,7 +3,7 @@
 use crate::row::{Example, Row, Topic};
 
 /// The faults of an object, in the order of their numbers.
-pub static OBJECTS: [Row; 15] = [
+pub(crate) static OBJECTS: [Row; 15] = [
     Row {
         topic: Topic::Object(60),
         says: "An object consists of tetras, and at its end 1 to 3 bytes are left over.",

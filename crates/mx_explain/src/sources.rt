@@ -3,7 +3,7 @@
 use crate::row::{Example, Row, Topic};
 
 /// The faults of a source, in the order of their numbers.
-pub static SOURCES: [Row; 43] = [
+pub(crate) static SOURCES: [Row; 43] = [
     Row {
         topic: Topic::Source(1),
         says: "A line may have 4,096 bytes, and this one has more, blanks and comments\n\

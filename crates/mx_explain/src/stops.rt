@@ -3,7 +3,7 @@
 use crate::row::{Example, Row, Topic};
 
 /// The reasons of a stop, in the order of their numbers.
-pub static STOPS: [Row; 14] = [
+pub(crate) static STOPS: [Row; 14] = [
     Row {
         topic: Topic::Stop(110),
         says: "An instruction on floating-point numbers, which this machine does not\n\

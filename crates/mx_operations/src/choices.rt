@@ -3,7 +3,7 @@
 use mx_explain::{Example, Row, Topic};
 
 /// Branches, and instructions that set a register by a condition.
-pub static CHOICES: [Row; 32] = [
+pub(crate) static CHOICES: [Row; 32] = [
     Row {
         topic: Topic::Operation("BN"),
         says: "if s($X) < 0, @ <- a\n\

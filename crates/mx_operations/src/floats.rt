@@ -3,7 +3,7 @@
 use mx_explain::{Example, Row, Topic};
 
 /// Instructions on floating-point numbers.
-pub static FLOATS: [Row; 21] = [
+pub(crate) static FLOATS: [Row; 21] = [
     Row {
         topic: Topic::Unperformed("FCMP"),
         says: "s($X) <- [f($Y) > f($Z)] - [f($Y) < f($Z)]\n\

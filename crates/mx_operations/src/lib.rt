@@ -5,10 +5,7 @@ mod choices;
 mod floats;
 mod memory;
 mod numbers;
+mod parts;
 mod pseudo;
 
-pub use choices::CHOICES;
-pub use floats::FLOATS;
-pub use memory::MEMORY;
-pub use numbers::NUMBERS;
-pub use pseudo::PSEUDO;
+pub use parts::{choice_rows, float_rows, memory_rows, number_rows, pseudo_rows};

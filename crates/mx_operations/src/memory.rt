@@ -3,7 +3,7 @@
 use mx_explain::{Example, Row, Topic};
 
 /// Loads, stores, jumps, subroutines, special registers and traps.
-pub static MEMORY: [Row; 43] = [
+pub(crate) static MEMORY: [Row; 43] = [
     Row {
         topic: Topic::Operation("LDB"),
         says: "s($X) <- s(M1[A]), where A = $Y + $Z\n\

@@ -3,7 +3,7 @@
 use mx_explain::{Example, Row, Topic};
 
 /// Instructions on numbers, bits and bytes of registers.
-pub static NUMBERS: [Row; 54] = [
+pub(crate) static NUMBERS: [Row; 54] = [
     Row {
         topic: Topic::Operation("MUL"),
         says: "s($X) <- s($Y) * s($Z)\n\

@@ -3,7 +3,7 @@
 use mx_explain::{Example, Row, Topic};
 
 /// The pseudo-operations.
-pub static PSEUDO: [Row; 9] = [
+pub(crate) static PSEUDO: [Row; 9] = [
     Row {
         topic: Topic::Operation("IS"),
         says: "its label <- v\n\
