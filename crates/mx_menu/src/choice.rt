@@ -1,0 +1,51 @@
+//! What the words of the command line choose.
+
+use crate::parser::parser;
+use crate::table::{COMMANDS, Face};
+use clap::{ArgMatches, Error};
+use std::alloc::Global;
+
+/// A command with what it is given: whether options stand there, and words, which are empty where the command takes none.
+#[derive(Clone, Copy)]
+pub struct Choice<'a> {
+    pub face: Face,
+    pub is_json: bool,
+    pub address: &'a str,
+    pub source: &'a str,
+}
+
+/// The command of this name. Every other name is taken for the last one.
+fn face_of(name: &str) -> Face {
+    for row in &COMMANDS {
+        if row.name == name {
+            return row.face;
+        }
+    }
+    Face::Count
+}
+
+/// The word of this name, or nothing.
+fn word<'a>(given: &ArgMatches<'a>, id: &str) -> &'a str {
+    given.get_str(id).unwrap_or("")
+}
+
+/// What the words choose.
+fn chosen<'a>(matches: &ArgMatches<'a>) -> Option<Choice<'a>> {
+    let (name, given) = matches.subcommand()?;
+    Some(Choice {
+        face: face_of(name),
+        is_json: given.get_flag("JSON"),
+        address: word(given, "ADDRESS"),
+        source: word(given, "SRC"),
+    })
+}
+
+/// What the words of the command line choose, of which the first is the program's name. No choice is left where there is no
+/// command, which `clap` refuses.
+///
+/// Errors: the words are none of the table's, or ask for help or the version; its text says so. Out of memory.
+pub fn choose<'a>(alloc: Global, words: &'a [String]) -> Result<Option<Choice<'a>>, Error> {
+    let command = parser(alloc)?;
+    let matches = command.try_get_matches_from(words)?;
+    Ok(chosen(&matches))
+}
