@@ -30,6 +30,7 @@ fn program<'a>(alloc: Global) -> Command<'a> {
         .version(VERSION)
         .about(ABOUT)
         .subcommand_required(true)
+        .arg_required_else_help(true)
 }
 
 /// The program with its commands.

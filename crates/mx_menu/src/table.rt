@@ -74,6 +74,11 @@ pub static COMMANDS: [Row; 4] = [
                 help: "writes one line of JSON in place of the text",
             },
             Word {
+                id: "GNU",
+                form: Form::Flag("gnu"),
+                help: "writes each fault as SRC:LINE:COLUMN: error: FAULT, for editors",
+            },
+            Word {
                 id: "SRC",
                 form: Form::One,
                 help: "the file of the source, in MMIXAL",

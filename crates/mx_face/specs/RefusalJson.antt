@@ -1,0 +1,27 @@
+-- A refusal as JSON: its line, its fault by number and name, and the line of the reference that waited, if the fault is about one.
+use Rattle.std.specs.Prelude.{ℕ, ◌==◌, List, ◌++◌, Option, None, Some, if◌then◌else◌, codes, decimal}
+use Rattle.mx_files.specs.declared.refusal.Refusal.{Refusal}
+use Rattle.mx_json.specs.Json.{number_if, quoted}
+use Rattle.mx_outcome.specs.Names.{fault_name_of}
+
+-- the line of a reference, or nothing
+unfoldable pub waiting : ℕ → Option ℕ
+waiting from_line = if from_line == 0 then None else Some from_line
+
+-- the name of a fault
+unfoldable pub name_json : ℕ → List ℕ
+name_json fault = quoted (fault_name_of fault)
+
+-- the members of its object
+unfoldable pub fault_members : Refusal → List ℕ
+fault_members r = codes "\"fault\":" ++ decimal r.fault ++ codes ",\"from_line\":" ++ number_if (waiting r.from_line)
+
+unfoldable pub place_members : Refusal → List ℕ
+place_members r = codes ",\"line\":" ++ decimal r.line ++ codes ",\"name\":" ++ name_json r.fault
+
+unfoldable pub refusal_members : Refusal → List ℕ
+refusal_members r = fault_members r ++ place_members r
+
+unfoldable pub refusal_json : Option Refusal → List ℕ
+refusal_json None = codes "null"
+refusal_json (Some r) = codes "{" ++ refusal_members r ++ codes "}"
