@@ -63,7 +63,7 @@ unfoldable pub fault_line : List ℕ → ToldFault → List ℕ
 fault_line name f =
     name ++ codes ":" ++ decimal f.refused.line ++ column_text f.line f.caret ++ codes ": error: " ++ numbered_fault f.refused.fault ++ codes "\n"
 
-abbrev pub cut_line : List ℕ → Bool → List ℕ
+unfoldable pub cut_line : List ℕ → Bool → List ℕ
 cut_line name cut = if cut then name ++ codes ": there may be more faults\n" else []
 
 unfoldable pub faults_lines : List ℕ → List ToldFault → List ℕ

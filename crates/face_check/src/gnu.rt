@@ -44,11 +44,13 @@ fn add_faults(text: &mut Bytes, name: &[u8], faults: &[ToldFault]) -> Result<(),
 }
 
 /// Adds that there may be more faults.
+#[tactic(auto, unfolding(crate::specs::CheckPages::cut_line))]
 fn add_cut(text: &mut Bytes, name: &[u8], cut: bool) -> Result<(), NoMemory>
     ensures { OnOk result (text.new ≡ text.old ++ spec.cut_line name.now cut) }
 {
     if cut {
-        return add_between(text, name, b": there may be more faults\n", b"");
+        text.extend(name)?;
+        return text.extend(b": there may be more faults\n");
     }
     Ok(())
 }

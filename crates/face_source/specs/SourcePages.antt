@@ -42,8 +42,11 @@ abbrev pub is_filled : {A : Type 0} → List A → Bool
 is_filled [] = false
 is_filled (x ∷ items) = true
 
-abbrev pub no_line : ℕ → List ℕ
-no_line address = codes "no line has the address " ++ hex_text address ++ codes "\n"
+unfoldable pub none_has : List ℕ
+none_has = codes "no line has the address "
+
+unfoldable pub no_line : ℕ → List ℕ
+no_line address = none_has ++ hex_text address ++ codes "\n"
 
 -- where nothing is loaded at an address of a source that is not refused, that is said
 abbrev pub where_remark : ℕ → Option Refusal → Bool → List ℕ

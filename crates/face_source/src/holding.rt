@@ -98,17 +98,21 @@ fn found(alloc: Global, is_json: bool, address: u64, source: &[u8]) -> Result<Fo
     })
 }
 
+/// What is said of an address that no line has.
+#[tactic(auto, unfolding(crate::specs::SourcePages::none_has))]
+fn none_has() -> &'static [u8]
+    ensures { result.now ≡ spec.none_has }
+{
+    b"no line has the address "
+}
+
 /// That no line has an address.
+#[tactic(auto, unfolding(crate::specs::SourcePages::no_line))]
 fn no_line(alloc: Global, address: u64) -> Result<Bytes, NoMemory>
     ensures { IfOk result (λ text. text ≡ spec.no_line address) }
 {
     let mut text = Bytes::new(alloc);
-    add_between(
-        &mut text,
-        b"no line has the address ",
-        &octa_hex(address),
-        b"\n",
-    )?;
+    add_between(&mut text, none_has(), &octa_hex(address), b"\n")?;
     Ok(text)
 }
 

@@ -4,20 +4,19 @@ ghost use Rattle.std.specs.Prelude.{◌≡◌, ◌++◌, OnOk};
 ghost use Rattle.mx_face.specs.RefusalJson as spec;
 
 use mx_files::Refusal;
-use mx_json::{add_between, add_number, add_number_if, add_quoted};
+use mx_json::{add_between, add_number, add_quoted};
 use mx_outcome::fault_name;
 use mx_word::{Bytes, NoMemory};
 
-/// The line of a reference, or nothing.
-#[tactic(auto, unfolding(crate::specs::RefusalJson::waiting))]
-fn waiting(from_line: u32) -> Option<u64>
-    ensures { result ≡ spec.waiting from_line }
+/// Adds the line of a reference that waited, if there is one.
+#[tactic(auto, unfolding(crate::specs::RefusalJson::waiting_json))]
+fn add_waiting(text: &mut Bytes, front: &[u8], from_line: u32) -> Result<(), NoMemory>
+    ensures { OnOk result (text.new ≡ text.old ++ front.now ++ spec.waiting_json from_line) }
 {
     if from_line == 0 {
-        None
-    } else {
-        Some(u64::from(from_line))
+        return add_between(text, front, b"null", b"");
     }
+    add_number(text, front, u64::from(from_line))
 }
 
 /// Adds the name of a fault.
@@ -28,13 +27,21 @@ fn add_name(text: &mut Bytes, front: &[u8], fault: u16) -> Result<(), NoMemory>
     add_quoted(text, front, fault_name(fault).as_bytes())
 }
 
+/// The name of the line of a reference that waited.
+#[tactic(auto, unfolding(crate::specs::RefusalJson::from_name))]
+fn from_name() -> &'static [u8]
+    ensures { result.now ≡ spec.from_name }
+{
+    b",\"from_line\":"
+}
+
 /// Adds the fault of a refusal, and the line of the reference that waited.
 #[tactic(auto, unfolding(crate::specs::RefusalJson::fault_members))]
 fn add_fault_members(text: &mut Bytes, refused: Refusal) -> Result<(), NoMemory>
     ensures { OnOk result (text.new ≡ text.old ++ spec.fault_members refused) }
 {
     add_number(text, b"\"fault\":", u64::from(refused.fault))?;
-    add_number_if(text, b",\"from_line\":", waiting(refused.from_line))
+    add_waiting(text, from_name(), refused.from_line)
 }
 
 /// Adds the line of a refusal, and the name of its fault.
