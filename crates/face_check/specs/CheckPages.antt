@@ -1,6 +1,6 @@
 -- What `check` has to say of a source: its faults as a text, as JSON, or as lines of the form that the GNU coding standards have for
 -- messages of compilers ("Formatting Error Messages").
-use Rattle.std.specs.Prelude.{ℕ, suc, ◌+◌, ◌==◌, ◌&&◌, nat_le, nat_lt, not, Bool, List, [], ◌∷◌, ◌++◌, length, take, Option, None, Some, if◌then◌else◌, codes, decimal}
+use Rattle.std.specs.Prelude.{ℕ, ◌+◌, ◌==◌, ◌&&◌, nat_le, nat_lt, not, Bool, List, [], ◌∷◌, ◌++◌, length, take, Option, None, Some, if◌then◌else◌, codes, decimal}
 use Rattle.std.specs.List.{flat_map}
 use Rattle.mx_face.specs.Pages.{outcome_of}
 use Rattle.mx_face.specs.RefusalJson.{refusal_members}
@@ -14,21 +14,21 @@ use Rattle.face_check.specs.declared.faults.Form.{Form}
 use Rattle.face_check.specs.declared.faults.Form.TheVariants.{Gnu, Json, Text}
 
 -- the next number, where there is one that an octa can have
-abbrev pub next : ℕ → ℕ
+unfoldable pub next : ℕ → ℕ
 next n = if nat_lt n 0xffff_ffff_ffff_ffff then n + 1 else n
 
 -- as many faults as are told at most: there may be more
-abbrev pub is_cut : List ToldFault → Bool
+unfoldable pub is_cut : List ToldFault → Bool
 is_cut faults = nat_le 100 (length faults)
 
 -- ---- as JSON
 
-abbrev pub bytes_of : Option (List ℕ) → List ℕ
+unfoldable pub bytes_of : Option (List ℕ) → List ℕ
 bytes_of None = []
 bytes_of (Some line) = line
 
 -- the place of a caret, counted in bytes from 1
-abbrev pub place_from_1 : Option ℕ → Option ℕ
+unfoldable pub place_from_1 : Option ℕ → Option ℕ
 place_from_1 None = None
 place_from_1 (Some place) = Some (next place)
 
@@ -51,17 +51,21 @@ continues b = nat_le 128 b && nat_lt b 192
 -- how many characters a text has
 unfoldable pub characters : List ℕ → ℕ
 characters [] = 0
-characters (b ∷ text) = if continues b then characters text else suc (characters text)
+characters (b ∷ text) = if continues b then characters text else 1 + characters text
 
 -- the column of a caret, counted in characters from 1
-abbrev pub column_text : Option (List ℕ) → Option ℕ → List ℕ
+unfoldable pub column_text : Option (List ℕ) → Option ℕ → List ℕ
 column_text (Some line) (Some place) = codes ":" ++ decimal (next (characters (take place line)))
 column_text line caret = []
+
+-- what is said of a fault
+unfoldable pub sentence : ℕ → List ℕ
+sentence fault = numbered_fault fault
 
 -- a fault of the source in the file of this name
 unfoldable pub fault_line : List ℕ → ToldFault → List ℕ
 fault_line name f =
-    name ++ codes ":" ++ decimal f.refused.line ++ column_text f.line f.caret ++ codes ": error: " ++ numbered_fault f.refused.fault ++ codes "\n"
+    name ++ codes ":" ++ decimal f.refused.line ++ column_text f.line f.caret ++ codes ": error: " ++ sentence f.refused.fault ++ codes "\n"
 
 unfoldable pub cut_line : List ℕ → Bool → List ℕ
 cut_line name cut = if cut then name ++ codes ": there may be more faults\n" else []

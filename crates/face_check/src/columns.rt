@@ -15,7 +15,7 @@ fn continues(b: u8) -> bool
 }
 
 /// The first bytes of a text, so many or all.
-#[tactic(auto, using(crate::proofs::Columns::fronts))]
+#[tactic(auto, using(crate::proofs::Characters::fronts))]
 fn front(text: &[u8], count: usize) -> &[u8]
     ensures { result.now ≡ take count text.now }
 {
@@ -27,20 +27,23 @@ fn front(text: &[u8], count: usize) -> &[u8]
 }
 
 /// How many characters a text has.
-#[tactic(auto, using(crate::proofs::Columns::columns))]
+#[tactic(auto, unfolding(crate::specs::CheckPages::characters))]
 fn characters(text: &[u8]) -> usize
     ensures { result ≡ spec.characters text.now }
 {
     let mut count = 0usize;
-    for b in text {
+    let mut rest = text;
+    while let [b, more @ ..] = rest {
         if !continues(*b) {
             count += 1;
         }
+        rest = more;
     }
     count
 }
 
 /// Adds the column of a caret, counted in characters from 1, if there is one.
+#[tactic(auto, unfolding(crate::specs::CheckPages::column_text))]
 pub fn add_column(
     text: &mut Bytes,
     line: &Option<Bytes>,

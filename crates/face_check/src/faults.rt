@@ -20,6 +20,7 @@ pub enum Form {
 const MOST_FAULTS: usize = 100;
 
 /// Whether as many faults are told as can be: there may be more.
+#[tactic(auto, unfolding(crate::specs::CheckPages::is_cut))]
 pub fn is_cut(faults: &[ToldFault]) -> bool
     ensures { result ≡ spec.is_cut faults.now }
 {
@@ -27,6 +28,7 @@ pub fn is_cut(faults: &[ToldFault]) -> bool
 }
 
 /// The next number, where there is one.
+#[tactic(auto, unfolding(crate::specs::CheckPages::next))]
 pub fn next(n: u64) -> u64
     ensures { result ≡ spec.next n }
 {

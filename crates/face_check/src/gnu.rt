@@ -2,7 +2,6 @@
 
 ghost use Rattle.std.specs.Prelude.{◌≡◌, ◌++◌, OnOk};
 ghost use Rattle.std.specs.List.{flat_map};
-ghost use Rattle.mx_outcome.specs.Messages.{numbered_fault};
 ghost use Rattle.face_check.specs.CheckPages as spec;
 
 use crate::columns::add_column;
@@ -13,8 +12,9 @@ use mx_view::ToldFault;
 use mx_word::{Bytes, NoMemory};
 
 /// Adds what is said of a fault: its number and its name.
+#[tactic(auto, unfolding(crate::specs::CheckPages::sentence))]
 fn add_sentence(text: &mut Bytes, fault: u16) -> Result<(), NoMemory>
-    ensures { OnOk result (text.new ≡ text.old ++ numbered_fault fault) }
+    ensures { OnOk result (text.new ≡ text.old ++ spec.sentence fault) }
 {
     add_number(text, b"", u64::from(fault))?;
     add_between(text, b" ", fault_name(fault).as_bytes(), b"")

@@ -12,6 +12,7 @@ use mx_word::{Bytes, NoMemory};
 use std::alloc::Global;
 
 /// The bytes of a line, if there is one.
+#[tactic(auto, unfolding(crate::specs::CheckPages::bytes_of))]
 fn bytes_of(line: &Option<Bytes>) -> &[u8]
     ensures { result.now ≡ spec.bytes_of line.now }
 {
@@ -22,6 +23,7 @@ fn bytes_of(line: &Option<Bytes>) -> &[u8]
 }
 
 /// The place of a caret, counted from 1.
+#[tactic(auto, unfolding(crate::specs::CheckPages::place_from_1))]
 fn place_from_1(caret: Option<usize>) -> Option<u64>
     ensures { result ≡ spec.place_from_1 caret }
 {

@@ -19,6 +19,14 @@ pub lacking-not : (o : Outcome) → is_lacking o ≡ false → o ≢ OutOfMemory
 lacking-not OutOfMemory e = λ x. absurd (cc)
 lacking-not o e = λ x. cc
 
+-- to tell that there was no memory is that there was none
+pub lacking-told : (r : Outcome) → (r ≢ OutOfMemory → r ≡ OutOfMemory) → r ≡ OutOfMemory
+lacking-told r same = by (is_lacking r) refl
+  where
+    by : (b : Bool) → is_lacking r ≡ b → r ≡ OutOfMemory
+    by true e = lacking-is r e
+    by false e = same (lacking-not r e)
+
 -- what was counted, and then its page
 pub count-shown : {A : Type 0} (a b d : Option HostModel) (f : HostModel → Then A) (page : A → Page) (x : A) (o r : Outcome) → (tells b ≡ tells a) →
     (IsTrue (tells a) → o ≢ OutOfMemory → (x, contents b) ≡ f (contents a)) →

@@ -1,9 +1,9 @@
 //! A source that is run and counted: the order by the words, the run, and its sheet as a table or as JSON.
 #![tactic(auto)]
 
-mod count;
+mod counting;
 mod json;
 mod pages;
 mod words;
 
-pub use count::count;
+pub use counting::count;

@@ -65,7 +65,7 @@ fn has_byte(text: &[u8]) -> bool
 }
 
 /// The lines of an address as JSON.
-fn found_as_json(alloc: Global, address: u64, source: &[u8]) -> Result<Found, NoMemory>
+fn find_as_json(alloc: Global, address: u64, source: &[u8]) -> Result<Found, NoMemory>
     ensures text { IfOk result (λ f. f.text ≡ spec.where_text true address source.now) }
     ensures found { IfOk result (λ f. f.found ≡ spec.is_filled (lines_listed (Holding address) source.now)) }
     ensures refused { IfOk result (λ f. f.refused ≡ refusal_in source.now) }
@@ -82,13 +82,13 @@ fn found_as_json(alloc: Global, address: u64, source: &[u8]) -> Result<Found, No
 
 /// The lines of an address as a text or as JSON.
 #[tactic(auto, using(crate::proofs::Filled::filled))]
-fn found(alloc: Global, is_json: bool, address: u64, source: &[u8]) -> Result<Found, NoMemory>
+fn find(alloc: Global, is_json: bool, address: u64, source: &[u8]) -> Result<Found, NoMemory>
     ensures text { IfOk result (λ f. f.text ≡ spec.where_text is_json address source.now) }
     ensures found { IfOk result (λ f. f.found ≡ spec.is_filled (lines_listed (Holding address) source.now)) }
     ensures refused { IfOk result (λ f. f.refused ≡ refusal_in source.now) }
 {
     if is_json {
-        return found_as_json(alloc, address, source);
+        return find_as_json(alloc, address, source);
     }
     let sheet = lines_holding(alloc, address, source)?;
     Ok(Found {
@@ -138,7 +138,7 @@ fn where_page(alloc: Global, is_json: bool, address: u64, source: &[u8]) -> Resu
     ensures page { IfOk result (λ page. page ≡ spec.where_page is_json address source.now) }
     ensures view { IfOk result (λ page. IsOfView page.outcome) }
 {
-    let found = found(alloc, is_json, address, source)?;
+    let found = find(alloc, is_json, address, source)?;
     let remark = remark(alloc, address, found.refused, found.found)?;
     Ok(Page {
         text: found.text,

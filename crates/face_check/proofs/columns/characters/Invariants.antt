@@ -1,6 +1,9 @@
-use Rattle.std.proofs.Common.{◌≡◌, ◌≤◌, take}
+use Rattle.std.proofs.Common.{◌≡◌, ◌+◌, ◌≤◌, length}
 use Rattle.face_check.specs.CheckPages.{characters}
 use Rattle.face_check.proofs.columns.characters.Given as goal
 
-abbrev pub invariant-loop-b : goal.invariant-loop-b
-invariant-loop-b l = (l.count ≡ characters (take l.b-index l.text)) × (l.count ≤ l.b-index)
+abbrev pub invariant-loop-rest : goal.invariant-loop-rest
+invariant-loop-rest l = (characters l.text ≡ l.count + characters l.rest) × (l.count + length l.rest ≤ length l.text)
+
+abbrev pub decreases-loop-rest : goal.decreases-loop-rest
+decreases-loop-rest l = length l.rest

@@ -1,6 +1,6 @@
 use Rattle.face_count.specs.CountPages.{shown_count}
 use Rattle.face_count.proofs.Shown.{count-faults, count-shown}
-use Rattle.face_count.proofs.count.count_given.Goals as goal
+use Rattle.face_count.proofs.counting.count_given.Goals as goal
 
 pub returns-then-clause-told : goal.returns-then-clause-told
 unfolding shown_count

@@ -1,5 +1,5 @@
 use Rattle.mx_face.proofs.Faults.{faults-after, whole-ended}
-use Rattle.face_check.proofs.check.check.Goals as goal
+use Rattle.face_check.proofs.showing.check.Goals as goal
 
 pub returns-in-Ok-clause-causes : goal.returns-in-Ok-clause-causes
 returns-in-Ok-clause-causes g c = faults-after _ _ _ _ _ _ _ c.in-Ok.ensures.causes.keeps c.show_faults.ensures.causes
