@@ -7,7 +7,7 @@ ghost use Rattle.mx_host.specs.Keeping.{Answers};
 ghost use Rattle.face_count.specs.CountPages as spec;
 
 use crate::pages::{put_json, put_sheet};
-use crate::words::{is_json, order_in, run_words};
+use crate::words::{order_in, run_words};
 use mx_begin::{arguments, word};
 use mx_count::{count_file, count_lines};
 use mx_face::tell;
@@ -92,17 +92,23 @@ fn count_words<H: Host>(
     }
 }
 
+/// Does what these words order as those of a run, in front of which so many are left out.
+fn count_rest<H: Host>(alloc: Global, host: &mut H, words: &[String], left_out: usize) -> Outcome
+    ensures causes { FaultsOnlyBy H.told H.faults host.old host.new result }
+{
+    match run_words(alloc, words) {
+        Ok(all) => count_words(alloc, host, all.as_slice(), left_out),
+        Err(_) => tell(alloc, host, Outcome::OutOfMemory),
+    }
+}
+
 /// Does what the words after `count` order: the source is run as `mmixware run` runs it, and what is counted is shown as a table, or,
 /// after `--json`, as a line of JSON. It answers the outcome of the run, which its message tells.
 pub fn count<H: Host>(alloc: Global, host: &mut H, words: &[String]) -> Outcome
     ensures causes { FaultsOnlyBy H.told H.faults host.old host.new result }
 {
-    let left_out = usize::from(is_json(words));
-    let Some(rest) = words.get(left_out..) else {
-        return tell(alloc, host, Outcome::OutOfMemory);
-    };
-    match run_words(alloc, rest) {
-        Ok(all) => count_words(alloc, host, all.as_slice(), left_out),
-        Err(_) => tell(alloc, host, Outcome::OutOfMemory),
+    match words {
+        [word, rest @ ..] if word.as_str() == "--json" => count_rest(alloc, host, rest, 1),
+        _ => count_rest(alloc, host, words, 0),
     }
 }

@@ -6,14 +6,6 @@ use mx_word::NoMemory;
 use mx_words::{Order, WordsFault, read};
 use std::alloc::Global;
 
-/// Whether `--json` is the first of the words.
-pub fn is_json(words: &[String]) -> bool {
-    match words {
-        [word, ..] => word.as_str() == "--json",
-        [] => false,
-    }
-}
-
 /// The words with which `mmixware run` does the same run.
 pub fn run_words(alloc: Global, words: &[String]) -> Result<Vec<String>, NoMemory> {
     let mut all = Vec::new(alloc);

@@ -1,5 +1,5 @@
 -- A text of lines of an address has a byte where there is a line.
-use Rattle.std.proofs.Common.{◌≡◌, ℕ, true, List, [], ◌∷◌, ◌++◌, refl}
+use Rattle.std.proofs.Common.{◌≡◌, ℕ, true, List, [], ◌∷◌, ◌++◌, refl, rules}
 use Rattle.std.specs.List.{flat_map}
 use Rattle.mx_view.specs.Listing.{lines_holding, lines_listed}
 use Rattle.mx_view.specs.Rows.{first_cell, rows_of}

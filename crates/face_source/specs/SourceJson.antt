@@ -12,9 +12,24 @@ use Rattle.mx_word.specs.declared.symbols.Symbol.{Symbol}
 use Rattle.mx_word.specs.declared.symbols.Value.{Value}
 use Rattle.mx_word.specs.declared.symbols.Value.TheVariants.{Pure, Reg}
 
+-- an address, as `#` and 16 digits
+unfoldable pub address_json : ℕ → List ℕ
+address_json a = quoted (hex_text a)
+
+-- the beginning of an object that has an address
+unfoldable pub address_name : List ℕ
+address_name = codes "{\"address\":"
+
+unfoldable pub at_address : ℕ → List ℕ
+at_address a = address_name ++ address_json a
+
+-- the digits of a tetra
+unfoldable pub tetra_json : ℕ → List ℕ
+tetra_json tetra = quoted (hex_digits 8 tetra)
+
 -- a tetra with its address
-abbrev pub cell_json : Cell → List ℕ
-cell_json c = codes "{\"address\":" ++ quoted (hex_text c.address) ++ codes ",\"tetra\":" ++ quoted (hex_digits 8 c.tetra) ++ codes "}"
+unfoldable pub cell_json : Cell → List ℕ
+cell_json c = at_address c.address ++ codes ",\"tetra\":" ++ tetra_json c.tetra ++ codes "}"
 
 -- a line with its tetras
 unfoldable pub line_json : ListedLine → List ℕ
@@ -23,8 +38,8 @@ line_json l =
     ++ codes ",\"text\":" ++ string l.text ++ codes "}"
 
 -- what a symbol stands for: an octa as `#` and 16 digits, or a register as `$` and its number
-abbrev pub value_json : Value → List ℕ
-value_json (Pure octa) = quoted (hex_text octa)
+unfoldable pub value_json : Value → List ℕ
+value_json (Pure octa) = address_json octa
 value_json (Reg register) = quoted (codes "$" ++ decimal register)
 
 unfoldable pub symbol_json : Symbol → List ℕ
@@ -32,14 +47,17 @@ symbol_json s =
     object_of s.name ++ codes "\"name\":" ++ string s.name ++ codes ",\"serial\":" ++ decimal s.serial
     ++ codes ",\"value\":" ++ value_json s.value ++ codes "}"
 
+unfoldable pub accepted_name : List ℕ
+accepted_name = codes "{\"accepted\":"
+
 -- the listing, as a line
 unfoldable pub listing_json : Listed → List ℕ
 listing_json l =
-    codes "{\"accepted\":" ++ flag (is_none l.refused) ++ codes ",\"lines\":" ++ array line_json l.lines
+    accepted_name ++ flag (is_none l.refused) ++ codes ",\"lines\":" ++ array line_json l.lines
     ++ codes ",\"refused\":" ++ refusal_json l.refused ++ codes ",\"symbols\":" ++ array symbol_json l.symbols ++ codes "}\n"
 
 -- the lines of an address, as a line
 unfoldable pub holding_json : ℕ → Listed → List ℕ
 holding_json address l =
-    codes "{\"address\":" ++ quoted (hex_text address) ++ codes ",\"lines\":" ++ array line_json l.lines
+    at_address address ++ codes ",\"lines\":" ++ array line_json l.lines
     ++ codes ",\"refused\":" ++ refusal_json l.refused ++ codes "}\n"

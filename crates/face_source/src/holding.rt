@@ -8,11 +8,11 @@ ghost use Rattle.mx_view.specs.declared.cells.Wanted.TheVariants.{Holding};
 ghost use Rattle.face_source.specs.SourceJson.{holding_json};
 ghost use Rattle.face_source.specs.SourcePages as spec;
 
-use crate::json::add_lines;
+use crate::json::{add_at, add_lines};
 use mx_face::{Page, add_refusal, outcome_of, put_page, read_source, tell};
 use mx_files::Refusal;
 use mx_host::Host;
-use mx_json::{add_between, add_quoted};
+use mx_json::add_between;
 use mx_outcome::{Outcome, message};
 use mx_text::octa_hex;
 use mx_view::{Listed, ListedLine, Wanted, lines_holding, list_source};
@@ -37,7 +37,7 @@ fn add_holding(
 ) -> Result<(), NoMemory>
     ensures { OnOk result (text.new ≡ text.old ++ holding_json address listed.now) }
 {
-    add_quoted(text, b"{\"address\":", &octa_hex(address))?;
+    add_at(text, address)?;
     text.extend(b",\"lines\":")?;
     add_lines(alloc, text, listed.lines.as_slice())?;
     add_refusal(text, b",\"refused\":", listed.refused)?;

@@ -10,12 +10,45 @@ use mx_view::{Cell, ListedLine};
 use mx_word::{Bytes, NoMemory, Symbol, Value};
 use std::alloc::Global;
 
+/// Adds an address, as `#` and 16 hexadecimal digits.
+#[tactic(auto, unfolding(crate::specs::SourceJson::address_json))]
+fn add_address(text: &mut Bytes, front: &[u8], address: u64) -> Result<(), NoMemory>
+    ensures { OnOk result (text.new ≡ text.old ++ front.now ++ spec.address_json address) }
+{
+    add_quoted(text, front, &octa_hex(address))
+}
+
+/// The name of an address, at the beginning of an object.
+#[tactic(auto, unfolding(crate::specs::SourceJson::address_name))]
+fn address_name() -> &'static [u8]
+    ensures { result.now ≡ spec.address_name }
+{
+    b"{\"address\":"
+}
+
+/// Begins an object that has an address.
+#[tactic(auto, unfolding(crate::specs::SourceJson::at_address))]
+pub fn add_at(text: &mut Bytes, address: u64) -> Result<(), NoMemory>
+    ensures { OnOk result (text.new ≡ text.old ++ spec.at_address address) }
+{
+    add_address(text, address_name(), address)
+}
+
+/// Adds the digits of a tetra.
+#[tactic(auto, unfolding(crate::specs::SourceJson::tetra_json))]
+fn add_tetra(text: &mut Bytes, front: &[u8], tetra: u32) -> Result<(), NoMemory>
+    ensures { OnOk result (text.new ≡ text.old ++ front.now ++ spec.tetra_json tetra) }
+{
+    add_quoted(text, front, &tetra_hex(tetra))
+}
+
 /// Adds a tetra with its address.
+#[tactic(auto, unfolding(crate::specs::SourceJson::cell_json))]
 fn add_cell(text: &mut Bytes, cell: Cell) -> Result<(), NoMemory>
     ensures { OnOk result (text.new ≡ text.old ++ spec.cell_json cell) }
 {
-    add_quoted(text, b"{\"address\":", &octa_hex(cell.address))?;
-    add_quoted(text, b",\"tetra\":", &tetra_hex(cell.tetra))?;
+    add_at(text, cell.address)?;
+    add_tetra(text, b",\"tetra\":", cell.tetra)?;
     text.extend(b"}")
 }
 
@@ -85,11 +118,12 @@ pub fn add_lines(alloc: Global, text: &mut Bytes, lines: &[ListedLine]) -> Resul
 }
 
 /// Adds what a symbol stands for.
+#[tactic(auto, unfolding(crate::specs::SourceJson::value_json))]
 fn add_value(text: &mut Bytes, value: Value) -> Result<(), NoMemory>
     ensures { OnOk result (text.new ≡ text.old ++ spec.value_json value) }
 {
     match value {
-        Value::Pure(octa) => add_quoted(text, b"", &octa_hex(octa)),
+        Value::Pure(octa) => add_address(text, b"", octa),
         Value::Reg(register) => {
             add_number(text, b"\"$", u64::from(register))?;
             text.extend(b"\"")

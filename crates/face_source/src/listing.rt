@@ -4,7 +4,7 @@ ghost use Rattle.std.specs.Prelude.{◌≡◌, ◌++◌, IfOk, OnOk, true};
 ghost use Rattle.mx_face.specs.Pages.{FaultsOnlyBy, IsOfView, page_put, shown_file};
 ghost use Rattle.mx_host.specs.Keeping.{Answers};
 ghost use Rattle.mx_view.specs.Listing.{refusal_in};
-ghost use Rattle.face_source.specs.SourceJson.{listing_json};
+ghost use Rattle.face_source.specs.SourceJson.{accepted_name, listing_json};
 ghost use Rattle.face_source.specs.SourcePages as spec;
 
 use crate::json::{add_lines, add_symbols};
@@ -16,12 +16,20 @@ use mx_view::{Listed, Sheet, Wanted, list_source, listing};
 use mx_word::{Bytes, NoMemory};
 use std::alloc::Global;
 
+/// The name of what says whether a source is accepted.
+#[tactic(auto, unfolding(crate::specs::SourceJson::accepted_name))]
+fn accepted_name() -> &'static [u8]
+    ensures { result.now ≡ accepted_name }
+{
+    b"{\"accepted\":"
+}
+
 /// Adds the listing as a line of JSON.
 #[tactic(auto, unfolding(crate::specs::SourceJson::listing_json))]
 fn add_listing(alloc: Global, text: &mut Bytes, listed: &Listed) -> Result<(), NoMemory>
     ensures { OnOk result (text.new ≡ text.old ++ listing_json listed.now) }
 {
-    add_flag(text, b"{\"accepted\":", listed.refused.is_none())?;
+    add_flag(text, accepted_name(), listed.refused.is_none())?;
     text.extend(b",\"lines\":")?;
     add_lines(alloc, text, listed.lines.as_slice())?;
     add_refusal(text, b",\"refused\":", listed.refused)?;
