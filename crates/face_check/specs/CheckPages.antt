@@ -5,7 +5,7 @@ use Rattle.std.specs.List.{flat_map}
 use Rattle.mx_face.specs.Pages.{outcome_of}
 use Rattle.mx_face.specs.RefusalJson.{refusal_members}
 use Rattle.mx_face.specs.declared.page.Page.{Page}
-use Rattle.mx_json.specs.Json.{array, flag, number_if, object_of, string_if}
+use Rattle.mx_json.specs.Json.{array, flag, object_of, string_if}
 use Rattle.mx_outcome.specs.Messages.{numbered_fault}
 use Rattle.mx_view.specs.Listing.{refusal_in}
 use Rattle.mx_view.specs.Refusals.{faults_in, faults_of}
@@ -23,20 +23,25 @@ is_cut faults = nat_le 100 (length faults)
 
 -- ---- as JSON
 
-unfoldable pub bytes_of : Option (List ℕ) → List ℕ
-bytes_of None = []
-bytes_of (Some line) = line
+-- the beginning of an object that has the text of a line, if there is one
+unfoldable pub opened : Option (List ℕ) → List ℕ
+opened None = codes "{"
+opened (Some line) = object_of line
 
 -- the place of a caret, counted in bytes from 1
-unfoldable pub place_from_1 : Option ℕ → Option ℕ
-place_from_1 None = None
-place_from_1 (Some place) = Some (next place)
+unfoldable pub caret_json : Option ℕ → List ℕ
+caret_json None = codes "null"
+caret_json (Some place) = decimal (next place)
 
 -- a fault with the text of its line, if it names one
+unfoldable pub fault_front : ToldFault → List ℕ
+fault_front f = opened f.line ++ codes "\"caret\":" ++ caret_json f.caret
+
+unfoldable pub fault_text : ToldFault → List ℕ
+fault_text f = codes ",\"text\":" ++ string_if f.line ++ codes "}"
+
 unfoldable pub fault_json : ToldFault → List ℕ
-fault_json f =
-    object_of (bytes_of f.line) ++ codes "\"caret\":" ++ number_if (place_from_1 f.caret) ++ codes "," ++ refusal_members f.refused
-    ++ codes ",\"text\":" ++ string_if f.line ++ codes "}"
+fault_json f = fault_front f ++ codes "," ++ refusal_members f.refused ++ fault_text f
 
 -- as a line
 unfoldable pub faults_json : List ToldFault → List ℕ

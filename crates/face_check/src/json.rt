@@ -6,31 +6,49 @@ ghost use Rattle.face_check.specs.CheckPages as spec;
 
 use crate::faults::{is_cut, next};
 use mx_face::add_refusal_members;
-use mx_json::{add_flag, add_number_if, add_object, add_string_if};
+use mx_json::{add_between, add_flag, add_number, add_object, add_string_if};
 use mx_view::ToldFault;
 use mx_word::{Bytes, NoMemory};
 use std::alloc::Global;
 
-/// The bytes of a line, if there is one.
-#[tactic(auto, unfolding(crate::specs::CheckPages::bytes_of))]
-fn bytes_of(line: &Option<Bytes>) -> &[u8]
-    ensures { result.now ≡ spec.bytes_of line.now }
+/// Begins an object that has the text of a line, if there is one.
+#[tactic(auto, unfolding(crate::specs::CheckPages::opened))]
+fn open_object(text: &mut Bytes, line: &Option<Bytes>) -> Result<(), NoMemory>
+    ensures { OnOk result (text.new ≡ text.old ++ spec.opened line.now) }
 {
     match line {
-        None => &[],
-        Some(line) => line.as_slice(),
+        None => text.extend(b"{"),
+        Some(line) => add_object(text, line.as_slice()),
     }
 }
 
-/// The place of a caret, counted from 1.
-#[tactic(auto, unfolding(crate::specs::CheckPages::place_from_1))]
-fn place_from_1(caret: Option<usize>) -> Option<u64>
-    ensures { result ≡ spec.place_from_1 caret }
+/// Adds the place of a caret, counted from 1.
+#[tactic(auto, unfolding(crate::specs::CheckPages::caret_json))]
+fn add_caret(text: &mut Bytes, front: &[u8], caret: Option<usize>) -> Result<(), NoMemory>
+    ensures { OnOk result (text.new ≡ text.old ++ front.now ++ spec.caret_json caret) }
 {
     match caret {
-        None => None,
-        Some(place) => Some(next(place as u64)),
+        None => add_between(text, front, b"null", b""),
+        Some(place) => add_number(text, front, next(place as u64)),
     }
+}
+
+/// Begins a fault: the place of its caret.
+#[tactic(auto, unfolding(crate::specs::CheckPages::fault_front))]
+fn add_front(text: &mut Bytes, fault: &ToldFault) -> Result<(), NoMemory>
+    ensures { OnOk result (text.new ≡ text.old ++ spec.fault_front fault.now) }
+{
+    open_object(text, &fault.line)?;
+    add_caret(text, b"\"caret\":", fault.caret)
+}
+
+/// Ends a fault: the text of its line.
+#[tactic(auto, unfolding(crate::specs::CheckPages::fault_text))]
+fn add_text(alloc: Global, text: &mut Bytes, fault: &ToldFault) -> Result<(), NoMemory>
+    ensures { OnOk result (text.new ≡ text.old ++ spec.fault_text fault.now) }
+{
+    add_string_if(alloc, text, b",\"text\":", &fault.line)?;
+    text.extend(b"}")
 }
 
 /// Adds a fault.
@@ -38,12 +56,10 @@ fn place_from_1(caret: Option<usize>) -> Option<u64>
 fn add_fault(alloc: Global, text: &mut Bytes, fault: &ToldFault) -> Result<(), NoMemory>
     ensures { OnOk result (text.new ≡ text.old ++ spec.fault_json fault.now) }
 {
-    add_object(text, bytes_of(&fault.line))?;
-    add_number_if(text, b"\"caret\":", place_from_1(fault.caret))?;
+    add_front(text, fault)?;
     text.extend(b",")?;
     add_refusal_members(text, fault.refused)?;
-    add_string_if(alloc, text, b",\"text\":", &fault.line)?;
-    text.extend(b"}")
+    add_text(alloc, text, fault)
 }
 
 /// Adds further faults.

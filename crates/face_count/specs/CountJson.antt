@@ -20,7 +20,7 @@ unfoldable pub figures_of : Option Tally → Figures
 figures_of None = record { away = None; mems = None; oops = None; times = None }
 figures_of (Some y) = record { away = Some y.away; mems = Some y.mems; oops = Some y.oops; times = Some y.times }
 
-abbrev pub figured_line : Figures → CountedLine → List ℕ
+unfoldable pub figured_line : Figures → CountedLine → List ℕ
 figured_line figures l =
     codes "{\"away\":" ++ number_if figures.away ++ codes ",\"line\":" ++ decimal l.number ++ codes ",\"mems\":" ++ number_if figures.mems
     ++ codes ",\"oops\":" ++ number_if figures.oops ++ codes ",\"text\":" ++ string l.text ++ codes ",\"times\":" ++ number_if figures.times
@@ -54,7 +54,7 @@ unfoldable pub outcome_json : Outcome → List ℕ
 outcome_json outcome = codes "{\"message\":" ++ said_json (message_of outcome) ++ codes ",\"status\":" ++ decimal (status_of outcome) ++ codes "}"
 
 -- why the source is refused, if that is the outcome
-abbrev pub refusal_in : Outcome → Option Refusal
+unfoldable pub refusal_in : Outcome → Option Refusal
 refusal_in (Refused line fault from_line) = Some (record { line = line; fault = fault; from_line = from_line })
 refusal_in outcome = None
 

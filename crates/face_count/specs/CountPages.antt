@@ -14,7 +14,7 @@ use Rattle.mx_words.specs.declared.order.Order.{Order}
 use Rattle.face_count.specs.CountJson.{counted_json}
 
 -- the sheet of a run, if there is one
-abbrev pub text_if : Option (List ℕ) → List ℕ
+unfoldable pub text_if : Option (List ℕ) → List ℕ
 text_if None = []
 text_if (Some sheet) = sheet
 

@@ -78,12 +78,7 @@ fn misordered(fault: WordsFault, in_front: usize) -> Outcome
 }
 
 /// Does what these words of a run order, in front of which so many are left out.
-fn count_words<H: Host>(
-    alloc: Global,
-    host: &mut H,
-    words: &[String],
-    left_out: usize,
-) -> Outcome
+fn count_words<H: Host>(alloc: Global, host: &mut H, words: &[String], left_out: usize) -> Outcome
     ensures causes { FaultsOnlyBy H.told H.faults host.old host.new result }
 {
     match order_in(words) {

@@ -44,6 +44,7 @@ fn figures_of(tally: Option<Tally>) -> Figures
 }
 
 /// Adds a line with these figures.
+#[tactic(auto, unfolding(crate::specs::CountJson::figured_line))]
 fn add_figured(
     alloc: Global,
     text: &mut Bytes,
@@ -160,6 +161,7 @@ fn add_outcome(alloc: Global, text: &mut Bytes, outcome: Outcome) -> Result<(), 
 }
 
 /// Why the source is refused, if that is the outcome.
+#[tactic(auto, unfolding(crate::specs::CountJson::refusal_in))]
 fn refusal_in(outcome: Outcome) -> Option<Refusal>
     ensures { result ≡ spec.refusal_in outcome }
 {

@@ -21,6 +21,7 @@ fn is_lacking(outcome: Outcome) -> bool
 }
 
 /// The sheet of a run, if there is one.
+#[tactic(auto, unfolding(crate::specs::CountPages::text_if))]
 fn text_if(alloc: Global, sheet: Option<Bytes>) -> Bytes
     ensures { result ≡ spec.text_if sheet }
 {
