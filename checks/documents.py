@@ -16,6 +16,8 @@
   both sources give none, and the statuses of the row.
 - Blocks with mmixview are run where that program is kept, too.
 - The examples of the manual pages are run where the sources of examples/ are, with the program on the path.
+
+With `--installed FOLDER` only the last five are checked, with the programs and the grader that are installed under FOLDER.
 """
 import functools
 import glob
@@ -28,8 +30,9 @@ import sys
 import tempfile
 
 TOP = os.path.dirname(os.path.dirname(os.path.realpath(__file__)))
-PROGRAM = ".built/mmixware"
-VIEWER = ".built/mmixview"
+# where the programs are, and the grader with its parts where it is installed, too
+FOLDER = ".built"
+GRADER = None
 PROMPT = "mmix> "
 wrongs = []
 
@@ -237,7 +240,9 @@ def printed(commands, typed, folder, room):
 
 @functools.cache
 def is_fresh(tool="mmixware"):
-    """Whether the program of this name that is kept was built from these sources."""
+    """Whether the program of this name that is kept was built from these sources, or is installed."""
+    if GRADER:
+        return os.access(f"{FOLDER}/{tool}", os.X_OK)
     return subprocess.run(["sh", "-c", f"here=$PWD tool={tool}; . packaging/kept.sh; is_ready"]).returncode == 0
 
 
@@ -245,10 +250,12 @@ def with_room(call, saved=None):
     """The answer of a call on a new folder with the program, the examples and the files that were saved."""
     with tempfile.TemporaryDirectory() as room:
         shutil.copytree("examples", f"{room}/examples")
-        os.symlink(os.path.realpath(PROGRAM), f"{room}/mmixware")
-        os.symlink(os.path.realpath(VIEWER), f"{room}/mmixview")
-        for script in glob.glob("grade"):
-            shutil.copy(script, room)
+        for tool in ("mmixware", "mmixview"):
+            os.symlink(os.path.realpath(f"{FOLDER}/{tool}"), f"{room}/{tool}")
+        if GRADER:
+            os.symlink(GRADER, f"{room}/grade")
+        else:
+            shutil.copy("grade", room)
             shutil.copytree("grading", f"{room}/grading")
         for name, text in (saved or {}).items():
             with open(f"{room}/{name}", "w", encoding="utf-8") as file:
@@ -367,10 +374,16 @@ def check_what_beginners_write():
                 wrong(where, f"the source {cell} gives {got[0] or 'no message'} and status {got[1]}")
 
 
-def main():
+def main(words):
+    global FOLDER, GRADER
+    checks = [check_sessions, check_manual, check_examples_of_messages, check_what_beginners_write]
+    if words[:1] == ["--installed"]:
+        FOLDER = os.path.realpath(f"{words[1]}/bin")
+        GRADER = f"{FOLDER}/grade"
+    else:
+        checks = [check_links_and_paths, check_needs, check_architecture, check_claims, check_file_tables, check_messages, check_crates, *checks]
     os.chdir(TOP)
-    for check in (check_links_and_paths, check_needs, check_architecture, check_claims, check_file_tables, check_messages, check_crates,
-                  check_sessions, check_manual, check_examples_of_messages, check_what_beginners_write):
+    for check in checks:
         check()
     for it in wrongs:
         print(f"checks/documents.py: {it}", file=sys.stderr)
@@ -378,4 +391,4 @@ def main():
 
 
 if __name__ == "__main__":
-    sys.exit(main())
+    sys.exit(main(sys.argv[1:]))

@@ -1,6 +1,7 @@
 #!/bin/sh
-# Tries ./release, where the program is built from these sources: two releases have the same bytes, and what is in them
-# runs on a system that has the C library alone. It prints only what is wrong, and builds no program.
+# Tries ./release, where both programs are built from these sources: two releases have the same bytes; what is in them runs on a
+# system that has the C library alone; and the sessions of the documents go as they say with what the package installs. It
+# prints only what is wrong, and builds no program.
 here=$(cd "$(dirname "$0")/.." && pwd) || exit 1
 room=$(mktemp -d) || exit 1
 trap 'rm -rf "$room"' EXIT
@@ -27,10 +28,12 @@ make_system() {
   done
 }
 
-# what a program prints of a source, both by their paths in that system
+# what the programs of a folder print of a source, by their paths in that system
 greets() {
-  got=$(within "$room/system" "$1" run "$2" 2>&1)
-  [ "$got" = 'Hello, reader' ] || wrong "$1 run $2 prints $got"
+  got=$(within "$room/system" "$1/mmixware" run "$2" 2>&1)
+  [ "$got" = 'Hello, reader' ] || wrong "$1/mmixware run $2 prints $got"
+  got=$(within "$room/system" "$1/mmixview" list "$2" 2>&1)
+  [ "${got#*hello.mms: prints a text.}" != "$got" ] || wrong "$1/mmixview list $2 prints $got"
 }
 
 said=$("$here/release" "$room/one" 2>&1) || {
@@ -45,14 +48,16 @@ diff -r "$room/one" "$room/two" >&2 || wrong 'two releases differ'
 (cd "$room/one" && sha256sum --quiet -c SHA256SUMS) || wrong 'a sum is not that of its file'
 
 mkdir "$room/system" && tar -C "$room/system" -xzf "$room/one"/mmixware-*.tar.gz && cd "$room/system"/mmixware-* || exit 1
-name=$(basename "$PWD")
-[ "$(ldd mmixware | grep -c '=> /')" = 1 ] || wrong "the program needs more than the C library: $(ldd mmixware)"
-grep -q "$(sha256sum <mmixware | cut -d ' ' -f 1)" MADE-FROM || wrong 'MADE-FROM does not name the program'
+for name in mmixware mmixview; do
+  [ "$(ldd $name | grep -c '=> /')" = 1 ] || wrong "$name needs more than the C library: $(ldd $name)"
+  grep -q "^$name  *$(sha256sum <$name | cut -d ' ' -f 1)" MADE-FROM || wrong "MADE-FROM does not have the sum of $name"
+done
+folder=$(basename "$PWD")
 ./install "$room/there" 2>/dev/null || wrong 'the release is not installed'
-for file in bin/mmixware bin/grade share/man/man1/mmixware.1 share/man/man1/grade.1 \
+for file in bin/mmixware bin/mmixview bin/grade share/man/man1/mmixware.1 share/man/man1/mmixview.1 share/man/man1/grade.1 \
   share/mmixware/grading/run.sh share/mmixware/grading/rows.awk share/vim/vimfiles/syntax/mmixal.vim \
   share/emacs/site-lisp/mmixal-mode.el share/texmf/tex/latex/mmixal/mmixal.sty \
-  share/bash-completion/completions/grade \
+  share/bash-completion/completions/grade share/bash-completion/completions/mmixview \
   share/bash-completion/completions/mmixware share/zsh/site-functions/_mmixware; do
   [ -s "$room/there/$file" ] || wrong "install puts no $file"
 done
@@ -69,9 +74,13 @@ if [ -e "$room"/one/mmixware_*.deb ]; then
   fi
 fi
 
-if make_system mmixware "$room/system" && within "$room/system" "/$name/mmixware" --version >/dev/null 2>&1; then
-  greets "/$name/mmixware" "/$name/examples/hello.mms"
-  [ ! -d "$room/system/usr" ] || greets /usr/bin/mmixware /usr/share/doc/mmixware/examples/hello.mms
+if [ -d "$room/package/usr" ] && command -v python3 >/dev/null; then
+  python3 "$here/checks/documents.py" --installed "$room/package/usr" || bad=1
+fi
+
+if make_system mmixware "$room/system" && within "$room/system" "/$folder/mmixware" --version >/dev/null 2>&1; then
+  greets "/$folder" "/$folder/examples/hello.mms"
+  [ ! -d "$room/system/usr" ] || greets /usr/bin /usr/share/doc/mmixware/examples/hello.mms
 elif [ "$(id -u)" = 0 ]; then
   wrong 'the program does not run where there is the C library alone'
 fi

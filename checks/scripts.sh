@@ -24,24 +24,24 @@ prints() {
   fi
 }
 
-# makes a repository of two crates and one that the program does not stand on
+# makes a repository of two programs, a crate below them, and one that no program needs
 make_repository() {
-  for crate in mmixware mx_word test_rows; do
+  for crate in mmixware mmixview mx_word test_rows; do
     mkdir -p "$1/crates/$crate/src"
     echo 'fn main() {}' >"$1/crates/$crate/src/main.rt"
   done
   mkdir "$1/.git" "$1/docs" "$1/packaging" "$1/crates/mx_word/must-fail"
   touch "$1/crates/mx_word/must-fail/wrong.edit"
   echo 'Handles allowed: none.' >"$1/HANDLES"
-  printf '# Crates.\nmx_word: thiserror\nmx_rows: mx_word\nmmixware: mx_word\n' >"$1/crates.txt"
-  cp "$here/mmixware" "$here/install" "$here/try" "$here/release" "$here/grade" "$1"
+  printf '# Crates.\nmx_word: thiserror\nmx_rows: mx_word\nmmixware: mx_word\nmmixview: mx_word\n' >"$1/crates.txt"
+  cp "$here/mmixware" "$here/mmixview" "$here/install" "$here/try" "$here/release" "$here/grade" "$1"
   cp "$here"/packaging/*.sh "$1/packaging"
   cp -R "$here/grading" "$1"
   cp "$here"/docs/*.1 "$1/docs"
   cp -R "$here/completion" "$here/editors" "$1"
 }
 
-# what rt does: it builds a program, in a repository under its lock, and does what $meanwhile says before that. Of the crates
+# what rt does: it builds each program, in a repository under its lock, and does what $meanwhile says before that. Of the crates
 # alone, which are no repository, it wants neither wrong bodies nor crates of tests
 rt_builds() {
   cat >bin/rt <<'END'
@@ -59,11 +59,15 @@ done
 sleep 0.1
 printf '== mx_word\nmx_word: all is well\nrt: mx_word proved\nrt: mmixware is kept: an earlier run proved it\n'
 sh -c "$meanwhile" 8>&-
-program=crates/mmixware/out/mmixware
-printf '#!/bin/sh\necho built "$@"\n' >$program
-chmod +x $program
-sleep 0.1
-cp $program $program.by-rattle
+for name in mmixware mmixview; do
+  program=crates/$name/out/$name
+  if [ -d "crates/$name" ]; then
+    printf '#!/bin/sh\necho built "$@"\n' >$program
+    chmod +x $program
+    sleep 0.1
+    cp $program $program.by-rattle
+  fi
+done
 END
   chmod +x bin/rt
 }
@@ -247,7 +251,7 @@ cp good 'a copy/.built/mmixware'
 echo '// changed' >>'a copy/crates/mmixware/src/main.rt'
 prints "$failing
 status 1" 'a copy/mmixware' a
-prints 'release: the program is not built from these sources: first call ./mmixware --version, or rt ci
+prints 'release: mmixware is not built from these sources: first call ./mmixware --version, or rt ci
 status 1' 'a copy/release' "$room/made"
 
 # from a copy of the script alone
@@ -262,12 +266,16 @@ done
 prints 'install: usage: ./install [PREFIX]
 status 64' repo/install a b
 prints "install: to/bin/mmixware
+install: to/bin/mmixview
 install: to/bin/grade
 $(cd "$here/grading" && printf 'install: to/share/mmixware/grading/%s\n' *)
 install: to/share/man/man1/mmixware.1
-install: to/share/man/man1/grade.1
 install: to/share/bash-completion/completions/mmixware
 install: to/share/zsh/site-functions/_mmixware
+install: to/share/man/man1/mmixview.1
+install: to/share/bash-completion/completions/mmixview
+install: to/share/zsh/site-functions/_mmixview
+install: to/share/man/man1/grade.1
 install: to/share/bash-completion/completions/grade
 install: to/share/zsh/site-functions/_grade
 install: to/share/vim/vimfiles/syntax/mmixal.vim

@@ -148,9 +148,6 @@ pub(crate) fn sheet_if(
 {
     match report {
         None => Ok(None),
-        Some(report) => {
-            let sheet = sheet_in(alloc, source, report.as_slice())?;
-            Ok(Some(sheet))
-        }
+        Some(report) => Ok(Some(sheet_in(alloc, source, report.as_slice())?)),
     }
 }

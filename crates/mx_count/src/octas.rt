@@ -14,15 +14,23 @@ use mx_view::Cell;
 use mx_word::{Bytes, NoMemory, Sequence, octa_bytes, octa_of};
 use std::alloc::Global;
 
+/// Adds a number as an octa.
+#[tactic(auto, unfolding(crate::specs::Reports::number_bytes))]
+fn add_number(text: &mut Bytes, n: u64) -> Result<(), NoMemory>
+    ensures { OnOk result (text.new ≡ text.old ++ spec.number_bytes n) }
+{
+    text.extend(&octa_bytes(n))
+}
+
 /// Adds a tally as octas.
-#[tactic(auto, unfolding(crate::specs::Reports::tally_bytes, crate::specs::Reports::number_bytes))]
+#[tactic(auto, unfolding(crate::specs::Reports::tally_bytes))]
 fn add_tally(text: &mut Bytes, tally: Tally) -> Result<(), NoMemory>
     ensures { OnOk result (text.new ≡ text.old ++ spec.tally_bytes tally) }
 {
-    text.extend(&octa_bytes(tally.times))?;
-    text.extend(&octa_bytes(tally.away))?;
-    text.extend(&octa_bytes(tally.oops))?;
-    text.extend(&octa_bytes(tally.mems))
+    add_number(text, tally.times)?;
+    add_number(text, tally.away)?;
+    add_number(text, tally.oops)?;
+    add_number(text, tally.mems)
 }
 
 /// Adds the tally of a line that loads these tetras.

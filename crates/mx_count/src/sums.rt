@@ -48,10 +48,8 @@ impl Sums {
         ensures { OnOk result ((a : ℕ) →
             spec.sum_at self.new a ≡ (if address == a then tally else spec.sum_at self.old a)) }
     {
-        match self.sums.insert(address, tally) {
-            Ok(_) => Ok(()),
-            Err(_) => Err(NoMemory),
-        }
+        self.sums.insert(address, tally)?;
+        Ok(())
     }
 
     /// Adds to the tally of an address.
@@ -96,10 +94,7 @@ fn note(seen: &mut BTreeSet<u64>, address: u64) -> Result<bool, NoMemory>
     ensures seen { OnOk result (
         contains nat_cmp seen.new ≡ spec.with_seen (contains nat_cmp seen.old) address) }
 {
-    match seen.insert(address) {
-        Ok(is_new) => Ok(is_new),
-        Err(_) => Err(NoMemory),
-    }
+    Ok(seen.insert(address)?)
 }
 
 /// Adds the tally of an address, if it was not seen yet.

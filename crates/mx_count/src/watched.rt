@@ -108,8 +108,10 @@ fn run_told<H: Host>(
         return Err(NoMemory);
     }
     let at = machine.pc();
-    let text = only_report(&mut watchers, end, at)?;
-    Ok((end, text))
+    match only_report(&mut watchers, end, at) {
+        Ok(text) => Ok((end, text)),
+        Err(_) => Err(NoMemory),
+    }
 }
 
 /// Makes at most n steps of a machine, and counts them. The end, and the sheet.
