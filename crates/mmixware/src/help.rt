@@ -3,7 +3,7 @@
 use std::process::ExitCode;
 
 /// What `--help` prints.
-pub static HELP: &str = "\
+static HELP: &str = "\
 An assembler for MMIXAL and a simulator for MMIX.
 
 usage: mmixware run [--ring R] [--steps N] [-i] [--dump] [--report] [--last J]
@@ -54,7 +54,20 @@ exit status: that of the program (the low byte of $255 at Halt), and
 ";
 
 /// What `--version` prints.
-pub const VERSION: &str = "mmixware 0.3.0\n";
+const VERSION: &str = "mmixware 0.3.0\n";
+
+/// The text that the program answers by itself, if these are words for one: no words ask for help, too.
+pub fn own_text(words: &[String]) -> Option<&'static str> {
+    match words {
+        [] => Some(HELP),
+        [word] => match word.as_str() {
+            "--help" | "-h" | "help" => Some(HELP),
+            "--version" => Some(VERSION),
+            _ => None,
+        },
+        _ => None,
+    }
+}
 
 /// The status of a write to standard output that fails.
 const WRITE_FAULT: u8 = 74;

@@ -3,7 +3,7 @@
 
 mod help;
 
-use crate::help::{HELP, VERSION, answered};
+use crate::help::{answered, own_text};
 use mx_real::{RealHost, StandIns};
 use mx_top::{Outcome, mmixware_watched};
 use mx_watch::{Cover, Profile, Watcher, Writes};
@@ -56,12 +56,8 @@ fn main(rt: HostRuntime) -> ExitCode {
         [] => &[],
         [_program, words @ ..] => words,
     };
-    if let [word] = words {
-        match word.as_str() {
-            "--help" => return answered(&rt, HELP),
-            "--version" => return answered(&rt, VERSION),
-            _ => {}
-        }
+    if let Some(text) = own_text(words) {
+        return answered(&rt, text);
     }
     let Some(mut host) = RealHost::new(rt) else {
         return ExitCode::from(OUT_OF_MEMORY);

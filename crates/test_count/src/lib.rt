@@ -5,6 +5,8 @@
 #[cfg(test)]
 mod costs;
 #[cfg(test)]
+mod faces;
+#[cfg(test)]
 mod runs;
 #[cfg(test)]
 mod sheets;

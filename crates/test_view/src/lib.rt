@@ -4,4 +4,6 @@
 #[cfg(test)]
 mod data;
 #[cfg(test)]
+mod faces;
+#[cfg(test)]
 mod views;

@@ -1,0 +1,36 @@
+//! The faults that are told.
+
+ghost use Rattle.std.specs.Prelude.{◌≡◌, ◌≤◌, ◌^◌};
+ghost use Rattle.face_check.specs.CheckPages as spec;
+
+use mx_view::ToldFault;
+
+/// The form in which faults are told.
+#[derive(Clone, Copy)]
+pub enum Form {
+    /// Each with its line and a caret, for people.
+    Text,
+    /// A line of JSON.
+    Json,
+    /// A line for each, as compilers write them for editors.
+    Gnu,
+}
+
+/// The most faults that are told.
+const MOST_FAULTS: usize = 100;
+
+/// Whether as many faults are told as can be: there may be more.
+#[tactic(auto, unfolding(crate::specs::CheckPages::is_cut))]
+pub fn is_cut(faults: &[ToldFault]) -> bool
+    ensures { result ≡ spec.is_cut faults.now }
+{
+    MOST_FAULTS <= faults.len()
+}
+
+/// The next number, where there is one.
+#[tactic(auto, unfolding(crate::specs::CheckPages::next))]
+pub fn next(n: u64) -> u64
+    ensures { result ≡ spec.next n }
+{
+    if n < u64::MAX { n + 1 } else { n }
+}

@@ -1,0 +1,11 @@
+//! The faults of a source, as a text, as JSON, and as lines for editors.
+#![tactic(auto)]
+
+mod columns;
+mod faults;
+mod gnu;
+mod json;
+mod showing;
+
+pub use faults::Form;
+pub use showing::check;

@@ -1,0 +1,2 @@
+pub mod CountJson
+pub mod CountPages

@@ -1,0 +1,2 @@
+pub mod SourceJson
+pub mod SourcePages

@@ -1,0 +1,142 @@
+//! The commands, each with the words that follow it. A command or an option more is a row more.
+
+/// What a command does.
+#[derive(Clone, Copy)]
+pub enum Face {
+    /// The listing of a source.
+    List,
+    /// The faults of a source.
+    Check,
+    /// The lines of an address.
+    Where,
+    /// A source that is run and counted. Its words are read as those of `mmixware run`: the table has its help alone.
+    Count,
+}
+
+/// How a word is given: by a name after two dashes, alone or with a value, or by its place.
+#[derive(Clone, Copy)]
+pub enum Form {
+    Flag(&'static str),
+    Value(&'static str),
+    One,
+    Many,
+}
+
+/// A word of a command, with its text of help.
+pub struct Word {
+    pub id: &'static str,
+    pub form: Form,
+    pub help: &'static str,
+}
+
+/// A command: its name, its text of help, and its words in their order.
+pub struct Row {
+    pub face: Face,
+    pub name: &'static str,
+    pub about: &'static str,
+    pub words: &'static [Word],
+}
+
+/// The name, the version and the text of help of the program.
+pub const NAME: &str = "mmixview";
+
+pub const VERSION: &str = "0.3.0";
+
+pub const ABOUT: &str = "Views of a source in MMIXAL, and of a run of it.";
+
+/// The commands in the order in which help has them.
+pub static COMMANDS: [Row; 4] = [
+    Row {
+        face: Face::List,
+        name: "list",
+        about: "lists a source: each line with the tetras that it loads, then the symbols",
+        words: &[
+            Word {
+                id: "JSON",
+                form: Form::Flag("json"),
+                help: "writes one line of JSON in place of the text",
+            },
+            Word {
+                id: "SRC",
+                form: Form::One,
+                help: "the file of the source, in MMIXAL",
+            },
+        ],
+    },
+    Row {
+        face: Face::Check,
+        name: "check",
+        about: "tells the faults of a source, up to 100, each with its line",
+        words: &[
+            Word {
+                id: "JSON",
+                form: Form::Flag("json"),
+                help: "writes one line of JSON in place of the text",
+            },
+            Word {
+                id: "GNU",
+                form: Form::Flag("gnu"),
+                help: "writes each fault as SRC:LINE:COLUMN: error: FAULT, for editors",
+            },
+            Word {
+                id: "SRC",
+                form: Form::One,
+                help: "the file of the source, in MMIXAL",
+            },
+        ],
+    },
+    Row {
+        face: Face::Where,
+        name: "where",
+        about: "tells which lines load the tetra that holds an address, and this tetra",
+        words: &[
+            Word {
+                id: "JSON",
+                form: Form::Flag("json"),
+                help: "writes one line of JSON in place of the text",
+            },
+            Word {
+                id: "ADDRESS",
+                form: Form::One,
+                help: "an address: # and hexadecimal digits, or decimal digits",
+            },
+            Word {
+                id: "SRC",
+                form: Form::One,
+                help: "the file of the source, in MMIXAL",
+            },
+        ],
+    },
+    Row {
+        face: Face::Count,
+        name: "count",
+        about: "runs a source, and tells how often each line was carried out and what that costs",
+        words: &[
+            Word {
+                id: "JSON",
+                form: Form::Flag("json"),
+                help: "in front of the other options: one line of JSON follows in place of the table",
+            },
+            Word {
+                id: "R",
+                form: Form::Value("ring"),
+                help: "the ring has R registers, a power of two from 256 to 65536",
+            },
+            Word {
+                id: "N",
+                form: Form::Value("steps"),
+                help: "at most N steps are made, 1 to 1000000000000",
+            },
+            Word {
+                id: "SRC",
+                form: Form::One,
+                help: "the file of the source, in MMIXAL",
+            },
+            Word {
+                id: "ARG",
+                form: Form::Many,
+                help: "what the program is handed",
+            },
+        ],
+    },
+];
