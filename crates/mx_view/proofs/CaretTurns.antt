@@ -3,6 +3,8 @@ use Rattle.std.proofs.Common.{◌≡◌, ◌≤◌, ℕ, zero, suc, ◌-◌, Boo
 use Rattle.std.specs.Str.{IsUtf8, is_utf8}
 use Rattle.std.proofs.lemmas.List.{take_all}
 use Rattle.std.proofs.lemmas.Str.{IsUtf8-from_is_utf8, is_utf8-from_IsUtf8}
+use Rattle.mx_line.specs.Bytes.{is_name_byte, run}
+use Rattle.mx_line.proofs.KindLemmas.{run-few, run-take}
 use Rattle.mx_view.specs.Carets.{char_length, under, under_behind, under_text}
 
 -- what stands behind the bytes of a character
@@ -32,6 +34,15 @@ unfolding under_behind
 under-none text = append-nil text
 
 pub ruleset turns = (under-at, under-none)
+
+-- the word at the front of a text is within it
+pub word-few : (text : List ℕ) → length (run is_name_byte text) ≤ length text
+word-few text = run-few is_name_byte text
+
+pub word-is : (text : List ℕ) → take (length (run is_name_byte text)) text ≡ run is_name_byte text
+word-is text = run-take is_name_byte text
+
+pub ruleset words = (word-few, word-is)
 
 -- whether a text is UTF-8
 pub no-text : (text : List ℕ) → ¬ (IsUtf8 text) → is_utf8 text ≡ false

@@ -1,7 +1,8 @@
 pub mod CellTurns
 pub mod LineTurns
 pub mod Shown
-pub mod BlankTurns
+pub mod MendingTurns
+pub mod SearchTurns
 pub mod FaultTurns
 pub mod EveryCell
 pub mod LoadedTetras
@@ -16,7 +17,5 @@ pub mod CaretTurns
 pub mod FirstFaults
 pub mod OnceLaws
 pub mod WhereLaws
-pub mod WaitLines
-pub mod NamedLines
-pub mod LinesOfFaults
+pub mod LinesInOrder
 pub mod Characters

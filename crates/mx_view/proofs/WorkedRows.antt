@@ -10,7 +10,7 @@ use Rattle.mx_view.specs.declared.cells.Wanted.TheVariants.{All, Holding}
 use Rattle.mx_view.specs.Carets.{caret_place}
 use Rattle.mx_view.specs.Cells.{cells_of}
 use Rattle.mx_view.specs.Rows.{padded}
-use Rattle.mx_view.specs.Refusals.{lines_with_blank, line_text}
+use Rattle.mx_view.specs.Mending.{label_alone, lines_with, line_text}
 
 -- lambda leads each tetra to its address, a multiple of 4
 two-tetras : cells_of All 0 (Loc 0x102 ∷ Line 3 ∷ Load 7 ∷ Load 8 ∷ []) ≡ record { address = 0x100; tetra = 7 } ∷ record { address = 0x104; tetra = 8 } ∷ []
@@ -27,9 +27,9 @@ padded-number = refl
 long-number : padded (codes "123456") ≡ codes "123456"
 long-number = refl
 
--- the second of three lines is blank
-blank-line : lines_with_blank 2 (codes "A SWYM" ∷ codes " B 1" ∷ codes "C" ∷ []) ≡ codes "A SWYM" ∷ codes " " ∷ codes "C" ∷ []
-unfolding lines_with_blank
+-- the second of three lines is another text
+blank-line : lines_with 2 (codes " ") (codes "A SWYM" ∷ codes " B 1" ∷ codes "C" ∷ []) ≡ codes "A SWYM" ∷ codes " " ∷ codes "C" ∷ []
+unfolding lines_with
 blank-line = refl
 
 second-line : line_text 2 (codes "A" ∷ codes "B" ∷ codes "C" ∷ []) ≡ codes "B"
@@ -48,3 +48,24 @@ second-marked = refl
 none-marked : caret_place (fault.Stmt Fit) (codes "A SWYM 0; SET $0,70000") ≡ None
 unfolding caret_place cuts_within statement_of field_from
 none-marked = refl
+
+-- what is left of a line: the label of an instruction is an address, that of IS a register or a number; a local label; and nothing
+label-left : label_alone (codes "Loop  ADD $1,$1,1000") ≡ codes "Loop IS @"
+unfolding label_alone
+label-left = refl
+
+register-left : label_alone (codes "n IS $1 ; the counter") ≡ codes "n IS $0"
+unfolding label_alone
+register-left = refl
+
+number-left : label_alone (codes "n\tIS 5,") ≡ codes "n IS 1"
+unfolding label_alone
+number-left = refl
+
+local-left : label_alone (codes "2H") ≡ codes "2H IS @"
+unfolding label_alone
+local-left = refl
+
+nothing-left : label_alone (codes " ADD $1,$1,1000") ≡ codes " "
+unfolding label_alone
+nothing-left = refl

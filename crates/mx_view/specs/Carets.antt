@@ -32,14 +32,14 @@ statement_field TooManyGregs = Operation
 statement_field BadPlace = Operation
 statement_field why = Operands
 
--- The label is what a reference waits for, and what is defined twice. A fault of the source as a whole has no field.
+-- The operands are what a label does not suit that they wait for. A fault of the source as a whole has no field.
 abbrev pub field_of : AsmFault → Option Field
 field_of (fault.Line why) = line_field why
 field_of (fault.Stmt why) = Some (statement_field why)
 field_of (fault.Name why) = Some Label
-field_of fault.FutureRegister = Some Label
-field_of fault.FutureTooFar = Some Label
-field_of fault.FutureNotMultiple = Some Label
+field_of fault.FutureRegister = Some Operands
+field_of fault.FutureTooFar = Some Operands
+field_of fault.FutureNotMultiple = Some Operands
 field_of fault.UndefinedSymbol = Some Operands
 field_of fault.UndefinedLocal = Some Operands
 field_of whole = None

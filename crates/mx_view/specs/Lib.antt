@@ -3,6 +3,8 @@ pub mod Rows
 pub mod Listing
 pub mod InTurn
 pub mod Carets
+pub mod Mending
+pub mod Search
 pub mod Refusals
 pub mod Loads
 pub mod Joined

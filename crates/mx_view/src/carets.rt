@@ -51,11 +51,12 @@ fn field_of(why: AsmFault) -> Option<Field>
     match why {
         AsmFault::Line(why) => line_field(why),
         AsmFault::Stmt(why) => Some(statement_field(why)),
-        AsmFault::Name(_)
+        AsmFault::Name(_) => Some(Field::Label),
+        AsmFault::UndefinedSymbol
+        | AsmFault::UndefinedLocal
         | AsmFault::FutureRegister
         | AsmFault::FutureTooFar
-        | AsmFault::FutureNotMultiple => Some(Field::Label),
-        AsmFault::UndefinedSymbol | AsmFault::UndefinedLocal => Some(Field::Operands),
+        | AsmFault::FutureNotMultiple => Some(Field::Operands),
         _ => None,
     }
 }
@@ -117,6 +118,14 @@ fn blank_length(text: &[u8]) -> usize
     text.iter().take_while(|b| is_blank(**b)).count()
 }
 
+/// The letters and digits at the front of a text.
+#[tactic(auto, using(crate::proofs::CaretTurns::words))]
+pub(crate) fn word(text: &[u8]) -> &[u8]
+    ensures { result.now ≡ bytes.run bytes.is_name_byte text.now }
+{
+    text.split_at(word_length(text)).0
+}
+
 /// What stands behind the letters and digits at the front of a text, and the blanks behind these.
 fn behind_word(text: &[u8]) -> &[u8]
     ensures { result.now ≡ spec.behind_word text.now }
@@ -126,7 +135,7 @@ fn behind_word(text: &[u8]) -> &[u8]
 }
 
 /// A statement from one of its fields on.
-fn from_field(field: Field, text: &[u8]) -> &[u8]
+pub(crate) fn from_field(field: Field, text: &[u8]) -> &[u8]
     ensures { result.now ≡ spec.from_field field text.now }
 {
     match field {

@@ -1,7 +1,7 @@
 //! What holds of every listing.
 
 ghost use Rattle.std.specs.Prelude.{◌≡◌, ◌≢◌, ◌<◌, ◌≤◌, ◌-◌, ◌^◌, ◌++◌, ◌∷◌, [], true, ℕ, List, None, Ok, Some, drop, length};
-ghost use Rattle.std.specs.List.{AllPairs};
+ghost use Rattle.std.specs.List.{AllPairs, Contains};
 ghost use Rattle.std.specs.Str.{all_scalars, encode_utf8_all};
 ghost use Rattle.mx_word.specs.Ranges.{AreBytes};
 ghost use Rattle.mx_line.specs.Cutting.{statement_of};
@@ -15,12 +15,13 @@ ghost use Rattle.mx_asm.specs.Refusal.{refusal};
 ghost use Rattle.mx_asm.specs.Whole.{Line, lines_items, lines_refusal};
 ghost use Rattle.mx_asm.specs.declared.refused.Refused.{Refused};
 ghost use Rattle.mx_files.specs.Sources.{source_meaning};
+ghost use Rattle.mx_files.specs.declared.refusal.Refusal.{Refusal};
 ghost use Rattle.mx_view.specs.Carets.{from_field, under_text};
 ghost use Rattle.mx_view.specs.Cells.{cells_of};
 ghost use Rattle.mx_view.specs.declared.carets.Field.TheVariants.{Operands, Operation};
 ghost use Rattle.mx_view.specs.Joined.{lines_once, lines_with, listed_tetra, tetras_listed};
-ghost use Rattle.mx_view.specs.Listing.{added_items, cells_behind, listed_behind, lines_listed, symbols_listed};
-ghost use Rattle.mx_view.specs.Refusals.{NameTwoLines, faults_in};
+ghost use Rattle.mx_view.specs.Listing.{added_items, cells_behind, listed_behind, lines_listed, refusal_in, symbols_listed};
+ghost use Rattle.mx_view.specs.Refusals.{IsEarlier, faults_in, refusals_of};
 ghost use Rattle.mx_view.specs.Rows.{Meaning, is_loaded_at, listed_line, shown};
 ghost use Rattle.mx_view.specs.declared.cells.Cell.{Cell};
 ghost use Rattle.mx_view.specs.declared.cells.Wanted.TheVariants.{All, Holding};
@@ -101,7 +102,16 @@ pub fn carets_count_characters()
         length (under_text (encode_utf8_all chars)) ≡ length chars }
 {}
 
-/// No line is told twice: of any two faults of a source that each name a line, they name different ones.
+/// Faults are told in the order of their lines, and no line is told twice: of any two faults of a source that each have a line, the
+/// first is at an earlier one.
+#[tactic(auto, using(crate::proofs::LinesInOrder::orders))]
 pub fn no_line_is_told_twice()
-    ensures { (source : List ℕ) → AllPairs NameTwoLines (faults_in source) }
+    ensures { (source : List ℕ) → AllPairs IsEarlier (faults_in source).faults }
+{}
+
+/// What a run of a source is refused for is among its faults.
+#[tactic(auto, using(crate::proofs::FirstFaults::tellings))]
+pub fn the_refusal_of_a_run_is_told()
+    ensures { (source : List ℕ) (r : Refusal) → Some r ≡ refusal_in source →
+        Contains (refusals_of (faults_in source).faults) r }
 {}

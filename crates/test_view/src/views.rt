@@ -99,8 +99,7 @@ line 3: 82 MainUndefined
 static PLACED: &str = "Main  SET $0,70000
 \tADD $0,$0
 x SET $0,1; SET $0,70000
-Main SWYM 0;SET $0,5
-Main SWYM 0
+y SWYM 0;SET $0,5
  JMP nowhere
 Main SWYM 0
 ";
@@ -114,14 +113,52 @@ line 2: 40 Operands
 line 3: 43 Fit
     x SET $0,1; SET $0,70000
 line 4: 7 NoOpcode
-    Main SWYM 0;SET $0,5
-                ^
-line 7: 30 Twice
-    Main SWYM 0
-    ^
-line 6: 80 UndefinedSymbol
+    y SWYM 0;SET $0,5
+             ^
+line 5: 80 UndefinedSymbol
      JMP nowhere
          ^
+line 6: 30 Twice
+    Main SWYM 0
+    ^
+";
+
+/// The label of a faulty line stays: an address, a register or a number. So what refers to it is not told, and Main is there.
+static LABELLED: &str = "n IS $1; the number
+size IS 5,
+Main ADD n,n,1000
+ ADD n,n,size
+1H BZ n,1B,1B
+ BZ n,1B
+ JMP Main
+";
+
+static LABELLED_TOLD: &str = "line 1: 39 UnknownOpcode
+    n IS $1; the number
+line 2: 10 Syntax
+    size IS 5,
+            ^
+line 3: 43 Fit
+    Main ADD n,n,1000
+             ^
+line 5: 40 Operands
+    1H BZ n,1B,1B
+          ^
+";
+
+/// A label that does not suit a reference is told at the reference, which is first here; and a line that has this label, too, and is
+/// faulty for itself, is told for that.
+static REFERRED: &str = "Main JMP x
+x IS $1
+x BYTE 256
+";
+
+static REFERRED_TOLD: &str = "line 2: 84 FutureRegister from line 1
+    Main JMP x
+         ^
+line 3: 43 Fit
+    x BYTE 256
+           ^
 ";
 
 /// Whether this is what is shown.
@@ -187,6 +224,28 @@ fn all_faults(rt: HostRuntime) {
 #[test]
 fn faults_with_places(rt: HostRuntime) {
     assert!(rt; is_shown(faults(rt.alloc(), PLACED.as_bytes()), PLACED_TOLD, false));
+}
+
+#[test]
+fn labels_of_faulty_lines_stay(rt: HostRuntime) {
+    assert!(rt;
+        is_shown(
+            faults(rt.alloc(), LABELLED.as_bytes()),
+            LABELLED_TOLD,
+            false
+        )
+    );
+}
+
+#[test]
+fn a_reference_is_at_fault(rt: HostRuntime) {
+    assert!(rt;
+        is_shown(
+            faults(rt.alloc(), REFERRED.as_bytes()),
+            REFERRED_TOLD,
+            false
+        )
+    );
 }
 
 #[test]

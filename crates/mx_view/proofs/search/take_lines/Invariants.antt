@@ -2,7 +2,7 @@ use Rattle.std.proofs.Common.{◌≡◌, true, length}
 use Rattle.std.specs.Result.{is_ok}
 use Rattle.mx_line.specs.Lines.{lines_of}
 use Rattle.mx_view.specs.InTurn.{standing_behind}
-use Rattle.mx_view.proofs.checking.take_lines.Given as goal
+use Rattle.mx_view.proofs.search.take_lines.Given as goal
 
 abbrev pub invariant-loop-rest : goal.invariant-loop-rest
 invariant-loop-rest l = record {

@@ -6,19 +6,19 @@ use Rattle.mx_word.proofs.Comparisons.{other-test}
 use Rattle.mx_line.specs.Lines.{lines_of}
 use Rattle.mx_asm.specs.Whole.{Line}
 use Rattle.mx_type.specs.Lines.{ended}
-use Rattle.mx_view.specs.Refusals.{blanked, lines_with_blank, line_text}
+use Rattle.mx_view.specs.Mending.{line_text, lines_with, replaced}
 use Rattle.mx_view.proofs.LineTurns.{no-lines}
 
-pub blank-next : (text : List ℕ) (k : ℕ) (source rest : List ℕ) (line : Line) → lines_of source ≡ line ∷ lines_of rest →
-    text ++ flat_map ended (lines_with_blank k (lines_of source)) ≡ ((text ++ blanked k line) ++ codes "\n") ++ flat_map ended (lines_with_blank (k - 1) (lines_of rest))
-unfolding lines_with_blank
-blank-next text k source rest line e =
-    let more = flat_map ended (lines_with_blank (k - 1) (lines_of rest)) in
-    rw e (sym (append_assoc text (ended (blanked k line)) more) ∙ ap (λ t. t ++ more) (sym (append_assoc text (blanked k line) (codes "\n"))))
+pub with-next : (text : List ℕ) (k : ℕ) (new : Line) (source rest : List ℕ) (line : Line) → lines_of source ≡ line ∷ lines_of rest →
+    text ++ flat_map ended (lines_with k new (lines_of source)) ≡ ((text ++ replaced k new line) ++ codes "\n") ++ flat_map ended (lines_with (k - 1) new (lines_of rest))
+unfolding lines_with
+with-next text k new source rest line e =
+    let more = flat_map ended (lines_with (k - 1) new (lines_of rest)) in
+    rw e (sym (append_assoc text (ended (replaced k new line)) more) ∙ ap (λ t. t ++ more) (sym (append_assoc text (replaced k new line) (codes "\n"))))
 
-pub blank-none : (text : List ℕ) (k : ℕ) (source : List ℕ) → length source ≡ 0 → text ++ flat_map ended (lines_with_blank k (lines_of source)) ≡ text
-unfolding lines_with_blank
-blank-none text k source e = rw (no-lines source e) (append-nil text)
+pub with-none : (text : List ℕ) (k : ℕ) (new : Line) (source : List ℕ) → length source ≡ 0 → text ++ flat_map ended (lines_with k new (lines_of source)) ≡ text
+unfolding lines_with
+with-none text k new source e = rw (no-lines source e) (append-nil text)
 
 pub text-found : (source rest : List ℕ) (line : Line) → lines_of source ≡ line ∷ lines_of rest → line_text 1 (lines_of source) ≡ line
 unfolding line_text
@@ -32,4 +32,4 @@ pub text-none : (k : ℕ) (source : List ℕ) → length source ≡ 0 → line_t
 unfolding line_text
 text-none k source e = rw (no-lines source e) refl
 
-pub ruleset blanks = (blank-next, blank-none, text-found, text-next, text-none)
+pub ruleset lines = (with-next, with-none, text-found, text-next, text-none)

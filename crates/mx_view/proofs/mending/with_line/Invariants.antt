@@ -2,12 +2,12 @@ use Rattle.std.proofs.Common.{◌≡◌, ◌++◌, length}
 use Rattle.std.specs.List.{flat_map}
 use Rattle.mx_line.specs.Lines.{lines_of}
 use Rattle.mx_type.specs.Lines.{ended}
-use Rattle.mx_view.specs.Refusals.{lines_with_blank}
-use Rattle.mx_view.proofs.blanks.with_blank.Given as goal
+use Rattle.mx_view.specs.Mending.{lines_with}
+use Rattle.mx_view.proofs.mending.with_line.Given as goal
 
 abbrev pub invariant-loop-rest : goal.invariant-loop-rest
 invariant-loop-rest l =
-    flat_map ended (lines_with_blank l.line (lines_of l.source)) ≡ l.text ++ flat_map ended (lines_with_blank l.ahead (lines_of l.rest))
+    flat_map ended (lines_with l.line l.text (lines_of l.source)) ≡ l.mended ++ flat_map ended (lines_with l.ahead l.text (lines_of l.rest))
 
 abbrev pub decreases-loop-rest : goal.decreases-loop-rest
 decreases-loop-rest l = length l.rest
