@@ -27,7 +27,7 @@ use Rattle.mx_view.specs.declared.search.Found.{Found}
 use Rattle.mx_view.specs.declared.search.Looked.{Looked}
 use Rattle.mx_view.specs.declared.search.Looked.TheVariants.{Next, Ended}
 use Rattle.mx_view.specs.Listing.{refusal_in}
-use Rattle.mx_view.specs.Mending.{with_label}
+use Rattle.mx_marks.specs.Mending.{with_label}
 use Rattle.mx_view.specs.Search.{added_as, assembly_refusal, ended_as, kind_of, found_in, found_with, inserted, is_before, is_of_whole, is_at, line_at_fault, looked_with, next_as}
 unfoldable use Rattle.mx_view.specs.Search.{found}
 use Rattle.mx_view.specs.Refusals.{faults_by, faults_in, faulty_line, refusals_of, told_at, told_found, told_if, told_lines, told_whole, with_refusal}
@@ -92,12 +92,12 @@ lines-told : (source : List ℕ) (lines : List Refused) → refusals_of (told_li
 lines-told source [] = refl
 lines-told source (r ∷ rs) = ap (λ l. refusal_of r ∷ l) (lines-told source rs)
 
-both-told : (source : List ℕ) (lines : List Refused) (o : Option Refusal) → refusals_of (told_lines source lines ++ told_if o) ≡ map refusal_of lines ++ refusals_of (told_if o)
+both-told : (source : List ℕ) (lines : List Refused) (o : Option Refusal) → refusals_of (told_lines source lines ++ told_if source o) ≡ map refusal_of lines ++ refusals_of (told_if source o)
 both-told source [] o = refl
 both-told source (r ∷ rs) o = ap (λ l. refusal_of r ∷ l) (both-told source rs o)
 
 line-told : (r : Refusal) (source : List ℕ) (refused : Option Refusal) (f : Found) → IsAmong r f.lines → Tells r (told_found source refused f)
-line-told r source refused f e = subst (λ l. Contains l r) (sym (both-told source f.lines f.whole)) (Contains-append_left (map refusal_of f.lines) (refusals_of (told_if f.whole)) r e)
+line-told r source refused f e = subst (λ l. Contains l r) (sym (both-told source f.lines f.whole)) (Contains-append_left (map refusal_of f.lines) (refusals_of (told_if source f.whole)) r e)
 
 whole-told : (r : Refusal) (source : List ℕ) (refused : Option Refusal) (lines : List Refused) (is_cut : Bool) → Tells r (told_found source refused (record { lines = lines; whole = Some r; is_cut = is_cut }))
 whole-told r source refused lines is_cut =
@@ -122,7 +122,7 @@ is-ninety n e = rw e refl
 run-told : (source : List ℕ) (r : Refusal) (pages : Option ℕ) (o : Option Refused) (whole : Image) → assembly_refusal source ≡ o →
     Some r ≡ result_err (meaning_unless (run_refusal_with pages o) whole) → Tells r (faults_by source (Some r))
 run-told source r pages o whole e is =
-    cond_both (r.fault == 90) (with_refusal (Some r) (told_whole r ∷ []) false) (told_found source (Some r) (found_in source)) (Tells r)
+    cond_both (r.fault == 90) (with_refusal (Some r) (told_whole source r ∷ []) false) (told_found source (Some r) (found_in source)) (Tells r)
     (λ f. at-front r []) (λ f. by pages o e is f)
   where
     by : (pages : Option ℕ) (o : Option Refused) → assembly_refusal source ≡ o → Some r ≡ result_err (meaning_unless (run_refusal_with pages o) whole) → (r.fault == 90) ≡ false →

@@ -1,9 +1,7 @@
 pub mod CellTurns
 pub mod LineTurns
 pub mod Shown
-pub mod MendingTurns
 pub mod SearchTurns
-pub mod FaultTurns
 pub mod EveryCell
 pub mod LoadedTetras
 pub mod CoveredBytes
@@ -12,10 +10,7 @@ pub mod LinesOnce
 pub mod WorkedRows
 pub mod TwoPassViews
 pub mod LineLoads
-pub mod CutFields
-pub mod CaretTurns
 pub mod FirstFaults
 pub mod OnceLaws
 pub mod WhereLaws
 pub mod LinesInOrder
-pub mod Characters

@@ -92,24 +92,24 @@ all-later P (f ∷ faults) h (suc k) d within = all-later P faults h.1 k d (omeg
 nothing : AllPairs IsEarlier []
 nothing i j d lt within = absurd (omega (arith, within))
 
-whole-later : (f : ToldFault) (o : Option Refusal) → AllByRecursion (IsEarlier f) (told_if o)
-whole-later f None = tt
-whole-later f (Some r) = ((λ first second. absurd (cc)), tt)
+whole-later : (source : List ℕ) (f : ToldFault) (o : Option Refusal) → AllByRecursion (IsEarlier f) (told_if source o)
+whole-later source f None = tt
+whole-later source f (Some r) = ((λ first second. absurd (cc)), tt)
 
 lines-later : (source : List ℕ) (r : Refused) (rs : List Refused) (o : Option Refusal) → AllByRecursion (Before r) rs →
-    AllByRecursion (IsEarlier (told_at r (faulty_line source r))) (told_lines source rs ++ told_if o)
-lines-later source r [] o h = whole-later (told_at r (faulty_line source r)) o
+    AllByRecursion (IsEarlier (told_at source r (faulty_line source r))) (told_lines source rs ++ told_if source o)
+lines-later source r [] o h = whole-later source (told_at source r (faulty_line source r)) o
 lines-later source r (q ∷ qs) o h = ((λ first second. h.0), lines-later source r qs o h.1)
 
-whole-alone : (o : Option Refusal) → AllPairs IsEarlier (told_if o)
-whole-alone None = nothing
-whole-alone (Some r) = AllPairs-cons IsEarlier (told_whole r) [] (all-later (IsEarlier (told_whole r)) [] tt) nothing
+whole-alone : (source : List ℕ) (o : Option Refusal) → AllPairs IsEarlier (told_if source o)
+whole-alone source None = nothing
+whole-alone source (Some r) = AllPairs-cons IsEarlier (told_whole source r) [] (all-later (IsEarlier (told_whole source r)) [] tt) nothing
 
-lines-ordered : (source : List ℕ) (lines : List Refused) (o : Option Refusal) → Ascending lines → AllPairs IsEarlier (told_lines source lines ++ told_if o)
-lines-ordered source [] o h = whole-alone o
+lines-ordered : (source : List ℕ) (lines : List Refused) (o : Option Refusal) → Ascending lines → AllPairs IsEarlier (told_lines source lines ++ told_if source o)
+lines-ordered source [] o h = whole-alone source o
 lines-ordered source (r ∷ rs) o h =
-    AllPairs-cons IsEarlier (told_at r (faulty_line source r)) (told_lines source rs ++ told_if o)
-    (all-later (IsEarlier (told_at r (faulty_line source r))) _ (lines-later source r rs o h.0)) (lines-ordered source rs o h.1)
+    AllPairs-cons IsEarlier (told_at source r (faulty_line source r)) (told_lines source rs ++ told_if source o)
+    (all-later (IsEarlier (told_at source r (faulty_line source r))) _ (lines-later source r rs o h.0)) (lines-ordered source rs o h.1)
 
 pub in-order : (source : List ℕ) → AllPairs IsEarlier (faults_in source).faults
 in-order source = by (refusal_in source)
@@ -117,7 +117,7 @@ in-order source = by (refusal_in source)
     by : (o : Option Refusal) → Orders (faults_by source o)
     by None = nothing
     by (Some r) =
-        cond_both (r.fault == 90) (with_refusal (Some r) (told_whole r ∷ []) false) (told_found source (Some r) (found_in source)) Orders
-        (λ e. whole-alone (Some r)) (λ e. lines-ordered source (found_in source).lines (found_in source).whole (found-ascends 201 [] source tt))
+        cond_both (r.fault == 90) (with_refusal (Some r) (told_whole source r ∷ []) false) (told_found source (Some r) (found_in source)) Orders
+        (λ e. whole-alone source (Some r)) (λ e. lines-ordered source (found_in source).lines (found_in source).whole (found-ascends 201 [] source tt))
 
 pub ruleset orders = (in-order)

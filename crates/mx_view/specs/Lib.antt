@@ -2,8 +2,6 @@ pub mod Cells
 pub mod Rows
 pub mod Listing
 pub mod InTurn
-pub mod Carets
-pub mod Mending
 pub mod Search
 pub mod Refusals
 pub mod Loads

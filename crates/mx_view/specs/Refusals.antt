@@ -1,6 +1,6 @@
 -- All faults of a source, up to 100 lines, in the order of the lines at fault; a fault of the source as a whole is the last. The form of
 -- their text is this program's own.
-use Rattle.std.specs.Prelude.{◌≡◌, ◌<◌, ℕ, ◌==◌, Bool, true, false, if◌then◌else◌, List, [], ◌∷◌, ◌++◌, map, Option, None, Some, codes, is_some}
+use Rattle.std.specs.Prelude.{◌≡◌, ◌<◌, ℕ, ◌==◌, Bool, true, false, if◌then◌else◌, List, [], ◌∷◌, ◌++◌, map, Option, None, Some, option_map, codes, is_some}
 use Rattle.std.specs.List.{flat_map}
 use Rattle.mx_line.specs.Lines.{lines_of}
 use Rattle.mx_asm.specs.Whole.{Line}
@@ -8,47 +8,69 @@ use Rattle.mx_asm.specs.declared.refused.Refused.{Refused}
 use Rattle.mx_outcome.specs.Messages.{refused_text}
 use Rattle.mx_files.specs.Loading.{refusal_of}
 use Rattle.mx_files.specs.declared.refusal.Refusal.{Refusal}
+use Rattle.mx_marks.specs.declared.marks.Mark.{Mark}
+use Rattle.mx_marks.specs.Under.{marks_text}
+use Rattle.mx_sentences.specs.declared.sentences.Remark.{Remark}
+use Rattle.mx_sentences.specs.Sentences.{remark_of, remark_of_whole}
 use Rattle.mx_view.specs.declared.checking.ToldFault.{ToldFault}
 use Rattle.mx_view.specs.declared.checking.ToldFaults.{ToldFaults}
 use Rattle.mx_view.specs.declared.search.Found.{Found}
-use Rattle.mx_view.specs.Carets.{caret_place, caret_text}
 use Rattle.mx_view.specs.Listing.{refusal_in}
-use Rattle.mx_view.specs.Mending.{line_text}
+use Rattle.mx_marks.specs.Mending.{line_text as text_of_line}
 use Rattle.mx_view.specs.Search.{found_in, line_at_fault}
 
 -- ---- as data
 
 -- the line at fault of a source
 abbrev pub faulty_line : List ℕ → Refused → Line
-faulty_line source r = line_text (line_at_fault r) (lines_of source)
+faulty_line source r = text_of_line (line_at_fault r) (lines_of source)
+
+-- how many bytes a marked text has
+abbrev pub length_of : Option Mark → ℕ
+length_of None = 0
+length_of (Some m) = m.length
+
+-- a refusal with what is said of it, and the line at fault, if there is one
+abbrev pub told_with : Refusal → ℕ → Option Line → Remark → ToldFault
+told_with r at_line line m =
+    record {
+      refused = r;
+      at_line = at_line;
+      line = line;
+      caret = option_map (λ (m : Mark). m.from) m.mark;
+      length = length_of m.mark;
+      what = m.what;
+      meant = m.meant;
+      help = m.help;
+    }
 
 -- a refusal as a fault that is told, with the line at fault
-abbrev pub told_at : Refused → Line → ToldFault
-told_at r line = record { refused = refusal_of r; at_line = line_at_fault r; line = Some line; caret = caret_place r.fault line }
+abbrev pub told_at : List ℕ → Refused → Line → ToldFault
+told_at source r line = told_with (refusal_of r) (line_at_fault r) (Some line) (remark_of r.fault (line_at_fault r) source line)
 
 -- a refusal of the source as a whole
-abbrev pub told_whole : Refusal → ToldFault
-told_whole r = record { refused = r; at_line = r.line; line = None; caret = None }
+abbrev pub told_whole : List ℕ → Refusal → ToldFault
+told_whole source r = told_with r r.line None (remark_of_whole r.fault source)
 
-abbrev pub told_if : Option Refusal → List ToldFault
-told_if None = []
-told_if (Some r) = told_whole r ∷ []
+abbrev pub told_if : List ℕ → Option Refusal → List ToldFault
+told_if source None = []
+told_if source (Some r) = told_whole source r ∷ []
 
 abbrev pub told_lines : List ℕ → List Refused → List ToldFault
-told_lines source lines = map (λ r. told_at r (faulty_line source r)) lines
+told_lines source lines = map (λ r. told_at source r (faulty_line source r)) lines
 
 -- the faults of a source that is refused so when it is run
 abbrev pub with_refusal : Option Refusal → List ToldFault → Bool → ToldFaults
 with_refusal refused faults is_cut = record { refused = refused; faults = faults; is_cut = is_cut }
 
 abbrev pub told_found : List ℕ → Option Refusal → Found → ToldFaults
-told_found source refused f = with_refusal refused (told_lines source f.lines ++ told_if f.whole) f.is_cut
+told_found source refused f = with_refusal refused (told_lines source f.lines ++ told_if source f.whole) f.is_cut
 
 -- those of a source that is refused so when it is run; 90 is PagesFull
 abbrev pub faults_by : List ℕ → Option Refusal → ToldFaults
 faults_by source None = with_refusal None [] false
 faults_by source (Some r) =
-    if r.fault == 90 then with_refusal (Some r) (told_whole r ∷ []) false else told_found source (Some r) (found_in source)
+    if r.fault == 90 then with_refusal (Some r) (told_whole source r ∷ []) false else told_found source (Some r) (found_in source)
 
 abbrev pub faults_in : List ℕ → ToldFaults
 faults_in source = faults_by source (refusal_in source)
@@ -66,17 +88,26 @@ refusals_of faults = map (λ (f : ToldFault). f.refused) faults
 unfoldable pub refusal_text : Refusal → List ℕ
 refusal_text r = refused_text r.line r.fault r.from_line
 
--- a line, and the caret below it
-abbrev pub with_caret : Line → Option ℕ → List ℕ
-with_caret line caret = codes "    " ++ line ++ codes "\n" ++ caret_text line caret
+-- a line, and the marks below it
+unfoldable pub line_text : Option Line → Option ℕ → ℕ → List ℕ
+line_text None caret length = []
+line_text (Some line) caret length = codes "    " ++ line ++ codes "\n" ++ marks_text line caret length
 
-abbrev pub named_text : Option Line → Option ℕ → List ℕ
-named_text None caret = []
-named_text (Some line) caret = with_caret line caret
+-- a name that is meant perhaps
+unfoldable pub question : List ℕ
+question = codes "    Did you mean `"
 
--- a refusal, and the line at fault
+abbrev pub meant_text : List ℕ → List ℕ
+meant_text [] = []
+meant_text (b ∷ bs) = question ++ (b ∷ bs) ++ codes "`?\n"
+
+-- what is wrong, which name is meant perhaps, and what mends it
+unfoldable pub said_text : ToldFault → List ℕ
+said_text f = codes "    " ++ f.what ++ codes "\n" ++ meant_text f.meant ++ codes "    " ++ f.help ++ codes "\n"
+
+-- a refusal, the line at fault, and what is said of it
 abbrev pub fault_text : ToldFault → List ℕ
-fault_text f = refusal_text f.refused ++ named_text f.line f.caret
+fault_text f = refusal_text f.refused ++ line_text f.line f.caret f.length ++ said_text f
 
 -- that there are more faulty lines
 abbrev pub cut_text : Bool → List ℕ

@@ -15,7 +15,7 @@ use Rattle.mx_view.specs.declared.search.Found.{Found}
 use Rattle.mx_view.specs.declared.search.Looked.{Looked}
 use Rattle.mx_view.specs.declared.search.Looked.TheVariants.{Next, Ended}
 use Rattle.mx_view.specs.Listing.{refusal_in}
-use Rattle.mx_view.specs.Mending.{with_blank, with_label}
+use Rattle.mx_marks.specs.Mending.{with_blank, with_label}
 
 -- why a source is refused when it is assembled, if it is
 abbrev pub assembly_refusal : List ℕ → Option Refused

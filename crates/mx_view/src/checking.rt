@@ -6,26 +6,31 @@ ghost use Rattle.mx_view.specs.Listing.{refusal_in};
 ghost use Rattle.mx_view.specs.Refusals as spec;
 ghost use Rattle.mx_view.specs.Search.{found_in};
 
-use crate::carets::caret_place;
-use crate::mending::line_text;
 use crate::search::{find_faults, line_at_fault, refusal_with, run_refusal};
 use mx_asm::Refused;
 use mx_files::Refusal;
+use mx_marks::{Mark, line_text};
+use mx_sentences::{Remark, remark_on, remark_on_whole};
 use mx_word::{Bytes, NoMemory, Sequence};
 use std::alloc::Global;
 
 /// The fault of a source that has too many pages.
 const PAGES_FULL: u16 = 90;
 
-/// A fault of a source as it is told: the refusal, the number of the line at fault, its text without the newline, and how many bytes of it
-/// stand in front of the caret. The line at fault is the one that the refusal names; but where a label in one line does not suit a
-/// reference in another, it is the reference's. A fault of the source as a whole has the refusal's number and no text.
+/// A fault of a source as it is told: the refusal, the number of the line at fault, and its text without the newline; how many bytes of it
+/// stand in front of the marked text, and how many bytes this has; what is wrong, a name that is meant perhaps, or no text, and what mends
+/// the fault. The line at fault is the one that the refusal names; but where a label in one line does not suit a reference in another, it is
+/// the reference's. A fault of the source as a whole has the refusal's number and no text of a line.
 #[derive(Drop)]
 pub struct ToldFault {
     pub refused: Refusal,
     pub at_line: u32,
     pub line: Option<Bytes>,
     pub caret: Option<usize>,
+    pub length: usize,
+    pub what: Bytes,
+    pub meant: Bytes,
+    pub help: Bytes,
 }
 
 /// The faults of a source: why it is refused when it is run, if it is; all faults, up to 100 lines, in the order of the lines at fault,
@@ -37,39 +42,67 @@ pub struct ToldFaults {
     pub is_cut: bool,
 }
 
-/// A refusal at a line with this text.
-fn told_at(alloc: Global, refused: Refused, line: &[u8]) -> Result<ToldFault, NoMemory>
-    ensures { IfOk result (λ fault. fault ≡ spec.told_at refused line.now) }
+/// How many bytes a marked text has.
+fn length_of(mark: Option<Mark>) -> usize
+    ensures { result ≡ spec.length_of mark }
 {
-    let caret = caret_place(refused.fault, line);
-    let copy = Bytes::copy(alloc, line)?;
-    Ok(ToldFault {
-        refused: refusal_with(refused),
-        at_line: line_at_fault(refused),
-        line: Some(copy),
-        caret,
-    })
-}
-
-/// A refusal of the source as a whole.
-fn told_whole(refused: Refusal) -> ToldFault
-    ensures { result ≡ spec.told_whole refused }
-{
-    ToldFault {
-        refused,
-        at_line: refused.line,
-        line: None,
-        caret: None,
+    match mark {
+        None => 0,
+        Some(mark) => mark.length,
     }
 }
 
+/// A refusal with what is said of it, and the line at fault, if there is one.
+fn told_with(refused: Refusal, at_line: u32, line: Option<Bytes>, remark: Remark) -> ToldFault
+    ensures { result ≡ spec.told_with refused at_line line remark }
+{
+    ToldFault {
+        refused,
+        at_line,
+        line,
+        caret: remark.mark.map(|mark| mark.from),
+        length: length_of(remark.mark),
+        what: remark.what,
+        meant: remark.meant,
+        help: remark.help,
+    }
+}
+
+/// A refusal at a line with this text.
+fn told_at(
+    alloc: Global,
+    source: &[u8],
+    refused: Refused,
+    line: &[u8],
+) -> Result<ToldFault, NoMemory>
+    ensures { IfOk result (λ fault. fault ≡ spec.told_at source.now refused line.now) }
+{
+    let at_line = line_at_fault(refused);
+    let remark = remark_on(alloc, refused.fault, at_line, source, line)?;
+    let copy = Bytes::copy(alloc, line)?;
+    Ok(told_with(refusal_with(refused), at_line, Some(copy), remark))
+}
+
+/// A refusal of the source as a whole.
+fn told_whole(alloc: Global, source: &[u8], refused: Refusal) -> Result<ToldFault, NoMemory>
+    ensures { IfOk result (λ fault. fault ≡ spec.told_whole source.now refused) }
+{
+    let remark = remark_on_whole(alloc, refused.fault, source)?;
+    Ok(told_with(refused, refused.line, None, remark))
+}
+
 /// Adds the fault of the source as a whole, if there is one.
-fn add_whole(faults: &mut Sequence<ToldFault>, refused: Option<Refusal>) -> Result<(), NoMemory>
-    ensures { OnOk result (faults.new ≡ faults.old ++ spec.told_if refused) }
+fn add_whole(
+    alloc: Global,
+    faults: &mut Sequence<ToldFault>,
+    source: &[u8],
+    refused: Option<Refusal>,
+) -> Result<(), NoMemory>
+    ensures { OnOk result (faults.new ≡ faults.old ++ spec.told_if source.now refused) }
 {
     match refused {
         None => Ok(()),
-        Some(refused) => faults.push(told_whole(refused)),
+        Some(refused) => faults.push(told_whole(alloc, source, refused)?),
     }
 }
 
@@ -84,7 +117,7 @@ fn told_lines(
     let mut faults = Sequence::new(alloc);
     for refused in lines {
         let line = line_text(line_at_fault(*refused), source);
-        faults.push(told_at(alloc, *refused, line)?)?;
+        faults.push(told_at(alloc, source, *refused, line)?)?;
     }
     Ok(faults)
 }
@@ -95,7 +128,7 @@ fn told_found(alloc: Global, source: &[u8], refused: Refusal) -> Result<ToldFaul
 {
     let found = find_faults(alloc, source)?;
     let mut faults = told_lines(alloc, source, found.lines.as_slice())?;
-    add_whole(&mut faults, found.whole)?;
+    add_whole(alloc, &mut faults, source, found.whole)?;
     Ok(ToldFaults {
         refused: Some(refused),
         faults,
@@ -104,11 +137,15 @@ fn told_found(alloc: Global, source: &[u8], refused: Refusal) -> Result<ToldFaul
 }
 
 /// The faults of a source whose lines have none.
-fn told_pages(alloc: Global, refused: Option<Refusal>) -> Result<ToldFaults, NoMemory>
-    ensures { IfOk result (λ told. told ≡ spec.with_refusal refused (spec.told_if refused) false) }
+fn told_pages(
+    alloc: Global,
+    source: &[u8],
+    refused: Option<Refusal>,
+) -> Result<ToldFaults, NoMemory>
+    ensures { IfOk result (λ told. told ≡ spec.with_refusal refused (spec.told_if source.now refused) false) }
 {
     let mut faults = Sequence::new(alloc);
-    add_whole(&mut faults, refused)?;
+    add_whole(alloc, &mut faults, source, refused)?;
     Ok(ToldFaults {
         refused,
         faults,
@@ -127,6 +164,6 @@ pub fn tell_faults(alloc: Global, source: &[u8]) -> Result<ToldFaults, NoMemory>
 {
     match run_refusal(alloc, source)? {
         Some(refused) if refused.fault != PAGES_FULL => told_found(alloc, source, refused),
-        refused => told_pages(alloc, refused),
+        refused => told_pages(alloc, source, refused),
     }
 }

@@ -8,12 +8,12 @@ ghost use Rattle.mx_view.specs.InTurn.{standing_behind};
 ghost use Rattle.mx_view.specs.Listing.{refusal_in};
 ghost use Rattle.mx_view.specs.Search as spec;
 
-use crate::mending::{with_blank, with_label};
 use crate::turns::take_line;
 use crate::view::{end, meaning_of, refusal_of};
 use mx_asm::{AsmFault, Assembler, Refused};
 use mx_files::Refusal;
 use mx_line::cut_line;
+use mx_marks::{with_blank, with_label};
 use mx_mmo::Items;
 use mx_word::{Bytes, NoMemory, Sequence};
 use std::alloc::Global;

@@ -5,41 +5,75 @@ ghost use Rattle.std.specs.List.{flat_map};
 ghost use Rattle.mx_view.specs.Listing.{refusal_in};
 ghost use Rattle.mx_view.specs.Refusals as spec;
 
-use crate::carets::add_caret;
 use crate::checking::{ToldFault, ToldFaults, tell_faults};
 use crate::view::Sheet;
+use mx_marks::add_marks;
 use mx_outcome::message;
 use mx_word::{Bytes, NoMemory};
 use std::alloc::Global;
 
-/// Adds a line, and the caret below it.
-fn add_with_caret(text: &mut Bytes, line: &[u8], caret: Option<usize>) -> Result<(), NoMemory>
-    ensures { OnOk result (text.new ≡ text.old ++ spec.with_caret line.now caret) }
+/// Adds the line at fault, if there is one, and the marks below it.
+#[tactic(auto, unfolding(crate::specs::Refusals::line_text))]
+fn add_line(
+    text: &mut Bytes,
+    line: &Option<Bytes>,
+    caret: Option<usize>,
+    length: usize,
+) -> Result<(), NoMemory>
+    ensures { OnOk result (text.new ≡ text.old ++ spec.line_text line.now caret length) }
+{
+    let Some(line) = line else {
+        return Ok(());
+    };
+    text.extend(b"    ")?;
+    text.extend(line.as_slice())?;
+    text.extend(b"\n")?;
+    add_marks(text, line.as_slice(), caret, length)
+}
+
+/// Adds the front of a question.
+#[tactic(auto, unfolding(crate::specs::Refusals::question))]
+fn add_question(text: &mut Bytes) -> Result<(), NoMemory>
+    ensures { OnOk result (text.new ≡ text.old ++ spec.question) }
+{
+    text.extend(b"    Did you mean `")
+}
+
+/// Adds a name that is meant perhaps.
+fn add_meant(text: &mut Bytes, name: &[u8]) -> Result<(), NoMemory>
+    ensures { OnOk result (text.new ≡ text.old ++ spec.meant_text name.now) }
+{
+    if name.is_empty() {
+        return Ok(());
+    }
+    add_question(text)?;
+    text.extend(name)?;
+    text.extend(b"`?\n")
+}
+
+/// Adds what is said of a fault.
+#[tactic(auto, unfolding(crate::specs::Refusals::said_text))]
+fn add_said(text: &mut Bytes, fault: &ToldFault) -> Result<(), NoMemory>
+    ensures { OnOk result (text.new ≡ text.old ++ spec.said_text fault.now) }
 {
     text.extend(b"    ")?;
-    text.extend(line)?;
+    text.extend(fault.what.as_slice())?;
     text.extend(b"\n")?;
-    add_caret(text, line, caret)
+    add_meant(text, fault.meant.as_slice())?;
+    text.extend(b"    ")?;
+    text.extend(fault.help.as_slice())?;
+    text.extend(b"\n")
 }
 
-/// Adds the line at fault, if there is one.
-fn add_named(text: &mut Bytes, line: &Option<Bytes>, caret: Option<usize>) -> Result<(), NoMemory>
-    ensures { OnOk result (text.new ≡ text.old ++ spec.named_text line.now caret) }
-{
-    match line {
-        None => Ok(()),
-        Some(line) => add_with_caret(text, line.as_slice(), caret),
-    }
-}
-
-/// Adds a fault and the line at fault.
+/// Adds a fault, the line at fault and what is said of it.
 #[tactic(auto, unfolding(crate::specs::Refusals::refusal_text))]
 fn add_fault_text(alloc: Global, text: &mut Bytes, fault: &ToldFault) -> Result<(), NoMemory>
     ensures { OnOk result (text.new ≡ text.old ++ spec.fault_text fault.now) }
 {
     let told = message(alloc, fault.refused.outcome())?;
     text.extend(told.as_slice())?;
-    add_named(text, &fault.line, fault.caret)
+    add_line(text, &fault.line, fault.caret, fault.length)?;
+    add_said(text, fault)
 }
 
 /// Adds faults and the lines at fault.
@@ -73,7 +107,8 @@ fn told_text(alloc: Global, told: &ToldFaults) -> Result<Bytes, NoMemory>
     Ok(text)
 }
 
-/// All faults of a source as a text: each with its line, and a caret under what it is about, where that is known.
+/// All faults of a source as a text: each with its line, marks under what it is about, where that
+/// is known, what is wrong, and what mends it.
 pub fn faults(alloc: Global, source: &[u8]) -> Result<Sheet, NoMemory>
     ensures text { IfOk result (λ sheet. sheet.text ≡ spec.faults_of source.now) }
     ensures refused { IfOk result (λ sheet. sheet.refused ≡ refusal_in source.now) }
