@@ -19,12 +19,14 @@ AREAS = [
     ("machine", "mx_mem mx_alu mx_registers mx_ring mx_trip mx_spec mx_code mx_core mx_start"),
     ("host and runs", "mx_host mx_plan mx_trap mx_run mx_back mx_watch mx_multi mx_real"),
     ("console", "mx_text mx_cmd mx_show mx_con"),
-    ("program", "mx_words mx_outcome mx_files mx_begin mx_dump mx_top mx_view mx_costs mx_count mx_json mx_face mx_explain mx_operations face_source face_check face_count face_explain mx_menu mmixware mmixview"),
+    ("program", "mx_words mx_outcome mx_files mx_begin mx_dump mx_top mmixware"),
+    ("views", "mx_marks mx_sentences mx_view mx_costs mx_count mx_json mx_face mx_explain mx_operations face_source face_check face_count "
+     "face_explain mx_menu mmixview"),
 ]
 BASE = "mx_word"
 CHAIN = 9
 WIDE, HIGH, GAP, STEP, LEFT, TOP = 96, 26, 10, 74, 16, 62
-FILL = ["#e8f0fa", "#eaf5e6", "#fdf1dc", "#f9e6e6", "#efe8f7", "#eeeeee"]
+FILL = ["#e8f0fa", "#eaf5e6", "#fdf1dc", "#f9e6e6", "#efe8f7", "#eeeeee", "#e3f4f2"]
 
 
 def rows():

@@ -1,8 +1,7 @@
 pub mod CellTurns
 pub mod LineTurns
 pub mod Shown
-pub mod BlankTurns
-pub mod FaultTurns
+pub mod SearchTurns
 pub mod EveryCell
 pub mod LoadedTetras
 pub mod CoveredBytes
@@ -11,12 +10,7 @@ pub mod LinesOnce
 pub mod WorkedRows
 pub mod TwoPassViews
 pub mod LineLoads
-pub mod CutFields
-pub mod CaretTurns
 pub mod FirstFaults
 pub mod OnceLaws
 pub mod WhereLaws
-pub mod WaitLines
-pub mod NamedLines
-pub mod LinesOfFaults
-pub mod Characters
+pub mod LinesInOrder

@@ -1,16 +1,9 @@
 -- The definitions on worked rows.
-use Rattle.std.proofs.Common.{◌≡◌, [], ◌∷◌, None, Some, refl, codes}
+use Rattle.std.proofs.Common.{◌≡◌, [], ◌∷◌, refl, codes}
 use Rattle.mx_mmo.specs.declared.items.Item.TheVariants.{Load, Loc, Line}
-use Rattle.mx_line.specs.declared.faults.LineFault.TheVariants.{NoOpcode}
-use Rattle.mx_stmt.specs.declared.faults.StmtFault.TheVariants.{Fit}
-use Rattle.mx_asm.specs.declared.faults.AsmFault.TheVariants as fault
-unfoldable use Rattle.mx_line.specs.Cutting.{cuts_within, statement_of}
-unfoldable use Rattle.mx_line.specs.Fields.{field_from}
 use Rattle.mx_view.specs.declared.cells.Wanted.TheVariants.{All, Holding}
-use Rattle.mx_view.specs.Carets.{caret_place}
 use Rattle.mx_view.specs.Cells.{cells_of}
 use Rattle.mx_view.specs.Rows.{padded}
-use Rattle.mx_view.specs.Refusals.{lines_with_blank, line_text}
 
 -- lambda leads each tetra to its address, a multiple of 4
 two-tetras : cells_of All 0 (Loc 0x102 ∷ Line 3 ∷ Load 7 ∷ Load 8 ∷ []) ≡ record { address = 0x100; tetra = 7 } ∷ record { address = 0x104; tetra = 8 } ∷ []
@@ -26,25 +19,3 @@ padded-number = refl
 
 long-number : padded (codes "123456") ≡ codes "123456"
 long-number = refl
-
--- the second of three lines is blank
-blank-line : lines_with_blank 2 (codes "A SWYM" ∷ codes " B 1" ∷ codes "C" ∷ []) ≡ codes "A SWYM" ∷ codes " " ∷ codes "C" ∷ []
-unfolding lines_with_blank
-blank-line = refl
-
-second-line : line_text 2 (codes "A" ∷ codes "B" ∷ codes "C" ∷ []) ≡ codes "B"
-unfolding line_text
-second-line = refl
-
--- under the operands, behind a tab; under the label of the second statement; and under no field of one of two statements
-operands-marked : caret_place (fault.Stmt Fit) (codes "\tSET $0,70000") ≡ Some 5
-unfolding caret_place cuts_within statement_of field_from
-operands-marked = refl
-
-second-marked : caret_place (fault.Line NoOpcode) (codes "A SWYM 0;SET $0") ≡ Some 9
-unfolding caret_place cuts_within statement_of field_from
-second-marked = refl
-
-none-marked : caret_place (fault.Stmt Fit) (codes "A SWYM 0; SET $0,70000") ≡ None
-unfolding caret_place cuts_within statement_of field_from
-none-marked = refl

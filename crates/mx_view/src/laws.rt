@@ -1,12 +1,9 @@
 //! What holds of every listing.
 
 ghost use Rattle.std.specs.Prelude.{◌≡◌, ◌≢◌, ◌<◌, ◌≤◌, ◌-◌, ◌^◌, ◌++◌, ◌∷◌, [], true, ℕ, List, None, Ok, Some, drop, length};
-ghost use Rattle.std.specs.List.{AllPairs};
-ghost use Rattle.std.specs.Str.{all_scalars, encode_utf8_all};
+ghost use Rattle.std.specs.List.{AllPairs, Contains};
 ghost use Rattle.mx_word.specs.Ranges.{AreBytes};
-ghost use Rattle.mx_line.specs.Cutting.{statement_of};
 ghost use Rattle.mx_line.specs.Lines.{lines_of};
-ghost use Rattle.mx_line.specs.declared.cutter.Cut.{Cut};
 ghost use Rattle.mx_mem.specs.Memory.{tetra_of};
 ghost use Rattle.mx_asm.specs.Entries.{source_entries, statements_in};
 ghost use Rattle.mx_asm.specs.Image.{image, symbols_of};
@@ -15,12 +12,11 @@ ghost use Rattle.mx_asm.specs.Refusal.{refusal};
 ghost use Rattle.mx_asm.specs.Whole.{Line, lines_items, lines_refusal};
 ghost use Rattle.mx_asm.specs.declared.refused.Refused.{Refused};
 ghost use Rattle.mx_files.specs.Sources.{source_meaning};
-ghost use Rattle.mx_view.specs.Carets.{from_field, under_text};
+ghost use Rattle.mx_files.specs.declared.refusal.Refusal.{Refusal};
 ghost use Rattle.mx_view.specs.Cells.{cells_of};
-ghost use Rattle.mx_view.specs.declared.carets.Field.TheVariants.{Operands, Operation};
 ghost use Rattle.mx_view.specs.Joined.{lines_once, lines_with, listed_tetra, tetras_listed};
-ghost use Rattle.mx_view.specs.Listing.{added_items, cells_behind, listed_behind, lines_listed, symbols_listed};
-ghost use Rattle.mx_view.specs.Refusals.{NameTwoLines, faults_in};
+ghost use Rattle.mx_view.specs.Listing.{added_items, cells_behind, listed_behind, lines_listed, refusal_in, symbols_listed};
+ghost use Rattle.mx_view.specs.Refusals.{IsEarlier, faults_in, refusals_of};
 ghost use Rattle.mx_view.specs.Rows.{Meaning, is_loaded_at, listed_line, shown};
 ghost use Rattle.mx_view.specs.declared.cells.Cell.{Cell};
 ghost use Rattle.mx_view.specs.declared.cells.Wanted.TheVariants.{All, Holding};
@@ -81,27 +77,16 @@ pub fn each_line_is_listed_once_in_order()
         listed_behind m All [] (before ++ line ∷ later) ≡ lines_once m [] (before ++ line ∷ []) }
 {}
 
-/// In a statement that is cut from a line, a caret under the operation or under the operands stands where this field
-/// begins by the cut.
-#[tactic(auto, using(crate::proofs::CutFields::marked))]
-pub fn carets_stand_under_their_fields()
-    ensures operation { (line : Line) (place : ℕ) (cut : Cut) → place ≤ length line →
-        statement_of line place ≡ Ok (Some cut) →
-        length line - length (from_field Operation (drop place line)) ≡ cut.op.from }
-    ensures operands { (line : Line) (place : ℕ) (cut : Cut) → place ≤ length line →
-        statement_of line place ≡ Ok (Some cut) →
-        length line - length (from_field Operands (drop place line)) ≡ cut.operands.from }
-{}
-
-/// A caret stands behind as many characters as stand in front of its field: under a text that is the UTF-8 of
-/// characters there is a blank or a tab for each of them.
-#[tactic(auto, using(crate::proofs::Characters::characters))]
-pub fn carets_count_characters()
-    ensures { (chars : List ℕ) → all_scalars chars ≡ true →
-        length (under_text (encode_utf8_all chars)) ≡ length chars }
-{}
-
-/// No line is told twice: of any two faults of a source that each name a line, they name different ones.
+/// Faults are told in the order of their lines, and no line is told twice: of any two faults of a source that each have a line, the
+/// first is at an earlier one.
+#[tactic(auto, using(crate::proofs::LinesInOrder::orders))]
 pub fn no_line_is_told_twice()
-    ensures { (source : List ℕ) → AllPairs NameTwoLines (faults_in source) }
+    ensures { (source : List ℕ) → AllPairs IsEarlier (faults_in source).faults }
+{}
+
+/// What a run of a source is refused for is among its faults.
+#[tactic(auto, using(crate::proofs::FirstFaults::tellings))]
+pub fn the_refusal_of_a_run_is_told()
+    ensures { (source : List ℕ) (r : Refusal) → Some r ≡ refusal_in source →
+        Contains (refusals_of (faults_in source).faults) r }
 {}

@@ -54,13 +54,13 @@ fn counts(alloc: Global, address: u64, source: &str) -> Option<(usize, usize, bo
 
 /// The line of a fault, whether it has a text, and its place.
 fn place(fault: &ToldFault) -> (u32, bool, Option<usize>) {
-    (fault.refused.line, fault.line.is_some(), fault.caret)
+    (fault.at_line, fault.line.is_some(), fault.caret)
 }
 
 /// The places of two faults.
 fn places(alloc: Global, source: &str) -> Option<[(u32, bool, Option<usize>); 2]> {
-    let faults = tell_faults(alloc, source.as_bytes()).ok()?;
-    match faults.as_slice() {
+    let told = tell_faults(alloc, source.as_bytes()).ok()?;
+    match told.faults.as_slice() {
         [first, second] => Some([place(first), place(second)]),
         _ => None,
     }
@@ -126,8 +126,8 @@ fn far_apart(alloc: Global) -> Result<String, AllocError> {
 /// The line and the number of the only fault.
 fn only_fault(alloc: Global) -> Option<(u32, u16)> {
     let source = far_apart(alloc).ok()?;
-    let faults = tell_faults(alloc, source.as_bytes()).ok()?;
-    match faults.as_slice() {
+    let told = tell_faults(alloc, source.as_bytes()).ok()?;
+    match told.faults.as_slice() {
         [fault] => Some((fault.refused.line, fault.refused.fault)),
         _ => None,
     }
@@ -150,4 +150,28 @@ fn too_many_pages_are_a_fault(rt: HostRuntime) {
 #[test]
 fn too_many_pages_refuse_a_listing(rt: HostRuntime) {
     assert_eq!(rt; refused_listing(rt.alloc()), Some((131_074, 90)));
+}
+
+/// How many faults are told of a text so many times, and whether there are more.
+fn told_of_repeated(alloc: Global, text: &str, count: u32) -> Option<(usize, bool)> {
+    let source = repeated(alloc, text, count, "Main SWYM\n").ok()?;
+    let told = tell_faults(alloc, source.as_bytes()).ok()?;
+    Some((told.faults.as_slice().len(), told.is_cut))
+}
+
+#[test]
+fn a_hundred_lines_are_all(rt: HostRuntime) {
+    assert_eq!(rt;
+        told_of_repeated(rt.alloc(), " FOO\n", 100),
+        Some((100, false))
+    );
+}
+
+/// Each of these is refused twice: for its operands, and with its label alone, which is defined before.
+#[test]
+fn of_a_hundred_and_one_lines_there_are_more(rt: HostRuntime) {
+    assert_eq!(rt;
+        told_of_repeated(rt.alloc(), "Main BYTE 256\n", 101),
+        Some((100, true))
+    );
 }

@@ -66,14 +66,22 @@ f\xfc FOO
 
 static CHARACTERS_TOLD: &[u8] = b"line 1: 39 UnknownOpcode
     f\xc3\xbc FOO
-       ^
+       ^~~
+    There is no operation `FOO`.
+    Operations are in capitals. A line of comment begins with *, and a ; begins the next statement.
 line 2: 39 UnknownOpcode
     f\xfc FOO
-       ^
+       ^~~
+    There is no operation `FOO`.
+    Operations are in capitals. A line of comment begins with *, and a ; begins the next statement.
 line 3: 39 UnknownOpcode
     \xe2\x82 FOO
-       ^
+       ^~~
+    There is no operation `FOO`.
+    Operations are in capitals. A line of comment begins with *, and a ; begins the next statement.
 line 3: 82 MainUndefined
+    There is no label Main, where a program starts.
+    Write Main in front of the first instruction, without a colon. Under a PREFIX it is :Main.
 ";
 
 /// Faulty lines, with a line behind them.
@@ -87,11 +95,17 @@ static FAULTY_LISTED: &str = "                                 1: x FOO
 
 static FAULTY_TOLD: &str = "line 1: 39 UnknownOpcode
     x FOO
-      ^
+      ^~~
+    There is no operation `FOO`.
+    Operations are in capitals. A line of comment begins with *, and a ; begins the next statement.
 line 2: 39 UnknownOpcode
     y BAR
-      ^
+      ^~~
+    There is no operation `BAR`.
+    Operations are in capitals. A line of comment begins with *, and a ; begins the next statement.
 line 3: 82 MainUndefined
+    There is no label Main, where a program starts.
+    Write Main in front of the first instruction, without a colon. Under a PREFIX it is :Main.
 ";
 
 /// Faults of operands, behind blanks and behind a tab; one of the second statement of a line; a label without an
@@ -99,29 +113,156 @@ line 3: 82 MainUndefined
 static PLACED: &str = "Main  SET $0,70000
 \tADD $0,$0
 x SET $0,1; SET $0,70000
-Main SWYM 0;SET $0,5
-Main SWYM 0
+y SWYM 0;SET $0,5
  JMP nowhere
 Main SWYM 0
 ";
 
 static PLACED_TOLD: &str = "line 1: 43 Fit
     Main  SET $0,70000
-              ^
+                 ^~~~~
+    `70000` does not fit: a number can be 0 to 65535 here.
+    Take SETML $0,x>>16 and INCL $0,x&#ffff for a large x, and NEG for a negative one.
 line 2: 40 Operands
     \tADD $0,$0
-    \t    ^
+    \t    ^~~~~
+    The operation does not take these operands.
+    Count the operands: a blank ends them. ADD takes $X,$Y,$Z or $X,$Y,n.
 line 3: 43 Fit
     x SET $0,1; SET $0,70000
+    A number does not fit into its place.
+    Put a number above 255 into a register: by SET up to 65535, by SETML and INCL above, by NEG below 0.
 line 4: 7 NoOpcode
-    Main SWYM 0;SET $0,5
-                ^
-line 7: 30 Twice
-    Main SWYM 0
-    ^
-line 6: 80 UndefinedSymbol
+    y SWYM 0;SET $0,5
+             ^~~
+    `SET` is read as a label, and no operation follows it.
+    Put a blank in front of an operation. For a label alone write IS @ after it.
+line 5: 80 UndefinedSymbol
      JMP nowhere
-         ^
+         ^~~~~~~
+    `nowhere` is not defined.
+    Capitals and small letters differ. A colon is part of a name: Loop: is another label than Loop.
+line 6: 30 Twice
+    Main SWYM 0
+    ^~~~
+    `Main` is defined already.
+    Take another name, or a local label as 2H, which can be defined again.
+";
+
+/// The label of a faulty line stays: an address, a register or a number. So what refers to it is not told, and Main is there.
+static LABELLED: &str = "n IS $1; the number
+size IS 5,
+Main ADD n,n,1000
+ ADD n,n,size
+1H BZ n,1B,1B
+ BZ n,1B
+ JMP Main
+";
+
+static LABELLED_TOLD: &str = "line 1: 39 UnknownOpcode
+    n IS $1; the number
+             ^~~
+    There is no operation `the`.
+    Operations are in capitals. A line of comment begins with *, and a ; begins the next statement.
+line 2: 10 Syntax
+    size IS 5,
+             ^
+    The operands end after `,`, where more has to follow.
+    No blanks are in operands: what follows a blank is a comment.
+line 3: 43 Fit
+    Main ADD n,n,1000
+                 ^~~~
+    `1000` does not fit: a number can be 0 to 255 here.
+    Put it into a register first: by SET up to 65535, by NEG below 0.
+line 5: 40 Operands
+    1H BZ n,1B,1B
+          ^~~~~~~
+    The operation does not take these operands.
+    Count the operands: a blank ends them. BZ takes $X,label.
+";
+
+/// A label that does not suit a reference is told at the reference, which is first here; and a line that has this label, too, and is
+/// faulty for itself, is told for that.
+static REFERRED: &str = "Main JMP x
+x IS $1
+x BYTE 256
+";
+
+static REFERRED_TOLD: &str = "line 2: 84 FutureRegister from line 1
+    Main JMP x
+             ^
+    A label that is used here is made a register further down.
+    Define the register before this line.
+line 3: 43 Fit
+    x BYTE 256
+           ^~~
+    `256` does not fit: a byte is 0 to 255.
+    Take WYDE, TETRA or OCTA.
+";
+
+/// What is marked is the part of the operands that is wrong, and a name that is near it is named: a predefined name that is misspelt, after
+/// one that is not; a label of an earlier and of a later line; a register without its mark; a number and a local label; the text at which an
+/// expression has ended; and the second of two statements, whose operation is in small letters.
+static MARKED: &str = "Main TRAP 0,Fputs,Stdout
+Text BYTE \"a,b\",#100
+ LDA $255,Text+Tixt
+ SET r0,'x'
+ SET $0,Late
+ BZ $0,1F
+ SET $0,0x100
+ SWYM 0; set $0,1
+Late OCTA Main,late
+";
+
+static MARKED_TOLD: &str = "line 1: 17 Future
+    Main TRAP 0,Fputs,Stdout
+                      ^~~~~~
+    `Stdout` has no value here: no earlier line defines it.
+    Did you mean `StdOut`?
+    Look for a misspelling. Registers are written with $, as $0. A comment needs operands in front of it.
+line 2: 43 Fit
+    Text BYTE \"a,b\",#100
+                    ^~~~
+    `#100` does not fit: a byte is 0 to 255.
+    Take WYDE, TETRA or OCTA.
+line 3: 17 Future
+     LDA $255,Text+Tixt
+                   ^~~~
+    `Tixt` has no value here: no earlier line defines it.
+    Did you mean `Text`?
+    Look for a misspelling. Registers are written with $, as $0. A comment needs operands in front of it.
+line 4: 17 Future
+     SET r0,'x'
+         ^~
+    `r0` has no value here: no earlier line defines it.
+    Look for a misspelling. Registers are written with $, as $0. A comment needs operands in front of it.
+line 5: 17 Future
+     SET $0,Late
+            ^~~~
+    `Late` is defined further down, but its value is needed here.
+    Define it before this line. LDA can give way to GETA, which does not need the value.
+line 6: 81 UndefinedLocal
+     BZ $0,1F
+           ^~
+    `1F` refers to a local label further down, and there is none.
+    To the one further up refers B in place of F, as 1B.
+line 7: 10 Syntax
+     SET $0,0x100
+             ^~~~
+    `x100` does not belong here: an expression has ended, or none can begin so.
+    No blanks are in operands. Write #ff for 0xff. A jump to the local label 2H names 2F or 2B.
+line 8: 39 UnknownOpcode
+     SWYM 0; set $0,1
+             ^~~
+    There is no operation `set`.
+    Did you mean `SET`?
+    Operations are in capitals. A line of comment begins with *, and a ; begins the next statement.
+line 9: 80 UndefinedSymbol
+    Late OCTA Main,late
+                   ^~~~
+    `late` is not defined.
+    Did you mean `Late`?
+    Capitals and small letters differ. A colon is part of a name: Loop: is another label than Loop.
 ";
 
 /// Whether this is what is shown.
@@ -187,6 +328,33 @@ fn all_faults(rt: HostRuntime) {
 #[test]
 fn faults_with_places(rt: HostRuntime) {
     assert!(rt; is_shown(faults(rt.alloc(), PLACED.as_bytes()), PLACED_TOLD, false));
+}
+
+#[test]
+fn labels_of_faulty_lines_stay(rt: HostRuntime) {
+    assert!(rt;
+        is_shown(
+            faults(rt.alloc(), LABELLED.as_bytes()),
+            LABELLED_TOLD,
+            false
+        )
+    );
+}
+
+#[test]
+fn a_reference_is_at_fault(rt: HostRuntime) {
+    assert!(rt;
+        is_shown(
+            faults(rt.alloc(), REFERRED.as_bytes()),
+            REFERRED_TOLD,
+            false
+        )
+    );
+}
+
+#[test]
+fn parts_are_marked_and_near_names_named(rt: HostRuntime) {
+    assert!(rt; is_shown(faults(rt.alloc(), MARKED.as_bytes()), MARKED_TOLD, false));
 }
 
 #[test]

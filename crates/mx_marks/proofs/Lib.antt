@@ -1,0 +1,11 @@
+pub mod Words
+pub mod Fronts
+pub mod CutFields
+pub mod UnderTurns
+pub mod Characters
+pub mod LabelTurns
+pub mod MendingTurns
+pub mod TokenTurns
+pub mod SyntaxTurns
+pub mod MarksWithin
+pub mod WorkedRows

@@ -1,0 +1,90 @@
+-- The parts of an operand field, and the first one that a fault is about.
+use Rattle.std.specs.Prelude.{ℕ, zero, suc, ◌+◌, ◌-◌, ◌*◌, ◌^◌, ◌==◌, ◌&&◌, ◌||◌, nat_lt, nat_le, Bool, true, false, not, if◌then◌else◌, List, [], ◌∷◌, length, drop, fold, is_some}
+use Rattle.std.specs.Str.{bytes_eq}
+use Rattle.mx_word.specs.Kinds.{is_digit, is_letter, is_name_byte}
+use Rattle.mx_line.specs.Bytes.{run}
+use Rattle.mx_line.specs.Lines.{lines_of}
+use Rattle.mx_ops.specs.Predefined.{predefined_value}
+use Rattle.mx_marks.specs.Fields.{word}
+use Rattle.mx_marks.specs.Labels.{is_label}
+use Rattle.mx_marks.specs.declared.tokens.Wanted.{Wanted}
+use Rattle.mx_marks.specs.declared.tokens.Wanted.TheVariants.{Unknown, Ahead, Above}
+
+-- ---- parts
+
+-- a byte in a string
+abbrev pub is_in_string : ℕ → Bool
+is_in_string b = not (b == 34)
+
+-- How many bytes the first part has: 34 opens a string, 39 is an apostrophe, and 35 begins a hexadecimal number. Names and other numbers
+-- are letters and digits, and all else is one byte.
+abbrev pub part_length : List ℕ → ℕ
+part_length [] = 0
+part_length (b ∷ bs) =
+    if b == 34 then length (run is_in_string bs) + 2
+    else if b == 39 then 3
+    else if b == 35 then length (word bs) + 1
+    else if is_name_byte b then length (word (b ∷ bs))
+    else 1
+
+-- ---- numbers
+
+-- A number by its digits; one that is above 2^40 stays so.
+abbrev pub digit_of : ℕ → ℕ
+digit_of b = if nat_le b 57 then b - 48 else if nat_le b 70 then b - 55 else b - 87
+
+abbrev pub next_value : ℕ → ℕ → ℕ → ℕ
+next_value base value b = if nat_lt (2 ^ 40) value then value else value * base + digit_of b
+
+abbrev pub value_of : ℕ → List ℕ → ℕ
+value_of base digits = fold (next_value base) 0 digits
+
+-- whether a text begins with a number above a limit, or with a minus and a digit
+abbrev pub begins_digit : List ℕ → Bool
+begins_digit [] = false
+begins_digit (b ∷ bs) = is_digit b
+
+abbrev pub is_above : ℕ → List ℕ → Bool
+is_above limit [] = false
+is_above limit (b ∷ bs) =
+    if b == 45 then begins_digit bs
+    else if b == 35 then nat_lt limit (value_of 16 (word bs))
+    else is_digit b && nat_lt limit (value_of 10 (run is_digit (b ∷ bs)))
+
+-- ---- names
+
+-- a name that MMIXAL defines itself
+abbrev pub is_predefined : List ℕ → Bool
+is_predefined name = is_some (predefined_value (58 ∷ name))
+
+abbrev pub begins_name : List ℕ → Bool
+begins_name [] = false
+begins_name (b ∷ bs) = is_letter b
+
+-- whether a text begins with a name that is no label of the first so many lines of a source
+abbrev pub is_unknown : List ℕ → ℕ → List ℕ → Bool
+is_unknown source most text =
+    if begins_name text then not (is_label (word text) most (lines_of source)) && not (is_predefined (word text)) else false
+
+-- whether a word is a digit and `F`
+abbrev pub is_ahead : List ℕ → Bool
+is_ahead (d ∷ f ∷ []) = is_digit d && f == 70
+is_ahead text = false
+
+-- ---- the first part that is wanted
+
+abbrev pub is_wanted : Wanted → List ℕ → ℕ → List ℕ → Bool
+is_wanted Unknown source most text = is_unknown source most text
+is_wanted Ahead source most text = is_ahead (word text)
+is_wanted (Above limit) source most text = is_above limit text
+
+-- a text from the first of its parts on, of so many at most, that is wanted
+unfoldable pub from_part : ℕ → Wanted → List ℕ → ℕ → List ℕ → List ℕ
+from_part zero kind source most text = []
+from_part (suc n) kind source most text =
+    if is_wanted kind source most text then text else from_part n kind source most (drop (part_length text) text)
+
+-- how long the part is that a text begins with, a minus with its number included
+abbrev pub marked_length : List ℕ → ℕ
+marked_length [] = 0
+marked_length (b ∷ bs) = if b == 45 || b == 35 then length (word bs) + 1 else if is_name_byte b then length (word (b ∷ bs)) else 1

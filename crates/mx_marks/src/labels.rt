@@ -1,0 +1,152 @@
+//! The labels of a source, and words that are like a name.
+
+ghost use Rattle.std.specs.Prelude.{◌≡◌, drop, length};
+ghost use Rattle.mx_line.specs.Lines.{lines_of};
+ghost use Rattle.mx_marks.specs.Labels as spec;
+
+use crate::fields::{behind_word, word};
+use crate::under::parted;
+use mx_line::cut_line;
+
+/// How a label has to be like a name: the same; or alike, as where a letter differs.
+#[derive(Clone, Copy, Debug, PartialEq, Eq)]
+pub enum Likeness {
+    Same,
+    Alike,
+}
+
+/// A text without its first byte.
+fn without_first(text: &[u8]) -> &[u8]
+    ensures { result.now ≡ drop 1 text.now }
+{
+    parted(text, 1).1
+}
+
+/// Whether the first two letters of a text are those of another, exchanged.
+fn are_exchanged(a: &[u8], b: &[u8]) -> bool
+    ensures { result ≡ spec.are_exchanged a.now b.now }
+{
+    match (a, b) {
+        ([p, q, ..], [r, s, ..]) => *p == *s && *q == *r,
+        _ => false,
+    }
+}
+
+/// Whether two texts are the same but for their first letters, but for one letter more in front of one of them, or but for an exchange of the
+/// first two letters.
+fn is_slip(a: &[u8], b: &[u8]) -> bool
+    ensures { result ≡ spec.is_slip a.now b.now }
+{
+    without_first(a) == without_first(b)
+        || without_first(a) == b
+        || a == without_first(b)
+        || (are_exchanged(a, b) && parted(a, 2).1 == parted(b, 2).1)
+}
+
+/// Whether two texts begin with one byte.
+fn begin_alike(a: &[u8], b: &[u8]) -> bool
+    ensures { result ≡ spec.begin_alike a.now b.now }
+{
+    match (a, b) {
+        ([x, ..], [y, ..]) => *x == *y,
+        _ => false,
+    }
+}
+
+/// Whether two words differ in one letter, one of them has one letter more, or two letters are exchanged.
+#[tactic(auto, using(crate::proofs::LabelTurns::nears))]
+fn is_near(a: &[u8], b: &[u8]) -> bool
+    ensures { result ≡ spec.is_near a.now b.now }
+{
+    let mut left = a;
+    let mut right = b;
+    while begin_alike(left, right) {
+        left = without_first(left);
+        right = without_first(right);
+    }
+    is_slip(left, right)
+}
+
+/// Whether a word is like a name: they differ in capitals alone, or are near each other.
+fn is_alike(name: &[u8], other: &[u8]) -> bool
+    ensures { result ≡ spec.is_alike name.now other.now }
+{
+    name.eq_ignore_ascii_case(other) || (name.len() >= 3 && is_near(name, other))
+}
+
+/// Whether a label is like a name in this way.
+fn is_like(kind: Likeness, name: &[u8], other: &[u8]) -> bool
+    ensures { result ≡ spec.is_like kind name.now other.now }
+{
+    match kind {
+        Likeness::Same => name == other,
+        Likeness::Alike => is_alike(name, other),
+    }
+}
+
+/// The first label of so many lines of a source that is like a name; no text where none is.
+#[tactic(auto, using(crate::proofs::LabelTurns::labels))]
+pub fn first_label<'a>(kind: Likeness, name: &[u8], most: u32, source: &'a [u8]) -> &'a [u8]
+    ensures { result.now ≡ spec.first_label kind name.now most (lines_of source.now) }
+{
+    let mut rest = source;
+    let mut left = most;
+    while !rest.is_empty() {
+        let (line, more) = cut_line(rest);
+        if left == 0 {
+            return &[];
+        }
+        if is_like(kind, name, word(line)) {
+            return word(line);
+        }
+        left -= 1;
+        rest = more;
+    }
+    &[]
+}
+
+/// Whether a name is a label of so many lines of a source.
+pub fn is_label(name: &[u8], most: u32, source: &[u8]) -> bool
+    ensures { result ≡ spec.is_label name.now most (lines_of source.now) }
+{
+    first_label(Likeness::Same, name, most, source).len() >= 1
+}
+
+/// The first word of a text that is like a name; no text where none is.
+#[tactic(auto, using(crate::proofs::LabelTurns::words))]
+fn first_word<'a>(name: &[u8], text: &'a [u8]) -> &'a [u8]
+    ensures { result.now ≡ spec.first_word (length text.now) name.now text.now }
+{
+    let mut rest = text;
+    let mut left = text.len();
+    while left > 0 {
+        if is_alike(name, word(rest)) {
+            return word(rest);
+        }
+        rest = behind_word(rest);
+        left -= 1;
+    }
+    &[]
+}
+
+/// The first name that MMIXAL defines which is like a name; no text where none is.
+#[tactic(auto, unfolding(crate::specs::Labels::known_names))]
+pub fn known_name(name: &[u8]) -> &'static [u8]
+    ensures { result.now ≡ spec.first_word (length spec.known_names) name.now spec.known_names }
+{
+    first_word(
+        name,
+        b"Data_Segment Pool_Segment Halt Fopen Fclose Fread Fgets Fwrite Fputs Fseek Ftell StdIn StdOut StdErr TextRead TextWrite BinaryRead BinaryWrite rA rB rC rD rE rF rG rH rI rJ rK rL rM rN rO rP rQ rR rS rT rU rV rW rX rY rZ rBB rTT rWW rXX rYY rZZ",
+    )
+}
+
+/// The first operation that is like a name; no text where none is.
+#[tactic(auto, unfolding(crate::specs::Labels::operation_names))]
+pub fn operation_name(name: &[u8]) -> &'static [u8]
+    ensures { result.now ≡ spec.first_word (length spec.operation_names) name.now spec.operation_names }
+{
+    first_word(
+        name,
+        b"ADD SUB SET LDO STO JMP BYTE TRAP LOC GREG CMP BZ BNZ BP BN BNP BNN PBZ PBNZ PBP PBN PBNP PBNN GETA PUSHJ POP MUL DIV NEG LDB STB LDA IS WYDE TETRA OCTA AND OR XOR ANDN ORN NOR NAND NXOR SL SLU SR SRU ADDU SUBU MULU DIVU CMPU NEGU LDBU LDW LDWU LDT LDTU LDOU STBU STW STWU STT STTU STOU 2ADDU 4ADDU 8ADDU 16ADDU SETL SETML SETMH SETH INCL INCML INCMH INCH ORL ORML ORMH ORH ANDNL ANDNML ANDNMH ANDNH CSZ CSNZ CSP CSN CSNP CSNN CSOD CSEV ZSZ ZSNZ ZSP ZSN ZSNP ZSNN ZSOD ZSEV BOD BEV PBOD PBEV GO PUSHGO GET PUT SAVE UNSAVE RESUME TRIP SWYM SYNC PREFIX LOCAL BDIF WDIF TDIF ODIF MUX SADD MOR MXOR LDHT STHT STCO LDUNC STUNC CSWAP PRELD PREST PREGO SYNCD SYNCID LDVTS",
+    )
+}

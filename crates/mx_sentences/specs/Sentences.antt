@@ -1,0 +1,167 @@
+-- What is said of a fault: what is wrong, with the marked text, which name is meant perhaps, and what mends it. A rule of this program.
+use Rattle.std.specs.Prelude.{ℕ, ◌-◌, ◌==◌, ◌||◌, Bool, true, false, if◌then◌else◌, List, [], ◌∷◌, ◌++◌, length, Option, None, Some, codes}
+use Rattle.mx_line.specs.Lines.{lines_of}
+use Rattle.mx_ops.specs.declared.op.Op.{Op}
+use Rattle.mx_ops.specs.declared.op.Op.TheVariants.{Pseudo as PseudoOp, Code, Lda, Set}
+use Rattle.mx_ops.specs.declared.op.Shape.{Shape}
+use Rattle.mx_ops.specs.declared.op.Shape.TheVariants.{Three, Regs, Round, Neg, Rel, Mem, MemPure, Wyde as WydeShape, Jump, Put, Get, Pop, One, Save, Unsave, Free}
+use Rattle.mx_ops.specs.Opcodes.{operation_of}
+use Rattle.mx_ops.specs.Shapes.{shapes_of}
+use Rattle.mx_asm.specs.Faults.{fault_number}
+use Rattle.mx_asm.specs.Whole.{Line}
+use Rattle.mx_asm.specs.declared.faults.AsmFault.{AsmFault}
+use Rattle.mx_marks.specs.declared.labels.Likeness.TheVariants.{Alike}
+use Rattle.mx_marks.specs.declared.marks.Mark.{Mark}
+use Rattle.mx_marks.specs.declared.rooms.Room.{Room}
+use Rattle.mx_marks.specs.declared.rooms.Room.TheVariants.{Byte, Wyde, Tetra, DataByte, DataWyde}
+use Rattle.mx_sentences.specs.declared.sentences.Remark.{Remark}
+use Rattle.mx_marks.specs.Fields.{operands_at}
+use Rattle.mx_marks.specs.Labels.{first_label, first_word, is_label, known_names, operation_names}
+use Rattle.mx_marks.specs.Marks.{marked_text, operation_at, room_at}
+use Rattle.mx_sentences.specs.Places.{mark_of, statement_place}
+use Rattle.mx_sentences.specs.Rows.{Row, byte_row, data_byte_row, data_wyde_row, end_row, later_row, match_row, row_of, tetra_row, wyde_row}
+use Rattle.mx_marks.specs.Syntax.{is_read_through}
+
+-- ---- the row
+
+abbrev pub room_row : Room → Row
+room_row Byte = byte_row
+room_row Wyde = wyde_row
+room_row Tetra = tetra_row
+room_row DataByte = data_byte_row
+room_row DataWyde = data_wyde_row
+
+-- whether a name is a label of the source
+abbrev pub is_defined : List ℕ → Line → Bool
+is_defined source name = is_label name 4294967295 (lines_of source)
+
+abbrev pub read_row : Line → Row
+read_row [] = match_row
+read_row (b ∷ bs) = end_row
+
+abbrev pub syntax_row : Line → Line → Row
+syntax_row marked operands = if is_read_through operands then read_row marked else row_of 10
+
+abbrev pub early_row : List ℕ → Line → Row
+early_row source name = if is_defined source name then later_row else row_of 17
+
+-- the row of a fault with this number, where this text is marked in the statement at a place: 10 is Syntax, 17 Future and 43 Fit
+abbrev pub row_at : ℕ → List ℕ → Line → Line → ℕ → Row
+row_at fault source marked line place =
+    if fault == 10 then syntax_row marked (operands_at line place)
+    else if fault == 17 then early_row source marked
+    else if fault == 43 then room_row (room_at line place)
+    else row_of fault
+
+abbrev pub row_with : ℕ → List ℕ → Line → Line → Option ℕ → Row
+row_with fault source marked line None = row_of fault
+row_with fault source marked line (Some place) = row_at fault source marked line place
+
+-- ---- what is wrong
+
+abbrev pub quoted : Line → Line
+quoted text = codes "`" ++ text ++ codes "`"
+
+-- The noun takes the place of a text that is not known.
+abbrev pub subject_of : Row → Line → Line
+subject_of row [] = row.noun
+subject_of row (b ∷ bs) = quoted (b ∷ bs)
+
+abbrev pub what_text : Row → Line → Line
+what_text row marked = if length row.after == 0 then row.noun else row.before ++ subject_of row marked ++ row.after
+
+-- ---- what mends it
+
+-- which operands an operation takes
+abbrev pub shape_text : Shape → Line
+shape_text Three = codes "$X,$Y,$Z or $X,$Y,n"
+shape_text Regs = codes "$X,$Y,$Z"
+shape_text Round = codes "$X,$Z or $X,n,$Z"
+shape_text Neg = codes "$X,$Z or $X,n or $X,n,$Z or $X,n,n"
+shape_text Rel = codes "$X,label"
+shape_text Mem = codes "$X,$Y,$Z or $X,$Y,n or $X,$Y or $X,label"
+shape_text MemPure = codes "n,$Y,$Z or n,$Y,n or n,$Y or n,label"
+shape_text WydeShape = codes "$X,n"
+shape_text Jump = codes "a label"
+shape_text Put = codes "r,$Z or r,n for a special register r as rJ"
+shape_text Get = codes "$X,r for a special register r as rJ"
+shape_text Pop = codes "n,n or n"
+shape_text One = codes "n"
+shape_text Save = codes "$X,0"
+shape_text Unsave = codes "$Z"
+shape_text Free = codes "n or n,n or n,n,n"
+
+abbrev pub first_text : List Shape → Line
+first_text [] = []
+first_text (s ∷ shapes) = shape_text s
+
+abbrev pub operands_text : Option Op → Line
+operands_text (Some (Code code)) = first_text (shapes_of code)
+operands_text (Some Lda) = shape_text Mem
+operands_text (Some Set) = codes "$X,$Y or $X,n"
+operands_text (Some (PseudoOp p)) = []
+operands_text None = []
+
+abbrev pub takes_text : Line → Line → Line
+takes_text operation [] = []
+takes_text operation (b ∷ bs) = codes " " ++ operation ++ codes " takes " ++ (b ∷ bs) ++ codes "."
+
+-- 40 is Operands, 41 NotRegister and 42 NotPure
+abbrev pub is_of_shape : ℕ → Bool
+is_of_shape fault = fault == 40 || fault == 41 || fault == 42
+
+abbrev pub more_help : ℕ → Line → Option ℕ → Line
+more_help fault line None = []
+more_help fault line (Some place) =
+    if is_of_shape fault then takes_text (operation_at line place) (operands_text (operation_of (operation_at line place))) else []
+
+-- ---- which name is meant perhaps
+
+abbrev pub label_or_name : Line → Line → Line
+label_or_name name [] = first_word (length known_names) name known_names
+label_or_name name (b ∷ bs) = b ∷ bs
+
+-- a label of the source that is like a name, or else a name that MMIXAL defines
+abbrev pub meant_name : List ℕ → Line → Line
+meant_name source name = label_or_name name (first_label Alike name 4294967295 (lines_of source))
+
+abbrev pub meant_operation : Line → Line
+meant_operation name = first_word (length operation_names) name operation_names
+
+-- a label that is like Main, where none is the same
+abbrev pub meant_main : List ℕ → Line
+meant_main source = if is_defined source (codes "Main") then [] else first_label Alike (codes "Main") 4294967295 (lines_of source)
+
+-- 17 is Future, 39 UnknownOpcode, 80 UndefinedSymbol and 82 MainUndefined
+abbrev pub meant_by : ℕ → List ℕ → Line → Line
+meant_by fault source marked =
+    if fault == 39 then meant_operation marked
+    else if fault == 80 then meant_name source marked
+    else if fault == 17 then (if is_defined source marked then [] else meant_name source marked)
+    else if fault == 82 then meant_main source
+    else []
+
+-- ---- the whole
+
+abbrev pub part_text : Line → Option Mark → Line
+part_text line None = []
+part_text line (Some m) = if m.is_part then marked_text line m else []
+
+abbrev pub remark : Option Mark → Line → Line → Line → Remark
+remark mark what meant help = record { mark = mark; what = what; meant = meant; help = help }
+
+abbrev pub with_part : ℕ → List ℕ → Line → Option ℕ → Option Mark → Line → Remark
+with_part fault source line place mark marked =
+    remark mark (what_text (row_with fault source marked line place) marked) (meant_by fault source marked)
+    ((row_with fault source marked line place).help ++ more_help fault line place)
+
+abbrev pub with_mark : AsmFault → List ℕ → Line → Option Mark → Remark
+with_mark why source line mark = with_part (fault_number why) source line (statement_place why line) mark (part_text line mark)
+
+-- what is said of a fault in this line of a source, which has this number
+abbrev pub remark_of : AsmFault → ℕ → List ℕ → Line → Remark
+remark_of why number source line = with_mark why source line (mark_of why number source line)
+
+-- what is said of a fault of the source as a whole
+abbrev pub remark_of_whole : ℕ → List ℕ → Remark
+remark_of_whole fault source = remark None (what_text (row_of fault) []) (meant_by fault source []) (row_of fault).help

@@ -1,0 +1,121 @@
+//! All faults of a source, as a text.
+
+ghost use Rattle.std.specs.Prelude.{◌≡◌, ◌++◌, IfOk, OnOk};
+ghost use Rattle.std.specs.List.{flat_map};
+ghost use Rattle.mx_view.specs.Listing.{refusal_in};
+ghost use Rattle.mx_view.specs.Refusals as spec;
+
+use crate::checking::{ToldFault, ToldFaults, tell_faults};
+use crate::view::Sheet;
+use mx_marks::add_marks;
+use mx_outcome::message;
+use mx_word::{Bytes, NoMemory};
+use std::alloc::Global;
+
+/// Adds the line at fault, if there is one, and the marks below it.
+#[tactic(auto, unfolding(crate::specs::Refusals::line_text))]
+fn add_line(
+    text: &mut Bytes,
+    line: &Option<Bytes>,
+    caret: Option<usize>,
+    length: usize,
+) -> Result<(), NoMemory>
+    ensures { OnOk result (text.new ≡ text.old ++ spec.line_text line.now caret length) }
+{
+    let Some(line) = line else {
+        return Ok(());
+    };
+    text.extend(b"    ")?;
+    text.extend(line.as_slice())?;
+    text.extend(b"\n")?;
+    add_marks(text, line.as_slice(), caret, length)
+}
+
+/// Adds the front of a question.
+#[tactic(auto, unfolding(crate::specs::Refusals::question))]
+fn add_question(text: &mut Bytes) -> Result<(), NoMemory>
+    ensures { OnOk result (text.new ≡ text.old ++ spec.question) }
+{
+    text.extend(b"    Did you mean `")
+}
+
+/// Adds a name that is meant perhaps.
+fn add_meant(text: &mut Bytes, name: &[u8]) -> Result<(), NoMemory>
+    ensures { OnOk result (text.new ≡ text.old ++ spec.meant_text name.now) }
+{
+    if name.is_empty() {
+        return Ok(());
+    }
+    add_question(text)?;
+    text.extend(name)?;
+    text.extend(b"`?\n")
+}
+
+/// Adds what is said of a fault.
+#[tactic(auto, unfolding(crate::specs::Refusals::said_text))]
+fn add_said(text: &mut Bytes, fault: &ToldFault) -> Result<(), NoMemory>
+    ensures { OnOk result (text.new ≡ text.old ++ spec.said_text fault.now) }
+{
+    text.extend(b"    ")?;
+    text.extend(fault.what.as_slice())?;
+    text.extend(b"\n")?;
+    add_meant(text, fault.meant.as_slice())?;
+    text.extend(b"    ")?;
+    text.extend(fault.help.as_slice())?;
+    text.extend(b"\n")
+}
+
+/// Adds a fault, the line at fault and what is said of it.
+#[tactic(auto, unfolding(crate::specs::Refusals::refusal_text))]
+fn add_fault_text(alloc: Global, text: &mut Bytes, fault: &ToldFault) -> Result<(), NoMemory>
+    ensures { OnOk result (text.new ≡ text.old ++ spec.fault_text fault.now) }
+{
+    let told = message(alloc, fault.refused.outcome())?;
+    text.extend(told.as_slice())?;
+    add_line(text, &fault.line, fault.caret, fault.length)?;
+    add_said(text, fault)
+}
+
+/// Adds faults and the lines at fault.
+fn add_fault_texts(alloc: Global, text: &mut Bytes, faults: &[ToldFault]) -> Result<(), NoMemory>
+    ensures { OnOk result (text.new ≡ text.old ++ flat_map spec.fault_text faults.now) }
+{
+    for fault in faults {
+        add_fault_text(alloc, text, fault)?;
+    }
+    Ok(())
+}
+
+/// Adds that there are more faulty lines, if there are.
+fn add_cut(text: &mut Bytes, is_cut: bool) -> Result<(), NoMemory>
+    ensures { OnOk result (text.new ≡ text.old ++ spec.cut_text is_cut) }
+{
+    if is_cut {
+        text.extend(b"there are more faulty lines\n")
+    } else {
+        Ok(())
+    }
+}
+
+/// The faults of a source as a text.
+fn told_text(alloc: Global, told: &ToldFaults) -> Result<Bytes, NoMemory>
+    ensures { IfOk result (λ text. text ≡ spec.told_text told.now) }
+{
+    let mut text = Bytes::new(alloc);
+    add_fault_texts(alloc, &mut text, told.faults.as_slice())?;
+    add_cut(&mut text, told.is_cut)?;
+    Ok(text)
+}
+
+/// All faults of a source as a text: each with its line, marks under what it is about, where that
+/// is known, what is wrong, and what mends it.
+pub fn faults(alloc: Global, source: &[u8]) -> Result<Sheet, NoMemory>
+    ensures text { IfOk result (λ sheet. sheet.text ≡ spec.faults_of source.now) }
+    ensures refused { IfOk result (λ sheet. sheet.refused ≡ refusal_in source.now) }
+{
+    let told = tell_faults(alloc, source)?;
+    Ok(Sheet {
+        text: told_text(alloc, &told)?,
+        refused: told.refused,
+    })
+}
