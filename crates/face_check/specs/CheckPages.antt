@@ -1,25 +1,22 @@
 -- What `check` has to say of a source: its faults as a text, as JSON, or as lines of the form that the GNU coding standards have for
 -- messages of compilers ("Formatting Error Messages").
-use Rattle.std.specs.Prelude.{ℕ, ◌+◌, ◌==◌, ◌&&◌, nat_le, nat_lt, not, Bool, List, [], ◌∷◌, ◌++◌, length, take, Option, None, Some, if◌then◌else◌, codes, decimal}
+use Rattle.std.specs.Prelude.{ℕ, ◌+◌, ◌==◌, ◌&&◌, nat_le, nat_lt, not, Bool, List, [], ◌∷◌, ◌++◌, take, Option, None, Some, if◌then◌else◌, codes, decimal}
 use Rattle.std.specs.List.{flat_map}
 use Rattle.mx_face.specs.Pages.{outcome_of}
 use Rattle.mx_face.specs.RefusalJson.{refusal_members}
 use Rattle.mx_face.specs.declared.page.Page.{Page}
-use Rattle.mx_json.specs.Json.{array, flag, object_of, string_if}
+use Rattle.mx_json.specs.Json.{array, flag, object_of, string, string_if}
 use Rattle.mx_outcome.specs.Messages.{numbered_fault}
 use Rattle.mx_view.specs.Listing.{refusal_in}
 use Rattle.mx_view.specs.Refusals.{faults_in, faults_of}
 use Rattle.mx_view.specs.declared.checking.ToldFault.{ToldFault}
+use Rattle.mx_view.specs.declared.checking.ToldFaults.{ToldFaults}
 use Rattle.face_check.specs.declared.faults.Form.{Form}
 use Rattle.face_check.specs.declared.faults.Form.TheVariants.{Gnu, Json, Text}
 
 -- the next number, where there is one that an octa can have
 unfoldable pub next : ℕ → ℕ
 next n = if nat_lt n 0xffff_ffff_ffff_ffff then n + 1 else n
-
--- as many faults as are told at most: there may be more
-unfoldable pub is_cut : List ToldFault → Bool
-is_cut faults = nat_le 100 (length faults)
 
 -- ---- as JSON
 
@@ -38,14 +35,32 @@ unfoldable pub fault_front : ToldFault → List ℕ
 fault_front f = opened f.line ++ codes "\"caret\":" ++ caret_json f.caret
 
 unfoldable pub fault_text : ToldFault → List ℕ
-fault_text f = codes ",\"text\":" ++ string_if f.line ++ codes "}"
+fault_text f = codes ",\"text\":" ++ string_if f.line
+
+-- the line at fault, and how many bytes of it are marked
+unfoldable pub line_member : ℕ → List ℕ
+line_member line = codes ",\"at\":" ++ decimal line
+
+unfoldable pub length_member : ℕ → List ℕ
+length_member length = codes ",\"length\":" ++ decimal length
+
+unfoldable pub mark_members : ToldFault → List ℕ
+mark_members f = line_member f.at_line ++ length_member f.length
+
+-- what is wrong, which name is meant perhaps, and what mends it
+unfoldable pub said_members : ToldFault → List ℕ
+said_members f = codes ",\"what\":" ++ string f.what ++ codes ",\"meant\":" ++ string f.meant ++ codes ",\"help\":" ++ string f.help
+
+-- the members after those of the refusal
+unfoldable pub last_members : ToldFault → List ℕ
+last_members f = fault_text f ++ mark_members f ++ said_members f ++ codes "}"
 
 unfoldable pub fault_json : ToldFault → List ℕ
-fault_json f = fault_front f ++ codes "," ++ refusal_members f.refused ++ fault_text f
+fault_json f = fault_front f ++ codes "," ++ refusal_members f.refused ++ last_members f
 
 -- as a line
-unfoldable pub faults_json : List ToldFault → List ℕ
-faults_json faults = codes "{\"faults\":" ++ array fault_json faults ++ codes ",\"more\":" ++ flag (is_cut faults) ++ codes "}\n"
+unfoldable pub faults_json : ToldFaults → List ℕ
+faults_json told = codes "{\"faults\":" ++ array fault_json told.faults ++ codes ",\"more\":" ++ flag told.is_cut ++ codes "}\n"
 
 -- ---- as lines for editors
 
@@ -63,20 +78,36 @@ unfoldable pub column_text : Option (List ℕ) → Option ℕ → List ℕ
 column_text (Some line) (Some place) = codes ":" ++ decimal (next (characters (take place line)))
 column_text line caret = []
 
--- what is said of a fault
-unfoldable pub sentence : ℕ → List ℕ
-sentence fault = numbered_fault fault
+-- the name that is meant perhaps
+unfoldable pub question : List ℕ
+question = codes " Did you mean `"
 
--- a fault of the source in the file of this name
+abbrev pub meant_text : List ℕ → List ℕ
+meant_text [] = []
+meant_text (b ∷ bs) = question ++ (b ∷ bs) ++ codes "`?"
+
+-- what is said of a fault: what is wrong, and what mends it
+unfoldable pub what_text : ToldFault → List ℕ
+what_text f = numbered_fault f.refused.fault ++ codes ": " ++ f.what
+
+unfoldable pub help_text : List ℕ → List ℕ
+help_text help = codes " " ++ help
+
+unfoldable pub sentence : ToldFault → List ℕ
+sentence f = what_text f ++ meant_text f.meant ++ help_text f.help
+
+-- where a fault is, in the file of this name
+unfoldable pub place_text : List ℕ → ToldFault → List ℕ
+place_text name f = name ++ codes ":" ++ decimal f.at_line ++ column_text f.line f.caret
+
 unfoldable pub fault_line : List ℕ → ToldFault → List ℕ
-fault_line name f =
-    name ++ codes ":" ++ decimal f.refused.line ++ column_text f.line f.caret ++ codes ": error: " ++ sentence f.refused.fault ++ codes "\n"
+fault_line name f = place_text name f ++ codes ": error: " ++ sentence f ++ codes "\n"
 
 unfoldable pub cut_line : List ℕ → Bool → List ℕ
-cut_line name cut = if cut then name ++ codes ": there may be more faults\n" else []
+cut_line name cut = if cut then name ++ codes ": there are more faulty lines\n" else []
 
-unfoldable pub faults_lines : List ℕ → List ToldFault → List ℕ
-faults_lines name faults = flat_map (fault_line name) faults ++ cut_line name (is_cut faults)
+unfoldable pub faults_lines : List ℕ → ToldFaults → List ℕ
+faults_lines name told = flat_map (fault_line name) told.faults ++ cut_line name told.is_cut
 
 -- ---- the page
 

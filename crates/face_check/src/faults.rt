@@ -1,9 +1,7 @@
-//! The faults that are told.
+//! The form in which faults are told.
 
-ghost use Rattle.std.specs.Prelude.{◌≡◌, ◌≤◌, ◌^◌};
+ghost use Rattle.std.specs.Prelude.{◌≡◌};
 ghost use Rattle.face_check.specs.CheckPages as spec;
-
-use mx_view::ToldFault;
 
 /// The form in which faults are told.
 #[derive(Clone, Copy)]
@@ -14,17 +12,6 @@ pub enum Form {
     Json,
     /// A line for each, as compilers write them for editors.
     Gnu,
-}
-
-/// The most faults that are told.
-const MOST_FAULTS: usize = 100;
-
-/// Whether as many faults are told as can be: there may be more.
-#[tactic(auto, unfolding(crate::specs::CheckPages::is_cut))]
-pub fn is_cut(faults: &[ToldFault]) -> bool
-    ensures { result ≡ spec.is_cut faults.now }
-{
-    MOST_FAULTS <= faults.len()
 }
 
 /// The next number, where there is one.

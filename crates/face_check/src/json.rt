@@ -4,10 +4,10 @@ ghost use Rattle.std.specs.Prelude.{◌≡◌, ◌++◌, OnOk};
 ghost use Rattle.mx_json.specs.Json.{array, further};
 ghost use Rattle.face_check.specs.CheckPages as spec;
 
-use crate::faults::{is_cut, next};
+use crate::faults::next;
 use mx_face::add_refusal_members;
-use mx_json::{add_between, add_flag, add_number, add_object, add_string_if};
-use mx_view::ToldFault;
+use mx_json::{add_between, add_flag, add_number, add_object, add_string, add_string_if};
+use mx_view::{ToldFault, ToldFaults};
 use mx_word::{Bytes, NoMemory};
 use std::alloc::Global;
 
@@ -42,12 +42,57 @@ fn add_front(text: &mut Bytes, fault: &ToldFault) -> Result<(), NoMemory>
     add_caret(text, b"\"caret\":", fault.caret)
 }
 
-/// Ends a fault: the text of its line.
+/// Adds the number of the line at fault.
+#[tactic(auto, unfolding(crate::specs::CheckPages::line_member))]
+fn add_line(text: &mut Bytes, line: u32) -> Result<(), NoMemory>
+    ensures { OnOk result (text.new ≡ text.old ++ spec.line_member line) }
+{
+    add_number(text, b",\"at\":", u64::from(line))
+}
+
+/// Adds how many bytes of it are marked.
+#[tactic(auto, unfolding(crate::specs::CheckPages::length_member))]
+fn add_length(text: &mut Bytes, length: usize) -> Result<(), NoMemory>
+    ensures { OnOk result (text.new ≡ text.old ++ spec.length_member length) }
+{
+    add_number(text, b",\"length\":", length as u64)
+}
+
+/// Adds the line at fault, and how many bytes of it are marked.
+#[tactic(auto, unfolding(crate::specs::CheckPages::mark_members))]
+fn add_mark(text: &mut Bytes, fault: &ToldFault) -> Result<(), NoMemory>
+    ensures { OnOk result (text.new ≡ text.old ++ spec.mark_members fault.now) }
+{
+    add_line(text, fault.at_line)?;
+    add_length(text, fault.length)
+}
+
+/// Adds what is wrong, which name is meant perhaps, and what mends it.
+#[tactic(auto, unfolding(crate::specs::CheckPages::said_members))]
+fn add_said(alloc: Global, text: &mut Bytes, fault: &ToldFault) -> Result<(), NoMemory>
+    ensures { OnOk result (text.new ≡ text.old ++ spec.said_members fault.now) }
+{
+    add_string(alloc, text, b",\"what\":", fault.what.as_slice())?;
+    add_string(alloc, text, b",\"meant\":", fault.meant.as_slice())?;
+    add_string(alloc, text, b",\"help\":", fault.help.as_slice())
+}
+
+/// Adds the text of the line at fault.
 #[tactic(auto, unfolding(crate::specs::CheckPages::fault_text))]
 fn add_text(alloc: Global, text: &mut Bytes, fault: &ToldFault) -> Result<(), NoMemory>
     ensures { OnOk result (text.new ≡ text.old ++ spec.fault_text fault.now) }
 {
-    add_string_if(alloc, text, b",\"text\":", &fault.line)?;
+    add_string_if(alloc, text, b",\"text\":", &fault.line)
+}
+
+/// Ends a fault after the members of its refusal.
+#[tactic(auto, unfolding(crate::specs::CheckPages::last_members))]
+fn end_fault(alloc: Global, text: &mut Bytes, fault: &ToldFault) -> Result<(), NoMemory>
+    ensures { OnOk result (text.new ≡ text.old ++ spec.last_members fault.now) }
+{
+    add_text(alloc, text, fault)?;
+    add_mark(text, fault)?;
+    add_said(alloc, text, fault)?;
     text.extend(b"}")
 }
 
@@ -59,7 +104,7 @@ fn add_fault(alloc: Global, text: &mut Bytes, fault: &ToldFault) -> Result<(), N
     add_front(text, fault)?;
     text.extend(b",")?;
     add_refusal_members(text, fault.refused)?;
-    add_text(alloc, text, fault)
+    end_fault(alloc, text, fault)
 }
 
 /// Adds further faults.
@@ -90,11 +135,11 @@ fn add_list(alloc: Global, text: &mut Bytes, faults: &[ToldFault]) -> Result<(),
 
 /// Adds faults as a line of JSON.
 #[tactic(auto, unfolding(crate::specs::CheckPages::faults_json))]
-pub fn add_faults(alloc: Global, text: &mut Bytes, faults: &[ToldFault]) -> Result<(), NoMemory>
-    ensures { OnOk result (text.new ≡ text.old ++ spec.faults_json faults.now) }
+pub fn add_faults(alloc: Global, text: &mut Bytes, told: &ToldFaults) -> Result<(), NoMemory>
+    ensures { OnOk result (text.new ≡ text.old ++ spec.faults_json told.now) }
 {
     text.extend(b"{\"faults\":")?;
-    add_list(alloc, text, faults)?;
-    add_flag(text, b",\"more\":", is_cut(faults))?;
+    add_list(alloc, text, told.faults.as_slice())?;
+    add_flag(text, b",\"more\":", told.is_cut)?;
     text.extend(b"}\n")
 }

@@ -4,17 +4,16 @@ ghost use Rattle.std.specs.Prelude.{◌≡◌, [], IfOk};
 ghost use Rattle.mx_face.specs.Pages.{FaultsOnlyBy, IsOfView, page_put, shown_file};
 ghost use Rattle.mx_host.specs.Keeping.{Answers};
 ghost use Rattle.mx_view.specs.Listing.{refusal_in};
-ghost use Rattle.mx_view.specs.Refusals.{faults_in, first_refusal};
+ghost use Rattle.mx_view.specs.Refusals.{faults_in};
 ghost use Rattle.face_check.specs.CheckPages as spec;
 
 use crate::faults::Form;
 use crate::gnu::add_lines;
 use crate::json::add_faults;
 use mx_face::{Page, outcome_of, put_page, read_source, tell};
-use mx_files::Refusal;
 use mx_host::Host;
 use mx_outcome::Outcome;
-use mx_view::{Sheet, ToldFault, faults, tell_faults};
+use mx_view::{Sheet, faults, tell_faults};
 use mx_word::{Bytes, NoMemory};
 use std::alloc::Global;
 
@@ -25,10 +24,10 @@ fn faults_as_json(alloc: Global, source: &[u8]) -> Result<Sheet, NoMemory>
 {
     let told = tell_faults(alloc, source)?;
     let mut text = Bytes::new(alloc);
-    add_faults(alloc, &mut text, told.as_slice())?;
+    add_faults(alloc, &mut text, &told)?;
     Ok(Sheet {
         text,
-        refused: first_refusal(told.as_slice()),
+        refused: told.refused,
     })
 }
 
@@ -39,21 +38,11 @@ fn faults_as_lines(alloc: Global, name: &[u8], source: &[u8]) -> Result<Sheet, N
 {
     let told = tell_faults(alloc, source)?;
     let mut text = Bytes::new(alloc);
-    add_lines(&mut text, name, told.as_slice())?;
+    add_lines(&mut text, name, &told)?;
     Ok(Sheet {
         text,
-        refused: first_refusal(told.as_slice()),
+        refused: told.refused,
     })
-}
-
-/// The refusal that the first fault tells.
-fn first_refusal(faults: &[ToldFault]) -> Option<Refusal>
-    ensures { result ≡ first_refusal faults.now }
-{
-    match faults {
-        [] => None,
-        [fault, ..] => Some(fault.refused),
-    }
 }
 
 /// The faults in one of the forms.

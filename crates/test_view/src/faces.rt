@@ -87,7 +87,7 @@ static ROWS: [Row; 14] = [
         name: "a.mms",
         source: b" LOC #100\nMain TRAP 0,Halt,0\n FOO 1\n",
         status: 65,
-        output: "{\"faults\":[{\"caret\":2,\"fault\":39,\"from_line\":null,\"line\":3,\"name\":\"UnknownOpcode\",\"text\":\" FOO 1\"}],\"more\":false}\n",
+        output: "{\"faults\":[{\"caret\":2,\"fault\":39,\"from_line\":null,\"line\":3,\"name\":\"UnknownOpcode\",\"text\":\" FOO 1\",\"at\":3,\"length\":3,\"what\":\"There is no operation `FOO`.\",\"meant\":\"\",\"help\":\"Operations are in capitals. A line of comment begins with *, and a ; begins the next statement.\"}],\"more\":false}\n",
         errors: "",
     },
     Row {
@@ -96,7 +96,7 @@ static ROWS: [Row; 14] = [
         name: "a.mms",
         source: b" LOC #100\nMain TRAP 0,Halt,0\n FOO 1\n",
         status: 65,
-        output: "a.mms:3:2: error: 39 UnknownOpcode\n",
+        output: "a.mms:3:2: error: 39 UnknownOpcode: There is no operation `FOO`. Operations are in capitals. A line of comment begins with *, and a ; begins the next statement.\n",
         errors: "",
     },
     Row {
@@ -105,7 +105,7 @@ static ROWS: [Row; 14] = [
         name: "a.mms",
         source: b" SWYM 0\n",
         status: 65,
-        output: "a.mms:1: error: 82 MainUndefined\n",
+        output: "a.mms:1: error: 82 MainUndefined: There is no label Main, where a program starts. Write Main in front of the first instruction, without a colon. Under a PREFIX it is :Main.\n",
         errors: "",
     },
     Row {
