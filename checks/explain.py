@@ -49,23 +49,22 @@ def plain(literal):
 
 
 class Row:
-    """A row of the table: its kind, what it is about, its sentences, and its example with what mends it."""
+    """A row of the table: its kind, what it is about, its sentences, its example, and what mends that."""
 
-    def __init__(self, where, topic, says, example):
-        kind, key = re.fullmatch(r'(\w+)\("?(\w+)"?\)', topic).groups()
-        self.kind, self.key, self.says = kind, key, plain(says)
-        self.example, self.mended, *_ = [plain(it) for it in re.findall(STRING, example)] + ["", ""]
-        self.where = f"{where}: {key}"
+    def __init__(self, where, topic, *texts):
+        self.kind, number = re.fullmatch(r"(\w+)(?:\((\d+)\))?", topic).groups()
+        name, self.says, self.example, self.mended = map(plain, texts)
+        self.key = number or name
+        self.where = f"{where}: {self.key}"
 
 
 def table():
-    """All rows, and the number that each static says it has."""
+    """All rows. Each static says how many it has."""
     rows = []
     for path in itertools.chain(*(sorted(glob.glob(f"crates/{it}/src/*.rt")) for it in CRATES)):
         text = text_of(path)
-        here = [Row(path, *it) for it in re.findall(
-            rf"Row \{{\s*topic: Topic::(\w+\([^)]*\)),\s*says: {STRING},\s*example: Example::([\s\S]*?),\n    \}},", text)]
-        due = sum(int(it) for it in re.findall(r"static \w+: \[Row; (\d+)\]", text))
+        here = [Row(path, *it) for it in re.findall(rf"\(\s*Topic::(\w+(?:\(\d+\))?),\s*{STRING},\s*{STRING},\s*{STRING},\s*{STRING},?\s*\)", text)]
+        due = sum(int(it) for it in re.findall(r"static \w+: \[Entry; (\d+)\]", text))
         if len(here) != due:
             wrong(path, f"has {due} rows, and {len(here)} can be read")
         rows += here

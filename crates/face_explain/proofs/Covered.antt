@@ -13,15 +13,14 @@ use Rattle.mx_ops.specs.declared.op.Op.{Op}
 use Rattle.mx_outcome.specs.Names.{fault_name_of, usage_name_of}
 use Rattle.mx_explain.specs.declared.row.Topic.{Topic}
 use Rattle.mx_explain.specs.declared.row.Topic.TheVariants.{Source, Object, Stop, Kind, Inside, Operation, Unperformed, Symbol}
-use Rattle.mx_explain.specs.declared.row.Row.{Row}
-use Rattle.mx_explain.specs.Topics.{number_of, name_of}
+use Rattle.mx_explain.specs.Topics.{Row, number_of, name_of, topic_name}
 use Rattle.mx_explain.specs.Facts.{value_of}
 use Rattle.mx_explain.specs.Matching.{fits, found, is_number}
 use Rattle.face_explain.specs.Tables.{table, fault_rows, operation_rows, symbol_rows}
 use Rattle.mx_explain.specs.Parts.{source_rows, object_rows, stop_rows, kind_rows, inside_rows}
 use Rattle.mx_operations.specs.Parts.{number_rows, choice_rows, memory_rows, float_rows, pseudo_rows}
 use Rattle.face_explain.specs.Parts.{register_rows, other_rows}
-use Rattle.face_explain.specs.Known.{is_fault, is_kind, is_operation, is_symbol, explains, is_known}
+use Rattle.face_explain.specs.Known.{is_fault, is_kind, is_operation, is_symbol, is_fault_topic, is_kind_topic, is_operation_topic, is_symbol_topic, explains, is_known}
 
 -- ---- a row is found by its number and by its name
 
@@ -39,51 +38,61 @@ first : (a b : Bool) → a ≡ true → (a || b) ≡ true
 first true b e = refl
 first false b e = absurd (search rules)
 
-pub by-name : (word : List ℕ) (row : Row) → word ≡ name_of row.topic → fits word row ≡ true
+pub by-name : (word : List ℕ) (row : Row) → word ≡ name_of row → fits word row ≡ true
 unfolding fits
-by-name word row e = second (is_number word (number_of row.topic)) _ (same-name word (name_of row.topic) e)
+by-name word row e = second (is_number word (number_of row.topic)) _ (same-name word (name_of row) e)
 
 by-number : (n : ℕ) (row : Row) → number_of row.topic ≡ Some n → fits (decimal n) row ≡ true
 unfolding fits
 by-number n row e = first (is_number (decimal n) (number_of row.topic)) _ (rw e (same-text (decimal n) (decimal n) refl))
 
-fault-number : (n : ℕ) (topic : Topic) → is_fault n topic ≡ true → number_of topic ≡ Some n
+fault-number : (n : ℕ) (topic : Topic) → is_fault_topic n topic ≡ true → number_of topic ≡ Some n
 fault-number n (Source m) e = ap Some (eqb-true m n e)
 fault-number n (Object m) e = ap Some (eqb-true m n e)
 fault-number n (Stop m) e = ap Some (eqb-true m n e)
 fault-number n (Inside m) e = ap Some (eqb-true m n e)
 fault-number n other e = absurd (search rules)
 
-fault-name : (n : ℕ) (topic : Topic) → is_fault n topic ≡ true → fault_name_of n ≡ name_of topic
-fault-name n (Source m) e = ap fault_name_of (sym (eqb-true m n e))
-fault-name n (Object m) e = ap fault_name_of (sym (eqb-true m n e))
-fault-name n (Stop m) e = ap fault_name_of (sym (eqb-true m n e))
-fault-name n (Inside m) e = ap fault_name_of (sym (eqb-true m n e))
-fault-name n other e = absurd (search rules)
+fault-name : (n : ℕ) (topic : Topic) (given : List ℕ) → is_fault_topic n topic ≡ true → fault_name_of n ≡ topic_name topic given
+fault-name n (Source m) given e = ap fault_name_of (sym (eqb-true m n e))
+fault-name n (Object m) given e = ap fault_name_of (sym (eqb-true m n e))
+fault-name n (Stop m) given e = ap fault_name_of (sym (eqb-true m n e))
+fault-name n (Inside m) given e = ap fault_name_of (sym (eqb-true m n e))
+fault-name n other given e = absurd (search rules)
 
-kind-number : (n : ℕ) (topic : Topic) → is_kind n topic ≡ true → number_of topic ≡ Some n
+kind-number : (n : ℕ) (topic : Topic) → is_kind_topic n topic ≡ true → number_of topic ≡ Some n
 kind-number n (Kind m) e = ap Some (eqb-true m n e)
 kind-number n other e = absurd (search rules)
 
-kind-name : (n : ℕ) (topic : Topic) → is_kind n topic ≡ true → usage_name_of n ≡ name_of topic
-kind-name n (Kind m) e = ap usage_name_of (sym (eqb-true m n e))
-kind-name n other e = absurd (search rules)
+kind-name : (n : ℕ) (topic : Topic) (given : List ℕ) → is_kind_topic n topic ≡ true → usage_name_of n ≡ topic_name topic given
+kind-name n (Kind m) given e = ap usage_name_of (sym (eqb-true m n e))
+kind-name n other given e = absurd (search rules)
 
-operation-name : (name : List ℕ) (topic : Topic) → is_operation name topic ≡ true → name ≡ name_of topic
-operation-name name (Operation given) e = sym ((bytes_eq-Decides given.now name).0 e)
-operation-name name (Unperformed given) e = sym ((bytes_eq-Decides given.now name).0 e)
-operation-name name other e = absurd (search rules)
+own-name : (topic : Topic) (given : List ℕ) → is_operation_topic topic ≡ true → given ≡ topic_name topic given
+own-name Operation given e = refl
+own-name Unperformed given e = refl
+own-name other given e = absurd (search rules)
 
-symbol-name : (name : List ℕ) (topic : Topic) → is_symbol name topic ≡ true → name ≡ name_of topic
-symbol-name name (Symbol given) e = sym ((bytes_eq-Decides given.now name).0 e)
-symbol-name name other e = absurd (search rules)
+symbol-own : (topic : Topic) (given : List ℕ) → is_symbol_topic topic ≡ true → given ≡ topic_name topic given
+symbol-own Symbol given e = refl
+symbol-own other given e = absurd (search rules)
 
--- what the table has of a topic is found by a word that fits all rows of it
-has : (Topic → Bool) → Bool
-has test = list_any (λ row. test row.topic) table
+operation-name : (name : List ℕ) (row : Row) → is_operation name row ≡ true → name ≡ name_of row
+operation-name name row e =
+    let both = and_parts (is_operation_topic row.topic) (bytes_eq row.name name) e in
+    sym ((bytes_eq-Decides row.name name).0 both.1) ∙ own-name row.topic row.name both.0
 
-by : (word : List ℕ) (test : Topic → Bool) → ((row : Row) → test row.topic ≡ true → fits word row ≡ true) → list_any (λ row. test row.topic) table ≡ true → explains word test ≡ true
-by word test fit there = any-filter_same (λ (row : Row). test row.topic) (fits word) true fit table ∙ there
+symbol-name : (name : List ℕ) (row : Row) → is_symbol name row ≡ true → name ≡ name_of row
+symbol-name name row e =
+    let both = and_parts (is_symbol_topic row.topic) (bytes_eq row.name name) e in
+    sym ((bytes_eq-Decides row.name name).0 both.1) ∙ symbol-own row.topic row.name both.0
+
+-- what the table has is found by a word that fits all rows of it
+has : (Row → Bool) → Bool
+has test = list_any test table
+
+by : (word : List ℕ) (test : Row → Bool) → ((row : Row) → test row ≡ true → fits word row ≡ true) → list_any test table ≡ true → explains word test ≡ true
+by word test fit there = any-filter_same test (fits word) true fit table ∙ there
 
 -- ---- numbers that have a name
 
@@ -177,21 +186,21 @@ pub faults-explained : (n : ℕ) → fault_name_of n ≢ [] → explains (decima
 faults-explained n some = by (decimal n) (is_fault n) (λ row e. by-number n row (fault-number n row.topic e)) (fault-there n some)
 
 pub names-explained : (n : ℕ) → fault_name_of n ≢ [] → explains (fault_name_of n) (is_fault n) ≡ true
-names-explained n some = by (fault_name_of n) (is_fault n) (λ row e. by-name (fault_name_of n) row (fault-name n row.topic e)) (fault-there n some)
+names-explained n some = by (fault_name_of n) (is_fault n) (λ row e. by-name (fault_name_of n) row (fault-name n row.topic row.name e)) (fault-there n some)
 
 pub kinds-explained : (n : ℕ) → usage_name_of n ≢ [] → explains (decimal n) (is_kind n) ≡ true
 kinds-explained n some = by (decimal n) (is_kind n) (λ row e. by-number n row (kind-number n row.topic e)) (kind-there n some)
 
 pub kind-names-explained : (n : ℕ) → usage_name_of n ≢ [] → explains (usage_name_of n) (is_kind n) ≡ true
-kind-names-explained n some = by (usage_name_of n) (is_kind n) (λ row e. by-name (usage_name_of n) row (kind-name n row.topic e)) (kind-there n some)
+kind-names-explained n some = by (usage_name_of n) (is_kind n) (λ row e. by-name (usage_name_of n) row (kind-name n row.topic row.name e)) (kind-there n some)
 
 pub operations-explained : (name : List ℕ) (op : Op) → operation_of name ≡ Some op → explains name (is_operation name) ≡ true
-operations-explained name op e = by name (is_operation name) (λ row at. by-name name row (operation-name name row.topic at)) (operation-there name op e)
+operations-explained name op e = by name (is_operation name) (λ row at. by-name name row (operation-name name row at)) (operation-there name op e)
 
 pub symbols-explained : (name : List ℕ) (v : ℕ) → value_of name ≡ Some v → explains name (is_symbol name) ≡ true
-symbols-explained name v e = by name (is_symbol name) (λ row at. by-name name row (symbol-name name row.topic at)) (symbol-there name v e)
+symbols-explained name v e = by name (is_symbol name) (λ row at. by-name name row (symbol-name name row at)) (symbol-there name v e)
 
-pub all-known : list_all (λ (row : Row). is_known row.topic) table ≡ true
+pub all-known : list_all is_known table ≡ true
 unfolding table fault_rows operation_rows symbol_rows source_rows object_rows stop_rows kind_rows inside_rows number_rows choice_rows memory_rows float_rows pseudo_rows register_rows other_rows operation_of operations opcode_names opcode_rows pseudo_operations chosen_operations predefined_value predefined_names special_registers
 all-known = refl
 

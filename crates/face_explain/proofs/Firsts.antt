@@ -1,4 +1,34 @@
--- The first row that is near, table by table.
-use Rattle.std.proofs.lemmas.List.Folds.{find-append}
+-- The first name that is near, row by row and table by table.
+use Rattle.std.proofs.Common.{◌≡◌, ◌≢◌, ℕ, List, [], ◌∷◌, ◌++◌, length, map, refl, sym, ap, ◌∙◌, rules}
+use Rattle.mx_explain.specs.Topics.{Row}
+use Rattle.face_explain.specs.Answers.{offered, or_name, near_name}
 
-pub ruleset firsts = (find-append)
+or-assoc : (a b c : List ℕ) → or_name (or_name a b) c ≡ or_name a (or_name b c)
+or-assoc [] b c = refl
+or-assoc (x ∷ xs) b c = refl
+
+pub near-append : (word : List ℕ) (xs ys : List Row) → near_name word (xs ++ ys) ≡ or_name (near_name word xs) (near_name word ys)
+unfolding near_name
+near-append word [] ys = refl
+near-append word (x ∷ xs) ys = ap (or_name (offered word x)) (near-append word xs ys) ∙ sym (or-assoc (offered word x) (near_name word xs) (near_name word ys))
+
+pub near-none : {A : Type 0} (g : A → Row) (word : List ℕ) (xs : List A) → length xs ≡ 0 → near_name word (map g xs) ≡ []
+unfolding near_name
+near-none g word [] none = refl
+near-none g word (x ∷ xs) none = absurd (search rules)
+
+pub near-found : {A : Type 0} (g : A → Row) (word name : List ℕ) (x : A) (xs : List A) → name ≡ offered word (g x) → length name ≢ 0 →
+    near_name word (map g (x ∷ xs)) ≡ name
+unfolding near_name
+near-found g word [] x xs e some = absurd (some refl)
+near-found g word (b ∷ bs) x xs e some = rw (← e) refl
+
+pub near-next : {A : Type 0} (g : A → Row) (word name : List ℕ) (x : A) (xs : List A) → name ≡ offered word (g x) → length name ≡ 0 →
+    near_name word (map g (x ∷ xs)) ≡ near_name word (map g xs)
+unfolding near_name
+near-next g word [] x xs e none = rw (← e) refl
+near-next g word (b ∷ bs) x xs e none = absurd (search rules)
+
+pub ruleset firsts = (near-append)
+
+pub ruleset turns = (near-none, near-found, near-next)

@@ -1,16 +1,18 @@
 -- The cells of a list, one after another.
-use Rattle.std.proofs.Common.{◌≡◌, ℕ, List, [], ◌∷◌, ◌++◌, length, append_assoc, append-nil, refl, sym, rules}
-use Rattle.mx_explain.specs.declared.row.Row.{Row}
-use Rattle.face_explain.specs.Lists.{cells, cell, next_left, is_none_left}
+use Rattle.std.proofs.Common.{◌≡◌, ℕ, ◌==◌, List, [], ◌∷◌, ◌++◌, length, map, append_assoc, append-nil, refl, sym, ap, ◌∙◌, rules}
+use Rattle.std.proofs.lemmas.List.{length-map}
+use Rattle.mx_explain.specs.Topics.{Row}
+use Rattle.face_explain.specs.Lists.{cells, cell, next_left}
 
-pub cells-none : (width most left : ℕ) (text : List ℕ) (rows : List Row) → length rows ≡ 0 → text ++ cells width most left rows ≡ text
+pub cells-none : {A : Type 0} (g : A → Row) (width most left : ℕ) (text : List ℕ) (xs : List A) → length xs ≡ 0 → text ++ cells width most left (map g xs) ≡ text
 unfolding cells
-cells-none width most left text [] none = append-nil text
-cells-none width most left text (row ∷ rows) none = absurd (search rules)
+cells-none g width most left text [] none = append-nil text
+cells-none g width most left text (x ∷ xs) none = absurd (search rules)
 
-pub cells-more : (width most left : ℕ) (text : List ℕ) (row : Row) (rows : List Row) →
-    text ++ cells width most left (row ∷ rows) ≡ (text ++ cell width (is_none_left rows) left row) ++ cells width most (next_left most left) rows
+pub cells-more : {A : Type 0} (g : A → Row) (width most left : ℕ) (text : List ℕ) (x : A) (xs : List A) →
+    text ++ cells width most left (map g (x ∷ xs)) ≡ (text ++ cell width (length xs == 0) left (g x)) ++ cells width most (next_left most left) (map g xs)
 unfolding cells
-cells-more width most left text row rows = sym (append_assoc text (cell width (is_none_left rows) left row) (cells width most (next_left most left) rows))
+cells-more g width most left text x xs =
+    rw (length-map xs g) (sym (append_assoc text (cell width (length xs == 0) left (g x)) (cells width most (next_left most left) (map g xs))))
 
 pub ruleset turns = (cells-none, cells-more)

@@ -1,11 +1,12 @@
 -- The rows that a word is about, table by table.
-use Rattle.std.proofs.Common.{◌≡◌, ◌≢◌, ℕ, Bool, true, false, ◌+◌, ◌<◌, ◌≤◌, List, [], ◌∷◌, ◌++◌, length, length-append, filter, append_assoc, refl, sym, ap, ◌∙◌, arith, rules, codes}
+use Rattle.std.proofs.Common.{◌≡◌, ◌≢◌, ℕ, Bool, true, false, ◌+◌, ◌<◌, ◌≤◌, List, [], ◌∷◌, ◌++◌, length, length-append, filter, map, append_assoc, refl, sym, ap, ◌∙◌, arith, rules, codes}
 use Rattle.std.proofs.lemmas.Bool.{cond_both}
 use Rattle.std.proofs.lemmas.Grind.{flat_map-append}
+use Rattle.std.proofs.lemmas.List.Folds.{flat_map-map}
 use Rattle.std.specs.List.{flat_map}
-use Rattle.mx_explain.specs.declared.row.Row.{Row}
+use Rattle.mx_explain.specs.Topics.{Row}
 use Rattle.mx_explain.specs.Matching.{fits, found}
-use Rattle.mx_explain.specs.Texts.{row_text, head, front, sentences, example_text, back, label, kind_of}
+use Rattle.mx_explain.specs.Texts.{row_text, head, front, sentences, part, back, label, kind_of}
 use Rattle.face_explain.specs.Answers.{fitting, texts, explanation, answer, answer_with, unknown_text}
 use Rattle.face_explain.specs.declared.answer.Answer.{Answer}
 use Rattle.face_explain.specs.declared.answer.Answer.TheVariants.{Explained, Unknown}
@@ -28,6 +29,12 @@ whole-text word =
     ap (λ t. t ++ flat_map f symbol_rows) (sym (flat_map-append f fault_rows operation_rows)) ∙ sym (flat_map-append f (fault_rows ++ operation_rows) symbol_rows)
     ∙ fitting-texts word ((fault_rows ++ operation_rows) ++ symbol_rows)
 
+-- what is added entry by entry
+pub flat-mapped : {A B : Type 0} (f : B → List ℕ) (g : A → B) (xs : List A) → flat_map (λ x. f (g x)) xs ≡ flat_map f (map g xs)
+flat-mapped f g xs = sym (flat_map-map f g xs)
+
+pub ruleset mapped = (flat-mapped)
+
 pub ruleset parts = (flat_map-append, append_assoc)
 
 pub ruleset whole = (whole-text)
@@ -42,12 +49,14 @@ ended xs ys some = rw (length-append xs ys) (omega (arith, some))
 
 head-some : (row : Row) → 0 < length (head row)
 unfolding head
-head-some row = ended ((label row ++ codes ": ") ++ kind_of row.topic) (codes "\n") (omega arith)
+head-some row = ended ((label row ++ codes ": ") ++ kind_of row.topic row.name) (codes "\n") (omega arith)
 
 row-some : (row : Row) → 0 < length (row_text row)
 unfolding row_text
 row-some row =
-    longer _ (back row.topic) (longer _ (example_text row.example) (longer _ (sentences row.says.now) (longer _ (front row.topic) (head-some row))))
+    longer _ (back row.topic row.name)
+    (longer _ (part (codes "  Mended:   ") row.mended)
+    (longer _ (part (codes "  Example:  ") row.example) (longer _ (sentences row.says) (longer _ (front row.topic row.name) (head-some row)))))
 
 -- ---- the answer
 

@@ -1,8 +1,7 @@
 -- What is answered on a word: the texts of the rows of the table that it is about.
-use Rattle.std.specs.Prelude.{ℕ, List, [], ◌∷◌, ◌++◌, Option, None, Some, codes, find, if◌then◌else◌}
+use Rattle.std.specs.Prelude.{ℕ, List, [], ◌∷◌, ◌++◌, codes, if◌then◌else◌}
 use Rattle.std.specs.List.{flat_map}
-use Rattle.mx_explain.specs.declared.row.Row.{Row}
-use Rattle.mx_explain.specs.Topics.{name_of}
+use Rattle.mx_explain.specs.Topics.{Row, name_of}
 use Rattle.mx_explain.specs.Matching.{fits, found}
 use Rattle.mx_explain.specs.Texts.{row_text}
 use Rattle.face_explain.specs.Near.{is_near}
@@ -21,14 +20,28 @@ texts rows = flat_map row_text rows
 unfoldable pub explanation : List ℕ → List ℕ
 explanation word = texts (found word table)
 
--- the first row whose name a word is within one letter of: of operations, symbols, and then of the others
-unfoldable pub nearest : List ℕ → Option Row
-nearest word = find (is_near word) (operation_rows ++ symbol_rows ++ fault_rows)
+-- the name of a row that a word is within one letter of, or no text
+abbrev pub offered : List ℕ → Row → List ℕ
+offered word row = if is_near word row then name_of row else []
+
+-- a text, or another one where it is none
+abbrev pub or_name : List ℕ → List ℕ → List ℕ
+or_name [] other = other
+or_name (b ∷ bs) other = b ∷ bs
+
+-- the first name that a word is within one letter of, or no text
+unfoldable pub near_name : List ℕ → List Row → List ℕ
+near_name word [] = []
+near_name word (row ∷ rows) = or_name (offered word row) (near_name word rows)
+
+-- among those of operations, of symbols, and then of the others
+unfoldable pub nearest : List ℕ → List ℕ
+nearest word = near_name word (operation_rows ++ symbol_rows ++ fault_rows)
 
 -- the nearest word, if there is one, or where to find all
-abbrev pub advice : Option Row → List ℕ
-advice None = codes "; mmixview explain lists all that is\n"
-advice (Some row) = codes "; the nearest word is " ++ name_of row.topic ++ codes "\n"
+abbrev pub advice : List ℕ → List ℕ
+advice [] = codes "; mmixview explain lists all that is\n"
+advice (b ∷ bs) = codes "; the nearest word is " ++ (b ∷ bs) ++ codes "\n"
 
 abbrev pub unknown_text : List ℕ → List ℕ
 unknown_text word = codes "error: " ++ word ++ codes " is not explained" ++ advice (nearest word)

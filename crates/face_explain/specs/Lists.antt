@@ -1,15 +1,10 @@
 -- A list of all that is explained, in columns below titles.
-use Rattle.std.specs.Prelude.{ℕ, ◌-◌, ◌==◌, Bool, true, false, List, [], ◌∷◌, ◌++◌, length, replicate, codes, if◌then◌else◌}
-use Rattle.mx_explain.specs.declared.row.Row.{Row}
+use Rattle.std.specs.Prelude.{ℕ, ◌-◌, ◌==◌, Bool, List, [], ◌∷◌, ◌++◌, length, replicate, codes, if◌then◌else◌}
 use Rattle.mx_explain.specs.Texts.{label}
+use Rattle.mx_explain.specs.Topics.{Row}
 use Rattle.mx_explain.specs.Parts.{source_rows, object_rows, stop_rows, kind_rows, inside_rows}
 use Rattle.mx_operations.specs.Parts.{number_rows, choice_rows, memory_rows, float_rows, pseudo_rows}
 use Rattle.face_explain.specs.Parts.{register_rows, other_rows}
-
--- whether a list has no elements
-abbrev pub is_none_left : List Row → Bool
-is_none_left [] = true
-is_none_left (row ∷ rows) = false
 
 -- what follows a cell: the end of the list; the end of a line, if no cell is left to its right; or blanks up to the next column
 abbrev pub gap : Bool → ℕ → ℕ → List ℕ
@@ -25,7 +20,7 @@ next_left most left = if left == 0 then most else left - 1
 -- the cells of rows, the first of which has so many to its right, and the first of a line the most
 unfoldable pub cells : ℕ → ℕ → ℕ → List Row → List ℕ
 cells width most left [] = []
-cells width most left (row ∷ rows) = cell width (is_none_left rows) left row ++ cells width most (next_left most left) rows
+cells width most left (row ∷ rows) = cell width (length rows == 0) left row ++ cells width most (next_left most left) rows
 
 -- a table below its title, in columns of a width
 unfoldable pub part : List ℕ → List Row → ℕ → ℕ → List ℕ

@@ -2,8 +2,7 @@
 use Rattle.std.specs.Prelude.{ℕ, Bool, ◌||◌, List, [], ◌∷◌, if◌then◌else◌}
 use Rattle.std.specs.Char.{eq_ignore_ascii_case}
 use Rattle.std.specs.Str.{str_eq_ignore_ascii_case}
-use Rattle.mx_explain.specs.declared.row.Row.{Row}
-use Rattle.mx_explain.specs.Topics.{name_of}
+use Rattle.mx_explain.specs.Topics.{Row, name_of}
 
 abbrev pub without_first : List ℕ → List ℕ
 without_first [] = []
@@ -24,4 +23,4 @@ is_within_one (a ∷ word) (b ∷ name) = if eq_ignore_ascii_case a b then is_wi
 
 -- whether a word is within one letter of the name of a row
 abbrev pub is_near : List ℕ → Row → Bool
-is_near word row = is_within_one word (name_of row.topic)
+is_near word row = is_within_one word (name_of row)

@@ -1,6 +1,6 @@
 -- The whole table.
 use Rattle.std.specs.Prelude.{List, ◌++◌}
-use Rattle.mx_explain.specs.declared.row.Row.{Row}
+use Rattle.mx_explain.specs.Topics.{Row}
 use Rattle.mx_explain.specs.Parts.{source_rows, object_rows, stop_rows, kind_rows, inside_rows}
 use Rattle.mx_operations.specs.Parts.{number_rows, choice_rows, memory_rows, float_rows, pseudo_rows}
 use Rattle.face_explain.specs.Parts.{register_rows, other_rows}

@@ -1,13 +1,16 @@
 //! The rows that a word is about.
 
-ghost use Rattle.std.specs.Prelude.{◌≡◌, ◌++◌, IfOk, OnOk};
+ghost use Rattle.std.specs.Prelude.{◌≡◌, ◌++◌, IfOk, OnOk, map};
 ghost use Rattle.std.specs.List.{flat_map};
+ghost use Rattle.mx_explain.specs.Topics.{row, seen};
 ghost use Rattle.face_explain.specs.Answers as spec;
 ghost use Rattle.face_explain.specs.Tables as tables;
 
 use crate::nearest::unknown_text;
 use crate::parts::{other_rows, register_rows};
-use mx_explain::{Row, add_row, fits, inside_rows, kind_rows, object_rows, source_rows, stop_rows};
+use mx_explain::{
+    Entry, Row, add_row, fits, inside_rows, kind_rows, object_rows, row_of, source_rows, stop_rows,
+};
 use mx_operations::{choice_rows, float_rows, memory_rows, number_rows, pseudo_rows};
 use mx_word::{Bytes, NoMemory};
 use std::alloc::Global;
@@ -21,7 +24,7 @@ pub enum Answer {
 
 /// Adds the text of a row that a word is about.
 fn add_fitting(alloc: Global, text: &mut Bytes, word: &str, row: Row) -> Result<(), NoMemory>
-    ensures { OnOk result (text.new ≡ text.old ++ spec.fitting word.now row) }
+    ensures { OnOk result (text.new ≡ text.old ++ spec.fitting word.now (seen row)) }
 {
     if fits(word, row) {
         return add_row(alloc, text, row);
@@ -30,11 +33,12 @@ fn add_fitting(alloc: Global, text: &mut Bytes, word: &str, row: Row) -> Result<
 }
 
 /// Adds the texts of the rows of a table that a word is about.
-fn add_found(alloc: Global, text: &mut Bytes, word: &str, rows: &[Row]) -> Result<(), NoMemory>
-    ensures { OnOk result (text.new ≡ text.old ++ flat_map (spec.fitting word.now) rows.now) }
+#[tactic(auto, using(crate::proofs::WholeTable::mapped))]
+fn add_found(alloc: Global, text: &mut Bytes, word: &str, entries: &[Entry]) -> Result<(), NoMemory>
+    ensures { OnOk result (text.new ≡ text.old ++ flat_map (spec.fitting word.now) (map (λ e. row e.0 e.1.now e.2.now e.3.now e.4.now) entries.now)) }
 {
-    for row in rows {
-        add_fitting(alloc, text, word, *row)?;
+    for entry in entries {
+        add_fitting(alloc, text, word, row_of(entry))?;
     }
     Ok(())
 }

@@ -1,10 +1,13 @@
 //! A list of all that is explained, in columns.
 
-ghost use Rattle.std.specs.Prelude.{◌≡◌, ◌++◌, ◌-◌, IfOk, OnOk, length, replicate};
+ghost use Rattle.std.specs.Prelude.{◌≡◌, ◌++◌, ◌-◌, IfOk, OnOk, length, map, replicate};
+ghost use Rattle.mx_explain.specs.Topics.{row, seen};
 ghost use Rattle.face_explain.specs.Lists as spec;
 
 use crate::parts::{other_rows, register_rows};
-use mx_explain::{Row, add_label, inside_rows, kind_rows, object_rows, source_rows, stop_rows};
+use mx_explain::{
+    Entry, Row, add_label, inside_rows, kind_rows, object_rows, row_of, source_rows, stop_rows,
+};
 use mx_operations::{choice_rows, float_rows, memory_rows, number_rows, pseudo_rows};
 use mx_word::{Bytes, NoMemory};
 use std::alloc::Global;
@@ -40,7 +43,7 @@ fn add_cell(
     left: usize,
     width: usize,
 ) -> Result<(), NoMemory>
-    ensures { OnOk result (text.new ≡ text.old ++ spec.cell width is_last left row) }
+    ensures { OnOk result (text.new ≡ text.old ++ spec.cell width is_last left (seen row)) }
 {
     let before = text.as_slice().len();
     add_label(text, row)?;
@@ -57,13 +60,13 @@ fn next_left(left: usize, most: usize) -> usize
 
 /// Adds the cells of a list in columns of a width, where so many cells of a line have one to their right.
 #[tactic(auto, using(crate::proofs::ListTurns::turns))]
-fn add_cells(text: &mut Bytes, rows: &[Row], width: usize, most: usize) -> Result<(), NoMemory>
-    ensures { OnOk result (text.new ≡ text.old ++ spec.cells width most most rows.now) }
+fn add_cells(text: &mut Bytes, entries: &[Entry], width: usize, most: usize) -> Result<(), NoMemory>
+    ensures { OnOk result (text.new ≡ text.old ++ spec.cells width most most (map (λ e. row e.0 e.1.now e.2.now e.3.now e.4.now) entries.now)) }
 {
     let mut left = most;
-    let mut rest = rows;
-    while let [row, more @ ..] = rest {
-        add_cell(text, *row, more.is_empty(), left, width)?;
+    let mut rest = entries;
+    while let [entry, more @ ..] = rest {
+        add_cell(text, row_of(entry), more.is_empty(), left, width)?;
         left = next_left(left, most);
         rest = more;
     }
@@ -75,15 +78,15 @@ fn add_cells(text: &mut Bytes, rows: &[Row], width: usize, most: usize) -> Resul
 fn add_part(
     text: &mut Bytes,
     title: &str,
-    rows: &[Row],
+    entries: &[Entry],
     width: usize,
     most: usize,
 ) -> Result<(), NoMemory>
-    ensures { OnOk result (text.new ≡ text.old ++ spec.part title.now rows.now width most) }
+    ensures { OnOk result (text.new ≡ text.old ++ spec.part title.now (map (λ e. row e.0 e.1.now e.2.now e.3.now e.4.now) entries.now) width most) }
 {
     text.extend(title.as_bytes())?;
     text.extend(b"\n  ")?;
-    add_cells(text, rows, width, most)
+    add_cells(text, entries, width, most)
 }
 
 /// Adds the part of faults, reasons and kinds.

@@ -24,5 +24,5 @@ pub fn what_the_tables_have_is_explained()
 /// Every row is about a number or a name that the tables of the program and of MMIXAL have.
 #[tactic(auto, using(crate::proofs::Covered::rows))]
 pub fn what_is_explained_is_in_the_tables()
-    ensures { IsTrue (list_all (λ row. spec.is_known row.topic) table) }
+    ensures { IsTrue (list_all spec.is_known table) }
 {}

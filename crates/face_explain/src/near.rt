@@ -2,6 +2,7 @@
 
 ghost use Rattle.std.specs.Prelude.{◌≡◌};
 ghost use Rattle.face_explain.specs.Near as spec;
+ghost use Rattle.mx_explain.specs.Topics.{seen};
 
 use mx_explain::{Row, name_of};
 
@@ -47,7 +48,7 @@ fn is_within_one(word: &[u8], name: &[u8]) -> bool
 
 /// Whether a word is within one letter of the name of a row.
 pub(crate) fn is_near(word: &str, row: Row) -> bool
-    ensures { result ≡ spec.is_near word.now row }
+    ensures { result ≡ spec.is_near word.now (seen row) }
 {
-    is_within_one(word.as_bytes(), name_of(row.topic).as_bytes())
+    is_within_one(word.as_bytes(), name_of(row).as_bytes())
 }

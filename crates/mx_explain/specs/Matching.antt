@@ -2,8 +2,7 @@
 use Rattle.std.specs.Prelude.{ℕ, Bool, false, ◌||◌, List, Option, None, Some, bytes_eq, decimal}
 use Rattle.std.specs.List.{filter}
 use Rattle.std.specs.Str.{str_eq_ignore_ascii_case}
-use Rattle.mx_explain.specs.declared.row.Row.{Row}
-use Rattle.mx_explain.specs.Topics.{number_of, name_of}
+use Rattle.mx_explain.specs.Topics.{Row, number_of, name_of}
 
 -- whether a word is a number in decimal digits, if there is one
 abbrev pub is_number : List ℕ → Option ℕ → Bool
@@ -12,7 +11,7 @@ is_number word (Some number) = bytes_eq word (decimal number)
 
 -- whether a word is the number of a row, or its name; upper and lower case do not matter
 unfoldable pub fits : List ℕ → Row → Bool
-fits word row = is_number word (number_of row.topic) || str_eq_ignore_ascii_case word (name_of row.topic)
+fits word row = is_number word (number_of row.topic) || str_eq_ignore_ascii_case word (name_of row)
 
 -- the rows of a table that a word is about
 abbrev pub found : List ℕ → List Row → List Row

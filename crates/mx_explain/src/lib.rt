@@ -15,5 +15,5 @@ mod text;
 
 pub use matching::fits;
 pub use parts::{inside_rows, kind_rows, object_rows, source_rows, stop_rows};
-pub use row::{Example, Row, Topic, name_of};
+pub use row::{Entry, Row, Topic, name_of, row_of};
 pub use text::{add_label, add_row};

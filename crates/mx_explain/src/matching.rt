@@ -3,6 +3,7 @@
 ghost use Rattle.std.specs.Prelude.{◌≡◌, bytes_eq, decimal};
 ghost use Rattle.std.specs.Str.{str_eq_ignore_ascii_case};
 ghost use Rattle.mx_explain.specs.Matching as spec;
+ghost use Rattle.mx_explain.specs.Topics.{seen};
 
 use crate::row::{Row, name_of, number_of};
 use itoa::Buffer;
@@ -28,7 +29,7 @@ fn is_number(word: &str, number: Option<u16>) -> bool
 /// Whether a word is the number of a row, or its name; upper and lower case do not matter.
 #[tactic(auto, unfolding(crate::specs::Matching::fits))]
 pub fn fits(word: &str, row: Row) -> bool
-    ensures { result ≡ spec.fits word.now row }
+    ensures { result ≡ spec.fits word.now (seen row) }
 {
-    is_number(word, number_of(row.topic)) || word.eq_ignore_ascii_case(name_of(row.topic))
+    is_number(word, number_of(row.topic)) || word.eq_ignore_ascii_case(name_of(row))
 }

@@ -3,10 +3,11 @@
 ghost use Rattle.std.specs.Prelude.{◌≡◌, ◌++◌, OnOk};
 ghost use Rattle.std.specs.List.{flat_map};
 ghost use Rattle.mx_explain.specs.Texts as spec;
+ghost use Rattle.mx_explain.specs.Topics.{seen};
 
 use crate::facts::{add_operation_codes, add_operation_cost, add_symbol_value};
 use crate::operands::operands;
-use crate::row::{Example, Row, Topic, name_of, number_of};
+use crate::row::{Row, Topic, name_of, number_of};
 use mx_ops::{Op, find};
 use mx_text::add_decimal;
 use mx_word::{Bytes, NoMemory};
@@ -23,9 +24,9 @@ fn operation_kind(op: Option<Op>) -> &'static str
     }
 }
 
-/// What a topic is.
-fn kind_of(topic: Topic) -> &'static str
-    ensures { result.now ≡ spec.kind_of topic }
+/// What a topic is, of an operation by its name.
+fn kind_of(topic: Topic, name: &str) -> &'static str
+    ensures { result.now ≡ spec.kind_of topic name.now }
 {
     match topic {
         Topic::Source(_) => "a fault of a source",
@@ -33,9 +34,9 @@ fn kind_of(topic: Topic) -> &'static str
         Topic::Stop(_) => "a reason of a stop",
         Topic::Kind(_) => "a kind of faulty words",
         Topic::Inside(_) => "a number inside the program",
-        Topic::Operation(name) => operation_kind(find(name.as_bytes())),
-        Topic::Unperformed(_) => "an instruction that this machine does not perform",
-        Topic::Symbol(_) => "a predefined symbol",
+        Topic::Operation => operation_kind(find(name.as_bytes())),
+        Topic::Unperformed => "an instruction that this machine does not perform",
+        Topic::Symbol => "a predefined symbol",
     }
 }
 
@@ -52,20 +53,20 @@ fn add_number(text: &mut Bytes, number: Option<u16>) -> Result<(), NoMemory>
 
 /// Adds what a row is called: its number, if it has one, and its name.
 pub fn add_label(text: &mut Bytes, row: Row) -> Result<(), NoMemory>
-    ensures { OnOk result (text.new ≡ text.old ++ spec.label row) }
+    ensures { OnOk result (text.new ≡ text.old ++ spec.label (seen row)) }
 {
     add_number(text, number_of(row.topic))?;
-    text.extend(name_of(row.topic).as_bytes())
+    text.extend(name_of(row).as_bytes())
 }
 
 /// Adds the first line of a row.
 #[tactic(auto, unfolding(crate::specs::Texts::head))]
 fn add_head(text: &mut Bytes, row: Row) -> Result<(), NoMemory>
-    ensures { OnOk result (text.new ≡ text.old ++ spec.head row) }
+    ensures { OnOk result (text.new ≡ text.old ++ spec.head (seen row)) }
 {
     add_label(text, row)?;
     text.extend(b": ")?;
-    text.extend(kind_of(row.topic).as_bytes())?;
+    text.extend(kind_of(row.topic, row.name).as_bytes())?;
     text.push(b'\n')
 }
 
@@ -99,28 +100,17 @@ fn add_sentences(text: &mut Bytes, says: &str) -> Result<(), NoMemory>
     text.push(b'\n')
 }
 
-/// Adds a line with a title.
-fn add_line(text: &mut Bytes, title: &[u8; 12], line: &str) -> Result<(), NoMemory>
-    ensures { OnOk result (text.new ≡ text.old ++ spec.titled title.now line.now) }
+/// Adds a line with a title, unless it would be empty.
+#[tactic(auto, unfolding(crate::specs::Texts::part))]
+fn add_part(text: &mut Bytes, title: &[u8; 12], part: &str) -> Result<(), NoMemory>
+    ensures { OnOk result (text.new ≡ text.old ++ spec.part title.now part.now) }
 {
-    text.extend(title)?;
-    text.extend(line.as_bytes())?;
-    text.push(b'\n')
-}
-
-/// Adds an example, if there is one, and what mends it.
-#[tactic(auto, unfolding(crate::specs::Texts::example_text))]
-fn add_example(text: &mut Bytes, example: Example) -> Result<(), NoMemory>
-    ensures { OnOk result (text.new ≡ text.old ++ spec.example_text example) }
-{
-    match example {
-        Example::Without => Ok(()),
-        Example::Good(written) => add_line(text, b"  Example:  ", written),
-        Example::Faulty(written, mended) => {
-            add_line(text, b"  Example:  ", written)?;
-            add_line(text, b"  Mended:   ", mended)
-        }
+    if part.is_empty() {
+        return Ok(());
     }
+    text.extend(title)?;
+    text.extend(part.as_bytes())?;
+    text.push(b'\n')
 }
 
 /// Adds how an operation is written.
@@ -134,29 +124,29 @@ fn add_form(text: &mut Bytes, name: &str) -> Result<(), NoMemory>
     text.push(b'\n')
 }
 
-/// Adds what the tables say of a topic in front of its sentences: how an operation is written, or the value of a symbol.
+/// Adds what the tables say in front of the sentences: how an operation is written, or the value of a symbol.
 #[tactic(auto, unfolding(crate::specs::Texts::front))]
-fn add_front(alloc: Global, text: &mut Bytes, topic: Topic) -> Result<(), NoMemory>
-    ensures { OnOk result (text.new ≡ text.old ++ spec.front topic) }
+fn add_front(alloc: Global, text: &mut Bytes, topic: Topic, name: &str) -> Result<(), NoMemory>
+    ensures { OnOk result (text.new ≡ text.old ++ spec.front topic name.now) }
 {
     match topic {
-        Topic::Operation(name) | Topic::Unperformed(name) => add_form(text, name),
-        Topic::Symbol(name) => add_symbol_value(alloc, text, name),
+        Topic::Operation | Topic::Unperformed => add_form(text, name),
+        Topic::Symbol => add_symbol_value(alloc, text, name),
         _ => Ok(()),
     }
 }
 
-/// Adds what the tables say of a topic after its sentences: the codes and the costs of an instruction.
+/// Adds what the tables say after the sentences: the codes and the costs of an instruction.
 #[tactic(auto, unfolding(crate::specs::Texts::back))]
-fn add_back(text: &mut Bytes, topic: Topic) -> Result<(), NoMemory>
-    ensures { OnOk result (text.new ≡ text.old ++ spec.back topic) }
+fn add_back(text: &mut Bytes, topic: Topic, name: &str) -> Result<(), NoMemory>
+    ensures { OnOk result (text.new ≡ text.old ++ spec.back topic name.now) }
 {
     match topic {
-        Topic::Operation(name) => {
+        Topic::Operation => {
             add_operation_codes(text, name)?;
             add_operation_cost(text, name)
         }
-        Topic::Unperformed(name) => add_operation_codes(text, name),
+        Topic::Unperformed => add_operation_codes(text, name),
         _ => Ok(()),
     }
 }
@@ -164,11 +154,12 @@ fn add_back(text: &mut Bytes, topic: Topic) -> Result<(), NoMemory>
 /// Adds the text of a row.
 #[tactic(auto, unfolding(crate::specs::Texts::row_text))]
 pub fn add_row(alloc: Global, text: &mut Bytes, row: Row) -> Result<(), NoMemory>
-    ensures { OnOk result (text.new ≡ text.old ++ spec.row_text row) }
+    ensures { OnOk result (text.new ≡ text.old ++ spec.row_text (seen row)) }
 {
     add_head(text, row)?;
-    add_front(alloc, text, row.topic)?;
+    add_front(alloc, text, row.topic, row.name)?;
     add_sentences(text, row.says)?;
-    add_example(text, row.example)?;
-    add_back(text, row.topic)
+    add_part(text, b"  Example:  ", row.example)?;
+    add_part(text, b"  Mended:   ", row.mended)?;
+    add_back(text, row.topic, row.name)
 }
