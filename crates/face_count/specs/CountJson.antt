@@ -50,8 +50,18 @@ unfoldable pub said_json : List ℕ → List ℕ
 said_json [] = codes "null"
 said_json (b ∷ text) = string (take (length (b ∷ text) - 1) (b ∷ text))
 
+unfoldable pub message_json : Outcome → List ℕ
+message_json outcome = said_json (message_of outcome)
+
+-- the status that the program ends with
+unfoldable pub status_json : Outcome → List ℕ
+status_json outcome = codes ",\"status\":" ++ decimal (status_of outcome)
+
+unfoldable pub message_name : List ℕ
+message_name = codes "{\"message\":"
+
 unfoldable pub outcome_json : Outcome → List ℕ
-outcome_json outcome = codes "{\"message\":" ++ said_json (message_of outcome) ++ codes ",\"status\":" ++ decimal (status_of outcome) ++ codes "}"
+outcome_json outcome = message_name ++ message_json outcome ++ status_json outcome ++ codes "}"
 
 -- why the source is refused, if that is the outcome
 unfoldable pub refusal_in : Outcome → Option Refusal
