@@ -75,7 +75,14 @@ unfoldable pub line_front : Option LineSheet → List ℕ
 line_front None = []
 line_front (Some sheet) = codes "\n"
 
+unfoldable pub refused_json : Outcome → List ℕ
+refused_json outcome = refusal_json (refusal_in outcome)
+
+unfoldable pub counted_front : CountedLines → List ℕ
+counted_front c = line_front c.sheet ++ codes "{\"lines\":" ++ lines_json c.sheet ++ codes ",\"outcome\":" ++ outcome_json c.outcome
+
+unfoldable pub counted_end : CountedLines → List ℕ
+counted_end c = codes ",\"refused\":" ++ refused_json c.outcome ++ codes ",\"total\":" ++ total_json c.sheet ++ codes "}\n"
+
 unfoldable pub counted_json : CountedLines → List ℕ
-counted_json c =
-    line_front c.sheet ++ codes "{\"lines\":" ++ lines_json c.sheet ++ codes ",\"outcome\":" ++ outcome_json c.outcome
-    ++ codes ",\"refused\":" ++ refusal_json (refusal_in c.outcome) ++ codes ",\"total\":" ++ total_json c.sheet ++ codes "}\n"
+counted_json c = counted_front c ++ counted_end c

@@ -206,18 +206,46 @@ fn add_front(text: &mut Bytes, sheet: &Option<LineSheet>) -> Result<(), NoMemory
     }
 }
 
-/// Adds what came of a run that was counted, as a line.
-#[tactic(auto, unfolding(crate::specs::CountJson::counted_json))]
-pub fn add_counted(alloc: Global, text: &mut Bytes, counted: &CountedLines) -> Result<(), NoMemory>
-    ensures { OnOk result (text.new ≡ text.old ++ spec.counted_json counted.now) }
+/// Adds why the source is refused, or `null`.
+#[tactic(auto, unfolding(crate::specs::CountJson::refused_json))]
+fn add_refused(text: &mut Bytes, front: &[u8], outcome: Outcome) -> Result<(), NoMemory>
+    ensures { OnOk result (text.new ≡ text.old ++ front.now ++ spec.refused_json outcome) }
+{
+    add_refusal(text, front, refusal_in(outcome))
+}
+
+/// Begins what came of a run that was counted: its lines, and its outcome.
+#[tactic(auto, unfolding(crate::specs::CountJson::counted_front))]
+fn add_counted_front(
+    alloc: Global,
+    text: &mut Bytes,
+    counted: &CountedLines,
+) -> Result<(), NoMemory>
+    ensures { OnOk result (text.new ≡ text.old ++ spec.counted_front counted.now) }
 {
     add_front(text, &counted.sheet)?;
     text.extend(b"{\"lines\":")?;
     add_lines(alloc, text, &counted.sheet)?;
     text.extend(b",\"outcome\":")?;
-    add_outcome(alloc, text, counted.outcome)?;
-    add_refusal(text, b",\"refused\":", refusal_in(counted.outcome))?;
+    add_outcome(alloc, text, counted.outcome)
+}
+
+/// Ends what came of a run that was counted: its refusal, and the figures of all steps.
+#[tactic(auto, unfolding(crate::specs::CountJson::counted_end))]
+fn add_counted_end(text: &mut Bytes, counted: &CountedLines) -> Result<(), NoMemory>
+    ensures { OnOk result (text.new ≡ text.old ++ spec.counted_end counted.now) }
+{
+    add_refused(text, b",\"refused\":", counted.outcome)?;
     text.extend(b",\"total\":")?;
     add_total(text, &counted.sheet)?;
     text.extend(b"}\n")
+}
+
+/// Adds what came of a run that was counted, as a line.
+#[tactic(auto, unfolding(crate::specs::CountJson::counted_json))]
+pub fn add_counted(alloc: Global, text: &mut Bytes, counted: &CountedLines) -> Result<(), NoMemory>
+    ensures { OnOk result (text.new ≡ text.old ++ spec.counted_json counted.now) }
+{
+    add_counted_front(alloc, text, counted)?;
+    add_counted_end(text, counted)
 }
