@@ -81,8 +81,11 @@ refused_json outcome = refusal_json (refusal_in outcome)
 unfoldable pub counted_front : CountedLines → List ℕ
 counted_front c = line_front c.sheet ++ codes "{\"lines\":" ++ lines_json c.sheet ++ codes ",\"outcome\":" ++ outcome_json c.outcome
 
+unfoldable pub refused_name : List ℕ
+refused_name = codes ",\"refused\":"
+
 unfoldable pub counted_end : CountedLines → List ℕ
-counted_end c = codes ",\"refused\":" ++ refused_json c.outcome ++ codes ",\"total\":" ++ total_json c.sheet ++ codes "}\n"
+counted_end c = refused_name ++ refused_json c.outcome ++ codes ",\"total\":" ++ total_json c.sheet ++ codes "}\n"
 
 unfoldable pub counted_json : CountedLines → List ℕ
 counted_json c = counted_front c ++ counted_end c

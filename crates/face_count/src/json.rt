@@ -230,12 +230,20 @@ fn add_counted_front(
     add_outcome(alloc, text, counted.outcome)
 }
 
+/// The name of a refusal, after other members.
+#[tactic(auto, unfolding(crate::specs::CountJson::refused_name))]
+fn refused_name() -> &'static [u8]
+    ensures { result.now ≡ spec.refused_name }
+{
+    b",\"refused\":"
+}
+
 /// Ends what came of a run that was counted: its refusal, and the figures of all steps.
 #[tactic(auto, unfolding(crate::specs::CountJson::counted_end))]
 fn add_counted_end(text: &mut Bytes, counted: &CountedLines) -> Result<(), NoMemory>
     ensures { OnOk result (text.new ≡ text.old ++ spec.counted_end counted.now) }
 {
-    add_refused(text, b",\"refused\":", counted.outcome)?;
+    add_refused(text, refused_name(), counted.outcome)?;
     text.extend(b",\"total\":")?;
     add_total(text, &counted.sheet)?;
     text.extend(b"}\n")
