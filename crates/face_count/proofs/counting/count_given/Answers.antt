@@ -5,11 +5,11 @@ use Rattle.face_count.proofs.counting.count_given.Goals as goal
 
 pub returns-then-is_json-clause-told : goal.returns-then-is_json-clause-told
 unfolding shown_count
-returns-then-is_json-clause-told g c = count-shown _ _ _ (λ m. lines_counted c.args.order.now c.args.name.now c.args.given.now m) json_page _ _ _ c.count_lines-counted.ensures.keeps.telling c.count_lines-counted.ensures.told c.put_json.ensures.told c.put_json.ensures.lacking
+returns-then-is_json-clause-told g c = rw c.if-is_json.true (count-shown _ _ _ (λ m. lines_counted c.args.order.now c.args.name.now c.args.given.now m) json_page _ _ _ c.count_lines-counted.ensures.keeps.telling c.count_lines-counted.ensures.told c.put_json.ensures.told c.put_json.ensures.lacking)
 
 pub returns-clause-told : goal.returns-clause-told
 unfolding shown_count
-returns-clause-told g c = count-shown _ _ _ (λ m. file_counted c.args.order.now c.args.name.now c.args.given.now m) sheet_page _ _ _ c.count_file-counted.ensures.keeps.telling c.count_file-counted.ensures.told c.put_sheet.ensures.told c.put_sheet.ensures.lacking
+returns-clause-told g c = rw c.if-is_json.false (count-shown _ _ _ (λ m. file_counted c.args.order.now c.args.name.now c.args.given.now m) sheet_page _ _ _ c.count_file-counted.ensures.keeps.telling c.count_file-counted.ensures.told c.put_sheet.ensures.told c.put_sheet.ensures.lacking)
 
 pub returns-then-is_json-clause-causes : goal.returns-then-is_json-clause-causes
 returns-then-is_json-clause-causes g c =
