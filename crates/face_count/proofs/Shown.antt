@@ -37,6 +37,12 @@ count-shown a b d f page x o r same counted shown lacks = λ t ne.
     let there : o ≢ OutOfMemory = λ e. ne (lacks e) in
     shown there (subst IsTrue (sym same) t) ne ∙ ap (page_after page) (counted t there)
 
+-- a page has the outcome of what was counted
+pub onward-as : (old new : Option HostModel) (k m : ℕ) (o p r : Outcome) → p ≡ o →
+    ((start : Option HostModel) → (first : ℕ) → FaultsBetween start old first k HostFault NoFile p → FaultsBetween start new first m HostFault NoFile r) →
+    (start : Option HostModel) → (first : ℕ) → FaultsBetween start old first k HostFault NoFile o → FaultsBetween start new first m HostFault NoFile r
+onward-as old new k m o p r e onward start first was = onward start first (subst (λ (x : Outcome). FaultsBetween start old first k HostFault NoFile x) (sym e) was)
+
 -- how a count fails
 pub count-faults : (a b : Option HostModel) (k m : ℕ) (o : Outcome) → OnlyByFailure a HostFault o k m → ComesByFault a NoFile o k m → Keeps a b k m → FaultsBetween a b k m HostFault NoFile o
 count-faults a b k m o host absent kept = record { host_fault = host; no_file = absent; keeps = kept }

@@ -50,8 +50,18 @@ unfoldable pub said_json : List ℕ → List ℕ
 said_json [] = codes "null"
 said_json (b ∷ text) = string (take (length (b ∷ text) - 1) (b ∷ text))
 
+unfoldable pub message_json : Outcome → List ℕ
+message_json outcome = said_json (message_of outcome)
+
+-- the status that the program ends with
+unfoldable pub status_json : Outcome → List ℕ
+status_json outcome = codes ",\"status\":" ++ decimal (status_of outcome)
+
+unfoldable pub message_name : List ℕ
+message_name = codes "{\"message\":"
+
 unfoldable pub outcome_json : Outcome → List ℕ
-outcome_json outcome = codes "{\"message\":" ++ said_json (message_of outcome) ++ codes ",\"status\":" ++ decimal (status_of outcome) ++ codes "}"
+outcome_json outcome = message_name ++ message_json outcome ++ status_json outcome ++ codes "}"
 
 -- why the source is refused, if that is the outcome
 unfoldable pub refusal_in : Outcome → Option Refusal
@@ -65,7 +75,17 @@ unfoldable pub line_front : Option LineSheet → List ℕ
 line_front None = []
 line_front (Some sheet) = codes "\n"
 
+unfoldable pub refused_json : Outcome → List ℕ
+refused_json outcome = refusal_json (refusal_in outcome)
+
+unfoldable pub counted_front : CountedLines → List ℕ
+counted_front c = line_front c.sheet ++ codes "{\"lines\":" ++ lines_json c.sheet ++ codes ",\"outcome\":" ++ outcome_json c.outcome
+
+unfoldable pub refused_name : List ℕ
+refused_name = codes ",\"refused\":"
+
+unfoldable pub counted_end : CountedLines → List ℕ
+counted_end c = refused_name ++ refused_json c.outcome ++ codes ",\"total\":" ++ total_json c.sheet ++ codes "}\n"
+
 unfoldable pub counted_json : CountedLines → List ℕ
-counted_json c =
-    line_front c.sheet ++ codes "{\"lines\":" ++ lines_json c.sheet ++ codes ",\"outcome\":" ++ outcome_json c.outcome
-    ++ codes ",\"refused\":" ++ refusal_json (refusal_in c.outcome) ++ codes ",\"total\":" ++ total_json c.sheet ++ codes "}\n"
+counted_json c = counted_front c ++ counted_end c

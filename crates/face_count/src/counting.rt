@@ -79,7 +79,7 @@ fn misordered(fault: WordsFault, in_front: usize) -> Outcome
 
 /// Does what these words of a run order, in front of which so many are left out.
 fn count_words<H: Host>(alloc: Global, host: &mut H, words: &[String], left_out: usize) -> Outcome
-    ensures causes { FaultsOnlyBy H.told H.faults host.old host.new result }
+    ensures { FaultsOnlyBy H.told H.faults host.old host.new result }
 {
     match order_in(words) {
         Ok(order) => count_ordered(alloc, host, left_out > 0, words, &order),
@@ -89,7 +89,7 @@ fn count_words<H: Host>(alloc: Global, host: &mut H, words: &[String], left_out:
 
 /// Does what these words order as those of a run, in front of which so many are left out.
 fn count_rest<H: Host>(alloc: Global, host: &mut H, words: &[String], left_out: usize) -> Outcome
-    ensures causes { FaultsOnlyBy H.told H.faults host.old host.new result }
+    ensures { FaultsOnlyBy H.told H.faults host.old host.new result }
 {
     match run_words(alloc, words) {
         Ok(all) => count_words(alloc, host, all.as_slice(), left_out),
@@ -100,7 +100,7 @@ fn count_rest<H: Host>(alloc: Global, host: &mut H, words: &[String], left_out: 
 /// Does what the words after `count` order: the source is run as `mmixware run` runs it, and what is counted is shown as a table, or,
 /// after `--json`, as a line of JSON. It answers the outcome of the run, which its message tells.
 pub fn count<H: Host>(alloc: Global, host: &mut H, words: &[String]) -> Outcome
-    ensures causes { FaultsOnlyBy H.told H.faults host.old host.new result }
+    ensures { FaultsOnlyBy H.told H.faults host.old host.new result }
 {
     match words {
         [word, rest @ ..] if word.as_str() == "--json" => count_rest(alloc, host, rest, 1),

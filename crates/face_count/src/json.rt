@@ -2,7 +2,6 @@
 
 ghost use Rattle.std.specs.Prelude.{◌≡◌, ◌++◌, ◌∷◌, [], ◌-◌, OnOk, length, take};
 ghost use Rattle.mx_json.specs.Json.{array, further};
-ghost use Rattle.mx_outcome.specs.Messages.{message_of};
 ghost use Rattle.face_count.specs.CountJson as spec;
 
 use mx_count::{CountedLine, CountedLines, LineSheet, Tally};
@@ -141,12 +140,29 @@ fn add_said(alloc: Global, text: &mut Bytes, said: &[u8]) -> Result<(), NoMemory
     }
 }
 
+/// The name of a message, at the beginning of an object.
+#[tactic(auto, unfolding(crate::specs::CountJson::message_name))]
+fn message_name() -> &'static [u8]
+    ensures { result.now ≡ spec.message_name }
+{
+    b"{\"message\":"
+}
+
 /// Adds the message of an outcome.
+#[tactic(auto, unfolding(crate::specs::CountJson::message_json))]
 fn add_message(alloc: Global, text: &mut Bytes, outcome: Outcome) -> Result<(), NoMemory>
-    ensures { OnOk result (text.new ≡ text.old ++ spec.said_json (message_of outcome)) }
+    ensures { OnOk result (text.new ≡ text.old ++ spec.message_json outcome) }
 {
     let said = message(alloc, outcome)?;
     add_said(alloc, text, said.as_slice())
+}
+
+/// Adds the status of an outcome.
+#[tactic(auto, unfolding(crate::specs::CountJson::status_json))]
+fn add_status(text: &mut Bytes, outcome: Outcome) -> Result<(), NoMemory>
+    ensures { OnOk result (text.new ≡ text.old ++ spec.status_json outcome) }
+{
+    add_number(text, b",\"status\":", u64::from(outcome.status()))
 }
 
 /// Adds an outcome: the status of the program, and its message.
@@ -154,9 +170,9 @@ fn add_message(alloc: Global, text: &mut Bytes, outcome: Outcome) -> Result<(), 
 fn add_outcome(alloc: Global, text: &mut Bytes, outcome: Outcome) -> Result<(), NoMemory>
     ensures { OnOk result (text.new ≡ text.old ++ spec.outcome_json outcome) }
 {
-    text.extend(b"{\"message\":")?;
+    text.extend(message_name())?;
     add_message(alloc, text, outcome)?;
-    add_number(text, b",\"status\":", u64::from(outcome.status()))?;
+    add_status(text, outcome)?;
     text.extend(b"}")
 }
 
@@ -190,18 +206,54 @@ fn add_front(text: &mut Bytes, sheet: &Option<LineSheet>) -> Result<(), NoMemory
     }
 }
 
-/// Adds what came of a run that was counted, as a line.
-#[tactic(auto, unfolding(crate::specs::CountJson::counted_json))]
-pub fn add_counted(alloc: Global, text: &mut Bytes, counted: &CountedLines) -> Result<(), NoMemory>
-    ensures { OnOk result (text.new ≡ text.old ++ spec.counted_json counted.now) }
+/// Adds why the source is refused, or `null`.
+#[tactic(auto, unfolding(crate::specs::CountJson::refused_json))]
+fn add_refused(text: &mut Bytes, front: &[u8], outcome: Outcome) -> Result<(), NoMemory>
+    ensures { OnOk result (text.new ≡ text.old ++ front.now ++ spec.refused_json outcome) }
+{
+    add_refusal(text, front, refusal_in(outcome))
+}
+
+/// Begins what came of a run that was counted: its lines, and its outcome.
+#[tactic(auto, unfolding(crate::specs::CountJson::counted_front))]
+fn add_counted_front(
+    alloc: Global,
+    text: &mut Bytes,
+    counted: &CountedLines,
+) -> Result<(), NoMemory>
+    ensures { OnOk result (text.new ≡ text.old ++ spec.counted_front counted.now) }
 {
     add_front(text, &counted.sheet)?;
     text.extend(b"{\"lines\":")?;
     add_lines(alloc, text, &counted.sheet)?;
     text.extend(b",\"outcome\":")?;
-    add_outcome(alloc, text, counted.outcome)?;
-    add_refusal(text, b",\"refused\":", refusal_in(counted.outcome))?;
+    add_outcome(alloc, text, counted.outcome)
+}
+
+/// The name of a refusal, after other members.
+#[tactic(auto, unfolding(crate::specs::CountJson::refused_name))]
+fn refused_name() -> &'static [u8]
+    ensures { result.now ≡ spec.refused_name }
+{
+    b",\"refused\":"
+}
+
+/// Ends what came of a run that was counted: its refusal, and the figures of all steps.
+#[tactic(auto, unfolding(crate::specs::CountJson::counted_end))]
+fn add_counted_end(text: &mut Bytes, counted: &CountedLines) -> Result<(), NoMemory>
+    ensures { OnOk result (text.new ≡ text.old ++ spec.counted_end counted.now) }
+{
+    add_refused(text, refused_name(), counted.outcome)?;
     text.extend(b",\"total\":")?;
     add_total(text, &counted.sheet)?;
     text.extend(b"}\n")
+}
+
+/// Adds what came of a run that was counted, as a line.
+#[tactic(auto, unfolding(crate::specs::CountJson::counted_json))]
+pub fn add_counted(alloc: Global, text: &mut Bytes, counted: &CountedLines) -> Result<(), NoMemory>
+    ensures { OnOk result (text.new ≡ text.old ++ spec.counted_json counted.now) }
+{
+    add_counted_front(alloc, text, counted)?;
+    add_counted_end(text, counted)
 }
