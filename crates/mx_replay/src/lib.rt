@@ -1,0 +1,13 @@
+//! A run over a host in memory, each step of which can be visited, forth and back: going back is running again from the start.
+#![tactic(auto)]
+
+mod marks;
+mod program;
+mod replay;
+mod searches;
+mod turns;
+mod visit;
+
+pub use marks::Place;
+pub use program::Program;
+pub use replay::Replay;
