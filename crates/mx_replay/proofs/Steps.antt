@@ -1,5 +1,5 @@
 -- Steps of a run: at its start, behind some turns, and behind one.
-use Rattle.std.proofs.Common.{IsTrue, Some, map, ◌≡◌, ◌≢◌, ◌<◌, ◌≤◌, ◌+◌, ◌-◌, ℕ, Bool, true, false, inl, inr, Ok, Err, arith, refl, sym, subst, ◌∙◌, ap}
+use Rattle.std.proofs.Common.{IsTrue, Some, List, map, ◌≡◌, ◌≢◌, ◌<◌, ◌≤◌, ◌+◌, ◌-◌, ℕ, Bool, true, false, inl, inr, Ok, Err, arith, refl, sym, subst, ◌∙◌, ap}
 use Rattle.std.specs.Prelude.{Result, ◌⊎◌, string_bytes}
 use Rattle.std.proofs.Math.Nat.{eq-or-lt_of_le}
 use Rattle.std.proofs.lemmas.Bool.{cases_lt}
@@ -20,7 +20,7 @@ use Rattle.mx_replay.specs.Programs.{GoesOn, HasEnded, IsReached, host_of, is_ov
 use Rattle.mx_replay.specs.Visits.{ComesTo, IsStart, IsStep, came_to}
 use Rattle.mx_replay.specs.declared.program.Program.{Program}
 use Rattle.mx_replay.specs.declared.visit.Visit.{Visit}
-use Rattle.mx_replay.proofs.RunEnds.{none-made, run-stays}
+use Rattle.mx_replay.proofs.RunEnds.{none-made, run-below, run-stays}
 
 -- THE START
 
@@ -59,6 +59,16 @@ over-by i j (Ok s, m) e = ap Ok (run-stays i j s m (cc))
 pub step-over : (p : Program) (i j : ℕ) → HasEnded p i → step_of p (i + j) ≡ step_of p i
 unfolding step_of
 step-over p i j e = over-by i j (start_of p) e
+
+before-by : (i j : ℕ) (t : Then (Result State Outcome)) → i ≤ j → map_ok (λ (e : Ended). e.end) (run_from j t) ≡ Ok Spent → map_ok (λ (e : Ended). e.end) (run_from i t) ≡ Ok Spent
+before-by i j (Err why, m) l e = absurd (cc)
+before-by i j (Ok s, m) l e = ap Ok (run-below i j s m l (cc))
+
+pub step-before : (p : Program) (i j : ℕ) → i ≤ j → GoesOn p j → GoesOn p i
+unfolding step_of
+step-before p i j l e = before-by i j (start_of p) l e
+
+pub ruleset following = (step-from, step-over, step-before)
 
 -- the step that is reached is as the one that was asked for
 reached-by : (p : Program) (k at : ℕ) → IsReached p k at → (at ≡ k) ⊎ (at < k) → step_of p at ≡ step_of p k
@@ -109,7 +119,7 @@ gone-on p v w n k made over is not c count sum s = (on-step p v w n made (sym is
 
 -- THE CALL THAT BEGINS
 
-pub begun-told : (p : Program) (m k : HostModel) (r : Result State Outcome) → m ≡ host_of p → r ≢ Err outcome.OutOfMemory →
-    (IsTrue (tells (Some m)) → r ≢ Err outcome.OutOfMemory → (r, contents (Some k)) ≡ begun window_machine (map string_bytes p.words) p.order p.form (contents (Some m))) → (r, k) ≡ start_of p
+pub begun-told : (p : Program) (words : List (List ℕ)) (m k : HostModel) (r : Result State Outcome) → words ≡ map string_bytes p.words → m ≡ host_of p → r ≢ Err outcome.OutOfMemory →
+    (IsTrue (tells (Some m)) → r ≢ Err outcome.OutOfMemory → (r, contents (Some k)) ≡ begun window_machine words p.order p.form (contents (Some m))) → (r, k) ≡ start_of p
 unfolding tells contents
-begun-told p m k r e ne h = h refl ne ∙ ap (begun window_machine (map string_bytes p.words) p.order p.form) e
+begun-told p words m k r w e ne h = h refl ne ∙ ap (λ ws. begun window_machine ws p.order p.form m) w ∙ ap (begun window_machine (map string_bytes p.words) p.order p.form) e

@@ -20,7 +20,7 @@ use Rattle.mx_replay.specs.declared.visit.Visit.{Visit}
 
 -- ---- what a turn comes to, by its answer
 
-told-by : (pc : ℕ) (t u : State) (n k : HostModel) (r a : TurnAnswer) (e x : End) (trace other : Option Trace) → (r, t, n) ≡ (a, u, k) → Some (e, trace) ≡ turn_end pc r → turn_end pc a ≡ Some (x, other) →
+told-by : (pc : ℕ) (t u : State) (n k : HostModel) (r a : TurnAnswer) (e x : End) (trace other : Option Trace) → ◌≡◌ {A = Answered TurnAnswer} (r, t, n) (a, u, k) → ◌≡◌ {A = Option (End × Option Trace)} (Some (e, trace)) (turn_end pc r) → ◌≡◌ {A = Option (End × Option Trace)} (turn_end pc a) (Some (x, other)) →
     (ended e t n ≡ ended x u k) × (trace ≡ other)
 told-by pc t u n k r a e x trace other h f g =
     let both = same_Some (e, trace) (x, other) (f ∙ ap (λ (b : Answered TurnAnswer). turn_end pc b.0) h ∙ g) in

@@ -28,7 +28,7 @@ use std::marker::Model;
 pub struct Replay {
     alloc: Global,
     program: Program,
-    now: Visit,
+    here: Visit,
     spare: Option<Visit>,
 }
 
@@ -40,9 +40,9 @@ impl Model for Replay {
 
     ghost Value = { Replayed };
 
-    ghost view = { λ r. record { program = r.program; at = r.now.at } };
+    ghost view = { λ r. record { program = r.program; at = r.here.at } };
 
-    ghost invariant = { λ r. NamesFile r.program × IsStep r.program r.now × ForSome r.spare (IsStart r.program) };
+    ghost invariant = { λ r. NamesFile r.program × IsStep r.program r.here × ForSome r.spare (IsStart r.program) };
 }
 
 /// A start that is kept, or one more where none is.
@@ -70,10 +70,10 @@ impl Replay {
         ensures refused { IfErr result (λ outcome. outcome ≢ Outcome.OutOfMemory → step_of program 0 ≡ Err outcome) }
     {
         match start(alloc, &program) {
-            Ok(now) => Ok(Replay {
+            Ok(here) => Ok(Replay {
                 alloc,
                 program,
-                now,
+                here,
                 spare: None,
             }),
             Err(outcome) => Err(outcome),
@@ -85,28 +85,28 @@ impl Replay {
         ensures count { result ≡ self.now.at }
         ensures made { (j : ℕ) → j < result → GoesOn self.now.program j }
     {
-        self.now.at
+        self.here.at
     }
 
     /// The machine at this step.
     pub fn machine(&self) -> &Machine
         ensures { map_ok (λ e. e.state) (step_of self.now.program self.now.at) ≡ Ok (state_of result.now) }
     {
-        &self.now.machine
+        &self.here.machine
     }
 
     /// The host at this step: what is left of its input, its files, and what was written so far.
     pub fn host(&self) -> &MemHost
         ensures { map_ok (λ e. e.host) (step_of self.now.program self.now.at) ≡ Ok result.now }
     {
-        &self.now.host
+        &self.here.host
     }
 
     /// How the run has ended at this step, or that it goes on, which is `Spent`.
     pub fn end(&self) -> End
         ensures { map_ok (λ e. e.end) (step_of self.now.program self.now.at) ≡ Ok result }
     {
-        self.now.end
+        self.here.end
     }
 
     /// Goes to step k, forth or back, or to the last step where the run ends before.
@@ -117,7 +117,7 @@ impl Replay {
         ensures reached { OnOk result (IsReached self.old.program k self.new.at) }
         ensures same { OnOk result (step_of self.old.program self.new.at ≡ step_of self.old.program k) }
     {
-        if k < self.now.at {
+        if k < self.here.at {
             self.restart()?;
         }
         self.go_on(k)
@@ -128,7 +128,7 @@ impl Replay {
         ensures ok { OnOk result (self.new ≡ record self.old { at = 0 }) }
         ensures err { OnErr result (self.new ≡ self.old) }
     {
-        self.now = start_again(self.alloc, &self.program, self.spare.take())?;
+        self.here = start_again(self.alloc, &self.program, self.spare.take())?;
         Ok(())
     }
 
@@ -141,13 +141,13 @@ impl Replay {
         ensures same { OnOk result (step_of self.old.program self.new.at ≡ step_of self.old.program k) }
     {
         let start = start_again(self.alloc, &self.program, self.spare.take())?;
-        match go_on(self.alloc, &mut self.now, k) {
+        match go_on(self.alloc, &mut self.here, k) {
             Ok(()) => {
                 self.spare = Some(start);
                 Ok(())
             }
             Err(NoMemory) => {
-                self.now = start;
+                self.here = start;
                 Err(NoMemory)
             }
         }
@@ -166,13 +166,13 @@ impl Replay {
         ensures place { IfOk result (FoundAt self.old.program until self.old.at self.new.at) }
     {
         let start = start_again(self.alloc, &self.program, self.spare.take())?;
-        match find_next(self.alloc, &mut self.now, Sought::Flags(flags), until) {
+        match find_next(self.alloc, &mut self.here, Sought::Flags(flags), until) {
             Ok(found) => {
                 self.spare = Some(start);
                 Ok(found)
             }
             Err(NoMemory) => {
-                self.now = start;
+                self.here = start;
                 Err(NoMemory)
             }
         }
@@ -185,7 +185,7 @@ impl Replay {
         ensures same { self.new ≡ self.old }
         ensures last { IfOk result (IsLast self.old.program (comes_to_flag (flags_at flags.now)) (self.old.at - 1)) }
     {
-        self.last_marked(Sought::Flags(flags), self.now.at.saturating_sub(1))
+        self.last_marked(Sought::Flags(flags), self.here.at.saturating_sub(1))
     }
 
     /// The step whose turn made the value that is at a place now: the greatest up to this one whose turn changed it. Nothing
@@ -196,7 +196,7 @@ impl Replay {
         ensures same { self.new ≡ self.old }
         ensures last { IfOk result (IsLast self.old.program (changes place) self.old.at) }
     {
-        self.last_marked(Sought::Change(place), self.now.at)
+        self.last_marked(Sought::Change(place), self.here.at)
     }
 
     /// The greatest step up to `until` whose turn has a mark.
