@@ -1,6 +1,6 @@
 //! How the steps of a run follow each other.
 
-ghost use Rattle.std.specs.Prelude.{◌≡◌, ◌≤◌, ◌+◌, ℕ, Ok};
+ghost use Rattle.std.specs.Prelude.{◌≡◌, ◌≤◌, ◌+◌, ℕ, Ok, false};
 ghost use Rattle.mx_host.specs.HostModel.{HostModel};
 ghost use Rattle.mx_core.specs.State.{State};
 ghost use Rattle.mx_run.specs.Runs.{ended, no_flags, run};
