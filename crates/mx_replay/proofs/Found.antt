@@ -1,21 +1,19 @@
 -- Turns that are looked for.
-use Rattle.std.proofs.Common.{◌≡◌, ◌<◌, ◌≤◌, ◌+◌, ◌-◌, ◌⊎◌, ℕ, zero, suc, Bool, true, false, Some, None, Ok, Err, inl, inr, arith, refl, sym, subst, ◌∙◌, ap}
-use Rattle.std.specs.Prelude.{Option, Result, ◌&&◌, not, nat_lt}
-use Rattle.std.proofs.Math.Nat.{eq-or-lt_of_le}
+use Rattle.std.proofs.Common.{◌≡◌, ◌<◌, ◌≤◌, ◌+◌, ◌-◌, ◌⊎◌, ℕ, suc, Bool, true, false, Some, None, Ok, inl, inr, arith, refl, sym, subst, ◌∙◌, ap}
+use Rattle.std.specs.Prelude.{Option, ◌&&◌, not, nat_lt}
 use Rattle.std.proofs.lemmas.Bool.{cases_lt, ltb-true, ltb-false}
 use Rattle.mx_host.specs.HostModel.{HostModel}
 use Rattle.mx_word.specs.Results.{map_ok}
 use Rattle.mx_core.specs.Kept.{state_of}
 use Rattle.mx_core.specs.State.{State}
-use Rattle.mx_outcome.specs.declared.outcome.Outcome.{Outcome}
-use Rattle.mx_run.specs.Runs.{Ended, ended, no_flags, run}
+use Rattle.mx_run.specs.Runs.{Ended, no_flags, run}
 use Rattle.mx_run.specs.Turns.{Turn, went_on, halts, stops, turn}
 use Rattle.mx_run.specs.declared.end.End.{End}
 use Rattle.mx_run.specs.declared.end.End.TheVariants.{Halted, Stopped, Broke, Traced, Spent, OutOfMemory}
 use Rattle.mx_run.proofs.FreeRuns.{run-went}
 use Rattle.mx_replay.specs.Marks.{Mark, is_marked, marks_after, marks_from}
-use Rattle.mx_replay.specs.Programs.{HasEnded, IsReached, is_over, step_of}
-use Rattle.mx_replay.specs.Searches.{FindsNext, FoundAt, IsLast, IsNext, NoneMarked, has_more}
+use Rattle.mx_replay.specs.Programs.{is_over, step_of}
+use Rattle.mx_replay.specs.Searches.{FindsNext, IsLast, NoneMarked, has_more}
 use Rattle.mx_replay.specs.Visits.{ComesTo, IsStep, MakesTurn, came_by, came_to, turn_from}
 use Rattle.mx_replay.specs.declared.program.Program.{Program}
 use Rattle.mx_replay.specs.declared.visit.Visit.{Visit}

@@ -1,5 +1,5 @@
 -- The host of a program, while its files are put there.
-use Rattle.std.proofs.Common.{◌≡◌, ◌<◌, ◌≤◌, ◌+◌, ℕ, List, drop, length, refl, sym, subst, ◌∙◌, ap, get_or}
+use Rattle.std.proofs.Common.{◌≡◌, ◌<◌, ◌≤◌, ◌+◌, ℕ, List, drop, length, sym, subst, ◌∙◌, ap, get_or}
 use Rattle.std.proofs.lemmas.List.{at_drop_more, at_drop_all}
 use Rattle.mx_host.specs.HostAnswer.{with_file}
 use Rattle.mx_host.specs.HostModel.{HostModel}

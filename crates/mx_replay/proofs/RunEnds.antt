@@ -1,9 +1,7 @@
 -- Runs without flags by their last turn.
 use Rattle.std.proofs.Common.{IsTrue, Some, ◌≡◌, ◌≢◌, ◌<◌, ◌≤◌, ◌+◌, ◌-◌, ◌%◌, ◌^◌, ℕ, zero, suc, Bool, true, false, arith, refl, sym, subst, ◌∙◌, ap}
-use Rattle.std.specs.Prelude.{◌&&◌}
 use Rattle.mx_host.specs.HostModel.{HostModel, tells, contents}
 use Rattle.mx_mem.specs.Space.{Contents}
-use Rattle.mx_code.specs.declared.trace.Trace.{Trace}
 use Rattle.mx_trip.specs.declared.call.TrapCall.{TrapCall}
 use Rattle.mx_trap.specs.FileTraps.{trap_answer}
 use Rattle.mx_trap.specs.Moves.{Leaves}
@@ -14,7 +12,6 @@ use Rattle.mx_trap.proofs.KeptTraps.{rest-kept}
 use Rattle.mx_core.specs.MachineSpace.{machine_contents, state_in}
 use Rattle.mx_core.specs.State.{State}
 use Rattle.mx_core.specs.Step.{Stepped, went, calls, stopped, step}
-use Rattle.mx_core.specs.Traps.{trapped, halted}
 use Rattle.mx_core.proofs.StepCounts.{CountsOne, step-count}
 use Rattle.mx_run.specs.Runs.{Ended, ended, no_flags, as_ended, after_turn, run}
 use Rattle.mx_run.specs.Turns.{Turn, went_on, halts, stops, area_size, turn_with, turn_of, turn}
@@ -23,7 +20,7 @@ use Rattle.mx_run.specs.declared.end.End.TheVariants.{Halted, Stopped, Broke, Tr
 use Rattle.mx_run.proofs.FreeRuns.{run-went}
 use Rattle.mx_run.proofs.Later.{trapped-count}
 use Rattle.mx_replay.specs.Programs.{is_over}
-use Rattle.mx_replay.specs.Visits.{ComesTo, uncounted, turns_told, came_by}
+use Rattle.mx_replay.specs.Visits.{ComesTo, uncounted, turns_told}
 
 -- COUNTS OF STEPS
 
@@ -168,7 +165,7 @@ last-on : (n : ℕ) (s : State) (m : HostModel) (e : Ended) (before behind : ℕ
 last-on n s m e before behind b c first last h r =
     let t = last-turn n s m e h (sym r) in
     let made : turns_told before behind e.end ≡ t.before + 1 =
-        told-turns n t.before before behind (uncounted e.end) t.few b c (ap (λ x. (x + uncounted e.end) % 2 ^ 64) last ∙ t.counted ∙ ap (λ x. (x + (t.before + 1)) % 2 ^ 64) (sym first)) in
+    told-turns n t.before before behind (uncounted e.end) t.few b c (ap (λ x. (x + uncounted e.end) % 2 ^ 64) last ∙ t.counted ∙ ap (λ x. (x + (t.before + 1)) % 2 ^ 64) (sym first)) in
     let next : suc t.before ≡ t.before + 1 = omega arith in
     subst (λ k. ComesTo s m n k e) (sym made) (record {
       few = omega (arith, t.few);

@@ -5,7 +5,7 @@ use Rattle.std.proofs.Math.Nat.{eq-or-lt_of_le}
 use Rattle.std.proofs.lemmas.Bool.{cases_lt}
 use Rattle.mx_host.specs.HostModel.{HostModel, tells, contents}
 use Rattle.mx_host.specs.HostAnswer.{Then}
-use Rattle.mx_core.specs.Kept.{Kept, state_of}
+use Rattle.mx_core.specs.Kept.{state_of}
 use Rattle.mx_core.specs.State.{State}
 use Rattle.mx_word.specs.Results.{map_ok}
 use Rattle.mx_outcome.specs.declared.outcome.Outcome.{Outcome}

@@ -1,6 +1,6 @@
 -- One turn of a visit, and its marks.
 use Rattle.std.proofs.lemmas.Option.{same_Some}
-use Rattle.std.proofs.Common.{◌≡◌, ◌≢◌, IsTrue, ◌+◌, ◌/◌, ℕ, Bool, true, false, Some, None, arith, refl, sym, subst, ◌∙◌, ap}
+use Rattle.std.proofs.Common.{◌≡◌, ◌≢◌, IsTrue, ◌/◌, ℕ, false, Some, None, refl, subst, ◌∙◌, ap}
 use Rattle.std.specs.Prelude.{Option, ◌||◌, ◌==◌, not}
 use Rattle.mx_host.specs.HostModel.{HostModel, tells, contents}
 use Rattle.mx_code.specs.declared.trace.Trace.{Trace}

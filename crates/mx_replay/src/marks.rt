@@ -32,13 +32,7 @@ pub(crate) fn value_at(machine: &Machine, place: Place) -> u64
 {
     match place {
         Place::Register(k) => machine.register(k),
-        Place::Octa(a) => {
-            if a < 1 << 63 {
-                machine.octa(a)
-            } else {
-                0
-            }
-        }
+        Place::Octa(a) => { if a < 1 << 63 { machine.octa(a) } else { 0 } }
     }
 }
 

@@ -47,11 +47,8 @@ fn turns_between(before: u64, behind: u64, end: End) -> u64
     let counted = behind.wrapping_sub(before);
     match end {
         End::Stopped { .. } => counted.wrapping_add(1),
-        End::Spent
-        | End::Halted(_)
-        | End::Broke { .. }
-        | End::Traced(_)
-        | End::OutOfMemory => counted,
+        End::Spent | End::Halted(_) | End::Broke { .. } | End::Traced(_) | End::OutOfMemory =>
+            counted,
     }
 }
 
@@ -67,7 +64,13 @@ pub(crate) fn start(alloc: Global, program: &Program) -> Result<Visit, Outcome>
         Ok(host) => host,
         Err(_) => return Err(Outcome::OutOfMemory),
     };
-    match begin(alloc, &mut host, program.words.as_slice(), &program.order, program.form) {
+    match begin(
+        alloc,
+        &mut host,
+        program.words.as_slice(),
+        &program.order,
+        program.form,
+    ) {
         Ok(machine) => Ok(Visit {
             at: 0,
             end: End::Spent,
@@ -79,7 +82,12 @@ pub(crate) fn start(alloc: Global, program: &Program) -> Result<Visit, Outcome>
 }
 
 /// Makes at most n turns, and says how many and the end. Out of memory the machine and the host are at no step of their run.
-fn run_on(alloc: Global, machine: &mut Machine, host: &mut MemHost, n: u64) -> Result<(u64, End), NoMemory>
+fn run_on(
+    alloc: Global,
+    machine: &mut Machine,
+    host: &mut MemHost,
+    n: u64,
+) -> Result<(u64, End), NoMemory>
     ensures { IfOk result (λ r. ComesTo (state_of machine.old) host.old n r.0 (ended r.1 (state_of machine.new) host.new)) }
 {
     let before = machine.steps();

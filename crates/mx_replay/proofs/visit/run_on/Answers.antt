@@ -1,4 +1,3 @@
-use Rattle.std.proofs.Common.{arith}
 use Rattle.mx_replay.proofs.RunEnds.{all-made, last-made}
 use Rattle.mx_replay.proofs.visit.run_on.Goals as goal
 
