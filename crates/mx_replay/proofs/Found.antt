@@ -1,9 +1,10 @@
 -- Turns that are looked for.
 use Rattle.std.proofs.Common.{◌≡◌, ◌<◌, ◌≤◌, ◌+◌, ◌-◌, ◌⊎◌, ℕ, suc, Bool, true, false, Some, None, Ok, inl, inr, arith, refl, sym, subst, ◌∙◌, ap}
-use Rattle.std.specs.Prelude.{Option, ◌&&◌, not, nat_lt}
+use Rattle.std.specs.Prelude.{Option, ◌&&◌, not, nat_lt, if◌then◌else◌}
 use Rattle.std.proofs.lemmas.Bool.{cases_lt, ltb-true, ltb-false}
 use Rattle.mx_host.specs.HostModel.{HostModel}
 use Rattle.mx_word.specs.Results.{map_ok}
+use Rattle.mx_code.specs.declared.trace.Trace.{Trace}
 use Rattle.mx_core.specs.Kept.{state_of}
 use Rattle.mx_core.specs.State.{State}
 use Rattle.mx_run.specs.Runs.{Ended, no_flags, run}
@@ -12,9 +13,9 @@ use Rattle.mx_run.specs.declared.end.End.{End}
 use Rattle.mx_run.specs.declared.end.End.TheVariants.{Halted, Stopped, Broke, Traced, Spent, OutOfMemory}
 use Rattle.mx_run.proofs.FreeRuns.{run-went}
 use Rattle.mx_replay.specs.Marks.{Mark, is_marked, marks_after, marks_from}
-use Rattle.mx_replay.specs.Programs.{is_over, step_of}
+use Rattle.mx_replay.specs.Programs.{IsReached, is_over, step_of}
 use Rattle.mx_replay.specs.Searches.{FindsNext, IsLast, NoneMarked, has_more}
-use Rattle.mx_replay.specs.Visits.{ComesTo, IsStep, MakesTurn, came_by, came_to, turn_from}
+use Rattle.mx_replay.specs.Visits.{ComesTo, IsStep, MakesTurn, came_by, came_to, trace_after, trace_of, turn_from}
 use Rattle.mx_replay.specs.declared.program.Program.{Program}
 use Rattle.mx_replay.specs.declared.visit.Visit.{Visit}
 use Rattle.mx_replay.proofs.RunEnds.{none-made, run-halts, run-stops}
@@ -46,6 +47,27 @@ unfolding is_marked
 turn-mark p mark v w o h s =
     let next : w.at ≡ suc v.at = omega (arith, h.count) in
     ap (is_marked p mark) next ∙ ap (marks_after mark) s.shown ∙ ap (λ x. marks_from mark x (state_of v.machine) v.host) (is-spent v.end o)
+
+pub next-step : (p : Program) (v w : Visit) (over : Bool) → over ≡ is_over v.end → over ≡ false → MakesTurn v w → IsStep p v → IsStep p w × IsReached p (v.at + 1) w.at
+next-step p v w over is not h s =
+    (turn-step p v w (sym is ∙ not) h s, record { within = omega (arith, h.count); early = λ l. absurd (omega (arith, h.count, l)) })
+
+pub over-step : (p : Program) (v : Visit) (over : Bool) → over ≡ is_over v.end → over ≡ true → IsStep p v → IsStep p v × IsReached p (v.at + 1) v.at
+over-step p v over is ended s = (s, over-reached p v (v.at + 1) s (omega arith) (sym is ∙ ended))
+
+pub next-trace : (v : Visit) (over : Bool) (trace : Option Trace) → over ≡ is_over v.end → over ≡ false → trace ≡ trace_of (turn_from v) → trace ≡ trace_after (came_to v)
+next-trace v over trace is not h = h ∙ ap (λ b. if b then None else trace_of (turn_from v)) (sym (sym is ∙ not))
+
+pub over-trace : (v : Visit) (over : Bool) → over ≡ is_over v.end → over ≡ true → ◌≡◌ {A = Option Trace} None (trace_after (came_to v))
+over-trace v over is ended = ap (λ b. if b then None else trace_of (turn_from v)) (sym (sym is ∙ ended))
+
+-- the same where a replay tells it
+pub trace-shown : (p : Program) (v : Visit) (trace : Option Trace) → IsStep p v → trace ≡ trace_after (came_to v) → map_ok trace_after (step_of p v.at) ≡ Ok trace
+trace-shown p v trace s h = ap (map_ok trace_after) s.shown ∙ ap Ok (sym h)
+
+pub ruleset stepping = (next-step, over-step, next-trace, over-trace)
+
+pub ruleset showing = (trace-shown)
 
 -- NO TURN AFTER THE LAST ONE
 

@@ -158,14 +158,14 @@ all-on n s t m k h = record {
   on = λ j l. run-below j n s m (omega (arith, l)) (sym (ap (λ (x : Ended). x.end) h));
 }
 
-told-turns : (n i before behind extra : ℕ) → i < n → n < 2 ^ 64 → before < 2 ^ 64 → (behind + extra) % 2 ^ 64 ≡ (before + (i + 1)) % 2 ^ 64 → (behind + extra + (2 ^ 64 - before)) % 2 ^ 64 ≡ i + 1
-told-turns n i before behind extra l b c e = omega (arith, l, b, c, e)
+told-turns : (n i before after extra : ℕ) → i < n → n < 2 ^ 64 → before < 2 ^ 64 → (after + extra) % 2 ^ 64 ≡ (before + (i + 1)) % 2 ^ 64 → (after + extra + (2 ^ 64 - before)) % 2 ^ 64 ≡ i + 1
+told-turns n i before after extra l b c e = omega (arith, l, b, c, e)
 
-last-on : (n : ℕ) (s : State) (m : HostModel) (e : Ended) (before behind : ℕ) → n < 2 ^ 64 → before < 2 ^ 64 → before ≡ s.steps → behind ≡ e.state.steps → is_over e.end ≡ true → e ≡ free n s m → ComesTo s m n (turns_told before behind e.end) e
-last-on n s m e before behind b c first last h r =
+last-on : (n : ℕ) (s : State) (m : HostModel) (e : Ended) (before after : ℕ) → n < 2 ^ 64 → before < 2 ^ 64 → before ≡ s.steps → after ≡ e.state.steps → is_over e.end ≡ true → e ≡ free n s m → ComesTo s m n (turns_told before after e.end) e
+last-on n s m e before after b c first last h r =
     let t = last-turn n s m e h (sym r) in
-    let made : turns_told before behind e.end ≡ t.before + 1 =
-    told-turns n t.before before behind (uncounted e.end) t.few b c (ap (λ x. (x + uncounted e.end) % 2 ^ 64) last ∙ t.counted ∙ ap (λ x. (x + (t.before + 1)) % 2 ^ 64) (sym first)) in
+    let made : turns_told before after e.end ≡ t.before + 1 =
+    told-turns n t.before before after (uncounted e.end) t.few b c (ap (λ x. (x + uncounted e.end) % 2 ^ 64) last ∙ t.counted ∙ ap (λ x. (x + (t.before + 1)) % 2 ^ 64) (sym first)) in
     let next : suc t.before ≡ t.before + 1 = omega arith in
     subst (λ k. ComesTo s m n k e) (sym made) (record {
       few = omega (arith, t.few);
@@ -192,8 +192,8 @@ over-free n s m (Broke kind at traced) h = refl
 over-free n s m (Traced trace) h = refl
 over-free n s m OutOfMemory h = refl
 
-pub last-made : (n : ℕ) (s t : State) (m k : HostModel) (end : End) (before behind made : ℕ) → n < 2 ^ 64 → before < 2 ^ 64 → before ≡ s.steps → behind ≡ t.steps → end ≢ OutOfMemory → end ≢ Spent → Told n s t m k end →
-    made ≡ turns_told before behind end → ComesTo s m n made (ended end t k)
+pub last-made : (n : ℕ) (s t : State) (m k : HostModel) (end : End) (before after made : ℕ) → n < 2 ^ 64 → before < 2 ^ 64 → before ≡ s.steps → after ≡ t.steps → end ≢ OutOfMemory → end ≢ Spent → Told n s t m k end →
+    made ≡ turns_told before after end → ComesTo s m n made (ended end t k)
 unfolding tells contents
-last-made n s t m k end before behind made b c first last ne on h told =
-    subst (λ j. ComesTo s m n j (ended end t k)) (sym told) (last-on n s m (ended end t k) before behind b c first last (over-free n s m end on) (h refl ne))
+last-made n s t m k end before after made b c first last ne on h told =
+    subst (λ j. ComesTo s m n j (ended end t k)) (sym told) (last-on n s m (ended end t k) before after b c first last (over-free n s m end on) (h refl ne))

@@ -70,10 +70,10 @@ after-by pc (went_on u k trace) = refl
 after-by pc (halts status u k) = refl
 after-by pc (stops reason u k) = refl
 
-pub change-told : (place : Place) (v w : Visit) (before behind : ℕ) → MakesTurn v w → before ≡ value_at place (state_of v.machine) → behind ≡ value_at place (state_of w.machine) →
-    not (before == behind) ≡ changes place (state_of v.machine) (turn_from v)
-change-told place v w before behind h e f =
-    ap (λ n. not (n == behind)) e
+pub change-told : (place : Place) (v w : Visit) (before after : ℕ) → MakesTurn v w → before ≡ value_at place (state_of v.machine) → after ≡ value_at place (state_of w.machine) →
+    not (before == after) ≡ changes place (state_of v.machine) (turn_from v)
+change-told place v w before after h e f =
+    ap (λ n. not (n == after)) e
     ∙ ap (λ n. not (value_at place (state_of v.machine) == n)) (f ∙ ap (value_at place) (ap (λ (x : Ended). x.state) h.came ∙ after-by (state_of v.machine).pc (turn_from v)))
 
 pub ruleset marking = (flag-told, no-flag-told, change-told)

@@ -33,8 +33,8 @@ touches test (Some t) = has_tetra test t
 abbrev pub is_watched : FlagsOf → Trace → Bool
 is_watched f trace = touches (λ n. (f n).r) trace.reads || touches (λ n. (f n).w) trace.writes
 
--- Whether a turn that goes on comes to a flag: it carries out a tetra that is to be traced, reads or writes one with that flag,
--- or leads to one that is not to be carried out unseen.
+-- Whether a turn that goes on comes to a flag: it carries out a tetra that is to be traced, reads or writes one with that
+-- flag, or leads to one that is not to be carried out unseen.
 abbrev pub comes_to_flag : FlagsOf → State → Turn → Bool
 comes_to_flag f s (went_on t m trace) = (f (s.pc / 4)).t || is_watched f trace || (f (t.pc / 4)).x
 comes_to_flag f s (halts status t m) = false
@@ -42,8 +42,8 @@ comes_to_flag f s (stops reason t m) = false
 
 -- ---- changes
 
--- what stands at a place: in a register that the program sees, or in the octa that holds an address, which is 0 where there is
--- no memory
+-- what stands at a place: in a register that the program sees, or in the octa that holds an address, which is 0 where
+-- there is no memory
 abbrev pub value_at : Place → State → ℕ
 value_at (Register k) s = register s.stack k
 value_at (Octa a) s = if nat_lt a (2 ^ 63) then octa s a else 0

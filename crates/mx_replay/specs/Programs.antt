@@ -40,8 +40,8 @@ abbrev pub run_from : ℕ → Then (Result State Outcome) → Result Ended Outco
 run_from k (Err outcome, m) = Err outcome
 run_from k (Ok s, m) = Ok (run k no_flags false s m)
 
--- Step k of the run: what k turns from its start come to. Turn k leads from step k - 1 to it. A turn that halts or that stops
--- the machine is the last one, and all steps after it are as it left them.
+-- Step k of the run: what k turns from its start come to. Turn k leads from step k - 1 to it. A turn that halts or that
+-- stops the machine is the last one, and all steps after it are as it left them.
 unfoldable pub step_of : Program → ℕ → Result Ended Outcome
 step_of p k = run_from k (start_of p)
 

@@ -1,5 +1,5 @@
 -- What is answered where turns are looked for, and the replay of a run.
-use Rattle.std.specs.Prelude.{ℕ, ◌≡◌, ◌≤◌, ◌<◌, ◌&&◌, not, nat_lt, Bool, false, true, Option, None, Some}
+use Rattle.std.specs.Prelude.{ℕ, ◌≡◌, ◌≤◌, ◌<◌, ◌⊎◌, ◌&&◌, not, nat_lt, Bool, false, true, Option, None, Some}
 use Rattle.mx_replay.specs.Marks.{Mark, is_marked}
 use Rattle.mx_replay.specs.Programs.{IsReached, is_over}
 use Rattle.mx_replay.specs.Visits.{IsStep}
@@ -11,11 +11,15 @@ pub record Replayed : Type 0 where
   pub program : Program
   pub at : ℕ
 
--- no turn behind `from` up to `until` has the mark
+-- where one is after a call that found no memory: where one was, or at the start
+abbrev pub IsLeft : ℕ → ℕ → Type 0
+IsLeft old new = (new ≡ old) ⊎ (new ≡ 0)
+
+-- no turn after `from` up to `until` has the mark
 abbrev pub NoneMarked : Program → Mark → ℕ → ℕ → Type 0
 NoneMarked p mark from until = (j : ℕ) → from < j → j ≤ until → is_marked p mark j ≡ false
 
--- the least step behind `from` up to `until` whose turn has the mark
+-- the least step after `from` up to `until` whose turn has the mark
 abbrev pub IsNext : Program → Mark → ℕ → ℕ → Option ℕ → Type 0
 IsNext p mark from until None = NoneMarked p mark from until
 IsNext p mark from until (Some k) =

@@ -1,5 +1,5 @@
 -- A machine and a host at a step of a run.
-use Rattle.std.specs.Prelude.{ℕ, ◌≡◌, ◌+◌, ◌-◌, ◌%◌, ◌^◌, ◌<◌, ◌≤◌, false, true, Option, None, Some, Ok}
+use Rattle.std.specs.Prelude.{ℕ, ◌≡◌, ◌+◌, ◌-◌, ◌%◌, ◌^◌, ◌<◌, ◌≤◌, Bool, false, true, if◌then◌else◌, Option, None, Some, Ok}
 use Rattle.mx_host.specs.HostModel.{HostModel}
 use Rattle.mx_code.specs.declared.trace.Trace.{Trace}
 use Rattle.mx_core.specs.Kept.{state_of}
@@ -56,18 +56,22 @@ pub record MakesTurn (old new : Visit) : Type 0 where
   pub count : new.at ≡ old.at + 1
   pub came : came_to new ≡ came_by (state_of old.machine).pc (turn_from old)
 
+-- the trace of the turn after a step, where the machine goes on with it; after the last turn there is none
+abbrev pub trace_after : Ended → Option Trace
+trace_after e = if is_over e.end then None else trace_of (turn e.state e.host)
+
 -- ---- some turns
 
--- at most n turns from a machine and a host: so many were made, and what they came to. Fewer than n were made only where the run
--- has ended.
+-- at most n turns from a machine and a host: so many were made, and what they came to. Fewer than n were made only where
+-- the run has ended.
 pub record ComesTo (s : State) (m : HostModel) (n made : ℕ) (e : Ended) : Type 0 where
   pub few : made ≤ n
   pub reached : run made no_flags false s m ≡ e
   pub early : made < n → is_over e.end ≡ true
   pub on : (j : ℕ) → j < made → (run j no_flags false s m).end ≡ Spent
 
--- how many turns were made by the counts of steps before and behind them, which are modulo 2^64: one that stops the machine is
--- not counted there
+-- how many turns were made by the counts of steps before and after them, which are modulo 2^64: one that stops the machine
+-- is not counted there
 abbrev pub uncounted : End → ℕ
 uncounted (Stopped pc reason) = 1
 uncounted Spent = 0
@@ -77,4 +81,4 @@ uncounted (Traced trace) = 0
 uncounted OutOfMemory = 0
 
 abbrev pub turns_told : ℕ → ℕ → End → ℕ
-turns_told before behind end = (behind + uncounted end + (2 ^ 64 - before)) % 2 ^ 64
+turns_told before after end = (after + uncounted end + (2 ^ 64 - before)) % 2 ^ 64

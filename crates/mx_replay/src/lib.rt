@@ -1,4 +1,5 @@
-//! A run over a host in memory, each step of which can be visited, forth and back: going back is running again from the start.
+//! A run over a host in memory, each step of which can be visited, forth and back. Going back is running again from the
+//! start.
 #![tactic(auto)]
 
 mod laws;

@@ -20,7 +20,8 @@ pub enum Place {
 /// What a turn is looked for by.
 #[derive(Clone, Copy)]
 pub(crate) enum Sought<'a> {
-    /// It comes to a flag: it carries out a tetra with `t`, reads one with `r`, writes one with `w`, or leads to one with `x`.
+    /// It comes to a flag: it carries out a tetra with `t`, reads one with `r`, writes one with `w`, or leads to one with
+    /// `x`.
     Flags(&'a FlagMap),
     /// It changes the value at a place.
     Change(Place),

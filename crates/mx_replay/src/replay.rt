@@ -1,20 +1,21 @@
 //! A run that is visited step by step, forth and back.
 
-ghost use Rattle.std.specs.Prelude.{◌≡◌, ◌≢◌, ◌≤◌, ◌<◌, ◌-◌, ℕ, Ok, Err, None, IfOk, IfErr, OnOk, OnErr};
+ghost use Rattle.std.specs.Prelude.{◌≡◌, ◌≢◌, ◌≤◌, ◌<◌, ◌+◌, ◌-◌, ℕ, Ok, Err, None, IfOk, IfErr, OnOk, OnErr};
 ghost use Rattle.std.specs.Option.{ForSome};
 ghost use Rattle.mx_core.specs.Kept.{state_of};
 ghost use Rattle.mx_word.specs.Results.{map_ok};
 ghost use Rattle.mx_run.specs.FlagMaps.{flags_at};
 ghost use Rattle.mx_replay.specs.Marks.{changes, comes_to_flag, mark_of};
 ghost use Rattle.mx_replay.specs.Programs.{GoesOn, IsReached, NamesFile, step_of};
-ghost use Rattle.mx_replay.specs.Searches.{FoundAt, IsLast, IsNext};
-ghost use Rattle.mx_replay.specs.Visits.{IsStart};
+ghost use Rattle.mx_replay.specs.Searches.{FoundAt, IsLast, IsLeft, IsNext};
+ghost use Rattle.mx_replay.specs.Visits.{IsStart, trace_after};
 
 use crate::marks::{Place, Sought};
 use crate::program::Program;
 use crate::searches::{find_last, find_next};
+use crate::turns::make_next;
 use crate::visit::{Visit, go_on, start};
-use mx_core::Machine;
+use mx_core::{Machine, Trace};
 use mx_host::MemHost;
 use mx_outcome::Outcome;
 use mx_run::{End, FlagMap};
@@ -22,8 +23,8 @@ use mx_word::NoMemory;
 use std::alloc::Global;
 use std::marker::Model;
 
-/// The run of a program over a host in memory, at one of its steps: step k is what k turns from the start come to. Whatever
-/// way one went, what is shown at step k is step k of the run, also after a call that found no memory.
+/// The run of a program over a host in memory, at one of its steps: step k is what k turns from the start come to.
+/// Whatever way one went, what is shown at step k is step k of the run, also after a call that found no memory.
 #[derive(Drop)]
 pub struct Replay {
     alloc: Global,
@@ -116,11 +117,36 @@ impl Replay {
         ensures program { self.new.program ≡ self.old.program }
         ensures reached { OnOk result (IsReached self.old.program k self.new.at) }
         ensures same { OnOk result (step_of self.old.program self.new.at ≡ step_of self.old.program k) }
+        ensures err { OnErr result (IsLeft self.old.at self.new.at) }
     {
         if k < self.here.at {
             self.restart()?;
         }
         self.go_on(k)
+    }
+
+    /// Makes one turn, and gives its trace. There is none where the turn halts or stops the machine, and no turn where the run
+    /// has ended.
+    ///
+    /// Errors: out of memory, and where no number is left for the next step; then it is where it was, or at the start.
+    #[tactic(auto, using(crate::proofs::Found::showing))]
+    pub fn step(&mut self) -> Result<Option<Trace>, NoMemory>
+        ensures program { self.new.program ≡ self.old.program }
+        ensures reached { OnOk result (IsReached self.old.program (self.old.at + 1) self.new.at) }
+        ensures trace { IfOk result (λ trace. map_ok trace_after (step_of self.old.program self.old.at) ≡ Ok trace) }
+        ensures err { OnErr result (IsLeft self.old.at self.new.at) }
+    {
+        let start = start_again(self.alloc, &self.program, self.spare.take())?;
+        match make_next(self.alloc, &mut self.here) {
+            Ok(trace) => {
+                self.spare = Some(start);
+                Ok(trace)
+            }
+            Err(NoMemory) => {
+                self.here = start;
+                Err(NoMemory)
+            }
+        }
     }
 
     /// Goes back to the start.
@@ -139,6 +165,7 @@ impl Replay {
         ensures program { self.new.program ≡ self.old.program }
         ensures reached { OnOk result (IsReached self.old.program k self.new.at) }
         ensures same { OnOk result (step_of self.old.program self.new.at ≡ step_of self.old.program k) }
+        ensures err { OnErr result (IsLeft self.old.at self.new.at) }
     {
         let start = start_again(self.alloc, &self.program, self.spare.take())?;
         match go_on(self.alloc, &mut self.here, k) {
@@ -156,14 +183,15 @@ impl Replay {
 
 /// What is looked for in a run.
 impl Replay {
-    /// Goes on to the next step whose turn comes to a flag, up to step `until`: the least step behind this one. Where there is
-    /// none, it goes on as far as `until`, or to the last step before it.
+    /// Goes on to the next step whose turn comes to a flag, up to step `until`: the least step after this one. Where there
+    /// is none, it goes on as far as `until`, or to the last step before it.
     ///
     /// Errors: out of memory; then it is where it was, or at the start.
     pub fn next_hit(&mut self, flags: &FlagMap, until: u64) -> Result<Option<u64>, NoMemory>
         ensures program { self.new.program ≡ self.old.program }
         ensures next { IfOk result (IsNext self.old.program (comes_to_flag (flags_at flags.now)) self.old.at until) }
         ensures place { IfOk result (FoundAt self.old.program until self.old.at self.new.at) }
+        ensures err { OnErr result (IsLeft self.old.at self.new.at) }
     {
         let start = start_again(self.alloc, &self.program, self.spare.take())?;
         match find_next(self.alloc, &mut self.here, Sought::Flags(flags), until) {
@@ -188,8 +216,8 @@ impl Replay {
         self.last_marked(Sought::Flags(flags), self.here.at.saturating_sub(1))
     }
 
-    /// The step whose turn made the value that is at a place now: the greatest up to this one whose turn changed it. Nothing
-    /// where it never changed. It stays where it is.
+    /// The step whose turn made the value that is at a place now: the greatest up to this one whose turn changed it.
+    /// Nothing where it never changed. It stays where it is.
     ///
     /// Errors: out of memory.
     pub fn maker(&mut self, place: Place) -> Result<Option<u64>, NoMemory>

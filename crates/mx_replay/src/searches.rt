@@ -20,7 +20,8 @@ fn has_more(visit: &Visit, until: u64) -> bool
     visit.at < until && !is_over(visit.end)
 }
 
-/// Goes on to the next turn that has a mark, or as far as step `until`. Out of memory the visit is at no step of the run.
+/// Goes on to the next turn that has a mark, or as far as step `until`. Out of memory the visit is at no step of the
+/// run.
 pub(crate) fn find_next(
     alloc: Global,
     visit: &mut Visit,
@@ -38,7 +39,8 @@ pub(crate) fn find_next(
     Ok(None)
 }
 
-/// The last turn up to step `until` that has a mark, from the start. Out of memory the visit is at no step of the run.
+/// The last turn up to step `until` that has a mark, from the start. Out of memory the visit is at no step of the
+/// run.
 pub(crate) fn find_last(
     alloc: Global,
     visit: &mut Visit,

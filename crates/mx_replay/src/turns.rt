@@ -5,10 +5,12 @@ ghost use Rattle.mx_core.specs.Kept.{state_of};
 ghost use Rattle.mx_run.specs.FlagMaps.{flags_at};
 ghost use Rattle.mx_replay.specs.Marks as marks;
 ghost use Rattle.mx_replay.specs.Visits as spec;
-ghost use Rattle.mx_replay.specs.Visits.{MakesTurn, turn_from};
+ghost use Rattle.mx_replay.specs.Programs.{IsReached};
+ghost use Rattle.mx_replay.specs.Visits.{IsStep, MakesTurn, turn_from};
+ghost use Rattle.mx_replay.specs.declared.program.Program.{Program};
 
 use crate::marks::{Place, Sought, is_watched, value_at};
-use crate::visit::Visit;
+use crate::visit::{Visit, is_over};
 use mx_code::Trace;
 use mx_run::{End, FlagMap, TurnAnswer, turn};
 use mx_word::NoMemory;
@@ -42,6 +44,23 @@ fn make_turn(alloc: Global, visit: &mut Visit) -> Result<Option<Trace>, NoMemory
         }
         None => Err(NoMemory),
     }
+}
+
+/// Makes the turn after a step, where there is one, and gives its trace. Out of memory, and where no number is left for the
+/// next step, the visit may be at no step of the run.
+#[tactic(auto, using(crate::proofs::Found::stepping))]
+pub(crate) fn make_next(alloc: Global, visit: &mut Visit) -> Result<Option<Trace>, NoMemory>
+    ensures step { OnOk result ((p : Program) → IsStep p visit.old →
+        IsStep p visit.new × IsReached p (visit.old.at + 1) visit.new.at) }
+    ensures trace { IfOk result (λ trace. trace ≡ spec.trace_after (spec.came_to visit.old)) }
+{
+    if is_over(visit.end) {
+        return Ok(None);
+    }
+    if visit.at == u64::MAX {
+        return Err(NoMemory);
+    }
+    make_turn(alloc, visit)
 }
 
 /// Makes a turn, and says whether it comes to a flag.

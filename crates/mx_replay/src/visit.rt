@@ -40,11 +40,12 @@ pub(crate) fn is_over(end: End) -> bool
     }
 }
 
-/// How many turns were made by the counts of steps before and behind them: a turn that stops the machine is not counted there.
-fn turns_between(before: u64, behind: u64, end: End) -> u64
-    ensures { result ≡ turns_told before behind end }
+/// How many turns were made, by the counts of steps before and after them. A turn that stops the machine is not counted
+/// there.
+fn turns_between(before: u64, after: u64, end: End) -> u64
+    ensures { result ≡ turns_told before after end }
 {
-    let counted = behind.wrapping_sub(before);
+    let counted = after.wrapping_sub(before);
     match end {
         End::Stopped { .. } => counted.wrapping_add(1),
         End::Spent | End::Halted(_) | End::Broke { .. } | End::Traced(_) | End::OutOfMemory =>
@@ -81,14 +82,16 @@ pub(crate) fn start(alloc: Global, program: &Program) -> Result<Visit, Outcome>
     }
 }
 
-/// Makes at most n turns, and says how many and the end. Out of memory the machine and the host are at no step of their run.
+/// Makes at most n turns, and says how many and the end. Out of memory the machine and the host are at no step of their
+/// run.
 fn run_on(
     alloc: Global,
     machine: &mut Machine,
     host: &mut MemHost,
     n: u64,
 ) -> Result<(u64, End), NoMemory>
-    ensures { IfOk result (λ r. ComesTo (state_of machine.old) host.old n r.0 (ended r.1 (state_of machine.new) host.new)) }
+    ensures { IfOk result (λ r.
+        ComesTo (state_of machine.old) host.old n r.0 (ended r.1 (state_of machine.new) host.new)) }
 {
     let before = machine.steps();
     match run_freely(alloc, machine, host, n) {

@@ -1,5 +1,8 @@
 //! Programs that are visited.
 
+ghost use Rattle.std.specs.Prelude.{◌<◌, ◌≤◌, IfSome, length};
+ghost use Rattle.mx_replay.specs.Programs.{NamesFile};
+
 use mx_begin::Form;
 use mx_host::StoredFile;
 use mx_replay::{Program, Replay};
@@ -71,7 +74,11 @@ fn program(
     order: Order,
     source: &str,
     input: &str,
-) -> Option<Program> {
+) -> Option<Program>
+    requires file { order.file < length words.items }
+    requires rest { order.rest ≤ length words.items }
+    ensures { IfSome result NamesFile }
+{
     let files = files(alloc, source)?;
     Some(Program {
         words: Sequence::from_vec(words),
