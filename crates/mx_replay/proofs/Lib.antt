@@ -1,0 +1,5 @@
+pub mod Hosts
+pub mod RunEnds
+pub mod Steps
+pub mod Turning
+pub mod Found

@@ -1,0 +1,199 @@
+-- Runs without flags by their last turn.
+use Rattle.std.proofs.Common.{IsTrue, Some, ◌≡◌, ◌≢◌, ◌<◌, ◌≤◌, ◌+◌, ◌-◌, ◌%◌, ◌^◌, ℕ, zero, suc, Bool, true, false, arith, refl, sym, subst, ◌∙◌, ap}
+use Rattle.mx_host.specs.HostModel.{HostModel, tells, contents}
+use Rattle.mx_mem.specs.Space.{Contents}
+use Rattle.mx_trip.specs.declared.call.TrapCall.{TrapCall}
+use Rattle.mx_trap.specs.FileTraps.{trap_answer}
+use Rattle.mx_trap.specs.Moves.{Leaves}
+use Rattle.mx_trap.specs.Touches.{touches}
+use Rattle.mx_trap.specs.declared.answer.TrapAnswer.{TrapAnswer}
+use Rattle.mx_trap.specs.declared.answer.TrapAnswer.TheVariants as trap
+use Rattle.mx_trap.proofs.KeptTraps.{rest-kept}
+use Rattle.mx_core.specs.MachineSpace.{machine_contents, state_in}
+use Rattle.mx_core.specs.State.{State}
+use Rattle.mx_core.specs.Step.{Stepped, went, calls, stopped, step}
+use Rattle.mx_core.proofs.StepCounts.{CountsOne, step-count}
+use Rattle.mx_run.specs.Runs.{Ended, ended, no_flags, as_ended, after_turn, run}
+use Rattle.mx_run.specs.Turns.{Turn, went_on, halts, stops, area_size, turn_with, turn_of, turn}
+use Rattle.mx_run.specs.declared.end.End.{End}
+use Rattle.mx_run.specs.declared.end.End.TheVariants.{Halted, Stopped, Broke, Traced, Spent, OutOfMemory}
+use Rattle.mx_run.proofs.FreeRuns.{run-went}
+use Rattle.mx_run.proofs.Later.{trapped-count}
+use Rattle.mx_replay.specs.Programs.{is_over}
+use Rattle.mx_replay.specs.Visits.{ComesTo, uncounted, turns_told}
+
+-- COUNTS OF STEPS
+
+-- what a turn counts: one step, but none where it stops the machine
+abbrev CountsTurn : State → Turn → Type 0
+CountsTurn s (went_on t m trace) = t.steps ≡ (s.steps + 1) % 2 ^ 64
+CountsTurn s (halts status t m) = t.steps ≡ (s.steps + 1) % 2 ^ 64
+CountsTurn s (stops reason t m) = t.steps ≡ s.steps
+
+left-count : (c : Contents State) (n : ℕ) → (state_in c n).steps ≡ c.rest.steps
+unfolding state_in
+left-count c n = refl
+
+answered-count : (touching : Bool) (call : TrapCall) (s t : State) (m : HostModel) (answer : TrapAnswer) → t.steps ≡ s.steps → CountsTurn s (turn_with touching call t m answer)
+answered-count touching call s t m (trap.Value value) h = trapped-count t call value ∙ ap (λ n. (n + 1) % 2 ^ 64) h
+answered-count touching call s t m trap.Halt h = ap (λ n. (n + 1) % 2 ^ 64) h
+answered-count touching call s t m (trap.Stopped why) h = h
+answered-count touching call s t m trap.OutOfMemory h = h
+
+stepped-count : (s : State) (m : HostModel) (x : Stepped) → CountsOne s x → CountsTurn s (turn_of s m x)
+stepped-count s m (went t trace) h = h
+stepped-count s m (calls call) h =
+    let t : Leaves TrapAnswer State = trap_answer (machine_contents s) m call in
+    answered-count (touches (machine_contents s).bytes call) call s (state_in t.1 area_size) t.2 t.0 (left-count t.1 area_size ∙ ap (λ (r : State). r.steps) (rest-kept (machine_contents s) m call))
+stepped-count s m (stopped reason) h = refl
+
+turn-count : (s : State) (m : HostModel) (x : Turn) → turn s m ≡ x → CountsTurn s x
+unfolding turn
+turn-count s m x e = subst (CountsTurn s) e (stepped-count s m (step s) (step-count s))
+
+-- RUNS BY THEIR FIRST TURN
+
+abbrev free : ℕ → State → HostModel → Ended
+free n s m = run n no_flags false s m
+
+pub none-made : (s : State) (m : HostModel) → free 0 s m ≡ ended Spent s m
+unfolding run
+none-made s m = refl
+
+pub run-halts : (i : ℕ) (s t : State) (m n : HostModel) (status : ℕ) → turn s m ≡ halts status t n → free (suc i) s m ≡ ended (Halted status) t n
+unfolding run
+run-halts i s t m n status e = ap (after_turn as_ended (free i) no_flags s.pc) e
+
+pub run-stops : (i : ℕ) (s t : State) (m n : HostModel) (reason : ℕ) → turn s m ≡ stops reason t n → free (suc i) s m ≡ ended (Stopped s.pc reason) t n
+unfolding run
+run-stops i s t m n reason e = ap (after_turn as_ended (free i) no_flags s.pc) e
+
+next-sum : (i j : ℕ) → suc i + j ≡ suc (i + j)
+next-sum i j = omega arith
+
+-- ---- a run that has ended stays so
+
+abbrev Stays : ℕ → ℕ → State → HostModel → Type 0
+Stays i j s m = is_over (free i s m).end ≡ true → free (i + j) s m ≡ free i s m
+
+stays-by : (i j : ℕ) (s : State) (m : HostModel) (x : Turn) → turn s m ≡ x → ((u : State) (k : HostModel) → Stays i j u k) → is_over (free (suc i) s m).end ≡ true → free (suc (i + j)) s m ≡ free (suc i) s m
+stays-by i j s m (went_on u k trace) e more h =
+    run-went (i + j) s u m k trace e ∙ more u k (subst (λ (x : Ended). is_over x.end ≡ true) (run-went i s u m k trace e) h) ∙ sym (run-went i s u m k trace e)
+stays-by i j s m (halts status u k) e more h = run-halts (i + j) s u m k status e ∙ sym (run-halts i s u m k status e)
+stays-by i j s m (stops reason u k) e more h = run-stops (i + j) s u m k reason e ∙ sym (run-stops i s u m k reason e)
+
+pub run-stays : (i j : ℕ) (s : State) (m : HostModel) → is_over (free i s m).end ≡ true → free (i + j) s m ≡ free i s m
+run-stays zero j s m h = let wrong : is_over Spent ≡ true = subst (λ (x : Ended). is_over x.end ≡ true) (none-made s m) h in absurd (cc)
+run-stays (suc i) j s m h = ap (λ n. free n s m) (next-sum i j) ∙ stays-by i j s m (turn s m) refl (λ u k. run-stays i j u k) h
+
+-- ---- a run that goes on has gone on before
+
+before-by : (i j : ℕ) (s : State) (m : HostModel) (x : Turn) → turn s m ≡ x → ((u : State) (k : HostModel) → (free (i + j) u k).end ≡ Spent → (free i u k).end ≡ Spent) →
+    (free (suc (i + j)) s m).end ≡ Spent → (free (suc i) s m).end ≡ Spent
+before-by i j s m (went_on u k trace) e more h =
+    ap (λ (x : Ended). x.end) (run-went i s u m k trace e) ∙ more u k (sym (ap (λ (x : Ended). x.end) (run-went (i + j) s u m k trace e)) ∙ h)
+before-by i j s m (halts status u k) e more h = let wrong : Halted status ≡ Spent = sym (ap (λ (x : Ended). x.end) (run-halts (i + j) s u m k status e)) ∙ h in absurd (cc)
+before-by i j s m (stops reason u k) e more h = let wrong : Stopped s.pc reason ≡ Spent = sym (ap (λ (x : Ended). x.end) (run-stops (i + j) s u m k reason e)) ∙ h in absurd (cc)
+
+pub run-before : (i j : ℕ) (s : State) (m : HostModel) → (free (i + j) s m).end ≡ Spent → (free i s m).end ≡ Spent
+run-before zero j s m h = ap (λ (x : Ended). x.end) (none-made s m)
+run-before (suc i) j s m h = before-by i j s m (turn s m) refl (λ u k. run-before i j u k) (subst (λ n. (free n s m).end ≡ Spent) (next-sum i j) h)
+
+pub run-below : (j n : ℕ) (s : State) (m : HostModel) → j ≤ n → (free n s m).end ≡ Spent → (free j s m).end ≡ Spent
+run-below j n s m l h = let all : j + (n - j) ≡ n = omega (arith, l) in run-before j (n - j) s m (subst (λ k. (free k s m).end ≡ Spent) (sym all) h)
+
+-- ---- the last turn
+
+-- so many turns went on, and the next one was the last
+record LastTurn (n : ℕ) (s : State) (m : HostModel) (e : Ended) : Type 0 where
+  before : ℕ
+  few : before < n
+  on : (free before s m).end ≡ Spent
+  last : free (suc before) s m ≡ e
+  counted : (e.state.steps + uncounted e.end) % 2 ^ 64 ≡ (s.steps + (before + 1)) % 2 ^ 64
+
+last-by : (n : ℕ) (s : State) (m : HostModel) (e : Ended) (x : Turn) → turn s m ≡ x → ((u : State) (k : HostModel) → free n u k ≡ e → LastTurn n u k e) → is_over e.end ≡ true → free (suc n) s m ≡ e → LastTurn (suc n) s m e
+last-by n s m e (went_on u k trace) t more h r =
+    let rest = more u k (sym (run-went n s u m k trace t) ∙ r) in
+    let steps : u.steps ≡ (s.steps + 1) % 2 ^ 64 = turn-count s m (went_on u k trace) t in
+    record {
+      before = suc rest.before;
+      few = omega (arith, rest.few);
+      on = ap (λ (x : Ended). x.end) (run-went rest.before s u m k trace t) ∙ rest.on;
+      last = run-went (suc rest.before) s u m k trace t ∙ rest.last;
+      counted = omega (arith, rest.counted, steps);
+    }
+last-by n s m e (halts status u k) t more h r =
+    let is : ended (Halted status) u k ≡ e = sym (run-halts n s u m k status t) ∙ r in
+    let steps : u.steps ≡ (s.steps + 1) % 2 ^ 64 = turn-count s m (halts status u k) t in
+    record {
+      before = 0;
+      few = omega arith;
+      on = ap (λ (x : Ended). x.end) (none-made s m);
+      last = run-halts 0 s u m k status t ∙ is;
+      counted = subst (λ (x : Ended). (x.state.steps + uncounted x.end) % 2 ^ 64 ≡ (s.steps + (0 + 1)) % 2 ^ 64) is (omega (arith, steps));
+    }
+last-by n s m e (stops reason u k) t more h r =
+    let is : ended (Stopped s.pc reason) u k ≡ e = sym (run-stops n s u m k reason t) ∙ r in
+    let steps : u.steps ≡ s.steps = turn-count s m (stops reason u k) t in
+    record {
+      before = 0;
+      few = omega arith;
+      on = ap (λ (x : Ended). x.end) (none-made s m);
+      last = run-stops 0 s u m k reason t ∙ is;
+      counted = subst (λ (x : Ended). (x.state.steps + uncounted x.end) % 2 ^ 64 ≡ (s.steps + (0 + 1)) % 2 ^ 64) is (omega (arith, steps));
+    }
+
+last-turn : (n : ℕ) (s : State) (m : HostModel) (e : Ended) → is_over e.end ≡ true → free n s m ≡ e → LastTurn n s m e
+last-turn zero s m e h r = let wrong : is_over Spent ≡ true = subst (λ (x : Ended). is_over x.end ≡ true) (sym r ∙ none-made s m) h in absurd (cc)
+last-turn (suc n) s m e h r = last-by n s m e (turn s m) refl (λ u k q. last-turn n u k e h q) h r
+
+-- WHAT SOME TURNS COME TO
+
+all-on : (n : ℕ) (s t : State) (m k : HostModel) → ended Spent t k ≡ free n s m → ComesTo s m n n (ended Spent t k)
+all-on n s t m k h = record {
+  few = omega arith;
+  reached = sym h;
+  early = λ l. absurd (omega (arith, l));
+  on = λ j l. run-below j n s m (omega (arith, l)) (sym (ap (λ (x : Ended). x.end) h));
+}
+
+told-turns : (n i before after extra : ℕ) → i < n → n < 2 ^ 64 → before < 2 ^ 64 → (after + extra) % 2 ^ 64 ≡ (before + (i + 1)) % 2 ^ 64 → (after + extra + (2 ^ 64 - before)) % 2 ^ 64 ≡ i + 1
+told-turns n i before after extra l b c e = omega (arith, l, b, c, e)
+
+last-on : (n : ℕ) (s : State) (m : HostModel) (e : Ended) (before after : ℕ) → n < 2 ^ 64 → before < 2 ^ 64 → before ≡ s.steps → after ≡ e.state.steps → is_over e.end ≡ true → e ≡ free n s m → ComesTo s m n (turns_told before after e.end) e
+last-on n s m e before after b c first last h r =
+    let t = last-turn n s m e h (sym r) in
+    let made : turns_told before after e.end ≡ t.before + 1 =
+    told-turns n t.before before after (uncounted e.end) t.few b c (ap (λ x. (x + uncounted e.end) % 2 ^ 64) last ∙ t.counted ∙ ap (λ x. (x + (t.before + 1)) % 2 ^ 64) (sym first)) in
+    let next : suc t.before ≡ t.before + 1 = omega arith in
+    subst (λ k. ComesTo s m n k e) (sym made) (record {
+      few = omega (arith, t.few);
+      reached = ap (λ k. free k s m) (sym next) ∙ t.last;
+      early = λ l. h;
+      on = λ j l. run-below j t.before s m (omega (arith, l)) t.on;
+    })
+
+-- ---- what a call over a host in memory tells of its run
+
+abbrev Told : ℕ → State → State → HostModel → HostModel → End → Type 0
+Told n s t m k end = IsTrue (tells (Some m)) → end ≢ OutOfMemory → ended end t (contents (Some k)) ≡ run n no_flags false s (contents (Some m))
+
+pub all-made : (n : ℕ) (s t : State) (m k : HostModel) → Told n s t m k Spent → ComesTo s m n n (ended Spent t k)
+unfolding tells contents
+all-made n s t m k h = all-on n s t m k (h refl (λ e. absurd (cc)))
+
+-- a run without flags comes to no other end
+over-free : (n : ℕ) (s : State) (m : HostModel) (end : End) → end ≢ Spent → is_over end ≡ true
+over-free n s m Spent h = absurd (h refl)
+over-free n s m (Halted status) h = refl
+over-free n s m (Stopped pc reason) h = refl
+over-free n s m (Broke kind at traced) h = refl
+over-free n s m (Traced trace) h = refl
+over-free n s m OutOfMemory h = refl
+
+pub last-made : (n : ℕ) (s t : State) (m k : HostModel) (end : End) (before after made : ℕ) → n < 2 ^ 64 → before < 2 ^ 64 → before ≡ s.steps → after ≡ t.steps → end ≢ OutOfMemory → end ≢ Spent → Told n s t m k end →
+    made ≡ turns_told before after end → ComesTo s m n made (ended end t k)
+unfolding tells contents
+last-made n s t m k end before after made b c first last ne on h told =
+    subst (λ j. ComesTo s m n j (ended end t k)) (sym told) (last-on n s m (ended end t k) before after b c first last (over-free n s m end on) (h refl ne))

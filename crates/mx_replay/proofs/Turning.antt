@@ -1,0 +1,79 @@
+-- One turn of a visit, and its marks.
+use Rattle.std.proofs.lemmas.Option.{same_Some}
+use Rattle.std.proofs.Common.{◌≡◌, ◌≢◌, IsTrue, ◌/◌, ℕ, false, Some, None, refl, subst, ◌∙◌, ap}
+use Rattle.std.specs.Prelude.{Option, ◌||◌, ◌==◌, not}
+use Rattle.mx_host.specs.HostModel.{HostModel, tells, contents}
+use Rattle.mx_code.specs.declared.trace.Trace.{Trace}
+use Rattle.mx_core.specs.Kept.{state_of}
+use Rattle.mx_core.specs.State.{State}
+use Rattle.mx_run.specs.Runs.{FlagsOf, Ended, ended}
+use Rattle.mx_run.specs.Turns.{Answered, Turn, went_on, halts, stops, turn, turn_answer}
+use Rattle.mx_run.specs.WildRuns.{state_after}
+use Rattle.mx_run.specs.declared.end.End.{End}
+use Rattle.mx_run.specs.declared.end.End.TheVariants.{Halted, Stopped, Spent}
+use Rattle.mx_run.specs.declared.turn_answer.TurnAnswer.{TurnAnswer}
+use Rattle.mx_run.specs.declared.turn_answer.TurnAnswer.TheVariants as answer
+use Rattle.mx_replay.specs.Marks.{changes, comes_to_flag, is_watched, value_at}
+use Rattle.mx_replay.specs.Visits.{MakesTurn, came_by, came_to, trace_of, turn_end, turn_from}
+use Rattle.mx_replay.specs.declared.marks.Place.{Place}
+use Rattle.mx_replay.specs.declared.visit.Visit.{Visit}
+
+-- ---- what a turn comes to, by its answer
+
+told-by : (pc : ℕ) (t u : State) (n k : HostModel) (r a : TurnAnswer) (e x : End) (trace other : Option Trace) → ◌≡◌ {A = Answered TurnAnswer} (r, t, n) (a, u, k) → ◌≡◌ {A = Option (End × Option Trace)} (Some (e, trace)) (turn_end pc r) → ◌≡◌ {A = Option (End × Option Trace)} (turn_end pc a) (Some (x, other)) →
+    (ended e t n ≡ ended x u k) × (trace ≡ other)
+told-by pc t u n k r a e x trace other h f g =
+    let both = same_Some (e, trace) (x, other) (f ∙ ap (λ (b : Answered TurnAnswer). turn_end pc b.0) h ∙ g) in
+    (ap (λ (y : End × Option Trace). ended y.0 t n) both ∙ ap (λ (b : Answered TurnAnswer). ended x b.1 b.2) h, ap (λ (y : End × Option Trace). y.1) both)
+
+turned-by : (pc : ℕ) (t : State) (n : HostModel) (r : TurnAnswer) (e : End) (trace : Option Trace) (x : Turn) → (r, t, n) ≡ turn_answer x → Some (e, trace) ≡ turn_end pc r →
+    (ended e t n ≡ came_by pc x) × (trace ≡ trace_of x)
+turned-by pc t n r e trace (went_on u k other) h f = told-by pc t u n k r (answer.Went other) e Spent trace (Some other) h f refl
+turned-by pc t n r e trace (halts status u k) h f = told-by pc t u n k r (answer.Halted status) e (Halted status) trace None h f refl
+turned-by pc t n r e trace (stops reason u k) h f = told-by pc t u n k r (answer.Stopped reason) e (Stopped pc reason) trace None h f refl
+
+lacks-none : (pc : ℕ) (r : TurnAnswer) (x : End × Option Trace) → Some x ≡ turn_end pc r → r ≢ answer.OutOfMemory
+lacks-none pc r x f e = let none = ap (turn_end pc) e in absurd (cc)
+
+-- what a call over a host in memory tells of its turn
+pub turned : (pc : ℕ) (s t : State) (m n : HostModel) (r : TurnAnswer) (e : End) (trace : Option Trace) → (IsTrue (tells (Some m)) → r ≢ answer.OutOfMemory → (r, t, contents (Some n)) ≡ turn_answer (turn s (contents (Some m)))) →
+    Some (e, trace) ≡ turn_end pc r → pc ≡ s.pc → (ended e t n ≡ came_by s.pc (turn s m)) × (trace ≡ trace_of (turn s m))
+unfolding tells contents
+turned pc s t m n r e trace h f at =
+    subst (λ a. (ended e t n ≡ came_by a (turn s m)) × (trace ≡ trace_of (turn s m))) at (turned-by pc t n r e trace (turn s m) (h refl (lacks-none pc r (e, trace) f)) f)
+
+-- ---- whether it comes to a flag
+
+flag-by : (f : FlagsOf) (s : State) (pc : ℕ) (trace : Trace) (x : Turn) (e : Ended) → e ≡ came_by pc x → Some trace ≡ trace_of x →
+    ((f (s.pc / 4)).t || is_watched f trace || (f (e.state.pc / 4)).x) ≡ comes_to_flag f s x
+flag-by f s pc trace (went_on u k other) e h t =
+    let same : trace ≡ other = cc in ap (λ (x : Ended). (f (s.pc / 4)).t || is_watched f trace || (f (x.state.pc / 4)).x) h ∙ ap (λ x. (f (s.pc / 4)).t || is_watched f x || (f (u.pc / 4)).x) same
+flag-by f s pc trace (halts status u k) e h t = absurd (cc)
+flag-by f s pc trace (stops reason u k) e h t = absurd (cc)
+
+pub flag-told : (f : FlagsOf) (v w : Visit) (trace : Trace) → MakesTurn v w → Some trace ≡ trace_of (turn_from v) →
+    ((f ((state_of v.machine).pc / 4)).t || is_watched f trace || (f ((state_of w.machine).pc / 4)).x) ≡ comes_to_flag f (state_of v.machine) (turn_from v)
+flag-told f v w trace h t = flag-by f (state_of v.machine) (state_of v.machine).pc trace (turn_from v) (came_to w) h.came t
+
+no-flag-by : (f : FlagsOf) (s : State) (x : Turn) → None ≡ trace_of x → false ≡ comes_to_flag f s x
+no-flag-by f s (went_on u k other) t = absurd (cc)
+no-flag-by f s (halts status u k) t = refl
+no-flag-by f s (stops reason u k) t = refl
+
+pub no-flag-told : (f : FlagsOf) (v : Visit) → None ≡ trace_of (turn_from v) → false ≡ comes_to_flag f (state_of v.machine) (turn_from v)
+no-flag-told f v t = no-flag-by f (state_of v.machine) (turn_from v) t
+
+-- ---- whether it changes a value
+
+after-by : (pc : ℕ) (x : Turn) → (came_by pc x).state ≡ state_after x
+after-by pc (went_on u k trace) = refl
+after-by pc (halts status u k) = refl
+after-by pc (stops reason u k) = refl
+
+pub change-told : (place : Place) (v w : Visit) (before after : ℕ) → MakesTurn v w → before ≡ value_at place (state_of v.machine) → after ≡ value_at place (state_of w.machine) →
+    not (before == after) ≡ changes place (state_of v.machine) (turn_from v)
+change-told place v w before after h e f =
+    ap (λ n. not (n == after)) e
+    ∙ ap (λ n. not (value_at place (state_of v.machine) == n)) (f ∙ ap (value_at place) (ap (λ (x : Ended). x.state) h.came ∙ after-by (state_of v.machine).pc (turn_from v)))
+
+pub ruleset marking = (flag-told, no-flag-told, change-told)

@@ -1,0 +1,4 @@
+pub mod Programs
+pub mod Visits
+pub mod Marks
+pub mod Searches

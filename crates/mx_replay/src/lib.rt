@@ -1,0 +1,16 @@
+//! A run over a host in memory, each step of which can be visited, forth and back. Going back is running again from the
+//! start.
+#![tactic(auto)]
+
+mod laws;
+mod marks;
+mod program;
+mod replay;
+mod searches;
+mod turns;
+mod visit;
+
+pub use laws::steps_follow_each_other;
+pub use marks::Place;
+pub use program::Program;
+pub use replay::Replay;

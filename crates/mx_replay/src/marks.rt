@@ -1,0 +1,65 @@
+//! What is looked for in a run.
+
+ghost use Rattle.std.specs.Prelude.{◌≡◌, ◌^◌, false};
+ghost use Rattle.mx_core.specs.Kept.{state_of};
+ghost use Rattle.mx_run.specs.FlagMaps.{flags_at};
+ghost use Rattle.mx_replay.specs.Marks as spec;
+
+use mx_core::{Machine, Touch, Trace};
+use mx_run::FlagMap;
+
+/// A place that has a value.
+#[derive(Clone, Copy, Debug, PartialEq, Eq)]
+pub enum Place {
+    /// The register that the program sees under this number.
+    Register(u8),
+    /// The octa that holds an address.
+    Octa(u64),
+}
+
+/// What a turn is looked for by.
+#[derive(Clone, Copy)]
+pub(crate) enum Sought<'a> {
+    /// It comes to a flag: it carries out a tetra with `t`, reads one with `r`, writes one with `w`, or leads to one with
+    /// `x`.
+    Flags(&'a FlagMap),
+    /// It changes the value at a place.
+    Change(Place),
+}
+
+/// The value at a place. Where there is no memory it is 0.
+pub(crate) fn value_at(machine: &Machine, place: Place) -> u64
+    ensures { result ≡ spec.value_at place (state_of machine.now) }
+{
+    match place {
+        Place::Register(k) => machine.register(k),
+        Place::Octa(a) => { if a < 1 << 63 { machine.octa(a) } else { 0 } }
+    }
+}
+
+/// Whether a step reads or writes a tetra with that flag.
+pub(crate) fn is_watched(flags: &FlagMap, trace: &Trace) -> bool
+    ensures { result ≡ spec.is_watched (flags_at flags.now) trace.now }
+{
+    reads_flag(flags, trace.reads) || writes_flag(flags, trace.writes)
+}
+
+/// Whether what is read has a tetra with the flag for that.
+fn reads_flag(flags: &FlagMap, touch: Option<Touch>) -> bool
+    ensures { result ≡ spec.touches (λ n. (flags_at flags.now n).r) touch }
+{
+    match touch {
+        Some(t) => flags.flags(t.at).r || (t.size > 4 && flags.flags(t.at.wrapping_add(4)).r),
+        None => false,
+    }
+}
+
+/// Whether what is written has a tetra with the flag for that.
+fn writes_flag(flags: &FlagMap, touch: Option<Touch>) -> bool
+    ensures { result ≡ spec.touches (λ n. (flags_at flags.now n).w) touch }
+{
+    match touch {
+        Some(t) => flags.flags(t.at).w || (t.size > 4 && flags.flags(t.at.wrapping_add(4)).w),
+        None => false,
+    }
+}

@@ -1,0 +1,113 @@
+//! Single turns, and whether they have a mark.
+
+ghost use Rattle.std.specs.Prelude.{◌≡◌, ◌+◌, ◌<◌, ◌^◌, IfOk, OnOk};
+ghost use Rattle.mx_core.specs.Kept.{state_of};
+ghost use Rattle.mx_run.specs.FlagMaps.{flags_at};
+ghost use Rattle.mx_replay.specs.Marks as marks;
+ghost use Rattle.mx_replay.specs.Visits as spec;
+ghost use Rattle.mx_replay.specs.Programs.{IsReached};
+ghost use Rattle.mx_replay.specs.Visits.{IsStep, MakesTurn, turn_from};
+ghost use Rattle.mx_replay.specs.declared.program.Program.{Program};
+
+use crate::marks::{Place, Sought, is_watched, value_at};
+use crate::visit::{Visit, is_over};
+use mx_code::Trace;
+use mx_run::{End, FlagMap, TurnAnswer, turn};
+use mx_word::NoMemory;
+use std::alloc::Global;
+
+/// The end that a turn from an address comes to, and its trace where the machine went on; nothing out of memory.
+fn turn_end(pc: u64, answer: TurnAnswer) -> Option<(End, Option<Trace>)>
+    ensures { result ≡ spec.turn_end pc answer }
+{
+    match answer {
+        TurnAnswer::Went(trace) => Some((End::Spent, Some(trace))),
+        TurnAnswer::Halted(status) => Some((End::Halted(status), None)),
+        TurnAnswer::Stopped(reason) => Some((End::Stopped { pc, reason }, None)),
+        TurnAnswer::OutOfMemory => None,
+    }
+}
+
+/// Makes a turn, and gives its trace where the machine went on. Out of memory the visit is at no step of the run.
+fn make_turn(alloc: Global, visit: &mut Visit) -> Result<Option<Trace>, NoMemory>
+    requires { visit.old.at + 1 < 2 ^ 64 }
+    ensures turn { OnOk result (MakesTurn visit.old visit.new) }
+    ensures trace { IfOk result (λ trace. trace ≡ spec.trace_of (turn_from visit.old)) }
+{
+    let pc = visit.machine.pc();
+    let answer = turn(alloc, &mut visit.machine, &mut visit.host);
+    match turn_end(pc, answer) {
+        Some((end, trace)) => {
+            visit.at += 1;
+            visit.end = end;
+            Ok(trace)
+        }
+        None => Err(NoMemory),
+    }
+}
+
+/// Makes the turn after a step, where there is one, and gives its trace. Out of memory, and where no number is left for the
+/// next step, the visit may be at no step of the run.
+#[tactic(auto, using(crate::proofs::Found::stepping))]
+pub(crate) fn make_next(alloc: Global, visit: &mut Visit) -> Result<Option<Trace>, NoMemory>
+    ensures step { OnOk result ((p : Program) → IsStep p visit.old →
+        IsStep p visit.new × IsReached p (visit.old.at + 1) visit.new.at) }
+    ensures trace { IfOk result (λ trace. trace ≡ spec.trace_after (spec.came_to visit.old)) }
+{
+    if is_over(visit.end) {
+        return Ok(None);
+    }
+    if visit.at == u64::MAX {
+        return Err(NoMemory);
+    }
+    make_turn(alloc, visit)
+}
+
+/// Makes a turn, and says whether it comes to a flag.
+#[tactic(auto, using(crate::proofs::Turning::marking))]
+fn turn_to_flag(alloc: Global, visit: &mut Visit, flags: &FlagMap) -> Result<bool, NoMemory>
+    requires { visit.old.at + 1 < 2 ^ 64 }
+    ensures turn { OnOk result (MakesTurn visit.old visit.new) }
+    ensures mark { IfOk result (λ marked. marked
+        ≡ marks.comes_to_flag (flags_at flags.now) (state_of visit.old.machine) (turn_from visit.old)) }
+{
+    let traced = flags.flags(visit.machine.pc()).t;
+    match make_turn(alloc, visit) {
+        Ok(Some(trace)) => {
+            let leads = flags.flags(visit.machine.pc()).x;
+            Ok(traced || is_watched(flags, &trace) || leads)
+        }
+        Ok(None) => Ok(false),
+        Err(NoMemory) => Err(NoMemory),
+    }
+}
+
+/// Makes a turn, and says whether it changes the value at a place.
+#[tactic(auto, using(crate::proofs::Turning::marking))]
+fn turn_changes(alloc: Global, visit: &mut Visit, place: Place) -> Result<bool, NoMemory>
+    requires { visit.old.at + 1 < 2 ^ 64 }
+    ensures turn { OnOk result (MakesTurn visit.old visit.new) }
+    ensures mark { IfOk result (λ marked. marked
+        ≡ marks.changes place (state_of visit.old.machine) (turn_from visit.old)) }
+{
+    let before = value_at(&visit.machine, place);
+    make_turn(alloc, visit)?;
+    Ok(before != value_at(&visit.machine, place))
+}
+
+/// Makes a turn, and says whether it has a mark. Out of memory the visit is at no step of the run.
+pub(crate) fn turn_marked(
+    alloc: Global,
+    visit: &mut Visit,
+    sought: Sought<'_>,
+) -> Result<bool, NoMemory>
+    requires { visit.old.at + 1 < 2 ^ 64 }
+    ensures turn { OnOk result (MakesTurn visit.old visit.new) }
+    ensures mark { IfOk result (λ marked. marked
+        ≡ marks.mark_of sought.entry (state_of visit.old.machine) (turn_from visit.old)) }
+{
+    match sought {
+        Sought::Flags(flags) => turn_to_flag(alloc, visit, flags),
+        Sought::Change(place) => turn_changes(alloc, visit, place),
+    }
+}

@@ -1,0 +1,145 @@
+//! Turns that are found.
+
+use crate::programs::{ECHOES, LETTER, SUM, SUMS, WHERE, replay};
+use mx_replay::{Place, Replay};
+use mx_run::{FlagMap, Flags};
+use std::alloc::Global;
+use std::test::Fail;
+
+/// A row: the step that one is at, what is looked for, and the step that is due.
+type Search = (u64, Sought, Option<u64>);
+
+/// What is looked for.
+#[derive(Clone, Copy)]
+enum Sought {
+    Next(u64),
+    Last,
+    Register(u8),
+    Octa(u64),
+}
+
+/// The loop begins at #104, and its instructions lead there from the turns 1, 7 and 13.
+static LOOPS: [Search; 8] = [
+    (0, Sought::Next(1_000), Some(1)),
+    (1, Sought::Next(1_000), Some(7)),
+    (1, Sought::Next(6), None),
+    (13, Sought::Next(1_000), None),
+    (21, Sought::Last, Some(13)),
+    (13, Sought::Last, Some(7)),
+    (1, Sought::Last, None),
+    (0, Sought::Last, None),
+];
+
+/// STO writes the sum in the turns 4, 9, 14 and 19.
+static STORES: [Search; 4] = [
+    (0, Sought::Next(1_000), Some(4)),
+    (4, Sought::Next(1_000), Some(9)),
+    (19, Sought::Next(1_000), None),
+    (9, Sought::Last, Some(4)),
+];
+
+/// Who made `$1`, the letter that was read, and the sum; `$5` and `Where` never changed.
+static ECHO_MAKERS: [Search; 6] = [
+    (13, Sought::Register(1), Some(12)),
+    (12, Sought::Register(1), Some(12)),
+    (0, Sought::Register(1), None),
+    (14, Sought::Octa(LETTER), Some(9)),
+    (21, Sought::Register(5), None),
+    (21, Sought::Octa(WHERE), None),
+];
+
+/// The sum is 7 behind turn 9, and no address from 2^63 on has a value.
+static SUM_MAKERS: [Search; 3] = [
+    (13, Sought::Octa(SUM), Some(9)),
+    (3, Sought::Octa(SUM), None),
+    (22, Sought::Octa(1 << 63), None),
+];
+
+/// What is found at a step, and where one is then.
+fn found(replay: &mut Replay, flags: &FlagMap, at: u64, sought: Sought) -> Option<(Option<u64>, u64)> {
+    replay.go_to(at).ok()?;
+    let found = match sought {
+        Sought::Next(until) => replay.next_hit(flags, until).ok()?,
+        Sought::Last => replay.last_hit(flags).ok()?,
+        Sought::Register(k) => replay.maker(Place::Register(k)).ok()?,
+        Sought::Octa(a) => replay.maker(Place::Octa(a)).ok()?,
+    };
+    Some((found, replay.at()))
+}
+
+/// Where one is who looked from a step, and found this, in a run of so many turns.
+fn place(at: u64, sought: Sought, found: Option<u64>, last: u64) -> u64 {
+    match (sought, found) {
+        (Sought::Next(_), Some(k)) => k,
+        (Sought::Next(until), None) => until.min(last),
+        _ => at,
+    }
+}
+
+/// The number of the first search that finds something else, in a run of so many turns.
+fn first_wrong(replay: &mut Replay, flags: &FlagMap, rows: &[Search], last: u64) -> Option<usize> {
+    for (number, (at, sought, due)) in rows.iter().enumerate() {
+        if found(replay, flags, *at, *sought) != Some((*due, place(*at, *sought, *due, last))) {
+            return Some(number);
+        }
+    }
+    None
+}
+
+/// The flags of one tetra.
+fn one_flag(alloc: Global, a: u64, flags: Flags) -> Option<FlagMap> {
+    let mut map = FlagMap::new(alloc);
+    map.set_flags(a, flags).ok()?;
+    Some(map)
+}
+
+/// The same of a source with the input `abc` and with flags at one address; the number behind the last where it does not begin.
+fn wrong_of(alloc: Global, source: &str, flags: (u64, Flags), rows: &[Search], last: u64) -> Option<usize> {
+    let Some(map) = one_flag(alloc, flags.0, flags.1) else {
+        return Some(rows.len());
+    };
+    match replay(alloc, source, "abc") {
+        Some(mut replay) => first_wrong(&mut replay, &map, rows, last),
+        None => Some(rows.len()),
+    }
+}
+
+/// Before a tetra is carried out.
+const BEFORE: Flags = Flags {
+    r: false,
+    w: false,
+    x: true,
+    t: false,
+};
+
+/// Behind a step that writes a tetra.
+const WRITTEN: Flags = Flags {
+    r: false,
+    w: true,
+    x: false,
+    t: false,
+};
+
+#[test]
+fn turns_are_found_both_ways(rt: HostRuntime) -> Result<(), Fail> {
+    let wrong = (
+        wrong_of(rt.alloc(), ECHOES, (0x104, BEFORE), &LOOPS, 21),
+        wrong_of(rt.alloc(), SUMS, (SUM + 4, WRITTEN), &STORES, 22),
+    );
+    if wrong != (None, None) {
+        return Err(Fail::new(format_args!("{wrong:?}")));
+    }
+    Ok(())
+}
+
+#[test]
+fn values_have_makers(rt: HostRuntime) -> Result<(), Fail> {
+    let wrong = (
+        wrong_of(rt.alloc(), ECHOES, (0x104, BEFORE), &ECHO_MAKERS, 21),
+        wrong_of(rt.alloc(), SUMS, (SUM, WRITTEN), &SUM_MAKERS, 22),
+    );
+    if wrong != (None, None) {
+        return Err(Fail::new(format_args!("{wrong:?}")));
+    }
+    Ok(())
+}
