@@ -12,5 +12,6 @@ pub mod ListStarts
 pub mod Folded
 pub mod Stretches
 pub mod Names
+pub mod Packed
 pub mod RowTurns
 pub mod Underway

@@ -1,10 +1,9 @@
 -- The names of a schedule that are those of processors which have not halted.
-use Rattle.std.proofs.Common.{◌≡◌, ◌<◌, ◌≤◌, ℕ, zero, suc, ◌+◌, ◌==◌, not, Bool, true, false, cond, IsTrue, List, [], ◌∷◌, drop, take, length, get_or, set, None, Some, arith, refl, sym, subst, ap, ◌∙◌}
-use Rattle.std.proofs.Math.Dec.{eqb-suc-zero, eqb-zero-suc, eqb-suc-suc}
+use Rattle.std.proofs.Common.{◌≡◌, ◌<◌, ◌≤◌, ℕ, zero, suc, ◌+◌, not, Bool, true, false, cond, IsTrue, List, [], ◌∷◌, drop, take, length, get_or, set, None, Some, arith, refl, sym, subst, ap, ◌∙◌}
 use Rattle.std.proofs.lemmas.List.{at_drop_more}
 use Rattle.std.proofs.lemmas.List.Elements.{filter_passes, All-get_or}
 use Rattle.mx_multi.specs.Joint.{has_halted}
-use Rattle.mx_multi.specs.Stretches.{IsRow, others, running}
+use Rattle.mx_multi.specs.Stretches.{IsRow, running}
 use Rattle.mx_multi.specs.Turns.{next_in, AllHaveHalted, AreNames}
 
 -- ---- the next of them, and that of the schedule
@@ -80,23 +79,14 @@ still-halted (b ∷ halted) zero (suc x) e = e
 still-halted (b ∷ halted) (suc who) zero e = e
 still-halted (b ∷ halted) (suc who) (suc x) e = still-halted halted who x e
 
-pub one-halted : (halted : List Bool) (who x : ℕ) → has_halted halted x ≡ false → has_halted (set halted who true) x ≡ (x == who)
-one-halted [] who x e = absurd (cc)
-one-halted (b ∷ halted) zero zero e = refl
-one-halted (b ∷ halted) zero (suc x) e = e ∙ sym (eqb-suc-zero x)
-one-halted (b ∷ halted) (suc who) zero e = e ∙ sym (eqb-zero-suc who)
-one-halted (b ∷ halted) (suc who) (suc x) e = one-halted halted who x e ∙ sym (eqb-suc-suc x who)
+again-by : (halted further : List Bool) (x : ℕ) (xs : List ℕ) (b : Bool) → has_halted halted x ≡ b → (b ≡ true → has_halted further x ≡ true) → running further (running halted xs) ≡ running further xs →
+    running further (cond (not b) (x ∷ running halted xs) (running halted xs)) ≡ running further (x ∷ xs)
+again-by halted further x xs true h still e = rw (still refl) e
+again-by halted further x xs false h still e = ap (λ l. cond (not (has_halted further x)) (x ∷ l) l) e
 
-left-by : (halted further : List Bool) (who x : ℕ) (xs : List ℕ) (b : Bool) → has_halted halted x ≡ b → (b ≡ true → has_halted further x ≡ true) → (b ≡ false → has_halted further x ≡ (x == who)) →
-    others who (running halted xs) ≡ running further xs → others who (cond (not b) (x ∷ running halted xs) (running halted xs)) ≡ running further (x ∷ xs)
-left-by halted further who x xs true h still one e = rw (still refl) e
-left-by halted further who x xs false h still one e = rw (one refl) (ap (λ l. cond (not (x == who)) (x ∷ l) l) e)
-
--- those that are left are those of the others
-pub run-left : (halted : List Bool) (who : ℕ) (part : List ℕ) → others who (running halted part) ≡ running (set halted who true) part
-run-left halted who [] = refl
-run-left halted who (x ∷ xs) =
-    left-by halted (set halted who true) who x xs (has_halted halted x) refl (λ e. still-halted halted who x e) (λ e. one-halted halted who x e) (run-left halted who xs)
+pub run-again : (halted further : List Bool) (part : List ℕ) → ((x : ℕ) → has_halted halted x ≡ true → has_halted further x ≡ true) → running further (running halted part) ≡ running further part
+run-again halted further [] still = refl
+run-again halted further (x ∷ xs) still = again-by halted further x xs (has_halted halted x) refl (λ e. still x e) (run-again halted further xs still)
 
 -- ---- places
 
@@ -133,15 +123,3 @@ row-at names place most made who l row = record {
 
 pub row-front : (names : List ℕ) (place most made who : ℕ) → made ≤ most → IsRow names place most who → IsRow names place made who
 row-front names place most made who l row = record { inside = (let i = row.inside in omega (arith, i, l)); names = λ i h. row.names i (omega (arith, h, l)) }
-
--- ---- the place in those that are left
-
-place-by : (at who x : ℕ) (xs : List ℕ) (b : Bool) → drop (length (others who (take at xs))) (others who xs) ≡ others who (drop at xs) →
-    drop (length (cond b (x ∷ others who (take at xs)) (others who (take at xs)))) (cond b (x ∷ others who xs) (others who xs)) ≡ others who (drop at xs)
-place-by at who x xs true e = e
-place-by at who x xs false e = e
-
-pub place-left : (at who : ℕ) (names : List ℕ) → drop (length (others who (take at names))) (others who names) ≡ others who (drop at names)
-place-left zero who names = refl
-place-left (suc at) who [] = refl
-place-left (suc at) who (x ∷ xs) = place-by at who x xs (not (x == who)) (place-left at who xs)

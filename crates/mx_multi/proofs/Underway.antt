@@ -1,5 +1,5 @@
 -- Turns by a schedule that are under way: how many steps are left, and what of the schedule.
-use Rattle.std.proofs.Common.{◌≡◌, ◌≢◌, ◌<◌, ◌≤◌, ℕ, zero, suc, ◌+◌, ◌-◌, Bool, IsTrue, List, [], ◌∷◌, drop, length, Option, None, Some, Ok, Err, inl, inr, arith, refl, sym, subst, ap, ◌∙◌}
+use Rattle.std.proofs.Common.{◌≡◌, ◌≢◌, ◌<◌, ◌≤◌, ℕ, zero, suc, ◌+◌, ◌-◌, Bool, IsTrue, true, List, [], ◌∷◌, drop, length, Option, None, Some, Ok, Err, inl, inr, arith, refl, sym, subst, ap, ◌∙◌}
 use Rattle.std.specs.Prelude.{◌⊎◌}
 use Rattle.std.proofs.lemmas.Bool.{cases_lt}
 use Rattle.std.proofs.lemmas.List.{drop_all}
@@ -10,17 +10,17 @@ use Rattle.mx_plan.specs.Plan.{Comes, IsRest, Stops, bind, end_of, end_after}
 use Rattle.mx_plan.proofs.Plans.{end_bind}
 use Rattle.mx_run.specs.WildRuns.{list_machine}
 use Rattle.mx_multi.specs.Clauses.{Beside, as_lists, Follows, MakesAtMost, TakesTurns}
-use Rattle.mx_multi.specs.Joint.{Joint, NoneTouched, as_list_joint}
+use Rattle.mx_multi.specs.Joint.{Joint, NoneTouched, as_list_joint, has_halted}
 use Rattle.mx_multi.specs.JointTurns.{JointWorld, halted_by}
 use Rattle.mx_multi.specs.MultiPlans.{MultiPlan, multi, look, step_plan, steps_plan, turn_if, turns_next, turns_plan}
-use Rattle.mx_multi.specs.Stretches.{IsRow, IsPlaceFrom, EndsRow, Over, Row, Taken, running, others}
+use Rattle.mx_multi.specs.Stretches.{IsRow, IsPlaceFrom, EndsRow, Over, Row, Taken, running}
 use Rattle.mx_multi.specs.Turns.{TurnsEnd, AllHaveHalted, end_at_last, end_of_turn, next_in, next_turn, or_again, turn_by, turns}
 use Rattle.mx_multi.specs.declared.end.MultiEnd.{MultiEnd}
 use Rattle.mx_multi.specs.declared.end.MultiEnd.TheVariants.{AllHalted, OutOfMemory, Spent}
 use Rattle.mx_multi.specs.declared.turn.Turn.{Turn}
 use Rattle.mx_multi.specs.declared.turn.Turn.TheVariants as turned
 use Rattle.mx_multi.proofs.Followed.{lists-follow, lists-spent, next-follows, none-follows, turn-follows}
-use Rattle.mx_multi.proofs.Names.{run-next, run-none, run-left, one-runs, row-at, row-first, row-front, row-rest}
+use Rattle.mx_multi.proofs.Names.{run-next, run-none, run-again, still-halted, one-runs, row-at, row-first, row-front, row-rest}
 use Rattle.mx_multi.proofs.Schedules.{all-none, found-turn, last-all}
 use Rattle.mx_multi.proofs.StepSums.{both-made, few-made, none-made, one-made}
 use Rattle.mx_multi.proofs.TurnPlans.{halted-comes, rest-ended, rest-spent, rest-went, some-comes, turned-comes, turns-told, step-end}
@@ -307,8 +307,8 @@ module _ (schedule : List ℕ) (n : ℕ) (start : Over) (names : List ℕ) where
       let f = next-named (place + made) (left - made) who (drop (place + made + 1) names) e.before queue (row-first names (place + made) 0 who (row-at names place most made who few row)) in
       record { queue = queue; after = f.0; next = f.1.0; others = f.1.1 }
 
-  still-left : (who status : ℕ) (v w : Over) (part : List ℕ) → Taken who (turned.Halted status) v w → others who (running v.2.halted part) ≡ running w.2.halted part
-  still-left who status v w part taken = run-left v.2.halted who part ∙ ap (λ hs. running hs part) (sym taken.marked)
+  still : (who status : ℕ) (v w : Over) → Taken who (turned.Halted status) v w → (x : ℕ) → has_halted v.2.halted x ≡ true → has_halted w.2.halted x ≡ true
+  still who status v w taken x e = subst (λ hs. has_halted hs x ≡ true) (sym taken.marked) (still-halted v.2.halted who x e)
 
   module _ (most made place left who status : ℕ) (v w : Over) (l : most ≤ left) (row : IsRow names place most who) (e : EndsRow who most made (turned.Halted status) v w) (q : Queued schedule n start left names place v) where
     abbrev last : Before made place left who e.before
@@ -321,12 +321,12 @@ module _ (schedule : List ℕ) (n : ℕ) (start : Over) (names : List ℕ) where
         subst (λ c. Underway schedule n start c last.after w) less
         (goes-on schedule n start (left - made) last.queue.rest e.before w who last.after (turned.Halted status) (omega (arith, l, few)) last.next e.last last.queue.under refl)
 
-    pub halted-named : (held : List ℕ) (at : ℕ) → held ≡ others who names → drop at held ≡ others who (drop (place + made + 1) names) → Queued schedule n start (left - (made + 1)) held at w
-    halted-named held at f g = record {
+    pub halted-named : (others : List ℕ) (at : ℕ) → others ≡ running w.2.halted names → drop at others ≡ running w.2.halted (drop (place + made + 1) names) → Queued schedule n start (left - (made + 1)) others at w
+    halted-named others at f g = record {
       rest = last.after;
       under = after-halt;
-      named = f ∙ ap (others who) last.queue.named ∙ still-left who status e.before w schedule e.last;
-      place = g ∙ ap (others who) (sym last.others) ∙ still-left who status e.before w last.after e.last;
+      named = f ∙ ap (running w.2.halted) last.queue.named ∙ run-again e.before.2.halted w.2.halted schedule (still who status e.before w e.last);
+      place = g ∙ ap (running w.2.halted) (sym last.others) ∙ run-again e.before.2.halted w.2.halted last.after (still who status e.before w e.last);
     }
 
   pub ended-named : (most made place left who : ℕ) (a : Turn) (end : MultiEnd) (v w : Over) → most ≤ left → IsRow names place most who → EndsRow who most made a v w → end_of_turn who [] a ≡ Err end → Queued schedule n start left names place v → Done schedule n start w end

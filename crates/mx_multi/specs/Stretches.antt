@@ -1,5 +1,5 @@
 -- Turns of one processor, one after another, each of which goes on.
-use Rattle.std.specs.Prelude.{ℕ, zero, suc, ◌≡◌, ◌+◌, ◌<◌, ◌≤◌, ◌==◌, not, Bool, Option, List, [], get_or, length, Err}
+use Rattle.std.specs.Prelude.{ℕ, zero, suc, ◌≡◌, ◌+◌, ◌<◌, ◌≤◌, not, Bool, Option, List, [], get_or, length, Err}
 use Rattle.std.specs.List.{filter}
 use Rattle.mx_host.specs.HostModel.{HostModel}
 use Rattle.mx_plan.specs.Plan.{Comes}
@@ -57,10 +57,6 @@ RunsRow who most v w (Ended end) = (made : ℕ) × ((answer : Turn) × (EndsRow 
 -- those that are of processors which have not halted
 abbrev pub running : List Bool → List ℕ → List ℕ
 running halted names = filter (λ who. not (has_halted halted who)) names
-
--- those that are not of this processor
-abbrev pub others : ℕ → List ℕ → List ℕ
-others who names = filter (λ name. not (name == who)) names
 
 -- the place of the next turn: the first one again after the last
 pub record IsPlaceFrom (names : List ℕ) (at place : ℕ) : Type 0 where

@@ -1,8 +1,8 @@
 //! The turns of a schedule that are steps: those of processors that have not halted.
 
-ghost use Rattle.std.specs.Prelude.{◌≡◌, ◌≤◌, ◌<◌, IfErr, IfOk, IfSome, None, [], drop, length};
+ghost use Rattle.std.specs.Prelude.{◌≡◌, ◌≤◌, ◌<◌, ◌++◌, IfErr, IfOk, IfSome, None, [], drop, false, length, take, true};
 ghost use Rattle.mx_multi.specs.Joint.{processor_count};
-ghost use Rattle.mx_multi.specs.Stretches.{IsPlaceFrom, others, running};
+ghost use Rattle.mx_multi.specs.Stretches.{IsPlaceFrom, running};
 ghost use Rattle.mx_multi.specs.Turns.{AllHaveHalted, AreNames};
 
 use crate::Multi;
@@ -34,37 +34,67 @@ pub(crate) fn next_place(names: &[u8], at: usize) -> Option<usize>
 pub(crate) fn queue_of(alloc: Global, multi: &Multi, schedule: &[u8]) -> Result<Queue, NoMemory>
     requires { AreNames (processor_count multi.now) schedule.now }
     ensures names { IfOk result (λ q. q.names.items ≡ running multi.now.halted schedule.now) }
-    ensures first { IfOk result (λ q. q.at ≡ 0) }
+    ensures place { IfOk result (λ q. drop q.at q.names.items ≡ running multi.now.halted schedule.now) }
     ensures none { IfErr result (λ _. AllHaveHalted multi.now.halted schedule.now → ⊥) }
 {
-    let mut names = Vec::new(alloc);
-    for who in schedule {
+    if !any_runs(multi, schedule) {
+        return Ok(Queue {
+            names: Vec::new(alloc),
+            at: 0,
+        });
+    }
+    let names = Vec::from_slice(alloc, schedule)?;
+    let mut queue = Queue { names, at: 0 };
+    leave_out_halted(multi, &mut queue);
+    Ok(queue)
+}
+
+/// Whether a name is that of a processor which has not halted.
+fn any_runs(multi: &Multi, names: &[u8]) -> bool
+    requires { AreNames (processor_count multi.now) names.now }
+    ensures some { result ≡ true → AllHaveHalted multi.now.halted names.now → ⊥ }
+    ensures none { result ≡ false → running multi.now.halted names.now ≡ [] }
+{
+    for who in names {
         if !multi.halted(*who) {
-            names.push(*who)?;
+            return true;
         }
     }
-    Ok(Queue { names, at: 0 })
+    false
 }
 
-/// Leaves out the names of a processor, and finds the place again. It takes no memory.
-pub(crate) fn leave_out(queue: &mut Queue, who: u8)
-    requires { queue.now.at ≤ length queue.now.names.items }
-    ensures names { queue.new.names.items ≡ others who queue.old.names.items }
-    ensures place { drop queue.new.at queue.new.names.items ≡ others who (drop queue.old.at queue.old.names.items) }
+/// Leaves out the names of processors that have halted, and finds the place again. It takes no memory.
+pub(crate) fn leave_out_halted(multi: &Multi, queue: &mut Queue)
+    requires names { AreNames (processor_count multi.now) queue.now.names.items }
+    requires inside { queue.now.at ≤ length queue.now.names.items }
+    ensures names { queue.new.names.items ≡ running multi.now.halted queue.old.names.items }
+    ensures place { drop queue.new.at queue.new.names.items ≡ running multi.now.halted (drop queue.old.at queue.old.names.items) }
 {
-    queue.at = count_others(&queue.names[..queue.at], who);
-    queue.names.retain(move |name| *name != who);
+    let length = queue.names.len();
+    let names = queue.names.as_mut_slice();
+    let place = pack(multi, names, 0, queue.at, 0);
+    let packed = pack(multi, names, queue.at, length, place);
+    queue.names.truncate(packed);
+    queue.at = place;
 }
 
-/// How many names are not those of a processor.
-fn count_others(names: &[u8], who: u8) -> usize
-    ensures { result ≡ length (others who names.now) }
+/// Moves the names of a part that are those of processors which have not halted down to a place: where the next one goes.
+/// No step of it depends on a test, so names in any order take the same time.
+fn pack(multi: &Multi, names: &mut [u8], from: usize, to: usize, place: usize) -> usize
+    requires names { AreNames (processor_count multi.now) (drop from names.now) }
+    requires order { place ≤ from }
+    requires part { from ≤ to }
+    requires inside { to ≤ length names.now }
+    ensures packed { take result names.new ≡ take place names.old ++ running multi.now.halted (drop from (take to names.old)) }
+    ensures rest { drop to names.new ≡ drop to names.old }
+    ensures few { result ≤ to }
+    ensures count { length names.new ≡ length names.old }
 {
-    let mut count = 0;
-    for name in names {
-        if *name != who {
-            count += 1;
-        }
+    let mut place = place;
+    for at in from..to {
+        let who = names[at];
+        names[place] = who;
+        place += usize::from(!multi.halted(who));
     }
-    count
+    place
 }

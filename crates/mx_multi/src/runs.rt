@@ -5,7 +5,7 @@ ghost use Rattle.mx_multi.specs.Clauses.{TakesTurns};
 ghost use Rattle.mx_multi.specs.Joint.{joint_of, processor_count};
 ghost use Rattle.mx_multi.specs.Turns.{AreNames};
 
-use crate::queue::{leave_out, next_place, queue_of};
+use crate::queue::{leave_out_halted, next_place, queue_of};
 use crate::rows::{RowEnd, row_length, run_row};
 use crate::{Multi, MultiEnd};
 use mx_host::Host;
@@ -43,15 +43,14 @@ pub fn run_turns<H: Host>(
             None => return MultiEnd::AllHalted,
         };
         let length = row_length(names, place, left);
-        let who = names[place];
-        match run_row(multi, host, who, length) {
+        match run_row(multi, host, names[place], length) {
             RowEnd::Went => {
                 queue.at = place + length as usize;
                 left -= length;
             }
             RowEnd::Halted(made) => {
                 queue.at = place + made as usize + 1;
-                leave_out(&mut queue, who);
+                leave_out_halted(multi, &mut queue);
                 left -= made + 1;
             }
             RowEnd::Ended(end) => return end,

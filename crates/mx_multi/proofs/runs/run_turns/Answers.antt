@@ -1,6 +1,6 @@
-use Rattle.std.proofs.Common.{ℕ, ◌+◌, ◌-◌, ◌<◌, List, drop, get_or, length, ◌∙◌, ap, refl, subst, sym}
+use Rattle.std.proofs.Common.{ℕ, ◌+◌, ◌-◌, ◌<◌, List, drop, length, ◌∙◌, ap, refl, subst, sym}
 use Rattle.mx_multi.specs.Joint.{joint_of}
-use Rattle.mx_multi.specs.Stretches.{Over, others}
+use Rattle.mx_multi.specs.Stretches.{Over, running}
 use Rattle.mx_multi.proofs.Names.{name-runs, names-of}
 use Rattle.mx_multi.proofs.Schedules.{name-below}
 use Rattle.mx_multi.proofs.Underway.{Queued, all-spent, begins, ended-named, halted-named, none-named, none-spent, placed, row-named, start-lacks}
@@ -15,7 +15,7 @@ returns-in-Err-clause-turns g c =
 
 pub loop-left-init : goal.loop-left-init
 loop-left-init g c = record {
-  queue = record { rest = c.args.schedule.now; under = begins _ _ _; named = c.in-Ok.ensures.names; place = rw c.in-Ok.ensures.first c.in-Ok.ensures.names };
+  queue = record { rest = c.args.schedule.now; under = begins _ _ _; named = c.in-Ok.ensures.names; place = c.in-Ok.ensures.place };
   count = refl;
 }
 
@@ -45,16 +45,21 @@ loop-left-preserved-in-Went g c =
 
 -- ---- a halt
 
+pub leave_out_halted-requires-clause-names : goal.leave_out_halted-requires-clause-names
+leave_out_halted-requires-clause-names g c =
+    rw (c.run_row.ensures.count, c.loop-left.invariant.count) (names-of _ _ _ _ c.loop-left.invariant.queue.named c.requires)
+
 pub loop-left-preserved : goal.loop-left-preserved
 loop-left-preserved g c =
     let was = c.loop-left.invariant in
     let row = c.row_length-length.ensures in
     let same = c.as_slice-names.ensures.value in
-    let who = get_or c.as_slice-names.result.now c.in-Some.place 0 in
+    let after = c.run_row.new.multi.halted in
     let queue = placed _ _ _ _ _ _ _ _ _ c.as_slice-names.ensures.value was.queue c.in-Some.ensures.some in
     record {
       queue = halted-named _ _ _ _ _ _ _ _ _ _ _ _ row.few row.row c.in-Halted.ensures.row.1 queue _ _
-          (c.leave_out.ensures.names ∙ ap (others who) (sym same)) (c.leave_out.ensures.place ∙ ap (λ (ns : List ℕ). others who (drop (c.in-Some.place + c.in-Halted.made + 1) ns)) (sym same));
+          (c.leave_out_halted.ensures.names ∙ ap (running after) (sym same))
+          (c.leave_out_halted.ensures.place ∙ ap (λ (ns : List ℕ). running after (drop (c.in-Some.place + c.in-Halted.made + 1) ns)) (sym same));
       count = c.run_row.ensures.count ∙ was.count;
     }
 
