@@ -3,8 +3,8 @@
 ghost use Rattle.std.specs.Prelude.{◌≡◌, ◌+◌, IfOk};
 ghost use Rattle.mx_count.specs.Tallies as spec;
 
-use mx_costs::{mems, oops};
 use mx_core::Trace;
+use mx_costs::{mems, oops};
 use mx_word::NoMemory;
 
 /// What is counted of steps: how many there are, how many of them went to another address than the next, and what they

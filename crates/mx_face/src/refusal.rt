@@ -64,11 +64,7 @@ pub fn add_refusal_members(text: &mut Bytes, refused: Refusal) -> Result<(), NoM
 
 /// Adds the object of a refusal, or `null` in its place.
 #[tactic(auto, unfolding(crate::specs::RefusalJson::refusal_json))]
-pub fn add_refusal(
-    text: &mut Bytes,
-    front: &[u8],
-    refused: Option<Refusal>,
-) -> Result<(), NoMemory>
+pub fn add_refusal(text: &mut Bytes, front: &[u8], refused: Option<Refusal>) -> Result<(), NoMemory>
     ensures { OnOk result (text.new ≡ text.old ++ front.now ++ spec.refusal_json refused) }
 {
     match refused {

@@ -64,7 +64,7 @@ module _ (count : ℕ) (halted : List Bool) (old : List ℕ) (from place : ℕ) 
         let b = p.begun in
         let inside : from ≤ length (take at old) = (let e = length-take-le at old (omega (arith, l)) in omega (arith, e, b)) in
         let cut : drop from (take (at + 1) old) ≡ drop from (take at old) ++ name ∷ [] =
-            ap (drop from) (take_more old at 0 l ∙ ap (λ x. take at old ++ x ∷ []) name-same) ∙ drop-append-le from (take at old) (name ∷ []) inside in
+        ap (drop from) (take_more old at 0 l ∙ ap (λ x. take at old ++ x ∷ []) name-same) ∙ drop-append-le from (take at old) (name ∷ []) inside in
         ap (running halted) cut ∙ filter-append (λ who. not (has_halted halted who)) (drop from (take at old)) (name ∷ [])
 
     stored : kept < length names

@@ -30,6 +30,7 @@ Loop LDA $255,Where
 
 /// The address of `Letter`, and of `Where`.
 pub const LETTER: u64 = 0x2000_0000_0000_0000;
+
 pub const WHERE: u64 = 0x2000_0000_0000_0008;
 
 /// The numbers 4, 3, 2 and 1 are summed up. Turn 1 is SET. Of the loop number i, from 0, LDO is turn 2 + 5i, ADD 3 + 5i, STO

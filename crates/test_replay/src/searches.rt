@@ -56,7 +56,12 @@ static SUM_MAKERS: [Search; 3] = [
 ];
 
 /// What is found at a step, and where one is then.
-fn found(replay: &mut Replay, flags: &FlagMap, at: u64, sought: Sought) -> Option<(Option<u64>, u64)> {
+fn found(
+    replay: &mut Replay,
+    flags: &FlagMap,
+    at: u64,
+    sought: Sought,
+) -> Option<(Option<u64>, u64)> {
     replay.go_to(at).ok()?;
     let found = match sought {
         Sought::Next(until) => replay.next_hit(flags, until).ok()?,
@@ -94,7 +99,13 @@ fn one_flag(alloc: Global, a: u64, flags: Flags) -> Option<FlagMap> {
 }
 
 /// The same of a source with the input `abc` and with flags at one address; the number behind the last where it does not begin.
-fn wrong_of(alloc: Global, source: &str, flags: (u64, Flags), rows: &[Search], last: u64) -> Option<usize> {
+fn wrong_of(
+    alloc: Global,
+    source: &str,
+    flags: (u64, Flags),
+    rows: &[Search],
+    last: u64,
+) -> Option<usize> {
     let Some(map) = one_flag(alloc, flags.0, flags.1) else {
         return Some(rows.len());
     };

@@ -33,12 +33,30 @@ static SUMMED: [Visit; 4] = [
     (21, (21, 10, 10, "", End::Spent)),
     (
         22,
-        (22, 10, 10, "", End::Stopped { pc: 0x118, reason: 110 }),
+        (
+            22,
+            10,
+            10,
+            "",
+            End::Stopped {
+                pc: 0x118,
+                reason: 110,
+            },
+        ),
     ),
     (14, (14, 9, 9, "", End::Spent)),
     (
         50,
-        (22, 10, 10, "", End::Stopped { pc: 0x118, reason: 110 }),
+        (
+            22,
+            10,
+            10,
+            "",
+            End::Stopped {
+                pc: 0x118,
+                reason: 110,
+            },
+        ),
     ),
 ];
 
