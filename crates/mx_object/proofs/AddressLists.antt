@@ -5,7 +5,7 @@ use Rattle.std.specs.BTreeMap.{is_at}
 use Rattle.std.specs.BTreeSet.{insert_key}
 use Rattle.std.specs.List.{list_any}
 use Rattle.std.specs.Ordering.{nat_cmp}
-use Rattle.mx_mmo.specs.Replies.{ReaderModel, feed_answer, feed_next, fresh, limit, next_answer, refused}
+use Rattle.mx_mmo.specs.Replies.{ReaderModel, Then, feed_answer, feed_next, fresh, limit, next_answer, refused}
 use Rattle.mx_mmo.specs.declared.faults.MmoFault.TheVariants.{TooLong}
 unfoldable use Rattle.mx_mmo.specs.Whole.{items_of}
 use Rattle.mx_mmo.specs.declared.faults.MmoFault.{MmoFault}
@@ -50,17 +50,6 @@ has-is (b ∷ addresses) a = (λ i. has-key a b i || has-is addresses a i)
 
 pub ruleset looking = (has-is)
 
--- ---- as a list
-
-pub taken-first : (front keys rest whole : List ℕ) (k : ℕ) → front ++ keys ≡ whole → keys ≡ k ∷ rest → (front ++ k ∷ []) ++ rest ≡ whole
-taken-first front keys rest whole k e f = append_assoc front (k ∷ []) rest ∙ ap (λ l. front ++ l) (sym f) ∙ e
-
-pub all-taken : (front keys whole : List ℕ) → front ++ keys ≡ whole → (0 < length keys → ⊥) → front ≡ whole
-all-taken front [] whole e none = sym (append-nil front) ∙ e
-all-taken front (k ∷ keys) whole e none = absurd (none (omega arith))
-
-pub ruleset emptying = (taken-first, all-taken)
-
 -- ---- items in turn
 
 pub left-more : (old new : List ℕ) (from to : ℕ) (m n : ReaderModel) (item : Item) → m.fault ≡ None → (Ok (Some item), n) ≡ next_answer m → HasNoted old new from to item →
@@ -81,29 +70,15 @@ left-fault old from m n fault well e = ap (λ w. with_all old (joined from w.0))
 
 -- ---- answers
 
-pub has-noted : {E P : Type 0} (r : Result Bool E) → IfOk r (λ more. (more ≡ true) × P) → r ≡ Ok true → P
-has-noted (Ok b) h e = h.1
-has-noted (Err x) h e = absurd (cc)
+pub has-noted : {E : Type 0} (P : Type 0) (r : Result Bool E) → IfOk r (λ more. (more ≡ true) × P) → r ≡ Ok true → P
+has-noted P (Ok b) h e = h.1
+has-noted P (Err x) h e = absurd (cc)
 
-pub no-more : {E P : Type 0} (r : Result Bool E) → IfOk r (λ more. (more ≡ false) × P) → r ≡ Ok true → ⊥
-no-more (Ok true) h e = let no = h.0 in cc
-no-more (Ok false) h e = cc
-no-more (Err x) h e = cc
+pub no-more : {E : Type 0} (P : Type 0) (r : Result Bool E) → IfOk r (λ more. (more ≡ false) × P) → r ≡ Ok true → ⊥
+no-more P (Ok true) h e = let no = h.0 in cc
+no-more P (Ok false) h e = cc
+no-more P (Err x) h e = cc
 
-pub was-stopped : {E P : Type 0} (r : Result Bool E) → IfOk r (λ more. (more ≡ false) × P) → r ≡ Ok false → P
-was-stopped (Ok b) h e = h.1
-was-stopped (Err x) h e = absurd (cc)
-
--- ---- a reader of bytes
-
-fed-by : (b : Bool) (before m : ReaderModel) (bytes : List ℕ) → before ≡ fresh → (Ok tt, m) ≡ cond b (refused before (TooLong limit)) (Ok tt, record before { rest = before.rest ++ bytes }) →
-    m ≡ record fresh { rest = bytes }
-fed-by true before m bytes is e = let no = ap (λ (p : Result (Unit {0}) MmoFault × ReaderModel). p.0) e in absurd (cc)
-fed-by false before m bytes is e =
-    ap (λ (p : Result (Unit {0}) MmoFault × ReaderModel). p.1) e ∙ ap (λ (r : ReaderModel). record r { rest = r.rest ++ bytes }) is
-
-pub was-fed : (before m : ReaderModel) (bytes : List ℕ) → before ≡ fresh → (Ok tt, m) ≡ feed_answer before bytes → m ≡ record fresh { rest = bytes }
-was-fed before m bytes is e =
-    fed-by (nat_lt limit (before.at + length before.rest + length bytes)) before m bytes is (e ∙ ap (λ f. feed_next f before bytes) (ap (λ (r : ReaderModel). r.fault) is))
-
-pub ruleset feeding = (was-fed)
+pub was-stopped : {E : Type 0} (P : Type 0) (r : Result Bool E) → IfOk r (λ more. (more ≡ false) × P) → r ≡ Ok false → P
+was-stopped P (Ok b) h e = h.1
+was-stopped P (Err x) h e = absurd (cc)

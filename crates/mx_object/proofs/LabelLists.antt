@@ -20,7 +20,7 @@ unfolding has
 no-label a name (Reg k) none = refl
 no-label a name (Pure p) none = by (tetra_address p == a) none
   where
-    by : (b : Bool) → (b || false) ≡ false → cond b (record { name = name; address = p } ∷ []) [] ≡ []
+    by : (b : Bool) → (b || false) ≡ false → cond {A = List Label} b (record { name = name; address = p } ∷ []) [] ≡ []
     by true h = absurd (cc)
     by false h = refl
 

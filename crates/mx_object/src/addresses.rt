@@ -1,7 +1,6 @@
 //! Addresses in ascending order, each once.
 
 ghost use Rattle.std.specs.Prelude.{◌≡◌, ◌∷◌, [], IfOk, OnOk};
-ghost use Rattle.std.specs.BTreeSet.{keys};
 ghost use Rattle.mx_object.specs.Addresses as spec;
 
 use mx_word::NoMemory;
@@ -61,24 +60,4 @@ impl Addresses {
             Err(_) => Err(NoMemory),
         }
     }
-
-    /// The addresses as a list.
-    pub(crate) fn into_list(self, alloc: Global) -> Result<Vec<u64>, NoMemory>
-        ensures { IfOk result (λ list. list.items ≡ self) }
-    {
-        listed(alloc, self.set)
-    }
-}
-
-/// The keys of a set as a list.
-#[tactic(auto, using(crate::proofs::AddressLists::emptying))]
-fn listed(alloc: Global, set: BTreeSet<u64>) -> Result<Vec<u64>, NoMemory>
-    ensures { IfOk result (λ list. list.items ≡ keys set) }
-{
-    let mut set = set;
-    let mut list = Vec::new(alloc);
-    while let Some(address) = set.pop_first() {
-        list.push(address)?;
-    }
-    Ok(list)
 }

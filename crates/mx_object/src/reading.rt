@@ -67,7 +67,6 @@ fn note_all(reader: &mut Reader, addresses: &mut Addresses) -> Result<(), NoMemo
 }
 
 /// A reader of bytes.
-#[tactic(auto, using(crate::proofs::AddressLists::feeding))]
 fn reader_of(alloc: Global, bytes: &[u8]) -> Result<Reader, NoMemory>
     requires { length bytes.now ≤ 2 ^ 26 }
     ensures { IfOk result (λ reader. reader ≡ record fresh { rest = bytes.now }) }
