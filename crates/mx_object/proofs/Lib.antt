@@ -4,3 +4,7 @@ pub mod LabelLists
 pub mod NearestLaws
 pub mod ListedImages
 pub mod ShortObjects
+pub mod PartCells
+pub mod CountRows
+pub mod CountedObjects
+pub mod CountedSheets

@@ -8,3 +8,6 @@ pub mod Labels
 pub mod Listing
 pub mod Rows
 pub mod Listed
+pub mod Counting
+pub mod Sheets
+pub mod Runs
