@@ -56,12 +56,12 @@ fn cells_of(alloc: Global, tetras: &[ListedTetra]) -> Result<Sequence<Cell>, NoM
 }
 
 /// Adds the cells of the tetras up to the next part.
-#[tactic(auto, using(crate::proofs::PartCells::turns))]
+#[tactic(auto, using(crate::proofs::PartCells::parts))]
 fn add_before_part(cells: &mut Sequence<Cell>, tetras: &[ListedTetra]) -> Result<(), NoMemory>
     ensures { OnOk result (cells.new ≡ cells.old ++ spec.cells_of (spec.before_part tetras.now)) }
 {
     let mut rest = tetras;
-    while let [tetra, others @ ..] = rest {
+    while let Some((tetra, others)) = rest.split_first() {
         if begins_part(tetra) {
             return Ok(());
         }
@@ -103,7 +103,7 @@ fn add_loads(
 }
 
 /// Adds the lists of tetras whose tallies are reported, tetra by tetra.
-#[tactic(auto, using(crate::proofs::PartCells::turns))]
+#[tactic(auto, using(crate::proofs::PartCells::loads))]
 fn add_all_loads(
     alloc: Global,
     loads: &mut LineCells,
@@ -112,7 +112,7 @@ fn add_all_loads(
     ensures { OnOk result (loads.new ≡ loads.old ++ spec.loads_from tetras.now) }
 {
     let mut rest = tetras;
-    while let [tetra, others @ ..] = rest {
+    while let Some((tetra, others)) = rest.split_first() {
         add_loads(alloc, loads, tetra, others)?;
         rest = others;
     }
@@ -141,7 +141,7 @@ fn next_count<'a>(tetra: &ListedTetra, octas: &'a [u64]) -> (TetraCount, &'a [u6
 }
 
 /// The counts of tetras, by the octas of their tallies.
-#[tactic(auto, using(crate::proofs::PartCells::turns))]
+#[tactic(auto, using(crate::proofs::PartCells::counts))]
 fn counts_in(
     alloc: Global,
     tetras: &[ListedTetra],
@@ -152,7 +152,7 @@ fn counts_in(
     let mut counts = Sequence::new(alloc);
     let mut rest = tetras;
     let mut left = octas;
-    while let [tetra, others @ ..] = rest {
+    while let Some((tetra, others)) = rest.split_first() {
         let (count, behind) = next_count(tetra, left);
         counts.push(count)?;
         rest = others;

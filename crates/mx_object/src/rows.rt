@@ -108,11 +108,7 @@ fn add_line(alloc: Global, text: &mut Bytes, line: Option<u32>) -> Result<(), No
 }
 
 /// Adds a tetra with its address, its line and its instruction.
-pub(crate) fn add_tetra(
-    alloc: Global,
-    text: &mut Bytes,
-    tetra: &ListedTetra,
-) -> Result<(), NoMemory>
+fn add_tetra(alloc: Global, text: &mut Bytes, tetra: &ListedTetra) -> Result<(), NoMemory>
     ensures { OnOk result (text.new ≡ text.old ++ spec.tetra_text tetra.now) }
 {
     text.extend(&octa_hex(tetra.address))?;
@@ -124,7 +120,11 @@ pub(crate) fn add_tetra(
 }
 
 /// Adds the row of a tetra.
-fn add_tetra_row(alloc: Global, text: &mut Bytes, tetra: &ListedTetra) -> Result<(), NoMemory>
+pub(crate) fn add_tetra_row(
+    alloc: Global,
+    text: &mut Bytes,
+    tetra: &ListedTetra,
+) -> Result<(), NoMemory>
     ensures { OnOk result (text.new ≡ text.old ++ spec.tetra_row tetra.now) }
 {
     add_tetra(alloc, text, tetra)?;

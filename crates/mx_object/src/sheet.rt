@@ -1,14 +1,12 @@
 //! The sheet of a run of an object as a text.
 
-ghost use Rattle.std.specs.Prelude.{◌≡◌, ◌++◌, IfOk, OnOk, codes};
-ghost use Rattle.std.specs.List.{flat_map};
+ghost use Rattle.std.specs.Prelude.{◌≡◌, ◌++◌, IfOk, OnOk, drop};
 ghost use Rattle.mx_count.specs.Sheets as sheets;
-ghost use Rattle.mx_object.specs.Rows as rows;
 ghost use Rattle.mx_object.specs.Sheets as spec;
 
 use crate::counting::{ObjectSheet, TetraCount};
 use crate::labels::Label;
-use crate::rows::{add_label, add_tetra};
+use crate::rows::{add_label, add_tetra_row};
 use crate::tetras::ListedTetra;
 use mx_count::{Tally, add_figures};
 use mx_word::{Bytes, NoMemory};
@@ -17,6 +15,17 @@ use std::alloc::Global;
 /// What is in front of the rows.
 static HEADING: [u8; 103] =
     *b"\n--------------------------------------------------------\n      times       away       oops       mems\n";
+
+/// The count of no steps.
+const NO_COUNT: TetraCount = TetraCount {
+    tally: Tally {
+        times: 0,
+        away: 0,
+        oops: 0,
+        mems: 0,
+    },
+    part: None,
+};
 
 /// Adds labels, each behind a blank.
 fn add_labels(text: &mut Bytes, labels: &[Label]) -> Result<(), NoMemory>
@@ -49,6 +58,15 @@ fn add_part(
     text.push(b'\n')
 }
 
+/// Adds a tetra behind its figures.
+#[tactic(auto, unfolding(crate::specs::Sheets::tetra_line))]
+fn add_line(alloc: Global, text: &mut Bytes, tetra: &ListedTetra) -> Result<(), NoMemory>
+    ensures { OnOk result (text.new ≡ text.old ++ spec.tetra_line tetra.now) }
+{
+    text.extend(b"  ")?;
+    add_tetra_row(alloc, text, tetra)
+}
+
 /// Adds the row of a tetra, if there were steps.
 fn add_tetra_count(
     alloc: Global,
@@ -56,16 +74,13 @@ fn add_tetra_count(
     tetra: &ListedTetra,
     tally: Tally,
 ) -> Result<(), NoMemory>
-    ensures { OnOk result (
-        text.new ≡ text.old ++ spec.figured tally (codes "  " ++ rows.tetra_text tetra.now)) }
+    ensures { OnOk result (text.new ≡ text.old ++ spec.figured tally (spec.tetra_line tetra.now)) }
 {
     if tally.times == 0 {
         return Ok(());
     }
     add_figures(alloc, text, tally)?;
-    text.extend(b"  ")?;
-    add_tetra(alloc, text, tetra)?;
-    text.push(b'\n')
+    add_line(alloc, text, tetra)
 }
 
 /// Adds the rows of a tetra with its count.
@@ -73,12 +88,23 @@ fn add_count(
     alloc: Global,
     text: &mut Bytes,
     tetra: &ListedTetra,
-    count: &TetraCount,
+    count: TetraCount,
 ) -> Result<(), NoMemory>
-    ensures { OnOk result (text.new ≡ text.old ++ spec.count_rows tetra.now count.now) }
+    ensures { OnOk result (text.new ≡ text.old ++ spec.count_rows tetra.now count) }
 {
     add_part(alloc, text, tetra.labels.as_slice(), count.part)?;
     add_tetra_count(alloc, text, tetra, count.tally)
+}
+
+/// The first count, where there is one for each tetra, and the others.
+fn next_count(counts: &[TetraCount]) -> (TetraCount, &[TetraCount])
+    ensures first { result.0 ≡ spec.first_count counts.now }
+    ensures others { result.1.now ≡ drop 1 counts.now }
+{
+    match counts {
+        [count, others @ ..] => (*count, others),
+        [] => (NO_COUNT, &[]),
+    }
 }
 
 /// Adds the rows of tetras with their counts.
@@ -93,7 +119,8 @@ fn add_counts(
 {
     let mut rest = tetras;
     let mut left = counts;
-    while let ([tetra, others @ ..], [count, more @ ..]) = (rest, left) {
+    while let Some((tetra, others)) = rest.split_first() {
+        let (count, more) = next_count(left);
         add_count(alloc, text, tetra, count)?;
         rest = others;
         left = more;
@@ -103,7 +130,7 @@ fn add_counts(
 
 /// Adds a row that ends so.
 fn add_row(alloc: Global, text: &mut Bytes, tally: Tally, ending: &[u8]) -> Result<(), NoMemory>
-    ensures { OnOk result (text.new ≡ text.old ++ sheets.figures tally ++ ending.now) }
+    ensures { OnOk result (text.new ≡ text.old ++ (sheets.figures tally ++ ending.now)) }
 {
     add_figures(alloc, text, tally)?;
     text.extend(ending)

@@ -2,8 +2,8 @@ use Rattle.std.proofs.Common.{◌≡◌, ◌++◌, length}
 use Rattle.mx_object.specs.Counting.{before_part, cells_of}
 use Rattle.mx_object.proofs.counting.add_before_part.Given as goal
 
-abbrev pub invariant-loop-rest : goal.invariant-loop-rest
-invariant-loop-rest l = l.fn.cells ++ cells_of (before_part l.tetras) ≡ l.cells ++ cells_of (before_part l.rest)
+abbrev pub invariant-loop-tetra : goal.invariant-loop-tetra
+invariant-loop-tetra l = l.fn.cells ++ cells_of (before_part l.tetras) ≡ l.cells ++ cells_of (before_part l.rest)
 
-abbrev pub decreases-loop-rest : goal.decreases-loop-rest
-decreases-loop-rest l = length l.rest
+abbrev pub decreases-loop-tetra : goal.decreases-loop-tetra
+decreases-loop-tetra l = length l.rest
