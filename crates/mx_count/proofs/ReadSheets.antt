@@ -46,7 +46,7 @@ pub ruleset lines = (read-next, read-none)
 
 -- ---- read again
 
-tally-back : (y : Tally) (more : List ℕ) → HasOctas y → octas_of (tally_bytes y ++ more) ≡ y.times ∷ y.away ∷ y.oops ∷ y.mems ∷ octas_of more
+pub tally-back : (y : Tally) (more : List ℕ) → HasOctas y → octas_of (tally_bytes y ++ more) ≡ y.times ∷ y.away ∷ y.oops ∷ y.mems ∷ octas_of more
 unfolding number_bytes tally_bytes
 tally-back y more h =
     λ i. octa-back y.times h.times i ∷ octa-back y.away h.away i ∷ octa-back y.oops h.oops i ∷ octa-back y.mems h.mems i ∷ octas_of more
@@ -85,7 +85,7 @@ unfolding tally_in
 all-below test [] = record { times = omega arith; away = omega arith; oops = omega arith; mems = omega arith }
 all-below test (t ∷ ts) = one-below (test t.pc) (step_tally t) (tally_in test ts) (tally_in (λ a. true) ts) (all-below test ts)
 
-all-fit : (test : ℕ → Bool) (h : List Trace) → HasOctas (tally_in (λ a. true) h) → HasOctas (tally_in test h)
+pub all-fit : (test : ℕ → Bool) (h : List Trace) → HasOctas (tally_in (λ a. true) h) → HasOctas (tally_in test h)
 all-fit test h fit =
     let b = all-below test h in
     record { times = omega (arith, b.times, fit.times); away = omega (arith, b.away, fit.away); oops = omega (arith, b.oops, fit.oops); mems = omega (arith, b.mems, fit.mems) }

@@ -92,7 +92,7 @@ one-if : (b : Bool) (t : Trace) → length (cond b (t ∷ []) []) ≤ 1
 one-if true t = omega arith
 one-if false t = omega arith
 
-run-fits : (steps : ℕ) (s : State) (m : HostModel) → steps ≤ 10 ^ 12 → HasOctas (tally_in (λ a. true) (steps_counted steps s m))
+pub run-fits : (steps : ℕ) (s : State) (m : HostModel) → steps ≤ 10 ^ 12 → HasOctas (tally_in (λ a. true) (steps_counted steps s m))
 run-fits steps s m few =
     let h = steps_counted steps s m in
     let e = run steps no_flags false s m in

@@ -44,7 +44,7 @@ fn uncounted(outcome: Outcome) -> Counted
 }
 
 /// The outcome of a run of at most so many steps, by its end. Without flags a run does not break.
-fn outcome_of(steps: u64, end: End) -> Outcome
+pub fn outcome_of(steps: u64, end: End) -> Outcome
     ensures value { result ≡ spec.outcome_of steps end }
     ensures well { result ≢ Outcome.HostFault }
     ensures present { result ≢ Outcome.NoFile }
@@ -58,7 +58,7 @@ fn outcome_of(steps: u64, end: End) -> Outcome
 }
 
 /// The machine of an image with these arguments at its start, or the outcome where the pages are full.
-fn start(
+pub fn start(
     alloc: Global,
     image: Image,
     arguments: &[Bytes],

@@ -16,7 +16,7 @@ use std::alloc::Global;
 
 /// In which form counts are reported: the sheet as a text, or its tallies as octas.
 #[derive(Clone, Copy, Debug, PartialEq, Eq)]
-pub(crate) enum Form {
+pub enum Form {
     Text,
     Octas,
 }
@@ -49,13 +49,20 @@ impl Counts {
     {
         let copy = Bytes::copy(alloc, source)?;
         let loads = cells_by_line(alloc, source)?;
-        Ok(Counts {
+        Ok(Counts::of_loads(alloc, form, copy, loads))
+    }
+
+    /// Counts no steps yet of a source whose lines load these tetras. As octas, any lists of tetras have their tallies.
+    pub fn of_loads(alloc: Global, form: Form, source: Bytes, loads: LineCells) -> Counts
+        ensures { ⟦<Counts as Watcher>⟧.meaning result ≡ counting_as form source loads [] }
+    {
+        Counts {
             form,
-            source: copy,
+            source,
             loads,
             table: Table::new(alloc),
             alloc,
-        })
+        }
     }
 }
 

@@ -13,13 +13,16 @@ mod table;
 mod tally;
 mod watched;
 
-pub use count::{Counted, count_file};
+pub use count::{Counted, count_file, outcome_of, start};
 pub use counted::count_lines;
-pub use counts::Counts;
+pub use counts::{Counts, Form};
 pub use laws::{
     all_steps_are_counted, columns_stand_apart, counted_lines_are_those_of_the_traces,
     lines_are_sums_over_their_tetras, sheets_are_read_back, tallies_count_traces,
 };
-pub use lines::{CountedLine, CountedLines, LineSheet};
+pub use lines::{CountedLine, CountedLines, LineSheet, next_tally};
+pub use octas::octas_of;
+pub use sheet::add_figures;
 pub use table::Entry;
 pub use tally::Tally;
+pub use watched::run_counted;

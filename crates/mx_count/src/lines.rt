@@ -50,7 +50,7 @@ fn next_octa(octas: &[u64]) -> (u64, &[u64])
 }
 
 /// The tally of the first four octas, and the others.
-fn next_tally(octas: &[u64]) -> (Tally, &[u64])
+pub fn next_tally(octas: &[u64]) -> (Tally, &[u64])
     ensures first { result.0 ≡ spec.first_tally octas.now }
     ensures others { result.1.now ≡ spec.behind_tally octas.now }
 {

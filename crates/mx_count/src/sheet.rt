@@ -41,7 +41,7 @@ fn add_column(alloc: Global, text: &mut Bytes, n: u64) -> Result<(), NoMemory>
 }
 
 /// Adds the columns of a tally.
-fn add_figures(alloc: Global, text: &mut Bytes, tally: Tally) -> Result<(), NoMemory>
+pub fn add_figures(alloc: Global, text: &mut Bytes, tally: Tally) -> Result<(), NoMemory>
     ensures { OnOk result (text.new ≡ text.old ++ spec.figures tally) }
 {
     add_column(alloc, text, tally.times)?;

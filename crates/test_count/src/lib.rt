@@ -1,11 +1,13 @@
-//! Rows of counts: what steps cost, the sheet of traces made by hand, and runs that are counted. There is nothing but tests
-//! here.
+//! Rows of counts: what steps cost, the sheet of traces made by hand, runs that are counted, and views of objects. There is
+//! nothing but tests here.
 #![tactic(auto)]
 
 #[cfg(test)]
 mod costs;
 #[cfg(test)]
 mod faces;
+#[cfg(test)]
+mod objects;
 #[cfg(test)]
 mod runs;
 #[cfg(test)]

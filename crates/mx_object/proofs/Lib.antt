@@ -1,0 +1,10 @@
+pub mod AddressLists
+pub mod AddressLaws
+pub mod LabelLists
+pub mod NearestLaws
+pub mod ListedImages
+pub mod ShortObjects
+pub mod PartCells
+pub mod CountRows
+pub mod CountedObjects
+pub mod CountedSheets

@@ -1,0 +1,13 @@
+pub use Rattle.mx_mmo.specs.Meaning
+pub use Rattle.mx_mmo.specs.Valid
+pub use Rattle.mx_type.specs.Lambda
+pub use Rattle.mx_type.specs.Lines
+pub mod Addresses
+pub mod Reading
+pub mod Labels
+pub mod Listing
+pub mod Rows
+pub mod Listed
+pub mod Counting
+pub mod Sheets
+pub mod Runs
