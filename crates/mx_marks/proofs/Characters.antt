@@ -1,5 +1,5 @@
 -- Under a text that is UTF-8 stand as many bytes as it has characters.
-use Rattle.std.proofs.Common.{◌≡◌, ℕ, zero, suc, ◌+◌, ◌-◌, ◌/◌, ◌<◌, ◌≤◌, List, [], ◌∷◌, ◌++◌, length, take, drop, Bool, true, false, cond, nat_lt, arith, refl, sym, ap, ◌∙◌, append_assoc}
+use Rattle.std.proofs.Common.{◌≡◌, ℕ, ◌+◌, ◌-◌, ◌/◌, ◌<◌, ◌≤◌, List, [], ◌∷◌, ◌++◌, length, take, true, false, cond, nat_lt, arith, refl, sym, ap, ◌∙◌}
 unfoldable use Rattle.std.specs.Char.{encode_utf8}
 use Rattle.std.specs.Str.{all_scalars, continuation_len, encode_utf8_all, is_utf8}
 use Rattle.std.proofs.lemmas.Bool.{and_parts, cond_both}

@@ -1,6 +1,5 @@
 -- Labels and words that are looked at one after another.
-use Rattle.std.proofs.Common.{◌≡◌, ◌≢◌, ◌≤◌, ◌<◌, ℕ, zero, suc, ◌-◌, ◌==◌, List, [], ◌∷◌, length, drop, Bool, true, false, cond, arith, refl, sym, ap, ◌∙◌}
-use Rattle.std.proofs.lemmas.Bool.{cond-false}
+use Rattle.std.proofs.Common.{◌≡◌, ◌≢◌, ◌≤◌, ◌<◌, ℕ, zero, suc, ◌-◌, List, [], ◌∷◌, length, drop, true, false, arith, refl}
 use Rattle.mx_word.proofs.Comparisons.{other-test}
 use Rattle.mx_line.specs.Lines.{lines_of}
 use Rattle.mx_line.specs.Pieces.{split}

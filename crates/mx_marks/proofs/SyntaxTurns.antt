@@ -1,5 +1,5 @@
 -- Operands that are read part after part.
-use Rattle.std.proofs.Common.{◌≡◌, ◌≢◌, ◌≤◌, ◌<◌, ℕ, zero, suc, ◌-◌, ◌==◌, List, [], ◌∷◌, length, take, drop, Bool, true, false, arith, refl, ap}
+use Rattle.std.proofs.Common.{◌≡◌, ◌≢◌, ◌≤◌, ◌<◌, ℕ, zero, suc, ◌-◌, List, ◌∷◌, length, take, drop, Bool, arith, refl}
 use Rattle.std.proofs.lemmas.List.{take_all}
 use Rattle.mx_word.proofs.Comparisons.{other-test}
 use Rattle.mx_marks.specs.Syntax.{ended, is_wanting, scan_from, step_length}

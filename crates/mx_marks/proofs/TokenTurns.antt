@@ -1,9 +1,8 @@
 -- Parts of operands that are looked at one after another.
-use Rattle.std.proofs.Common.{◌≡◌, ◌≤◌, ◌<◌, ℕ, zero, suc, ◌-◌, ◌^◌, List, [], ◌∷◌, length, take, drop, Bool, true, false, arith, refl, ap, ◌∙◌}
+use Rattle.std.proofs.Common.{◌≡◌, ◌≤◌, ◌<◌, ℕ, zero, suc, ◌-◌, List, [], length, take, drop, Bool, true, false, arith, refl}
 use Rattle.mx_word.specs.Kinds.{is_digit}
 use Rattle.mx_line.specs.Bytes.{run}
 use Rattle.mx_line.proofs.KindLemmas.{run-few, run-take}
-use Rattle.mx_marks.specs.Fields.{word}
 use Rattle.mx_marks.specs.Tokens.{from_part, is_wanted, part_length}
 use Rattle.mx_marks.specs.declared.tokens.Wanted.{Wanted}
 

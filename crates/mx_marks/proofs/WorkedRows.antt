@@ -2,7 +2,7 @@
 use Rattle.std.proofs.Common.{◌≡◌, [], ◌∷◌, true, false, refl, codes}
 use Rattle.mx_marks.specs.Labels.{is_near}
 use Rattle.mx_marks.specs.Mending.{label_alone, line_text, lines_with}
-use Rattle.mx_marks.specs.Syntax.{Scan, scan, scan_from}
+use Rattle.mx_marks.specs.Syntax.{scan, scan_from}
 use Rattle.mx_marks.specs.Tokens.{is_above}
 
 -- a letter that differs, one too many, one too few, two that are exchanged, and two that differ

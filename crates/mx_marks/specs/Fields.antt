@@ -1,7 +1,7 @@
 -- Which statement of a line and which of its fields a fault is about, and where they begin. A rule of this program.
-use Rattle.std.specs.Prelude.{ℕ, ◌-◌, List, [], ◌∷◌, length, take, drop, if◌then◌else◌, Option, None, Some, is_some, Result, Ok, Err}
+use Rattle.std.specs.Prelude.{ℕ, ◌-◌, List, [], ◌∷◌, take, drop, if◌then◌else◌, Option, None, Some, is_some, Result, Ok, Err}
 use Rattle.mx_line.specs.Bytes.{is_blank, is_name_byte, past, run}
-use Rattle.mx_line.specs.Cutting.{cuts_from, statement_of}
+use Rattle.mx_line.specs.Cutting.{statement_of}
 use Rattle.mx_line.specs.declared.cutter.Cut.{Cut}
 use Rattle.mx_line.specs.declared.faults.LineFault.{LineFault}
 use Rattle.mx_line.specs.declared.faults.LineFault.TheVariants.{TooLong, BadLabel, BadLocal, BadOpcode, NoOpcode}

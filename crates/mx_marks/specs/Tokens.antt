@@ -1,6 +1,5 @@
 -- The parts of an operand field, and the first one that a fault is about.
-use Rattle.std.specs.Prelude.{ℕ, zero, suc, ◌+◌, ◌-◌, ◌*◌, ◌^◌, ◌==◌, ◌&&◌, ◌||◌, nat_lt, nat_le, Bool, true, false, not, if◌then◌else◌, List, [], ◌∷◌, length, drop, fold, is_some}
-use Rattle.std.specs.Str.{bytes_eq}
+use Rattle.std.specs.Prelude.{ℕ, zero, suc, ◌+◌, ◌-◌, ◌*◌, ◌^◌, ◌==◌, ◌&&◌, ◌||◌, nat_lt, nat_le, Bool, false, not, if◌then◌else◌, List, [], ◌∷◌, length, drop, fold, is_some}
 use Rattle.mx_word.specs.Kinds.{is_digit, is_letter, is_name_byte}
 use Rattle.mx_line.specs.Bytes.{run}
 use Rattle.mx_line.specs.Lines.{lines_of}

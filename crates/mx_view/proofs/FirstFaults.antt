@@ -1,15 +1,13 @@
 -- The refusal of a run is among the faults that are told.
-use Rattle.std.proofs.Common.{◌≡◌, ℕ, zero, suc, List, [], ◌∷◌, ◌++◌, map, length, Bool, true, false, cond, ◌==◌, Option, None, Some, Result, arith, refl, sym, ap, subst}
+use Rattle.std.proofs.Common.{◌≡◌, ℕ, zero, suc, List, [], ◌∷◌, ◌++◌, map, Bool, true, false, cond, ◌==◌, Option, None, Some, arith, refl, sym, ap, subst}
 use Rattle.std.specs.List.{Contains}
 use Rattle.std.specs.Result.{result_err}
 use Rattle.std.proofs.lemmas.Bool.{cond_both}
-use Rattle.std.proofs.lemmas.Bool.Decides.{nat_tests}
 use Rattle.std.proofs.lemmas.List.Elements.{Contains-append_left, Contains-append_right}
 use Rattle.mx_mmo.specs.Image.{Image}
 use Rattle.mx_mmo.specs.declared.items.Item.{Item}
 use Rattle.mx_stmt.specs.Encoding.{StatementTree}
 use Rattle.mx_asm.specs.Entries.{source_entries, statements_in}
-use Rattle.mx_asm.specs.Faults.{fault_number}
 use Rattle.mx_asm.specs.Image.{image}
 use Rattle.mx_asm.specs.Pages.{accepted_in, page_refusal, run_refusal_with}
 use Rattle.mx_asm.specs.Refusal.{refusal}
@@ -19,7 +17,6 @@ use Rattle.mx_files.specs.Loading.{refusal_of}
 use Rattle.mx_files.specs.Sources.{meaning_unless}
 unfoldable use Rattle.mx_files.specs.Sources.{source_meaning}
 use Rattle.mx_files.specs.declared.refusal.Refusal.{Refusal}
-use Rattle.mx_view.specs.declared.checking.ToldFault.{ToldFault}
 use Rattle.mx_view.specs.declared.checking.ToldFaults.{ToldFaults}
 use Rattle.mx_view.specs.declared.search.Finding.{Finding}
 use Rattle.mx_view.specs.declared.search.Finding.TheVariants.{New, Again, Beyond, Whole}
@@ -28,9 +25,9 @@ use Rattle.mx_view.specs.declared.search.Looked.{Looked}
 use Rattle.mx_view.specs.declared.search.Looked.TheVariants.{Next, Ended}
 use Rattle.mx_view.specs.Listing.{refusal_in}
 use Rattle.mx_marks.specs.Mending.{with_label}
-use Rattle.mx_view.specs.Search.{added_as, assembly_refusal, ended_as, kind_of, found_in, found_with, inserted, is_before, is_of_whole, is_at, line_at_fault, looked_with, next_as}
+use Rattle.mx_view.specs.Search.{added_as, assembly_refusal, ended_as, kind_of, found_in, found_with, inserted, is_before, is_of_whole, line_at_fault, looked_with, next_as}
 unfoldable use Rattle.mx_view.specs.Search.{found}
-use Rattle.mx_view.specs.Refusals.{faults_by, faults_in, faulty_line, refusals_of, told_at, told_found, told_if, told_lines, told_whole, with_refusal}
+use Rattle.mx_view.specs.Refusals.{faults_by, faults_in, refusals_of, told_found, told_if, told_lines, told_whole, with_refusal}
 
 with-refusals : (statements : List StatementTree) (items : List Item) (o : Option Refused) → result_err (assembled_with statements items o).1 ≡ o
 with-refusals statements items None = refl

@@ -1,5 +1,5 @@
 -- The tetras of a listing, joined, are the image of the two passes.
-use Rattle.std.proofs.Common.{◌≡◌, length, map, ℕ, ◌+◌, ◌*◌, ◌/◌, ◌%◌, ◌^◌, ◌<◌, List, [], ◌∷◌, ◌++◌, Bool, true, false, cond, arith, refl, sym, ap, subst, ◌∙◌, Option, None, Ok, Err, nat_lt, ◌==◌, ◌||◌}
+use Rattle.std.proofs.Common.{◌≡◌, length, map, ℕ, ◌+◌, ◌*◌, ◌/◌, ◌%◌, ◌^◌, ◌<◌, List, [], ◌∷◌, ◌++◌, Bool, true, false, cond, arith, refl, sym, ap, subst, ◌∙◌, None, Ok, Err, nat_lt, ◌==◌, ◌||◌}
 use Rattle.std.proofs.lemmas.Bool.{eqb-true}
 use Rattle.std.specs.List.{AllByRecursion}
 use Rattle.std.proofs.lemmas.Bool.Decides.{nat_tests}
@@ -10,13 +10,12 @@ use Rattle.mx_stmt.specs.declared.placed.Placed.{Placed}
 use Rattle.mx_stmt.specs.Encoding.{encoding}
 use Rattle.mx_stmt.specs.Placements.{from_place, placed}
 use Rattle.mx_stmt.specs.Steps.{Answer}
-use Rattle.mx_asm.specs.declared.refused.Refused.{Refused}
 use Rattle.mx_asm.specs.Emission.{first_head}
 use Rattle.mx_asm.specs.Entries.{source_entries, statements_in}
 unfoldable use Rattle.mx_asm.specs.Emission.{items_from}
 use Rattle.mx_asm.specs.Image.{image, octa_from, octa_in}
 unfoldable use Rattle.mx_asm.specs.Image.{placements}
-use Rattle.mx_asm.specs.Pages.{run_refusal, run_refusal_with}
+use Rattle.mx_asm.specs.Pages.{run_refusal}
 use Rattle.mx_asm.specs.Refusal.{refusal}
 use Rattle.mx_asm.specs.TwoPass.{Sight, final_known, pieces, piece_with, sights_of, targets}
 unfoldable use Rattle.mx_asm.specs.TwoPass.{pieces_of, sights_from}

@@ -1,11 +1,10 @@
 -- Faults that are found one after another.
-use Rattle.std.proofs.Common.{◌≡◌, ℕ, zero, suc, ◌-◌, ◌<◌, ◌≤◌, List, [], ◌∷◌, ◌++◌, length, take, drop, Bool, true, false, cond, take_while, arith, refl, sym, ap, ◌∙◌, None, Some, Option}
+use Rattle.std.proofs.Common.{◌≡◌, ℕ, zero, suc, ◌-◌, ◌<◌, ◌≤◌, List, [], ◌∷◌, length, Bool, true, false, cond, take_while, arith, refl, sym, ap, ◌∙◌, None, Option}
 use Rattle.std.specs.List.{insert, prefix_len}
 use Rattle.std.proofs.lemmas.List.{length-take}
 use Rattle.std.proofs.lemmas.List.Sums.{take_while-cons}
 use Rattle.mx_asm.specs.declared.refused.Refused.{Refused}
 use Rattle.mx_files.specs.declared.refusal.Refusal.{Refusal}
-use Rattle.mx_view.specs.declared.search.Looked.{Looked}
 use Rattle.mx_view.specs.declared.search.Looked.TheVariants.{Next, Ended}
 use Rattle.mx_view.specs.Search.{assembly_refusal, ended_as, found, found_with, inserted, is_before, line_at_fault, looked_with}
 

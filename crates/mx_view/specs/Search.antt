@@ -1,6 +1,6 @@
 -- How the faults of a source are found: what it is refused for, and what each source is refused for in which the lines that were
 -- refused so far do nothing but define their labels. A line that is refused again is blank from then on.
-use Rattle.std.specs.Prelude.{ℕ, zero, suc, ◌==◌, ◌||◌, nat_lt, Bool, true, false, if◌then◌else◌, List, [], ◌∷◌, length, Option, None, Some}
+use Rattle.std.specs.Prelude.{ℕ, zero, suc, ◌==◌, nat_lt, Bool, true, false, if◌then◌else◌, List, [], ◌∷◌, length, Option, None, Some}
 use Rattle.std.specs.List.{list_any}
 use Rattle.std.specs.Result.{result_err}
 use Rattle.mx_asm.specs.Whole.{assembled_source}
@@ -8,7 +8,6 @@ use Rattle.mx_asm.specs.declared.faults.AsmFault.{AsmFault}
 use Rattle.mx_asm.specs.declared.faults.AsmFault.TheVariants.{MainUndefined, MainRegister, SymbolsTooMany, LocalAboveGlobals, SourceTooLong}
 use Rattle.mx_asm.specs.declared.refused.Refused.{Refused}
 use Rattle.mx_files.specs.Loading.{refusal_of}
-use Rattle.mx_files.specs.declared.refusal.Refusal.{Refusal}
 use Rattle.mx_view.specs.declared.search.Finding.{Finding}
 use Rattle.mx_view.specs.declared.search.Finding.TheVariants.{New, Again, Beyond, Whole}
 use Rattle.mx_view.specs.declared.search.Found.{Found}

@@ -1,5 +1,5 @@
-use Rattle.std.proofs.Common.{◌≡◌, ◌++◌, length, drop}
-use Rattle.mx_marks.specs.Under.{char_length, tildes, tildes_behind}
+use Rattle.std.proofs.Common.{◌≡◌, ◌++◌, length}
+use Rattle.mx_marks.specs.Under.{tildes, tildes_behind}
 use Rattle.mx_marks.proofs.under.add_tildes.Given as goal
 
 abbrev pub invariant-loop-rest : goal.invariant-loop-rest
