@@ -76,23 +76,21 @@ for number in range(1, line('$'))
 endfor
 call writefile(all, 'names')
 cgetfile messages
-call writefile(map(getqflist(), 'bufname(v:val.bufnr) . " " . v:val.lnum . " " . v:val.col . " " . v:val.nr . " " . v:val.text'), 'found')
+call writefile(map(getqflist(), 'bufname(v:val.bufnr) . " " . v:val.lnum . " " . v:val.col . " " . v:val.type . " " . v:val.nr . " " . v:val.text'), 'found')
 qall!
 """
 
-MESSAGES = """[source.mms]
-line 4: 43 Fit
-            ADD   $0,$0,1000        a number
-                  ^
-line 7: 84 FutureRegister from line 5
-    x       IS    $1
-    ^
-line 9: 82 MainUndefined
+MESSAGES = """source.mms:4:25: error: 43 Fit: `1000` does not fit. Put it into a register.
+source.mms:7:1: error: 84 FutureRegister: `x` is a register.
+source.mms:8:3: warning: 2 BackslashInString: no escape.
+source.mms:9: error: 82 MainUndefined: There is no label Main.
+source.mms: there are more faulty lines
 """
 
-FOUND = """source.mms 4 15 43 Fit
-source.mms 7 1 84 FutureRegister
-source.mms 9 0 82 MainUndefined
+FOUND = """source.mms 4 25 e 43 Fit: `1000` does not fit. Put it into a register.
+source.mms 7 1 e 84 FutureRegister: `x` is a register.
+source.mms 8 3 w 2 BackslashInString: no escape.
+source.mms 9 0 e 82 MainUndefined: There is no label Main.
 """
 
 

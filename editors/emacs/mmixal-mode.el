@@ -211,7 +211,7 @@ Where another command than those of this mode was called, it is its last word."
 (defun mmixal-check ()
   "List all faults of the file."
   (interactive)
-  (mmixal--compile mmixal-mmixview "check"))
+  (mmixal--compile mmixal-mmixview "check" "--gnu"))
 
 (defun mmixal-list ()
   "List the lines of the file with their addresses and bytes."

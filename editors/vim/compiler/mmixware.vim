@@ -10,10 +10,9 @@ let current_compiler = "mmixware"
 let s:cpo_save = &cpo
 set cpo&vim
 
-" The messages name lines and no file, so a line in brackets says which file it is. A caret is four columns further right
-" than in the file, since the line above it is indented.
-CompilerSet makeprg=echo\ [%:S]\ &&\ mmixview\ check\ %:S
-CompilerSet errorformat=%-P[%f],%Eline\ %l:\ %n\ %m\ from\ line\ %.%#,%Eline\ %l:\ %n\ %m,%Z\ \ \ \ %p^,%-C%.%#,%-G%.%#
+" Each fault and each warning is a line, in the form of the GNU coding standards.
+CompilerSet makeprg=mmixview\ check\ --gnu\ %:S
+CompilerSet errorformat=%f:%l:%c:\ %trror:\ %n\ %m,%f:%l:\ %trror:\ %n\ %m,%f:%l:%c:\ %tarning:\ %n\ %m,%-G%.%#
 
 let &cpo = s:cpo_save
 unlet s:cpo_save
