@@ -16,10 +16,10 @@ use Rattle.mx_explain.specs.declared.row.Topic.TheVariants.{Source, Object, Stop
 use Rattle.mx_explain.specs.Topics.{Row, number_of, name_of, topic_name}
 use Rattle.mx_explain.specs.Facts.{value_of}
 use Rattle.mx_explain.specs.Matching.{fits, found, is_number}
-use Rattle.face_explain.specs.Tables.{table, fault_rows, operation_rows, symbol_rows}
-use Rattle.mx_explain.specs.Parts.{source_rows, object_rows, stop_rows, kind_rows, inside_rows}
-use Rattle.mx_operations.specs.Parts.{number_rows, choice_rows, memory_rows, float_rows, pseudo_rows}
-use Rattle.face_explain.specs.Parts.{register_rows, other_rows}
+use Rattle.face_explain.specs.Tables.{table, sections}
+use Rattle.mx_explain.specs.Parts.{line_rows, expression_rows, statement_rows, place_rows, source_rows, object_rows, trie_rows, loading_rows, stop_rows, trap_rows, kind_rows, inside_rows}
+use Rattle.mx_operations.specs.Parts.{arithmetic_rows, comparison_rows, bit_rows, byte_rows, wyde_rows, branch_rows, set_rows, load_rows, store_rows, hint_rows, jump_rows, system_rows, float_rows, more_float_rows}
+use Rattle.face_explain.specs.Parts.{pseudo_rows, register_rows, more_register_rows, event_rows, file_rows, service_rows, other_rows}
 use Rattle.face_explain.specs.Known.{is_fault, is_kind, is_operation, is_symbol, is_fault_topic, is_kind_topic, is_operation_topic, is_symbol_topic, explains, is_known}
 
 -- ---- a row is found by its number and by its name
@@ -121,11 +121,11 @@ kind-covered : ℕ → Bool
 kind-covered n = no_bytes (usage_name_of n) || has (is_kind n)
 
 faults-below : below fault-covered 141 ≡ true
-unfolding table fault_rows operation_rows symbol_rows source_rows object_rows stop_rows kind_rows inside_rows number_rows choice_rows memory_rows float_rows pseudo_rows register_rows other_rows
+unfolding table sections line_rows expression_rows statement_rows place_rows source_rows object_rows trie_rows loading_rows stop_rows trap_rows kind_rows inside_rows arithmetic_rows comparison_rows bit_rows byte_rows wyde_rows branch_rows set_rows load_rows store_rows hint_rows jump_rows system_rows float_rows more_float_rows pseudo_rows register_rows more_register_rows event_rows file_rows service_rows other_rows
 faults-below = refl
 
 kinds-below : below kind-covered 11 ≡ true
-unfolding table fault_rows operation_rows symbol_rows source_rows object_rows stop_rows kind_rows inside_rows number_rows choice_rows memory_rows float_rows pseudo_rows register_rows other_rows
+unfolding table sections line_rows expression_rows statement_rows place_rows source_rows object_rows trie_rows loading_rows stop_rows trap_rows kind_rows inside_rows arithmetic_rows comparison_rows bit_rows byte_rows wyde_rows branch_rows set_rows load_rows store_rows hint_rows jump_rows system_rows float_rows more_float_rows pseudo_rows register_rows more_register_rows event_rows file_rows service_rows other_rows
 kinds-below = refl
 
 no-fault : (n : ℕ) → 141 ≤ n → fault_name_of n ≡ []
@@ -165,11 +165,11 @@ listed p name (entry ∷ entries) v all e =
     listed-step p name entry.0 entry.1 (first_of name entries) (bytes_eq entry.0 name) refl (and_parts (p entry.0) _ all).0 v (λ more. listed p name entries v (and_parts (p entry.0) _ all).1 more) e
 
 operations-covered : list_all (λ (e : List ℕ × Op). has (is_operation e.0)) operations ≡ true
-unfolding table fault_rows operation_rows symbol_rows source_rows object_rows stop_rows kind_rows inside_rows number_rows choice_rows memory_rows float_rows pseudo_rows register_rows other_rows operations opcode_names opcode_rows pseudo_operations chosen_operations
+unfolding table sections line_rows expression_rows statement_rows place_rows source_rows object_rows trie_rows loading_rows stop_rows trap_rows kind_rows inside_rows arithmetic_rows comparison_rows bit_rows byte_rows wyde_rows branch_rows set_rows load_rows store_rows hint_rows jump_rows system_rows float_rows more_float_rows pseudo_rows register_rows more_register_rows event_rows file_rows service_rows other_rows operations opcode_names opcode_rows pseudo_operations chosen_operations
 operations-covered = refl
 
 symbols-covered : list_all (λ (e : List ℕ × ℕ). has (is_symbol e.0)) predefined_names ≡ true
-unfolding table fault_rows operation_rows symbol_rows source_rows object_rows stop_rows kind_rows inside_rows number_rows choice_rows memory_rows float_rows pseudo_rows register_rows other_rows predefined_names special_registers
+unfolding table sections line_rows expression_rows statement_rows place_rows source_rows object_rows trie_rows loading_rows stop_rows trap_rows kind_rows inside_rows arithmetic_rows comparison_rows bit_rows byte_rows wyde_rows branch_rows set_rows load_rows store_rows hint_rows jump_rows system_rows float_rows more_float_rows pseudo_rows register_rows more_register_rows event_rows file_rows service_rows other_rows predefined_names special_registers
 symbols-covered = refl
 
 operation-there : (name : List ℕ) (op : Op) → operation_of name ≡ Some op → has (is_operation name) ≡ true
@@ -201,7 +201,7 @@ pub symbols-explained : (name : List ℕ) (v : ℕ) → value_of name ≡ Some v
 symbols-explained name v e = by name (is_symbol name) (λ row at. by-name name row (symbol-name name row at)) (symbol-there name v e)
 
 pub all-known : list_all is_known table ≡ true
-unfolding table fault_rows operation_rows symbol_rows source_rows object_rows stop_rows kind_rows inside_rows number_rows choice_rows memory_rows float_rows pseudo_rows register_rows other_rows operation_of operations opcode_names opcode_rows pseudo_operations chosen_operations predefined_value predefined_names special_registers
+unfolding table sections line_rows expression_rows statement_rows place_rows source_rows object_rows trie_rows loading_rows stop_rows trap_rows kind_rows inside_rows arithmetic_rows comparison_rows bit_rows byte_rows wyde_rows branch_rows set_rows load_rows store_rows hint_rows jump_rows system_rows float_rows more_float_rows pseudo_rows register_rows more_register_rows event_rows file_rows service_rows other_rows operation_of operations opcode_names opcode_rows pseudo_operations chosen_operations predefined_value predefined_names special_registers
 all-known = refl
 
 pub ruleset covered = (faults-explained, names-explained, kinds-explained, kind-names-explained, operations-explained, symbols-explained)

@@ -1,5 +1,6 @@
 -- The first name that is near, row by row and table by table.
 use Rattle.std.proofs.Common.{◌≡◌, ◌≢◌, ℕ, List, [], ◌∷◌, ◌++◌, length, map, refl, sym, ap, ◌∙◌, rules}
+use Rattle.std.specs.List.{flat_map}
 use Rattle.mx_explain.specs.Topics.{Row}
 use Rattle.face_explain.specs.Answers.{offered, or_name, near_name}
 
@@ -29,6 +30,23 @@ unfolding near_name
 near-next g word [] x xs e none = rw (← e) refl
 near-next g word (b ∷ bs) x xs e none = absurd (search rules)
 
-pub ruleset firsts = (near-append)
+-- ---- section by section
+
+pub sections-none : {A : Type 0} (h : A → List Row) (word : List ℕ) (xs : List A) → length xs ≡ 0 → near_name word (flat_map h xs) ≡ []
+unfolding near_name
+sections-none h word [] none = refl
+sections-none h word (x ∷ xs) none = absurd (search rules)
+
+pub sections-found : {A : Type 0} (h : A → List Row) (word name : List ℕ) (x : A) (xs : List A) → name ≡ near_name word (h x) → length name ≢ 0 →
+    near_name word (flat_map h (x ∷ xs)) ≡ name
+sections-found h word [] x xs e some = absurd (some refl)
+sections-found h word (b ∷ bs) x xs e some = near-append word (h x) (flat_map h xs) ∙ ap (λ n. or_name n (near_name word (flat_map h xs))) (sym e)
+
+pub sections-next : {A : Type 0} (h : A → List Row) (word name : List ℕ) (x : A) (xs : List A) → name ≡ near_name word (h x) → length name ≡ 0 →
+    near_name word (flat_map h (x ∷ xs)) ≡ near_name word (flat_map h xs)
+sections-next h word [] x xs e none = near-append word (h x) (flat_map h xs) ∙ ap (λ n. or_name n (near_name word (flat_map h xs))) (sym e)
+sections-next h word (b ∷ bs) x xs e none = absurd (search rules)
+
+pub ruleset sections = (sections-none, sections-found, sections-next)
 
 pub ruleset turns = (near-none, near-found, near-next)

@@ -7,10 +7,10 @@ use Rattle.std.specs.List.{flat_map}
 use Rattle.mx_explain.specs.Topics.{Row}
 use Rattle.mx_explain.specs.Matching.{fits, found}
 use Rattle.mx_explain.specs.Texts.{row_text, head, front, sentences, part, back, label, kind_of}
-use Rattle.face_explain.specs.Answers.{fitting, texts, explanation, answer, answer_with, unknown_text}
+use Rattle.face_explain.specs.Answers.{fitting, section_fitting, texts, explanation, answer, answer_with, unknown_text}
 use Rattle.face_explain.specs.declared.answer.Answer.{Answer}
 use Rattle.face_explain.specs.declared.answer.Answer.TheVariants.{Explained, Unknown}
-use Rattle.face_explain.specs.Tables.{table, fault_rows, operation_rows, symbol_rows}
+use Rattle.face_explain.specs.Tables.{table, part, sections}
 
 -- ---- the texts of the rows that are found
 
@@ -22,20 +22,19 @@ pub fitting-texts : (word : List ℕ) (rows : List Row) → flat_map (fitting wo
 fitting-texts word [] = refl
 fitting-texts word (row ∷ rows) = chosen word row rows (fits word row) refl (fitting-texts word rows)
 
-pub whole-text : (word : List ℕ) → (flat_map (fitting word) fault_rows ++ flat_map (fitting word) operation_rows) ++ flat_map (fitting word) symbol_rows ≡ explanation word
+nested : {A : Type 0} (f : Row → List ℕ) (h : A → List Row) (xs : List A) → flat_map (λ x. flat_map f (h x)) xs ≡ flat_map f (flat_map h xs)
+nested f h [] = refl
+nested f h (x ∷ xs) = ap (λ t. flat_map f (h x) ++ t) (nested f h xs) ∙ sym (flat_map-append f (h x) (flat_map h xs))
+
+pub whole-text : (word : List ℕ) → flat_map (section_fitting word) sections ≡ explanation word
 unfolding explanation table
-whole-text word =
-    let f = fitting word in
-    ap (λ t. t ++ flat_map f symbol_rows) (sym (flat_map-append f fault_rows operation_rows)) ∙ sym (flat_map-append f (fault_rows ++ operation_rows) symbol_rows)
-    ∙ fitting-texts word ((fault_rows ++ operation_rows) ++ symbol_rows)
+whole-text word = nested (fitting word) (λ s. (part s).rows) sections ∙ fitting-texts word (flat_map (λ s. (part s).rows) sections)
 
 -- what is added entry by entry
 pub flat-mapped : {A B : Type 0} (f : B → List ℕ) (g : A → B) (xs : List A) → flat_map (λ x. f (g x)) xs ≡ flat_map f (map g xs)
 flat-mapped f g xs = sym (flat_map-map f g xs)
 
 pub ruleset mapped = (flat-mapped)
-
-pub ruleset parts = (flat_map-append, append_assoc)
 
 pub ruleset whole = (whole-text)
 

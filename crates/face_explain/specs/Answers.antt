@@ -5,13 +5,18 @@ use Rattle.mx_explain.specs.Topics.{Row, name_of}
 use Rattle.mx_explain.specs.Matching.{fits, found}
 use Rattle.mx_explain.specs.Texts.{row_text}
 use Rattle.face_explain.specs.Near.{is_near}
-use Rattle.face_explain.specs.Tables.{table, operation_rows, symbol_rows, fault_rows}
+use Rattle.face_explain.specs.Tables.{table, part}
+use Rattle.face_explain.specs.declared.sections.Section.{Section}
 use Rattle.face_explain.specs.declared.answer.Answer.{Answer}
 use Rattle.face_explain.specs.declared.answer.Answer.TheVariants.{Explained, Unknown}
 
 -- the text of a row, if a word is about it
 abbrev pub fitting : List ℕ → Row → List ℕ
 fitting word row = if fits word row then row_text row else []
+
+-- the texts of the rows of a section that a word is about
+abbrev pub section_fitting : List ℕ → Section → List ℕ
+section_fitting word s = flat_map (fitting word) (part s).rows
 
 -- the texts of rows
 abbrev pub texts : List Row → List ℕ
@@ -34,9 +39,9 @@ unfoldable pub near_name : List ℕ → List Row → List ℕ
 near_name word [] = []
 near_name word (row ∷ rows) = or_name (offered word row) (near_name word rows)
 
--- among those of operations, of symbols, and then of the others
+-- among those of the whole table
 unfoldable pub nearest : List ℕ → List ℕ
-nearest word = near_name word (operation_rows ++ symbol_rows ++ fault_rows)
+nearest word = near_name word table
 
 -- the nearest word, if there is one, or where to find all
 abbrev pub advice : List ℕ → List ℕ

@@ -4,14 +4,10 @@ ghost use Rattle.std.specs.Prelude.{◌≡◌, ◌++◌, IfOk, OnOk, map};
 ghost use Rattle.std.specs.List.{flat_map};
 ghost use Rattle.mx_explain.specs.Topics.{row, seen};
 ghost use Rattle.face_explain.specs.Answers as spec;
-ghost use Rattle.face_explain.specs.Tables as tables;
 
 use crate::nearest::unknown_text;
-use crate::parts::{other_rows, register_rows};
-use mx_explain::{
-    Entry, Row, add_row, fits, inside_rows, kind_rows, object_rows, row_of, source_rows, stop_rows,
-};
-use mx_operations::{choice_rows, float_rows, memory_rows, number_rows, pseudo_rows};
+use crate::sections::{Section, all, part};
+use mx_explain::{Entry, Row, add_row, fits, row_of};
 use mx_word::{Bytes, NoMemory};
 use std::alloc::Global;
 
@@ -43,48 +39,40 @@ fn add_found(alloc: Global, text: &mut Bytes, word: &str, entries: &[Entry]) -> 
     Ok(())
 }
 
-/// Adds the texts of the faults, reasons and kinds that a word is about.
-#[tactic(auto, using(crate::proofs::WholeTable::parts), unfolding(crate::specs::Tables::fault_rows))]
-fn add_faults(alloc: Global, text: &mut Bytes, word: &str) -> Result<(), NoMemory>
-    ensures { OnOk result (text.new ≡ text.old ++ flat_map (spec.fitting word.now) tables.fault_rows) }
+/// Adds the texts of the rows of a section that a word is about.
+fn add_section(
+    alloc: Global,
+    text: &mut Bytes,
+    word: &str,
+    section: Section,
+) -> Result<(), NoMemory>
+    ensures { OnOk result (text.new ≡ text.old ++ spec.section_fitting word.now section) }
 {
-    add_found(alloc, text, word, source_rows())?;
-    add_found(alloc, text, word, object_rows())?;
-    add_found(alloc, text, word, stop_rows())?;
-    add_found(alloc, text, word, kind_rows())?;
-    add_found(alloc, text, word, inside_rows())
+    add_found(alloc, text, word, part(section).entries)
 }
 
-/// Adds the texts of the operations that a word is about.
-#[tactic(auto, using(crate::proofs::WholeTable::parts), unfolding(crate::specs::Tables::operation_rows))]
-fn add_operations(alloc: Global, text: &mut Bytes, word: &str) -> Result<(), NoMemory>
-    ensures { OnOk result (text.new ≡ text.old ++ flat_map (spec.fitting word.now) tables.operation_rows) }
+/// Adds the texts of the rows of sections that a word is about.
+fn add_sections(
+    alloc: Global,
+    text: &mut Bytes,
+    word: &str,
+    sections: &[Section],
+) -> Result<(), NoMemory>
+    ensures { OnOk result (text.new ≡ text.old ++ flat_map (spec.section_fitting word.now) sections.now) }
 {
-    add_found(alloc, text, word, number_rows())?;
-    add_found(alloc, text, word, choice_rows())?;
-    add_found(alloc, text, word, memory_rows())?;
-    add_found(alloc, text, word, float_rows())?;
-    add_found(alloc, text, word, pseudo_rows())
-}
-
-/// Adds the texts of the predefined symbols that a word is about.
-#[tactic(auto, using(crate::proofs::WholeTable::parts), unfolding(crate::specs::Tables::symbol_rows))]
-fn add_symbols(alloc: Global, text: &mut Bytes, word: &str) -> Result<(), NoMemory>
-    ensures { OnOk result (text.new ≡ text.old ++ flat_map (spec.fitting word.now) tables.symbol_rows) }
-{
-    add_found(alloc, text, word, register_rows())?;
-    add_found(alloc, text, word, other_rows())
+    for section in sections {
+        add_section(alloc, text, word, *section)?;
+    }
+    Ok(())
 }
 
 /// The texts of all rows that a word is about.
-#[tactic(auto, using(crate::proofs::WholeTable::whole), unfolding(crate::specs::Tables::table))]
+#[tactic(auto, using(crate::proofs::WholeTable::whole))]
 fn explanation(alloc: Global, word: &str) -> Result<Bytes, NoMemory>
     ensures { IfOk result (λ text. text ≡ spec.explanation word.now) }
 {
     let mut text = Bytes::new(alloc);
-    add_faults(alloc, &mut text, word)?;
-    add_operations(alloc, &mut text, word)?;
-    add_symbols(alloc, &mut text, word)?;
+    add_sections(alloc, &mut text, word, all())?;
     Ok(text)
 }
 

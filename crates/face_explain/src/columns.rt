@@ -1,14 +1,13 @@
 //! A list of all that is explained, in columns.
 
 ghost use Rattle.std.specs.Prelude.{◌≡◌, ◌++◌, ◌-◌, IfOk, OnOk, length, map, replicate};
+ghost use Rattle.std.specs.List.{flat_map};
 ghost use Rattle.mx_explain.specs.Topics.{row, seen};
 ghost use Rattle.face_explain.specs.Lists as spec;
+ghost use Rattle.face_explain.specs.Tables as tables;
 
-use crate::parts::{other_rows, register_rows};
-use mx_explain::{
-    Entry, Row, add_label, inside_rows, kind_rows, object_rows, row_of, source_rows, stop_rows,
-};
-use mx_operations::{choice_rows, float_rows, memory_rows, number_rows, pseudo_rows};
+use crate::sections::{Part, Section, all, part};
+use mx_explain::{Entry, Row, add_label, row_of};
 use mx_word::{Bytes, NoMemory};
 use std::alloc::Global;
 
@@ -16,7 +15,7 @@ use std::alloc::Global;
 fn add_blanks(text: &mut Bytes, count: usize) -> Result<(), NoMemory>
     ensures { OnOk result (text.new ≡ text.old ++ replicate count 32) }
 {
-    for _ in 0..count {
+    for _at in 0..count {
         text.push(b' ')?;
     }
     Ok(())
@@ -73,71 +72,24 @@ fn add_cells(text: &mut Bytes, entries: &[Entry], width: usize, most: usize) -> 
     Ok(())
 }
 
-/// Adds a part of the list.
-#[tactic(auto, unfolding(crate::specs::Lists::part))]
-fn add_part(
-    text: &mut Bytes,
-    title: &str,
-    entries: &[Entry],
-    width: usize,
-    most: usize,
-) -> Result<(), NoMemory>
-    ensures { OnOk result (text.new ≡ text.old ++ spec.part title.now (map (λ e. row e.0 e.1.now e.2.now e.3.now e.4.now) entries.now) width most) }
+/// Adds the list of a section.
+#[tactic(auto, unfolding(crate::specs::Lists::part_text))]
+fn add_part(text: &mut Bytes, part: Part) -> Result<(), NoMemory>
+    ensures { OnOk result (text.new ≡ text.old ++ spec.part_text (tables.seen_part part)) }
 {
-    text.extend(title.as_bytes())?;
+    text.extend(part.title.as_bytes())?;
     text.extend(b"\n  ")?;
-    add_cells(text, entries, width, most)
+    add_cells(text, part.entries, part.width, part.most)
 }
 
-/// Adds the part of faults, reasons and kinds.
-#[tactic(auto, unfolding(crate::specs::Lists::fault_list))]
-fn add_faults(text: &mut Bytes) -> Result<(), NoMemory>
-    ensures { OnOk result (text.new ≡ text.old ++ spec.fault_list) }
+/// Adds the lists of sections.
+fn add_sections(text: &mut Bytes, sections: &[Section]) -> Result<(), NoMemory>
+    ensures { OnOk result (text.new ≡ text.old ++ flat_map (λ s. spec.part_text (tables.part s)) sections.now) }
 {
-    add_part(text, "Faults of a source", source_rows(), 24, 2)?;
-    add_part(text, "Faults of an object", object_rows(), 24, 2)?;
-    add_part(text, "Reasons of a stop", stop_rows(), 24, 2)?;
-    add_part(text, "Kinds of faulty words", kind_rows(), 24, 2)?;
-    add_part(text, "Numbers inside the program", inside_rows(), 24, 2)
-}
-
-/// Adds the part of operations.
-#[tactic(auto, unfolding(crate::specs::Lists::operation_list))]
-fn add_operations(text: &mut Bytes) -> Result<(), NoMemory>
-    ensures { OnOk result (text.new ≡ text.old ++ spec.operation_list) }
-{
-    add_part(
-        text,
-        "Instructions on numbers and bits",
-        number_rows(),
-        8,
-        8,
-    )?;
-    add_part(text, "Instructions that choose", choice_rows(), 8, 8)?;
-    add_part(
-        text,
-        "Instructions on memory and control",
-        memory_rows(),
-        8,
-        8,
-    )?;
-    add_part(
-        text,
-        "Instructions that are not performed",
-        float_rows(),
-        8,
-        8,
-    )?;
-    add_part(text, "Pseudo-operations", pseudo_rows(), 8, 8)
-}
-
-/// Adds the part of predefined symbols.
-#[tactic(auto, unfolding(crate::specs::Lists::symbol_list))]
-fn add_symbols(text: &mut Bytes) -> Result<(), NoMemory>
-    ensures { OnOk result (text.new ≡ text.old ++ spec.symbol_list) }
-{
-    add_part(text, "Special registers", register_rows(), 8, 8)?;
-    add_part(text, "Other predefined symbols", other_rows(), 18, 3)
+    for section in sections {
+        add_part(text, part(*section))?;
+    }
+    Ok(())
 }
 
 /// A list of all that is explained: each row of the table by its number and its name, in columns below titles. It refuses only
@@ -147,8 +99,6 @@ pub fn list(alloc: Global) -> Result<Bytes, NoMemory>
     ensures { IfOk result (λ text. text ≡ spec.whole_list) }
 {
     let mut text = Bytes::new(alloc);
-    add_faults(&mut text)?;
-    add_operations(&mut text)?;
-    add_symbols(&mut text)?;
+    add_sections(&mut text, all())?;
     Ok(text)
 }

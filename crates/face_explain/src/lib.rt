@@ -7,6 +7,9 @@ mod laws;
 mod near;
 mod nearest;
 mod parts;
+mod pseudo;
+mod registers;
+mod sections;
 mod symbols;
 
 pub use answer::{Answer, explain};

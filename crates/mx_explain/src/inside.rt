@@ -2,7 +2,7 @@
 
 use crate::row::{Entry, Topic};
 
-/// Numbers of parts of the program, which no message has.
+/// Numbers inside the program.
 pub(crate) static INSIDE: [Entry; 4] = [
     (
         Topic::Inside(100),

@@ -2,7 +2,7 @@
 
 use crate::row::{Entry, Topic};
 
-/// The kinds of faulty words, in their order.
+/// Kinds of faulty words.
 pub(crate) static KINDS: [Entry; 9] = [
     (
         Topic::Kind(1),

@@ -14,6 +14,9 @@ mod stops;
 mod text;
 
 pub use matching::fits;
-pub use parts::{inside_rows, kind_rows, object_rows, source_rows, stop_rows};
+pub use parts::{
+    expression_rows, inside_rows, kind_rows, line_rows, loading_rows, object_rows, place_rows,
+    source_rows, statement_rows, stop_rows, trap_rows, trie_rows,
+};
 pub use row::{Entry, Row, Topic, name_of, row_of};
 pub use text::{add_label, add_row};

@@ -2,8 +2,8 @@
 
 use crate::row::{Entry, Topic};
 
-/// The faults of an object, in the order of their numbers.
-pub(crate) static OBJECTS: [Entry; 15] = [
+/// Faults of an object.
+pub(crate) static OBJECTS: [Entry; 6] = [
     (
         Topic::Object(60),
         "",
@@ -48,6 +48,10 @@ pub(crate) static OBJECTS: [Entry; 15] = [
         "a file of 70 MB",
         "it is too large for this tool",
     ),
+];
+
+/// Faults of the symbols of an object.
+pub(crate) static TRIES: [Entry; 6] = [
     (
         Topic::Object(70),
         "",
@@ -92,6 +96,10 @@ pub(crate) static OBJECTS: [Entry; 15] = [
         "98090101 00000000 980a00ff 00000000 00000000 980b0000 013a007f 7f7f7fff 980c0002",
         "make it again by asm",
     ),
+];
+
+/// Faults of an object that is loaded.
+pub(crate) static LOADING: [Entry; 3] = [
     (
         Topic::Object(90),
         "",

@@ -2,8 +2,8 @@
 
 use crate::row::{Entry, Topic};
 
-/// The faults of a source, in the order of their numbers.
-pub(crate) static SOURCES: [Entry; 43] = [
+/// Faults of a line.
+pub(crate) static LINES: [Entry; 7] = [
     (
         Topic::Source(1),
         "",
@@ -63,6 +63,10 @@ pub(crate) static SOURCES: [Entry; 43] = [
         "Main",
         "Main IS @",
     ),
+];
+
+/// Faults of an expression.
+pub(crate) static EXPRESSIONS: [Entry; 11] = [
     (
         Topic::Source(10),
         "",
@@ -153,6 +157,10 @@ pub(crate) static SOURCES: [Entry; 43] = [
         "x IS $256",
         "x IS $255",
     ),
+];
+
+/// Faults of a statement.
+pub(crate) static STATEMENTS: [Entry; 8] = [
     (
         Topic::Source(30),
         "",
@@ -220,6 +228,10 @@ pub(crate) static SOURCES: [Entry; 43] = [
         " ADD $0,$0,1000",
         " SET $1,1000; ADD $0,$0,$1",
     ),
+];
+
+/// Faults of addresses and labels.
+pub(crate) static PLACES: [Entry; 6] = [
     (
         Topic::Source(44),
         "",
@@ -272,6 +284,10 @@ pub(crate) static SOURCES: [Entry; 43] = [
         " LOC Stack_Segment; BYTE 1",
         " LOC Data_Segment; BYTE 1",
     ),
+];
+
+/// Faults of a source as a whole.
+pub(crate) static SOURCES: [Entry; 11] = [
     (
         Topic::Source(80),
         "",

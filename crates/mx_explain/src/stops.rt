@@ -2,8 +2,8 @@
 
 use crate::row::{Entry, Topic};
 
-/// The reasons of a stop, in the order of their numbers.
-pub(crate) static STOPS: [Entry; 14] = [
+/// Reasons of a stop.
+pub(crate) static STOPS: [Entry; 9] = [
     (
         Topic::Stop(110),
         "",
@@ -83,6 +83,10 @@ pub(crate) static STOPS: [Entry; 14] = [
         "a loop that stores without end",
         "let the loop end, or store closer",
     ),
+];
+
+/// Reasons of a stop of RESUME or TRAP.
+pub(crate) static TRAPS: [Entry; 5] = [
     (
         Topic::Stop(120),
         "",

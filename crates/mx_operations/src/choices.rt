@@ -2,8 +2,8 @@
 
 use mx_explain::{Entry, Topic};
 
-/// Branches, and instructions that set a register by a condition.
-pub(crate) static CHOICES: [Entry; 32] = [
+/// Branches.
+pub(crate) static BRANCHES: [Entry; 16] = [
     (
         Topic::Operation,
         "BN",
@@ -148,6 +148,10 @@ pub(crate) static CHOICES: [Entry; 32] = [
         " PBEV $0,@-4",
         "",
     ),
+];
+
+/// Registers that are set by a condition.
+pub(crate) static SETS: [Entry; 16] = [
     (
         Topic::Operation,
         "CSN",

@@ -3,7 +3,7 @@
 use mx_explain::{Entry, Topic};
 
 /// Instructions on floating-point numbers.
-pub(crate) static FLOATS: [Entry; 21] = [
+pub(crate) static FLOATS: [Entry; 11] = [
     (
         Topic::Unperformed,
         "FCMP",
@@ -101,6 +101,10 @@ pub(crate) static FLOATS: [Entry; 21] = [
         " SFLOTU $1,$2",
         "",
     ),
+];
+
+/// More instructions on floating-point numbers.
+pub(crate) static MORE_FLOATS: [Entry; 10] = [
     (
         Topic::Unperformed,
         "FMUL",

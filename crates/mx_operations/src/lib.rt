@@ -1,11 +1,15 @@
-//! The operations of MMIXAL, each explained in a row.
+//! The instructions of MMIXAL, each explained in a row.
 #![tactic(auto)]
 
+mod bits;
 mod choices;
+mod control;
 mod floats;
 mod memory;
 mod numbers;
 mod parts;
-mod pseudo;
 
-pub use parts::{choice_rows, float_rows, memory_rows, number_rows, pseudo_rows};
+pub use parts::{
+    arithmetic_rows, bit_rows, branch_rows, byte_rows, comparison_rows, float_rows, hint_rows,
+    jump_rows, load_rows, more_float_rows, set_rows, store_rows, system_rows, wyde_rows,
+};

@@ -134,10 +134,10 @@ fn unknown_words(rt: HostRuntime) {
 
 /// Lines of the list: columns of three widths, and the last line of a part.
 static LISTED: [&str; 4] = [
-    "Faults of a source\n  1 TooLong               2 BadLabel              3 BadLocal\n",
+    "Faults of a line\n  1 TooLong               2 BadLabel              3 BadLocal\n",
     "Pseudo-operations\n  IS      LOC     PREFIX  GREG    LOCAL   BYTE    WYDE    TETRA   OCTA\n",
     "Special registers\n  rB      rD      rE      rH      rJ      rM      rR      rBB     rC\n",
-    "  ROUND_UP          ROUND_DOWN        ROUND_NEAR        Inf\n",
+    "  ROUND_OFF         ROUND_UP          ROUND_DOWN        ROUND_NEAR\n  Inf\n",
 ];
 
 #[test]

@@ -2,7 +2,7 @@
 
 use mx_explain::{Entry, Topic};
 
-/// The pseudo-operations.
+/// Pseudo-operations.
 pub(crate) static PSEUDO: [Entry; 9] = [
     (
         Topic::Operation,
