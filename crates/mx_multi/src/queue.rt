@@ -79,7 +79,7 @@ pub(crate) fn leave_out_halted(multi: &Multi, queue: &mut Queue)
 }
 
 /// Moves the names of a part that are those of processors which have not halted down to a place: where the next one goes.
-/// It does not branch on a name, so names in any order take the same time.
+/// No step of it depends on a test, so names in any order take the same time.
 fn pack(multi: &Multi, names: &mut [u8], from: usize, to: usize, place: usize) -> usize
     requires names { AreNames (processor_count multi.now) (drop from names.now) }
     requires order { place ≤ from }
