@@ -1,2 +1,3 @@
 pub mod SourceJson
 pub mod SourcePages
+pub mod ViewPages

@@ -1,18 +1,22 @@
-//! The lines of an address.
+//! The lines or the tetra of an address.
 
 ghost use Rattle.std.specs.Prelude.{◌≡◌, ◌++◌, IfOk, OnOk, true};
-ghost use Rattle.mx_face.specs.Pages.{FaultsOnlyBy, IsOfView, page_put, shown_file};
+ghost use Rattle.mx_face.specs.Pages.{FaultsOnlyBy, IsOfView, page_put};
 ghost use Rattle.mx_host.specs.Keeping.{Answers};
 ghost use Rattle.mx_view.specs.Listing.{lines_listed, refusal_in};
 ghost use Rattle.mx_view.specs.declared.cells.Wanted.TheVariants.{Holding};
 ghost use Rattle.face_source.specs.SourceJson.{holding_json};
 ghost use Rattle.face_source.specs.SourcePages as spec;
+ghost use Rattle.face_source.specs.ViewPages.{shown_view, where_view};
 
 use crate::json::{add_at, add_lines};
-use mx_face::{Page, add_refusal, outcome_of, put_page, read_source, tell};
+use crate::object::where_page_of;
+use crate::reading::read_view;
+use mx_face::{Page, add_refusal, outcome_of, put_page, tell};
 use mx_files::Refusal;
 use mx_host::Host;
 use mx_json::add_between;
+use mx_object::is_object;
 use mx_outcome::{Outcome, message};
 use mx_text::octa_hex;
 use mx_view::{Listed, ListedLine, Wanted, lines_holding, list_source};
@@ -147,26 +151,39 @@ fn where_page(alloc: Global, is_json: bool, address: u64, source: &[u8]) -> Resu
     })
 }
 
-/// Shows the lines of an address.
+/// What `where` has to say of a source or an object.
+#[tactic(auto, unfolding(crate::specs::ViewPages::where_view))]
+fn where_view(alloc: Global, is_json: bool, address: u64, bytes: &[u8]) -> Result<Page, NoMemory>
+    ensures page { IfOk result (λ page. page ≡ where_view is_json address bytes.now) }
+    ensures view { IfOk result (λ page. IsOfView page.outcome) }
+{
+    if is_object(bytes) {
+        return where_page_of(alloc, is_json, address, bytes);
+    }
+    where_page(alloc, is_json, address, bytes)
+}
+
+/// Shows the lines or the tetra of an address.
 fn show_lines<H: Host>(
     alloc: Global,
     host: &mut H,
     is_json: bool,
     address: u64,
-    source: &[u8],
+    bytes: &[u8],
 ) -> Outcome
     ensures told { Answers (H.told host.old) (H.told host.new) Outcome.OutOfMemory result
-        (λ m. page_put (spec.where_page is_json address source.now) m) }
+        (λ m. page_put (where_view is_json address bytes.now) m) }
     ensures causes { FaultsOnlyBy H.told H.faults host.old host.new result }
 {
-    match where_page(alloc, is_json, address, source) {
+    match where_view(alloc, is_json, address, bytes) {
         Ok(page) => put_page(alloc, host, &page),
         Err(_) => tell(alloc, host, Outcome::OutOfMemory),
     }
 }
 
-/// Shows which lines of the source in the file of this name load the tetra that holds an address, as a text or as a line of JSON, and
-/// answers the outcome, as `list` does. That no line has the address is told on standard error, and is no fault.
+/// Shows which lines of the source in the file of this name load the tetra that holds an address, as a text or as a line of JSON; or
+/// the tetra, if there is an object in it. It answers the outcome, as `list` does. That no line or tetra has the address is told on
+/// standard error, and is no fault.
 pub fn find_lines<H: Host>(
     alloc: Global,
     host: &mut H,
@@ -175,11 +192,11 @@ pub fn find_lines<H: Host>(
     name: &[u8],
 ) -> Outcome
     ensures told { Answers (H.told host.old) (H.told host.new) Outcome.OutOfMemory result
-        (λ m. shown_file (spec.where_page is_json address) name.now m) }
+        (λ m. shown_view (where_view is_json address) name.now m) }
     ensures causes { FaultsOnlyBy H.told H.faults host.old host.new result }
 {
-    match read_source(alloc, host, name) {
-        Ok(source) => show_lines(alloc, host, is_json, address, source.as_slice()),
+    match read_view(alloc, host, name) {
+        Ok(bytes) => show_lines(alloc, host, is_json, address, bytes.as_slice()),
         Err(outcome) => outcome,
     }
 }

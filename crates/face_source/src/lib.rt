@@ -1,10 +1,12 @@
-//! The listing of a source, and the lines of an address, as texts and as JSON.
+//! The listing of a source or an object, and the lines or the tetra of an address, as texts; those of a source as JSON, too.
 #![tactic(auto)]
 
 mod address;
 mod holding;
 mod json;
 mod listing;
+mod object;
+mod reading;
 
 pub use address::{read_address, refuse_address};
 pub use holding::find_lines;

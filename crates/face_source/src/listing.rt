@@ -1,16 +1,20 @@
-//! The listing of a source.
+//! The listing of a source or an object.
 
 ghost use Rattle.std.specs.Prelude.{◌≡◌, ◌++◌, IfOk, OnOk, true};
-ghost use Rattle.mx_face.specs.Pages.{FaultsOnlyBy, IsOfView, page_put, shown_file};
+ghost use Rattle.mx_face.specs.Pages.{FaultsOnlyBy, IsOfView, page_put};
 ghost use Rattle.mx_host.specs.Keeping.{Answers};
 ghost use Rattle.mx_view.specs.Listing.{refusal_in};
 ghost use Rattle.face_source.specs.SourceJson.{accepted_name, listing_json};
 ghost use Rattle.face_source.specs.SourcePages as spec;
+ghost use Rattle.face_source.specs.ViewPages.{list_view, shown_view};
 
 use crate::json::{add_lines, add_symbols};
-use mx_face::{Page, add_refusal, outcome_of, put_page, read_source, tell};
+use crate::object::list_page_of;
+use crate::reading::read_view;
+use mx_face::{Page, add_refusal, outcome_of, put_page, tell};
 use mx_host::Host;
 use mx_json::add_flag;
+use mx_object::is_object;
 use mx_outcome::{Outcome, message};
 use mx_view::{Listed, Sheet, Wanted, list_source, listing};
 use mx_word::{Bytes, NoMemory};
@@ -79,27 +83,40 @@ fn list_page(alloc: Global, is_json: bool, source: &[u8]) -> Result<Page, NoMemo
     })
 }
 
-/// Shows the listing of a source.
-fn show_listing<H: Host>(alloc: Global, host: &mut H, is_json: bool, source: &[u8]) -> Outcome
+/// What `list` has to say of a source or an object.
+#[tactic(auto, unfolding(crate::specs::ViewPages::list_view))]
+fn list_view(alloc: Global, is_json: bool, bytes: &[u8]) -> Result<Page, NoMemory>
+    ensures page { IfOk result (λ page. page ≡ list_view is_json bytes.now) }
+    ensures view { IfOk result (λ page. IsOfView page.outcome) }
+{
+    if is_object(bytes) {
+        return list_page_of(alloc, is_json, bytes);
+    }
+    list_page(alloc, is_json, bytes)
+}
+
+/// Shows the listing of a source or an object.
+fn show_listing<H: Host>(alloc: Global, host: &mut H, is_json: bool, bytes: &[u8]) -> Outcome
     ensures told { Answers (H.told host.old) (H.told host.new) Outcome.OutOfMemory result
-        (λ m. page_put (spec.list_page is_json source.now) m) }
+        (λ m. page_put (list_view is_json bytes.now) m) }
     ensures causes { FaultsOnlyBy H.told H.faults host.old host.new result }
 {
-    match list_page(alloc, is_json, source) {
+    match list_view(alloc, is_json, bytes) {
         Ok(page) => put_page(alloc, host, &page),
         Err(_) => tell(alloc, host, Outcome::OutOfMemory),
     }
 }
 
-/// Shows the listing of the source in the file of this name, as a text or as a line of JSON, and answers the outcome: that of the
-/// source, which is told if it is refused; that the file is missing; a fault of the host; or that there was no memory.
+/// Shows the listing of the source or the object in the file of this name, as a text or, if it is a source, as a line of JSON, and
+/// answers the outcome: that of the source or the object, which is told if it is refused; that an object is not written as JSON; that
+/// the file is missing; a fault of the host; or that there was no memory.
 pub fn list<H: Host>(alloc: Global, host: &mut H, is_json: bool, name: &[u8]) -> Outcome
     ensures told { Answers (H.told host.old) (H.told host.new) Outcome.OutOfMemory result
-        (λ m. shown_file (spec.list_page is_json) name.now m) }
+        (λ m. shown_view (list_view is_json) name.now m) }
     ensures causes { FaultsOnlyBy H.told H.faults host.old host.new result }
 {
-    match read_source(alloc, host, name) {
-        Ok(source) => show_listing(alloc, host, is_json, source.as_slice()),
+    match read_view(alloc, host, name) {
+        Ok(bytes) => show_listing(alloc, host, is_json, bytes.as_slice()),
         Err(outcome) => outcome,
     }
 }

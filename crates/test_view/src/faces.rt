@@ -1,5 +1,6 @@
 //! Faces over the host in memory: the status, and what is written to standard output and standard error. The forms are those of
-//! docs/mmixview.1, and of the GNU coding standards; escapes are those of RFC 8259.
+//! docs/mmixview.1, and of the GNU coding standards; escapes are those of RFC 8259. The object is the first one of docs/OBJECTS.md, and
+//! what is shown of it is that of docs/C.md.
 
 use face_check::{Form, check};
 use face_source::{find_lines, list, read_address, refuse_address};
@@ -7,7 +8,7 @@ use mx_host::MemHost;
 use mx_outcome::Outcome;
 use std::alloc::Global;
 
-/// What is asked for of a source.
+/// What is asked for of a source or an object.
 #[derive(Clone, Copy)]
 enum Asked {
     List(bool),
@@ -15,7 +16,7 @@ enum Asked {
     Where(bool, &'static str),
 }
 
-/// What comes of the source in the file of this name, where the host has a source in `a.mms`.
+/// What comes of the source in the file of this name, where the host has it, or an object, in `a.mms`.
 struct Row {
     shows: &'static str,
     asked: Asked,
@@ -25,6 +26,12 @@ struct Row {
     output: &'static str,
     errors: &'static str,
 }
+
+/// An object that prints a text.
+static PRINTS: &[u8] = b"\x98\x09\x01\x01\x00\x00\x00\x00\x98\x06\x00\x01.mms\x98\x01\x00\x01\x00\x00\x01\x00\x98\x07\x00\x02hi\n\x00\xf5\xff\xff\xff\x00\x00\x07\x01\x00\x00\x00\x00\x98\x0a\x00\xff\x00\x00\x00\x00\x00\x00\x01\x04\x98\x0b\x00\x00 :0M a i\x02n\x01\x04\x82 T e x\x02t\x01\x00\x81\x98\x0c\x00\x06";
+
+/// An object that ends before its globals.
+static CUT: &[u8] = b"\x98\x09\x01\x01\x00\x00\x00\x00\x98\x01\x00\x01\x00\x00\x01\x00\x00\x00\x00\x00";
 
 static ROWS: [Row; 14] = [
     Row {
@@ -155,6 +162,72 @@ static ROWS: [Row; 14] = [
     },
 ];
 
+static OBJECTS: [Row; 6] = [
+    Row {
+        shows: "the listing of an object",
+        asked: Asked::List(false),
+        name: "a.mms",
+        source: PRINTS,
+        status: 0,
+        output: "Text:
+#0000000000000100: 68690a00      2: CSNN $105,$10,$0
+Main:
+#0000000000000104: f5ffffff      3: GETA $255,#0000000000000100
+#0000000000000108: 00000701      4: TRAP 0,7,1
+#000000000000010c: 00000000      5: TRAP 0,0,0
+
+symbol :Main #0000000000000104 2
+symbol :Text #0000000000000100 1
+",
+        errors: "",
+    },
+    Row {
+        shows: "the tetra of an address",
+        asked: Asked::Where(false, "#106"),
+        name: "a.mms",
+        source: PRINTS,
+        status: 0,
+        output: "Main+2:\n#0000000000000104: f5ffffff      3: GETA $255,#0000000000000100\n",
+        errors: "",
+    },
+    Row {
+        shows: "an address without a tetra",
+        asked: Asked::Where(false, "#110"),
+        name: "a.mms",
+        source: PRINTS,
+        status: 0,
+        output: "",
+        errors: "no tetra has the address #0000000000000110\n",
+    },
+    Row {
+        shows: "a refused object is told as by sim",
+        asked: Asked::List(false),
+        name: "a.mms",
+        source: CUT,
+        status: 65,
+        output: "",
+        errors: "byte 20: 64 Truncated\n",
+    },
+    Row {
+        shows: "so it is where an address is asked for",
+        asked: Asked::Where(false, "#100"),
+        name: "a.mms",
+        source: CUT,
+        status: 65,
+        output: "",
+        errors: "byte 20: 64 Truncated\n",
+    },
+    Row {
+        shows: "an object is not written as JSON",
+        asked: Asked::List(true),
+        name: "a.mms",
+        source: PRINTS,
+        status: 64,
+        output: "",
+        errors: "error: --json is for sources\n",
+    },
+];
+
 /// A host with this source.
 fn host(alloc: Global, source: &[u8]) -> Option<MemHost> {
     let mut host = MemHost::new(alloc, Vec::new(alloc), Vec::new(alloc)).ok()?;
@@ -199,4 +272,9 @@ fn first_wrong(alloc: Global, rows: &'static [Row]) -> Option<&'static str> {
 #[test]
 fn faces_over_a_host(rt: HostRuntime) {
     assert_eq!(rt; first_wrong(rt.alloc(), &ROWS), None);
+}
+
+#[test]
+fn objects_over_a_host(rt: HostRuntime) {
+    assert_eq!(rt; first_wrong(rt.alloc(), &OBJECTS), None);
 }
