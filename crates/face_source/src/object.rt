@@ -126,11 +126,7 @@ fn remark(alloc: Global, address: u64, found: &Option<FoundTetra>) -> Result<Byt
 }
 
 /// The tetra that holds an address.
-fn tetra_page(
-    alloc: Global,
-    address: u64,
-    found: &Option<FoundTetra>,
-) -> Result<Page, NoMemory>
+fn tetra_page(alloc: Global, address: u64, found: &Option<FoundTetra>) -> Result<Page, NoMemory>
     ensures page { IfOk result (λ page. page ≡ spec.tetra_page address found.now) }
     ensures view { IfOk result (λ page. IsOfView page.outcome) }
 {

@@ -13,11 +13,7 @@ use mx_word::Bytes;
 use std::alloc::Global;
 
 /// Reads the source or the object in the file of this name. Where it is not read, that is told on standard error.
-pub(crate) fn read_view<H: Host>(
-    alloc: Global,
-    host: &mut H,
-    name: &[u8],
-) -> Result<Bytes, Outcome>
+pub(crate) fn read_view<H: Host>(alloc: Global, host: &mut H, name: &[u8]) -> Result<Bytes, Outcome>
     ensures told { Answers (H.told host.old) (H.told host.new) (Err Outcome.OutOfMemory) result
         (λ m. read_or_told (file_bytes object_pieces name.now m)) }
     ensures causes { PartFaultsOnlyBy H.told H.faults host.old host.new result }
