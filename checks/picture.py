@@ -5,7 +5,7 @@ usage: checks/picture.py          writes the picture
        checks/picture.py --check  says whether the picture is that of crates.txt, and no chain is too long
 A crate stands in the column of its area and in a layer above all that it stands on; a line leads from a crate to
 each one that it stands on and that no other line leads to. To mx_word, on which all stand but mx_ops,
-mx_spec and mx_costs, no line is drawn; crates of tests (test_...) and of laws alone (law_...) have none. No chain may have more than eight
+mx_spec and mx_costs, no line is drawn; crates of tests (test_...) and of laws alone (law_...) have none. No chain may have more than ten
 crates, those of tests aside.
 """
 import os
@@ -24,7 +24,7 @@ AREAS = [
      "mx_menu mmixview"),
 ]
 BASE = "mx_word"
-CHAIN = 9
+CHAIN = 10
 WIDE, HIGH, GAP, STEP, LEFT, TOP = 96, 26, 10, 74, 16, 62
 FILL = ["#e8f0fa", "#eaf5e6", "#fdf1dc", "#f9e6e6", "#efe8f7", "#eeeeee", "#e3f4f2"]
 
