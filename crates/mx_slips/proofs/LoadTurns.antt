@@ -1,5 +1,5 @@
 -- What lines load, by whether the source is refused; and lists of tetras that are copied and compared.
-use Rattle.std.proofs.Common.{◌≡◌, ◌≤◌, ℕ, ◌-◌, ◌&&◌, Bool, true, false, List, [], ◌∷◌, ◌++◌, append-nil, append_assoc, refl, sym, Result, Ok, Err}
+use Rattle.std.proofs.Common.{◌≡◌, ℕ, true, false, List, [], ◌∷◌, ◌++◌, append-nil, append_assoc, refl, sym, Ok, Err}
 use Rattle.std.specs.Result.{is_ok}
 use Rattle.mx_files.specs.Sources.{source_meaning}
 use Rattle.mx_view.specs.Loads.{loads_of}

@@ -1,5 +1,5 @@
 -- Parts of a text, and its tokens one after another.
-use Rattle.std.proofs.Common.{◌≡◌, ◌≤◌, ℕ, zero, suc, ◌-◌, List, [], ◌∷◌, ◌++◌, drop, take, length, slice_index_or, arith, append-nil, append_assoc, refl, sym, ap, ◌∙◌}
+use Rattle.std.proofs.Common.{◌≡◌, ◌≤◌, ℕ, zero, suc, ◌-◌, List, [], ◌∷◌, ◌++◌, drop, take, length, arith, append-nil, append_assoc, refl, sym, ap, ◌∙◌}
 use Rattle.std.proofs.lemmas.List.{take_all}
 use Rattle.mx_slips.specs.declared.tokens.Token.{Token}
 use Rattle.mx_slips.specs.Tokens.{token_at, token_length, tokens_behind, tokens_of}

@@ -1,7 +1,7 @@
 -- An operator after the blank that ends the operands: `x IS 5 * 8` is 5, and `BYTE 1 ,2` is one byte. A comment is told from operands
 -- so: exactly one blank comes before the operator and one or more after it (none need follow a comma); then a number, a register or a
 -- character constant; and then the end of the line, an operator, a comma or `;`.
-use Rattle.std.specs.Prelude.{ℕ, zero, suc, ◌+◌, ◌==◌, ◌&&◌, ◌||◌, List, [], ◌∷◌, length, drop, Bool, true, false, nat_lt, if◌then◌else◌, Option, None, Some}
+use Rattle.std.specs.Prelude.{ℕ, ◌+◌, ◌==◌, ◌&&◌, ◌||◌, List, [], ◌∷◌, length, drop, Bool, true, false, nat_lt, if◌then◌else◌, Option, None, Some}
 use Rattle.mx_word.specs.Kinds.{is_digit, is_hexadecimal}
 use Rattle.mx_line.specs.Bytes.{is_blank, run, past}
 use Rattle.mx_slips.specs.declared.sources.Statement.{Statement}

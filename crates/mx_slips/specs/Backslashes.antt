@@ -1,5 +1,5 @@
 -- A backslash in a string before a letter or digit that is an escape in other languages: `n`, `t`, `r` or `0`.
-use Rattle.std.specs.Prelude.{ℕ, ◌==◌, ◌&&◌, ◌||◌, List, [], ◌∷◌, Bool, false, Option, None, Some}
+use Rattle.std.specs.Prelude.{ℕ, ◌==◌, ◌&&◌, ◌||◌, List, [], ◌∷◌, Bool, false, Option}
 use Rattle.std.specs.List.{find}
 use Rattle.std.specs.Option.{option_map}
 use Rattle.mx_slips.specs.declared.sources.Statement.{Statement}

@@ -1,5 +1,5 @@
 -- A label that is never used, where a name is used and not defined that differs from it in the case of letters alone.
-use Rattle.std.specs.Prelude.{ℕ, ◌&&◌, ◌||◌, ◌==◌, List, [], ◌∷◌, drop, length, ◌-◌, Bool, false, not, codes, Option, None, Some, if◌then◌else◌}
+use Rattle.std.specs.Prelude.{ℕ, ◌&&◌, List, [], ◌∷◌, drop, length, ◌-◌, Bool, false, not, codes, Option, None, Some, if◌then◌else◌}
 use Rattle.std.specs.List.{find, list_any}
 use Rattle.std.specs.Option.{option_map}
 use Rattle.std.specs.Str.{bytes_eq, str_eq_ignore_ascii_case}

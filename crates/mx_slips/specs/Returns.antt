@@ -1,7 +1,7 @@
 -- A subroutine that calls another one and does not save rJ. It begins at a label that a PUSHJ names, and reaches to the next POP; where
 -- rJ is named, or SAVE, UNSAVE, GO or RESUME are used, nothing is said of it, nor where a JMP or Halt comes between the call and the
 -- POP. A source with UNSAVE is left alone.
-use Rattle.std.specs.Prelude.{ℕ, ◌==◌, ◌&&◌, ◌||◌, List, [], ◌∷◌, Bool, false, not, codes, if◌then◌else◌, Option, None, Some}
+use Rattle.std.specs.Prelude.{ℕ, ◌==◌, ◌&&◌, ◌||◌, List, [], ◌∷◌, Bool, codes, if◌then◌else◌, Option, None, Some}
 use Rattle.std.specs.List.{list_any}
 use Rattle.std.specs.Str.{bytes_eq}
 use Rattle.mx_slips.specs.declared.pieces.Piece.{Piece}

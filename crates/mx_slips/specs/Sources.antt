@@ -1,6 +1,6 @@
 -- A source as its warnings see it: its lines, each with its number, its text, its statements, and the tetras that it loads.
 -- A line has no statements from its first faulty one on, and a source that is refused loads nothing.
-use Rattle.std.specs.Prelude.{ℕ, ◌+◌, List, [], ◌∷◌, drop, option_map, Option, Result, Ok, Err}
+use Rattle.std.specs.Prelude.{ℕ, ◌+◌, List, [], ◌∷◌, drop, option_map, Result, Ok, Err}
 use Rattle.mx_line.specs.Cutting.{cuts_from}
 use Rattle.mx_line.specs.Lines.{lines_of}
 use Rattle.mx_line.specs.Spans.{part}

@@ -1,6 +1,6 @@
 -- The tokens of an operand field: its strings, character constants, numbers, names and other bytes, each with its place in the line.
 -- (MMIXware, the part on MMIXAL: constants, symbols and strings.)
-use Rattle.std.specs.Prelude.{ℕ, zero, suc, ◌+◌, ◌-◌, ◌==◌, List, [], ◌∷◌, length, take, drop, if◌then◌else◌, Bool, Option, None, Some, is_some}
+use Rattle.std.specs.Prelude.{ℕ, zero, suc, ◌+◌, ◌-◌, ◌==◌, List, [], ◌∷◌, length, take, if◌then◌else◌, Bool, Option, None, Some, is_some}
 use Rattle.std.specs.List.{position}
 use Rattle.mx_word.specs.Kinds.{is_hexadecimal}
 use Rattle.mx_line.specs.Bytes.{is_name_byte, run}
