@@ -5,20 +5,17 @@ ghost use Rattle.mx_word.specs.Kinds as kinds;
 ghost use Rattle.mx_line.specs.Bytes as bytes;
 ghost use Rattle.mx_slips.specs.Afters as spec;
 
+use crate::marks::{Mark, mark_of};
 use crate::pieces::behind;
 use crate::sources::Statement;
 use crate::tokens::hexadecimal_count;
-use crate::marks::{Mark, mark_of};
 use mx_word::is_digit;
 
 /// Whether a byte is an operator.
 fn is_operator(b: u8) -> bool
     ensures { result ≡ spec.is_operator b }
 {
-    matches!(
-        b,
-        b'+' | b'-' | b'*' | b'/' | b'%' | b'&' | b'|' | b'^'
-    )
+    matches!(b, b'+' | b'-' | b'*' | b'/' | b'%' | b'&' | b'|' | b'^')
 }
 
 /// Whether an operator of two bytes has this byte twice.

@@ -4,9 +4,9 @@ ghost use Rattle.std.specs.Prelude.{◌≡◌};
 ghost use Rattle.mx_slips.specs.Backslashes as spec;
 
 use crate::afters::begins_with;
+use crate::marks::{Mark, mark_of};
 use crate::sources::Statement;
 use crate::tokens::Token;
-use crate::marks::{Mark, mark_of};
 
 /// Whether a text begins with the letter or digit of an escape.
 fn begins_escape(text: &[u8]) -> bool

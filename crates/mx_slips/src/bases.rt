@@ -5,11 +5,11 @@ ghost use Rattle.std.specs.List.{list_any};
 ghost use Rattle.std.specs.Option.{option_map};
 ghost use Rattle.mx_slips.specs.Bases as spec;
 
+use crate::marks::{Mark, mark_of};
 use crate::operations::is_data_operation;
 use crate::pieces::Piece;
 use crate::sources::{SourceLine, Statement};
 use crate::tokens::Token;
-use crate::marks::{Mark, mark_of};
 
 /// Whether a statement is GREG.
 pub fn is_greg(statement: &Statement) -> bool
@@ -195,19 +195,11 @@ fn makes_zero_base(lines: &[SourceLine], statement: &Statement) -> bool
 
 /// A GREG that makes a register of 0 where a base was meant.
 #[tactic(auto, unfolding(crate::specs::Bases::greg_of_zero))]
-pub fn greg_of_zero(
-    lines: &[SourceLine],
-    line: &SourceLine,
-    statement: &Statement,
-) -> Option<Mark>
+pub fn greg_of_zero(lines: &[SourceLine], line: &SourceLine, statement: &Statement) -> Option<Mark>
     ensures { result ≡ spec.greg_of_zero lines.now line.now statement.now }
 {
     if precedes_data(lines, line.number, statement) || makes_zero_base(lines, statement) {
-        Some(mark_of(
-            statement.op.from,
-            statement.op.text.as_slice(),
-            0,
-        ))
+        Some(mark_of(statement.op.from, statement.op.text.as_slice(), 0))
     } else {
         None
     }

@@ -4,10 +4,10 @@ ghost use Rattle.std.specs.Prelude.{◌≡◌, Some};
 ghost use Rattle.std.specs.Str.{str_eq_ignore_ascii_case};
 ghost use Rattle.mx_slips.specs.Cases as spec;
 
+use crate::marks::{Mark, mark_of};
 use crate::pieces::{Piece, behind};
 use crate::sources::{SourceLine, Statement};
 use crate::tokens::Token;
-use crate::marks::{Mark, mark_of};
 use mx_word::is_letter;
 
 /// Whether a text ends with another one.
@@ -87,7 +87,9 @@ fn statement_differs(lines: &[SourceLine], label: &[u8], statement: &Statement) 
     ensures { result ≡ spec.statement_has (spec.is_misspelled lines.now label.now) statement.now }
 {
     let tokens = statement.tokens.as_slice();
-    tokens.iter().any(|token| is_misspelled(lines, label, token))
+    tokens
+        .iter()
+        .any(|token| is_misspelled(lines, label, token))
 }
 
 /// Whether a line has a label in another case that is not defined.
@@ -95,7 +97,9 @@ fn line_differs(lines: &[SourceLine], label: &[u8], line: &SourceLine) -> bool
     ensures { result ≡ spec.line_has (spec.is_misspelled lines.now label.now) line.now }
 {
     let statements = line.statements.as_slice();
-    statements.iter().any(|s| statement_differs(lines, label, s))
+    statements
+        .iter()
+        .any(|s| statement_differs(lines, label, s))
 }
 
 /// Whether a text begins with a letter.

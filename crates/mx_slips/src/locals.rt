@@ -4,10 +4,10 @@ ghost use Rattle.std.specs.Prelude.{◌≡◌};
 ghost use Rattle.std.specs.List.{list_any};
 ghost use Rattle.mx_slips.specs.Locals as spec;
 
+use crate::marks::{Mark, mark_of};
 use crate::pieces::Piece;
 use crate::sources::{SourceLine, Statement};
 use crate::tokens::Token;
-use crate::marks::{Mark, mark_of};
 use mx_word::is_digit;
 
 /// The digit d of `dB`.
@@ -90,11 +90,7 @@ fn is_unplaced(lines: &[SourceLine], number: u32, place: usize, token: &Token) -
 
 /// The first `dB` of a statement on the line with this number, with no `dH` before the statement.
 #[tactic(auto, unfolding(crate::specs::Locals::no_label_before))]
-pub fn no_label_before(
-    lines: &[SourceLine],
-    number: u32,
-    statement: &Statement,
-) -> Option<Mark>
+pub fn no_label_before(lines: &[SourceLine], number: u32, statement: &Statement) -> Option<Mark>
     ensures { result ≡ spec.no_label_before lines.now number statement.now }
 {
     let tokens = statement.tokens.as_slice();

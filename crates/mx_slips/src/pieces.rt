@@ -42,10 +42,7 @@ pub fn front(text: &[u8], count: usize) -> &[u8]
 pub(crate) fn piece_at(alloc: Global, line: &[u8], span: Span) -> Result<Piece, NoMemory>
     ensures { IfOk result (λ piece. piece ≡ spec.piece_at line.now span) }
 {
-    let text = front(
-        behind(line, span.from),
-        span.to.saturating_sub(span.from),
-    );
+    let text = front(behind(line, span.from), span.to.saturating_sub(span.from));
     Ok(Piece {
         from: span.from,
         text: Bytes::copy(alloc, text)?,

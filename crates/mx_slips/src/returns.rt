@@ -5,10 +5,10 @@ ghost use Rattle.std.specs.List.{list_any};
 ghost use Rattle.mx_slips.specs.Returns as spec;
 
 use crate::cases::{begins_letter, ends_with};
+use crate::marks::{Mark, mark_of};
 use crate::pieces::Piece;
 use crate::sources::{SourceLine, Statement};
 use crate::tokens::Token;
-use crate::marks::{Mark, mark_of};
 
 /// Where a statement stands.
 #[derive(Clone, Copy, Debug, PartialEq, Eq)]
@@ -183,12 +183,7 @@ fn place_by(number: u32, statement: &Statement, place: Place) -> Place
 
 /// The place after a statement of the line with this number.
 #[tactic(auto, unfolding(crate::specs::Returns::place_after))]
-pub fn place_after(
-    lines: &[SourceLine],
-    number: u32,
-    statement: &Statement,
-    place: Place,
-) -> Place
+pub fn place_after(lines: &[SourceLine], number: u32, statement: &Statement, place: Place) -> Place
     ensures { result ≡ spec.place_after lines.now number statement.now place }
 {
     place_by(
@@ -233,11 +228,7 @@ fn pop_mark(statement: &Statement, place: Place) -> Option<Mark>
 
 /// A POP of a subroutine that calls another one and does not save rJ, with the line of the call.
 #[tactic(auto, unfolding(crate::specs::Returns::lost_return))]
-pub fn lost_return(
-    lines: &[SourceLine],
-    statement: &Statement,
-    place: Place,
-) -> Option<Mark>
+pub fn lost_return(lines: &[SourceLine], statement: &Statement, place: Place) -> Option<Mark>
     ensures { result ≡ spec.lost_return lines.now statement.now place }
 {
     let place = place_at_label(lines, &statement.label, place);

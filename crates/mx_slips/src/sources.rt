@@ -55,7 +55,11 @@ fn tokens_at(alloc: Global, line: &[u8], span: Span) -> Result<Tokens, NoMemory>
     ensures { IfOk result (λ tokens. tokens ≡ spec.tokens_at line.now span) }
 {
     let field = behind(line, span.from);
-    tokens_of(alloc, span.to, front(field, span.to.saturating_sub(span.from)))
+    tokens_of(
+        alloc,
+        span.to,
+        front(field, span.to.saturating_sub(span.from)),
+    )
 }
 
 /// The statement that is cut from a line.
