@@ -20,10 +20,10 @@ unfolding statements_warnings
 statement-at told lines line place [] s is e = absurd (omega (arith, e))
 statement-at told lines line place (x ∷ more) s is e =
     subst (λ y. told ++ statements_warnings lines line place (x ∷ more)
-        ≡ (told ++ statement_warnings lines line place y) ++ statements_warnings lines line (place_after lines line.number y place) (take (length (x ∷ more) - 1) more))
-      (sym is)
-      (sym (append_assoc told (statement_warnings lines line place x) _)
-       ∙ ap (λ m. (told ++ statement_warnings lines line place x) ++ statements_warnings lines line (place_after lines line.number x place) m) (sym (later-whole x more)))
+    ≡ (told ++ statement_warnings lines line place y) ++ statements_warnings lines line (place_after lines line.number y place) (take (length (x ∷ more) - 1) more))
+    (sym is)
+    (sym (append_assoc told (statement_warnings lines line place x) _)
+    ∙ ap (λ m. (told ++ statement_warnings lines line place x) ++ statements_warnings lines line (place_after lines line.number x place) m) (sym (later-whole x more)))
 
 pub statement-none : (told : List Warning) (lines : List SourceLine) (line : SourceLine) (place : Place) (rest : List Statement) → length rest ≤ 0 →
     told ++ statements_warnings lines line place rest ≡ told
@@ -37,8 +37,8 @@ unfolding place_behind
 place-at lines number place [] s is e = absurd (omega (arith, e))
 place-at lines number place (x ∷ more) s is e =
     subst (λ y. place_behind lines number place (x ∷ more) ≡ place_behind lines number (place_after lines number y place) (take (length (x ∷ more) - 1) more))
-      (sym is)
-      (ap (λ m. place_behind lines number (place_after lines number x place) m) (sym (later-whole x more)))
+    (sym is)
+    (ap (λ m. place_behind lines number (place_after lines number x place) m) (sym (later-whole x more)))
 
 pub place-none : (lines : List SourceLine) (number : ℕ) (place : Place) (rest : List Statement) → length rest ≤ 0 → place_behind lines number place rest ≡ place
 unfolding place_behind
@@ -52,10 +52,10 @@ unfolding lines_warnings
 line-at told lines place [] line is e = absurd (omega (arith, e))
 line-at told lines place (x ∷ more) line is e =
     subst (λ y. told ++ lines_warnings lines place (x ∷ more)
-        ≡ (told ++ line_warnings lines place y) ++ lines_warnings lines (place_behind lines y.number place y.statements) (take (length (x ∷ more) - 1) more))
-      (sym is)
-      (sym (append_assoc told (line_warnings lines place x) _)
-       ∙ ap (λ m. (told ++ line_warnings lines place x) ++ lines_warnings lines (place_behind lines x.number place x.statements) m) (sym (later-whole x more)))
+    ≡ (told ++ line_warnings lines place y) ++ lines_warnings lines (place_behind lines y.number place y.statements) (take (length (x ∷ more) - 1) more))
+    (sym is)
+    (sym (append_assoc told (line_warnings lines place x) _)
+    ∙ ap (λ m. (told ++ line_warnings lines place x) ++ lines_warnings lines (place_behind lines x.number place x.statements) m) (sym (later-whole x more)))
 
 pub line-none : (told : List Warning) (lines : List SourceLine) (place : Place) (rest : List SourceLine) → length rest ≤ 0 → told ++ lines_warnings lines place rest ≡ told
 unfolding lines_warnings

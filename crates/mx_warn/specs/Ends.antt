@@ -1,6 +1,6 @@
 -- An instruction that goes on to the next tetra, where that is of a line of data. JMP, GO, POP and RESUME do not go on, nor does
 -- TRAP 0,Halt; and PUSHJ and PUSHGO may not come back.
-use Rattle.std.specs.Prelude.{ℕ, ◌-◌, ◌/◌, ◌==◌, ◌&&◌, ◌||◌, List, [], ◌∷◌, Bool, false, not, nat_lt, nat_le, if◌then◌else◌, Option, None, Some}
+use Rattle.std.specs.Prelude.{ℕ, ◌-◌, ◌/◌, ◌==◌, ◌&&◌, ◌||◌, List, [], ◌∷◌, Bool, not, nat_le, if◌then◌else◌, Option, None}
 use Rattle.std.specs.List.{find, list_any}
 use Rattle.std.specs.Option.{option_map}
 use Rattle.mx_view.specs.declared.cells.Cell.{Cell}

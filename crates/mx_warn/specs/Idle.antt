@@ -1,6 +1,6 @@
 -- GREG with an address that nothing uses: without its line the source is not refused, and each line loads the same tetras. So no
 -- instruction names its register, and none has it as a base. A source that names $250 to $254 by number is left alone.
-use Rattle.std.specs.Prelude.{ℕ, ◌==◌, ◌&&◌, ◌||◌, List, [], ◌∷◌, ◌++◌, length, Bool, true, false, not, codes, if◌then◌else◌, Option, None, Some}
+use Rattle.std.specs.Prelude.{ℕ, ◌==◌, ◌&&◌, ◌||◌, List, [], ◌∷◌, ◌++◌, length, Bool, true, false, not, codes, if◌then◌else◌, Option, None}
 use Rattle.std.specs.List.{flat_map, list_any}
 use Rattle.std.specs.Str.{bytes_eq}
 use Rattle.mx_word.specs.Kinds.{is_letter}

@@ -12,10 +12,7 @@ use mx_view::Cell;
 fn leads_away(code: u32) -> bool
     ensures { result ≡ spec.leads_away code }
 {
-    matches!(
-        code,
-        0x9e | 0x9f | 0xbe | 0xbf | 0xf0..=0xf3 | 0xf8 | 0xf9
-    )
+    matches!(code, 0x9e | 0x9f | 0xbe | 0xbf | 0xf0..=0xf3 | 0xf8 | 0xf9)
 }
 
 /// Whether an instruction goes on to the next tetra.

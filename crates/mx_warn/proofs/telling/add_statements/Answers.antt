@@ -11,11 +11,11 @@ loop-rest-preserved c =
     let later = take (length l.rest.now - 1) (drop 1 l.rest.now) in
     record {
       told = l.invariant.told
-        ∙ statement-at l.told lines line l.current l.rest.now c.statement-item.result c.statement-item.is c.in-len1-up.len_at_least
-        ∙ (λ i. sym c.in_ok-add_statement.ensures i ++ statements_warnings lines line (sym c.place_after-current.ensures i) later);
+          ∙ statement-at l.told lines line l.current l.rest.now c.statement-item.result c.statement-item.is c.in-len1-up.len_at_least
+          ∙ (λ i. sym c.in_ok-add_statement.ensures i ++ statements_warnings lines line (sym c.place_after-current.ensures i) later);
       place = l.invariant.place
-        ∙ place-at lines line.number l.current l.rest.now c.statement-item.result c.statement-item.is c.in-len1-up.len_at_least
-        ∙ (λ i. place_behind lines line.number (sym c.place_after-current.ensures i) later);
+          ∙ place-at lines line.number l.current l.rest.now c.statement-item.result c.statement-item.is c.in-len1-up.len_at_least
+          ∙ (λ i. place_behind lines line.number (sym c.place_after-current.ensures i) later);
     }
 
 pub returns-clause-told : goal.returns-clause-told
