@@ -158,7 +158,12 @@ static RETURNS: [Row; 5] = [
 
 /// Whether a warning is what is due.
 fn is_due(warning: &Warning, due: Due) -> bool {
-    (warning.line, warning.kind.number(), warning.place, warning.other) == due
+    (
+        warning.line,
+        warning.kind.number(),
+        warning.place,
+        warning.other,
+    ) == due
 }
 
 /// Whether warnings are what is due.
