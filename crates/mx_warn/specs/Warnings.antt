@@ -1,5 +1,5 @@
 -- The warnings of a source, in the order of lines: those of each statement first, and then those of what the line loads, each in the
--- order of their numbers. A source of more than 65,536 bytes has none.
+-- order of their numbers. A source of more than 16,384 bytes has none.
 -- Which there are: a rule of this program.
 use Rattle.std.specs.Prelude.{ℕ, List, [], ◌∷◌, ◌++◌, length, Option, None, Some, nat_lt, if◌then◌else◌}
 use Rattle.mx_slips.specs.declared.sources.SourceLine.{SourceLine}
@@ -67,4 +67,4 @@ abbrev pub all_warnings : List SourceLine → List Warning
 all_warnings lines = lines_warnings lines Outside lines
 
 abbrev pub warnings_of : List ℕ → List Warning
-warnings_of source = if nat_lt 65536 (length source) then [] else all_warnings (source_lines source)
+warnings_of source = if nat_lt 16384 (length source) then [] else all_warnings (source_lines source)

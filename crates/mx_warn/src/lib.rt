@@ -10,5 +10,5 @@ mod texts;
 mod warnings;
 
 pub use telling::tell_warnings;
-pub use texts::warnings_text;
+pub use texts::{add_other, warnings_text};
 pub use warnings::{Kind, Warning, Warnings};

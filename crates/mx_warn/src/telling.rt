@@ -15,7 +15,7 @@ use mx_word::{Bytes, NoMemory};
 use std::alloc::Global;
 
 /// The most bytes of a source that has warnings.
-const MOST_BYTES: usize = 65_536;
+const MOST_BYTES: usize = 16_384;
 
 /// Adds a warning of a line, if there is something to mark.
 fn add_marked(
@@ -140,7 +140,7 @@ fn add_lines(alloc: Global, told: &mut Warnings, lines: &[SourceLine]) -> Result
     Ok(())
 }
 
-/// The warnings of a source, in the order of lines: what is legal but hardly meant. A source of more than 65,536 bytes has
+/// The warnings of a source, in the order of lines: what is legal but hardly meant. A source of more than 16,384 bytes has
 /// none.
 ///
 /// Errors: out of memory.

@@ -63,8 +63,10 @@ fn add_caret(text: &mut Bytes, front: &[u8]) -> Result<(), NoMemory>
     text.extend(b"^\n")
 }
 
-/// Adds the number of another line, if there is one.
-fn add_other(text: &mut Bytes, line: u32) -> Result<(), NoMemory>
+/// Adds the number of another line, if there is one: 0 stands for none.
+///
+/// Errors: out of memory.
+pub fn add_other(text: &mut Bytes, line: u32) -> Result<(), NoMemory>
     ensures { OnOk result (text.new ≡ text.old ++ spec.other_text line) }
 {
     if line == 0 {
