@@ -1,16 +1,20 @@
--- What `check` has to say of a source: its faults as a text, as JSON, or as lines of the form that the GNU coding standards have for
--- messages of compilers ("Formatting Error Messages").
+-- What `check` has to say of a source: its faults, and then its warnings, unless none are asked for, as a text, as JSON, or as lines of
+-- the form that the GNU coding standards have for messages of compilers ("Formatting Error Messages").
 use Rattle.std.specs.Prelude.{ℕ, ◌+◌, ◌==◌, ◌&&◌, nat_le, nat_lt, not, Bool, List, [], ◌∷◌, ◌++◌, take, Option, None, Some, if◌then◌else◌, codes, decimal}
 use Rattle.std.specs.List.{flat_map}
 use Rattle.mx_face.specs.Pages.{outcome_of}
 use Rattle.mx_face.specs.RefusalJson.{refusal_members}
 use Rattle.mx_face.specs.declared.page.Page.{Page}
-use Rattle.mx_json.specs.Json.{array, flag, object_of, string, string_if}
+use Rattle.mx_json.specs.Json.{array, flag, number_if, object_of, quoted, string, string_if}
 use Rattle.mx_outcome.specs.Messages.{numbered_fault}
 use Rattle.mx_view.specs.Listing.{refusal_in}
 use Rattle.mx_view.specs.Refusals.{faults_in, faults_of}
 use Rattle.mx_view.specs.declared.checking.ToldFault.{ToldFault}
 use Rattle.mx_view.specs.declared.checking.ToldFaults.{ToldFaults}
+use Rattle.mx_warn.specs.Kinds.{kind_name, kind_number, kind_sentence}
+use Rattle.mx_warn.specs.Texts.{other_text, warnings_text}
+use Rattle.mx_warn.specs.Warnings.{warnings_of}
+use Rattle.mx_warn.specs.declared.warnings.Warning.{Warning}
 use Rattle.face_check.specs.declared.faults.Form.{Form}
 use Rattle.face_check.specs.declared.faults.Form.TheVariants.{Gnu, Json, Text}
 
@@ -58,9 +62,43 @@ last_members f = fault_text f ++ mark_members f ++ said_members f ++ codes "}"
 unfoldable pub fault_json : ToldFault → List ℕ
 fault_json f = fault_front f ++ codes "," ++ refusal_members f.refused ++ last_members f
 
+-- the line of a warning, its number and its name
+unfoldable pub warning_name : List ℕ
+warning_name = codes ",\"warning\":"
+
+unfoldable pub kind_members : Warning → List ℕ
+kind_members w =
+    codes "\"line\":" ++ decimal w.line ++ warning_name ++ decimal (kind_number w.kind)
+    ++ codes ",\"name\":" ++ quoted (kind_name w.kind)
+
+-- the text of its line, the place of its caret, counted in bytes from 1, and how many bytes are marked
+unfoldable pub text_members : Warning → List ℕ
+text_members w = codes ",\"text\":" ++ string w.text ++ codes ",\"caret\":" ++ decimal (next w.place) ++ length_member w.length
+
+-- the other line that it is about, if there is one, and its sentence
+unfoldable pub other_line : ℕ → Option ℕ
+other_line line = if line == 0 then None else Some line
+
+unfoldable pub sentence_members : Warning → List ℕ
+sentence_members w = codes ",\"other\":" ++ number_if (other_line w.other) ++ codes ",\"what\":" ++ string (kind_sentence w.kind)
+
+unfoldable pub warning_json : Warning → List ℕ
+warning_json w = object_of w.text ++ kind_members w ++ text_members w ++ sentence_members w ++ codes "}"
+
+-- the member that has the warnings, if there are any
+unfoldable pub warnings_name : List ℕ
+warnings_name = codes ",\"warnings\":"
+
+unfoldable pub warnings_member : List Warning → List ℕ
+warnings_member [] = []
+warnings_member (w ∷ more) = warnings_name ++ array warning_json (w ∷ more)
+
 -- as a line
-unfoldable pub faults_json : ToldFaults → List ℕ
-faults_json told = codes "{\"faults\":" ++ array fault_json told.faults ++ codes ",\"more\":" ++ flag told.is_cut ++ codes "}\n"
+unfoldable pub faults_members : ToldFaults → List ℕ
+faults_members told = codes "{\"faults\":" ++ array fault_json told.faults ++ codes ",\"more\":" ++ flag told.is_cut
+
+unfoldable pub check_json : ToldFaults → List Warning → List ℕ
+check_json told warnings = faults_members told ++ warnings_member warnings ++ codes "}\n"
 
 -- ---- as lines for editors
 
@@ -73,9 +111,13 @@ unfoldable pub characters : List ℕ → ℕ
 characters [] = 0
 characters (b ∷ text) = if continues b then characters text else 1 + characters text
 
--- the column of a caret, counted in characters from 1
+-- the column of a place of a line, counted in characters from 1
+unfoldable pub place_column : List ℕ → ℕ → List ℕ
+place_column line place = codes ":" ++ decimal (next (characters (take place line)))
+
+-- the column of a caret
 unfoldable pub column_text : Option (List ℕ) → Option ℕ → List ℕ
-column_text (Some line) (Some place) = codes ":" ++ decimal (next (characters (take place line)))
+column_text (Some line) (Some place) = place_column line place
 column_text line caret = []
 
 -- the name that is meant perhaps
@@ -109,13 +151,38 @@ cut_line name cut = if cut then name ++ codes ": there are more faulty lines\n" 
 unfoldable pub faults_lines : List ℕ → ToldFaults → List ℕ
 faults_lines name told = flat_map (fault_line name) told.faults ++ cut_line name told.is_cut
 
+-- where the line of a warning is, and the column of its caret
+unfoldable pub warning_place : List ℕ → Warning → List ℕ
+warning_place name w = name ++ codes ":" ++ decimal w.line ++ place_column w.text w.place
+
+unfoldable pub warning_mark : List ℕ
+warning_mark = codes ": warning: "
+
+-- its number, its name, and its sentence with the other line that it is about, if there is one
+unfoldable pub warning_said : Warning → List ℕ
+warning_said w = decimal (kind_number w.kind) ++ codes " " ++ kind_name w.kind ++ codes ": " ++ kind_sentence w.kind ++ other_text w.other
+
+unfoldable pub warning_line : List ℕ → Warning → List ℕ
+warning_line name w = warning_place name w ++ warning_mark ++ warning_said w ++ codes "\n"
+
+unfoldable pub warnings_lines : List ℕ → List Warning → List ℕ
+warnings_lines name warnings = flat_map (warning_line name) warnings
+
 -- ---- the page
 
-abbrev pub check_text : Form → List ℕ → List ℕ → List ℕ
-check_text Text name source = faults_of source
-check_text Json name source = faults_json (faults_in source)
-check_text Gnu name source = faults_lines name (faults_in source)
+-- the warnings of a source, unless none are asked for
+unfoldable pub warnings_in : Bool → List ℕ → List Warning
+warnings_in no_warnings source = if no_warnings then [] else warnings_of source
 
--- The faults are what `check` is asked for: no message is told beside them.
-unfoldable pub check_page : Form → List ℕ → List ℕ → Page
-check_page form name source = record { text = check_text form name source; remark = []; outcome = outcome_of (refusal_in source) }
+unfoldable pub warnings_after : Bool → List ℕ → List ℕ
+warnings_after no_warnings source = if no_warnings then [] else warnings_text source
+
+abbrev pub check_text : Form → Bool → List ℕ → List ℕ → List ℕ
+check_text Text no_warnings name source = faults_of source ++ warnings_after no_warnings source
+check_text Json no_warnings name source = check_json (faults_in source) (warnings_in no_warnings source)
+check_text Gnu no_warnings name source = faults_lines name (faults_in source) ++ warnings_lines name (warnings_in no_warnings source)
+
+-- The faults are what `check` is asked for: no message is told beside them. Warnings do not change the outcome.
+unfoldable pub check_page : Form → Bool → List ℕ → List ℕ → Page
+check_page form no_warnings name source =
+    record { text = check_text form no_warnings name source; remark = []; outcome = outcome_of (refusal_in source) }

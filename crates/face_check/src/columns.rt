@@ -42,7 +42,16 @@ fn characters(text: &[u8]) -> usize
     count
 }
 
-/// Adds the column of a caret, counted in characters from 1, if there is one.
+/// Adds the column of a place of a line, counted in characters from 1.
+#[tactic(auto, unfolding(crate::specs::CheckPages::place_column))]
+pub fn add_place_column(text: &mut Bytes, line: &[u8], place: usize) -> Result<(), NoMemory>
+    ensures { OnOk result (text.new ≡ text.old ++ spec.place_column line.now place) }
+{
+    let count = characters(front(line, place));
+    add_number(text, b":", next(count as u64))
+}
+
+/// Adds the column of a caret, if there is one.
 #[tactic(auto, unfolding(crate::specs::CheckPages::column_text))]
 pub fn add_column(
     text: &mut Bytes,
@@ -52,10 +61,7 @@ pub fn add_column(
     ensures { OnOk result (text.new ≡ text.old ++ spec.column_text line.now caret) }
 {
     match (line, caret) {
-        (Some(line), Some(place)) => {
-            let count = characters(front(line.as_slice(), place));
-            add_number(text, b":", next(count as u64))
-        }
+        (Some(line), Some(place)) => add_place_column(text, line.as_slice(), place),
         _ => Ok(()),
     }
 }

@@ -5,9 +5,11 @@ ghost use Rattle.mx_json.specs.Json.{array, further};
 ghost use Rattle.face_check.specs.CheckPages as spec;
 
 use crate::faults::next;
+use crate::warning_json::add_warnings;
 use mx_face::add_refusal_members;
 use mx_json::{add_between, add_flag, add_number, add_object, add_string, add_string_if};
 use mx_view::{ToldFault, ToldFaults};
+use mx_warn::Warning;
 use mx_word::{Bytes, NoMemory};
 use std::alloc::Global;
 
@@ -52,7 +54,7 @@ fn add_line(text: &mut Bytes, line: u32) -> Result<(), NoMemory>
 
 /// Adds how many bytes of it are marked.
 #[tactic(auto, unfolding(crate::specs::CheckPages::length_member))]
-fn add_length(text: &mut Bytes, length: usize) -> Result<(), NoMemory>
+pub(crate) fn add_length(text: &mut Bytes, length: usize) -> Result<(), NoMemory>
     ensures { OnOk result (text.new ≡ text.old ++ spec.length_member length) }
 {
     add_number(text, b",\"length\":", length as u64)
@@ -133,13 +135,27 @@ fn add_list(alloc: Global, text: &mut Bytes, faults: &[ToldFault]) -> Result<(),
     }
 }
 
-/// Adds faults as a line of JSON.
-#[tactic(auto, unfolding(crate::specs::CheckPages::faults_json))]
-pub fn add_faults(alloc: Global, text: &mut Bytes, told: &ToldFaults) -> Result<(), NoMemory>
-    ensures { OnOk result (text.new ≡ text.old ++ spec.faults_json told.now) }
+/// Begins the object that has faults.
+#[tactic(auto, unfolding(crate::specs::CheckPages::faults_members))]
+fn open_faults(alloc: Global, text: &mut Bytes, told: &ToldFaults) -> Result<(), NoMemory>
+    ensures { OnOk result (text.new ≡ text.old ++ spec.faults_members told.now) }
 {
     text.extend(b"{\"faults\":")?;
     add_list(alloc, text, told.faults.as_slice())?;
-    add_flag(text, b",\"more\":", told.is_cut)?;
+    add_flag(text, b",\"more\":", told.is_cut)
+}
+
+/// Adds faults and warnings as a line of JSON.
+#[tactic(auto, unfolding(crate::specs::CheckPages::check_json))]
+pub fn add_check(
+    alloc: Global,
+    text: &mut Bytes,
+    told: &ToldFaults,
+    warnings: &[Warning],
+) -> Result<(), NoMemory>
+    ensures { OnOk result (text.new ≡ text.old ++ spec.check_json told.now warnings.now) }
+{
+    open_faults(alloc, text, told)?;
+    add_warnings(alloc, text, warnings)?;
     text.extend(b"}\n")
 }

@@ -1,4 +1,4 @@
-//! The faults of a source, as a text, as JSON, and as lines for editors.
+//! The faults and the warnings of a source, as a text, as JSON, and as lines for editors.
 #![tactic(auto)]
 
 mod columns;
@@ -6,6 +6,8 @@ mod faults;
 mod gnu;
 mod json;
 mod showing;
+mod warning_json;
+mod warning_lines;
 
 pub use faults::Form;
 pub use showing::check;

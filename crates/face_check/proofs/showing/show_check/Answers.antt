@@ -1,5 +1,5 @@
 use Rattle.mx_face.proofs.Faults.{faults-said}
-use Rattle.face_check.proofs.showing.show_faults.Goals as goal
+use Rattle.face_check.proofs.showing.show_check.Goals as goal
 
 pub returns-in-Ok-clause-causes : goal.returns-in-Ok-clause-causes
 returns-in-Ok-clause-causes g c = c.put_page.ensures.causes c.in-Ok.ensures.view

@@ -1,0 +1,5 @@
+pub mod TokenTurns
+pub mod SourceTurns
+pub mod CaseTests
+pub mod LoadTurns
+pub mod WorkedRows

@@ -1,0 +1,105 @@
+//! Local labels with no label before them.
+
+ghost use Rattle.std.specs.Prelude.{◌≡◌};
+ghost use Rattle.std.specs.List.{list_any};
+ghost use Rattle.mx_slips.specs.Locals as spec;
+
+use crate::marks::{Mark, mark_of};
+use crate::pieces::Piece;
+use crate::sources::{SourceLine, Statement};
+use crate::tokens::Token;
+use mx_word::is_digit;
+
+/// The digit d of `dB`.
+fn back_digit(text: &[u8]) -> Option<u8>
+    ensures { result ≡ spec.back_digit text.now }
+{
+    match text {
+        [d, b'B'] if is_digit(*d) => Some(*d),
+        _ => None,
+    }
+}
+
+/// Whether a text is `dH`.
+fn is_local(d: u8, text: &[u8]) -> bool
+    ensures { result ≡ spec.is_local d text.now }
+{
+    match text {
+        [e, b] => *e == d && *b == b'H',
+        _ => false,
+    }
+}
+
+/// Whether a label is `dH`.
+fn has_local(d: u8, label: &Option<Piece>) -> bool
+    ensures { result ≡ spec.has_local d label.now }
+{
+    match label {
+        None => false,
+        Some(label) => is_local(d, label.text.as_slice()),
+    }
+}
+
+/// Whether a statement of a line has the label `dH`.
+fn line_has(d: u8, line: &SourceLine) -> bool
+    ensures { result ≡ spec.line_has d line.now }
+{
+    let statements = line.statements.as_slice();
+    statements.iter().any(|s| has_local(d, &s.label))
+}
+
+/// Whether a statement of a line in front of this place has the label `dH`.
+fn line_has_before(d: u8, place: usize, line: &SourceLine) -> bool
+    ensures { result ≡ spec.line_has_before d place line.now }
+{
+    let statements = line.statements.as_slice();
+    statements
+        .iter()
+        .any(|s| s.op.from < place && has_local(d, &s.label))
+}
+
+/// Whether a line has the label `dH` before a place of the line with this number.
+fn comes_before(d: u8, number: u32, place: usize, line: &SourceLine) -> bool
+    ensures { result ≡ spec.comes_before d number place line.now }
+{
+    if line.number < number {
+        line_has(d, line)
+    } else {
+        line.number == number && line_has_before(d, place, line)
+    }
+}
+
+/// Whether lines have the label `dH` before a place of the line with this number.
+fn is_placed(d: u8, lines: &[SourceLine], number: u32, place: usize) -> bool
+    ensures { result ≡ list_any (spec.comes_before d number place) lines.now }
+{
+    lines
+        .iter()
+        .any(|line| comes_before(d, number, place, line))
+}
+
+/// Whether a token is `dB` with no `dH` before it.
+fn is_unplaced(lines: &[SourceLine], number: u32, place: usize, token: &Token) -> bool
+    ensures { result ≡ spec.is_unplaced lines.now number place token.now }
+{
+    match back_digit(token.text.as_slice()) {
+        None => false,
+        Some(d) => !is_placed(d, lines, number, place),
+    }
+}
+
+/// The first `dB` of a statement on the line with this number, with no `dH` before the statement.
+#[tactic(auto, unfolding(crate::specs::Locals::no_label_before))]
+pub fn no_label_before(lines: &[SourceLine], number: u32, statement: &Statement) -> Option<Mark>
+    ensures { result ≡ spec.no_label_before lines.now number statement.now }
+{
+    let tokens = statement.tokens.as_slice();
+    let place = statement.op.from;
+    match tokens
+        .iter()
+        .find(|token| is_unplaced(lines, number, place, token))
+    {
+        Some(token) => Some(mark_of(token.from, token.text.as_slice(), 0)),
+        None => None,
+    }
+}

@@ -1,0 +1,2 @@
+pub mod WarningTurns
+pub mod WorkedRows

@@ -1,0 +1,7 @@
+pub mod Kinds
+pub mod Cells
+pub mod Overlaps
+pub mod Ends
+pub mod Idle
+pub mod Warnings
+pub mod Texts

@@ -1,0 +1,35 @@
+-- A byte that two lines place. Data that begin where earlier data begin are laid over them on purpose, and so is what places 0; so one
+-- of the lines loads an instruction, or the byte is in a further tetra of the earlier line.
+use Rattle.std.specs.Prelude.{ℕ, ◌&&◌, ◌||◌, List, [], ◌∷◌, Bool, nat_lt, drop, if◌then◌else◌, Option, None, Some}
+use Rattle.std.specs.List.{find}
+use Rattle.std.specs.Option.{option_map}
+use Rattle.mx_view.specs.declared.cells.Cell.{Cell}
+use Rattle.mx_slips.specs.declared.sources.SourceLine.{SourceLine}
+use Rattle.mx_slips.specs.declared.sources.Statement.{Statement}
+use Rattle.mx_slips.specs.declared.marks.Mark.{Mark}
+use Rattle.mx_warn.specs.Cells.{has_instruction, overlap}
+use Rattle.mx_slips.specs.Marks.{line_number, mark_of}
+
+-- those tetras of the earlier line that a line may not share
+abbrev pub kept_cells : SourceLine → SourceLine → List Cell
+kept_cells earlier line = if has_instruction earlier || has_instruction line then earlier.cells else drop 1 earlier.cells
+
+abbrev pub is_placed_by : SourceLine → SourceLine → Bool
+is_placed_by line earlier = nat_lt earlier.number line.number && overlap (kept_cells earlier line) line.cells
+
+-- the operation of the first statement
+abbrev pub first_operation : ℕ → List Statement → Option Mark
+first_operation other [] = None
+first_operation other (s ∷ more) = Some (mark_of s.op.from s.op.text other)
+
+-- the same with the number of another line, if there is one
+abbrev pub mark_with : List Statement → Option ℕ → Option Mark
+mark_with statements None = None
+mark_with statements (Some other) = first_operation other statements
+
+-- the number of the first such line
+unfoldable pub earlier_line : List SourceLine → SourceLine → Option ℕ
+earlier_line lines line = option_map line_number (find (is_placed_by line) lines)
+
+unfoldable pub placed_twice : List SourceLine → SourceLine → Option Mark
+placed_twice lines line = mark_with line.statements (earlier_line lines line)
