@@ -55,7 +55,8 @@ offers 'a.mms|b c.mms|programs' mmixview list ''
 offers '' mmixview list a.mms ''
 offers a.mms mmixview check a
 offers --json mmixview list -
-offers '--gnu|--json' mmixview check -
+offers '--gnu|--json|--no-warnings' mmixview check -
+offers --no-warnings mmixview check --gnu --n
 offers a.mms mmixview list --json a
 offers --json mmixview where ''
 offers 'a.mms|b c.mms|programs' mmixview where '#100' ''

@@ -31,7 +31,7 @@ _mmixview() {
   case $COMP_CWORD/$command/$given/$before in
     1/*) words='list check where count help --help --version' ;;
     */list/0/*) words='--json' files=.mms ;;
-    */check/0/*) words='--json --gnu' files=.mms ;;
+    */check/0/*) words='--json --gnu --no-warnings' files=.mms ;;
     */where/0/*) words='--json' ;;
     */where/1/*) files=.mms ;;
     2/count/*) words='--json --ring --steps' files=.mms ;;

@@ -37,7 +37,7 @@ fn carry_out(alloc: Global, host: &mut RealHost, choice: &Choice) -> Outcome {
     let name = choice.source.as_bytes();
     match choice.face {
         Face::List => list(alloc, host, choice.is_json, name),
-        Face::Check => check(alloc, host, form(choice), name),
+        Face::Check => check(alloc, host, form(choice), choice.no_warnings, name),
         Face::Where => match read_address(choice.address) {
             Some(address) => find_lines(alloc, host, choice.is_json, address, name),
             None => refuse_address(host),

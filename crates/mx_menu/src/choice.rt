@@ -11,6 +11,7 @@ pub struct Choice<'a> {
     pub face: Face,
     pub is_json: bool,
     pub is_gnu: bool,
+    pub no_warnings: bool,
     pub address: &'a str,
     pub source: &'a str,
 }
@@ -37,6 +38,7 @@ fn chosen<'a>(matches: &ArgMatches<'a>) -> Option<Choice<'a>> {
         face: face_of(name),
         is_json: given.get_flag("JSON"),
         is_gnu: given.get_flag("GNU"),
+        no_warnings: given.get_flag("NO_WARNINGS"),
         address: word(given, "ADDRESS"),
         source: word(given, "SRC"),
     })

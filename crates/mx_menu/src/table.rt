@@ -5,7 +5,7 @@
 pub enum Face {
     /// The listing of a source.
     List,
-    /// The faults of a source.
+    /// The faults and the warnings of a source.
     Check,
     /// The lines of an address.
     Where,
@@ -66,7 +66,7 @@ pub static COMMANDS: [Row; 4] = [
     Row {
         face: Face::Check,
         name: "check",
-        about: "tells the faults of a source, up to 100, each with its line",
+        about: "tells the faults of a source, up to 100, and its warnings, each with its line",
         words: &[
             Word {
                 id: "JSON",
@@ -77,6 +77,11 @@ pub static COMMANDS: [Row; 4] = [
                 id: "GNU",
                 form: Form::Flag("gnu"),
                 help: "writes each fault as SRC:LINE:COLUMN: error: FAULT, for editors",
+            },
+            Word {
+                id: "NO_WARNINGS",
+                form: Form::Flag("no-warnings"),
+                help: "leaves out warnings of what is legal but hardly meant",
             },
             Word {
                 id: "SRC",

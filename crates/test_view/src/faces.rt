@@ -13,6 +13,8 @@ use std::alloc::Global;
 enum Asked {
     List(bool),
     Check(Form),
+    /// The faults without warnings.
+    Faults(Form),
     Where(bool, &'static str),
 }
 
@@ -35,7 +37,7 @@ static PRINTS: &[u8] =
 static CUT: &[u8] =
     b"\x98\x09\x01\x01\x00\x00\x00\x00\x98\x01\x00\x01\x00\x00\x01\x00\x00\x00\x00\x00";
 
-static ROWS: [Row; 14] = [
+static ROWS: [Row; 22] = [
     Row {
         shows: "a listing as JSON",
         asked: Asked::List(true),
@@ -115,6 +117,78 @@ static ROWS: [Row; 14] = [
         source: b" SWYM 0\n",
         status: 65,
         output: "a.mms:1: error: 82 MainUndefined: There is no label Main, where a program starts. Write Main in front of the first instruction, without a colon. Under a PREFIX it is :Main.\n",
+        errors: "",
+    },
+    Row {
+        shows: "a warning",
+        asked: Asked::Check(Form::Text),
+        name: "a.mms",
+        source: b" LOC #100\nMain SWYM 0\nf\xc3\xbc SET $255,0\nText BYTE 1\n",
+        status: 0,
+        output: "line 3: warning 7 DataAfterCode\n    f\u{fc} SET $255,0\n       ^\n    the machine goes on to the next tetra, where data are; TRAP 0,Halt,0 ends the program, and JMP leads around data (line 4)\n",
+        errors: "",
+    },
+    Row {
+        shows: "a warning as a line for editors, with its column in characters",
+        asked: Asked::Check(Form::Gnu),
+        name: "a.mms",
+        source: b" LOC #100\nMain SWYM 0\nf\xc3\xbc SET $255,0\nText BYTE 1\n",
+        status: 0,
+        output: "a.mms:3:4: warning: 7 DataAfterCode: the machine goes on to the next tetra, where data are; TRAP 0,Halt,0 ends the program, and JMP leads around data (line 4)\n",
+        errors: "",
+    },
+    Row {
+        shows: "a warning as JSON, with its caret in bytes",
+        asked: Asked::Check(Form::Json),
+        name: "a.mms",
+        source: b" LOC #100\nMain SWYM 0\nf\xc3\xbc SET $255,0\nText BYTE 1\n",
+        status: 0,
+        output: "{\"faults\":[],\"more\":false,\"warnings\":[{\"line\":3,\"warning\":7,\"name\":\"DataAfterCode\",\"text\":\"f\u{fc} SET $255,0\",\"caret\":5,\"length\":3,\"other\":4,\"what\":\"the machine goes on to the next tetra, where data are; TRAP 0,Halt,0 ends the program, and JMP leads around data\"}]}\n",
+        errors: "",
+    },
+    Row {
+        shows: "a warning after a fault",
+        asked: Asked::Check(Form::Text),
+        name: "a.mms",
+        source: b" FOO 1\nMain BYTE \"a\\n\"\n",
+        status: 65,
+        output: "line 1: 39 UnknownOpcode\n     FOO 1\n     ^~~\n    There is no operation `FOO`.\n    Operations are in capitals. A line of comment begins with *, and a ; begins the next statement.\nline 2: warning 2 BackslashInString\n    Main BYTE \"a\\n\"\n              ^\n    a string has no escapes, so the backslash is a byte of it; write such a byte as a number, as in \"text\",10,0\n",
+        errors: "",
+    },
+    Row {
+        shows: "a warning of no other line as JSON, with escapes",
+        asked: Asked::Check(Form::Json),
+        name: "a.mms",
+        source: b"Main BYTE \"a\\n\"\n",
+        status: 0,
+        output: "{\"faults\":[],\"more\":false,\"warnings\":[{\"line\":1,\"warning\":2,\"name\":\"BackslashInString\",\"text\":\"Main BYTE \\\"a\\\\n\\\"\",\"caret\":11,\"length\":5,\"other\":null,\"what\":\"a string has no escapes, so the backslash is a byte of it; write such a byte as a number, as in \\\"text\\\",10,0\"}]}\n",
+        errors: "",
+    },
+    Row {
+        shows: "no warning is asked for",
+        asked: Asked::Faults(Form::Text),
+        name: "a.mms",
+        source: b" LOC #100\nMain SWYM 0\nf\xc3\xbc SET $255,0\nText BYTE 1\n",
+        status: 0,
+        output: "",
+        errors: "",
+    },
+    Row {
+        shows: "no warning is asked for among lines for editors",
+        asked: Asked::Faults(Form::Gnu),
+        name: "a.mms",
+        source: b" LOC #100\nMain SWYM 0\nf\xc3\xbc SET $255,0\nText BYTE 1\n",
+        status: 0,
+        output: "",
+        errors: "",
+    },
+    Row {
+        shows: "no warning is asked for in JSON",
+        asked: Asked::Faults(Form::Json),
+        name: "a.mms",
+        source: b" LOC #100\nMain SWYM 0\nf\xc3\xbc SET $255,0\nText BYTE 1\n",
+        status: 0,
+        output: "{\"faults\":[],\"more\":false}\n",
         errors: "",
     },
     Row {
@@ -242,7 +316,8 @@ fn host(alloc: Global, source: &[u8]) -> Option<MemHost> {
 fn outcome(alloc: Global, host: &mut MemHost, asked: Asked, name: &[u8]) -> Outcome {
     match asked {
         Asked::List(is_json) => list(alloc, host, is_json, name),
-        Asked::Check(form) => check(alloc, host, form, name),
+        Asked::Check(form) => check(alloc, host, form, false, name),
+        Asked::Faults(form) => check(alloc, host, form, true, name),
         Asked::Where(is_json, word) => match read_address(word) {
             Some(address) => find_lines(alloc, host, is_json, address, name),
             None => refuse_address(host),
