@@ -83,6 +83,8 @@ fi
 if command -v python3 >/dev/null; then
   python3 checks/picture.py --check || bad=1
   python3 checks/documents.py || bad=1
+  # what mmixview explains is what the documents say
+  python3 checks/explain.py || bad=1
   # the files for editors have the words of the tables, and their tools read them, where they are there
   python3 editors/words.py --check || bad=1
   python3 checks/editors/try.py >/dev/null || bad=1

@@ -1,10 +1,11 @@
-//! Views of a source: its listing, its faults, the lines of an address, and how often each line runs.
+//! Views of a source: its listing, its faults, the lines of an address, and how often each line runs; and what words mean.
 #![tactic(auto)]
 
 use clap::Error;
 use clap::error::ErrorKind;
 use face_check::{Form, check};
 use face_count::count;
+use face_explain::{show_list, show_word};
 use face_source::{find_lines, list, read_address, refuse_address};
 use mx_menu::{Choice, Face, choose, count_words};
 use mx_outcome::Outcome;
@@ -43,6 +44,10 @@ fn carry_out(alloc: Global, host: &mut RealHost, choice: &Choice) -> Outcome {
             None => refuse_address(host),
         },
         Face::Count => count(alloc, host, &[]),
+        Face::Explain => match choice.word {
+            Some(word) => show_word(alloc, host, word),
+            None => show_list(alloc, host),
+        },
     }
 }
 

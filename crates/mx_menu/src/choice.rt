@@ -14,6 +14,7 @@ pub struct Choice<'a> {
     pub no_warnings: bool,
     pub address: &'a str,
     pub source: &'a str,
+    pub word: Option<&'a str>,
 }
 
 /// What the command of this name does. Every other name is taken for the last one.
@@ -41,6 +42,7 @@ fn chosen<'a>(matches: &ArgMatches<'a>) -> Option<Choice<'a>> {
         no_warnings: given.get_flag("NO_WARNINGS"),
         address: word(given, "ADDRESS"),
         source: word(given, "SRC"),
+        word: given.get_str("WORD"),
     })
 }
 

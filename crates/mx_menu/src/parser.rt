@@ -11,6 +11,7 @@ fn argument<'a>(alloc: Global, word: &Word) -> Arg<'a> {
         Form::Flag(name) => argument.long(name).action(ArgAction::SetTrue),
         Form::Value(name) => argument.long(name),
         Form::One => argument.required(true),
+        Form::Maybe => argument,
         Form::Many => argument.num_args(0..),
     }
 }

@@ -11,14 +11,17 @@ pub enum Face {
     Where,
     /// A source that is run and counted. Its words are read as those of `mmixware run`: the table has its help alone.
     Count,
+    /// What a number or a name means.
+    Explain,
 }
 
-/// How a word is given: by a name after two dashes, alone or with a value, or by its place.
+/// How a word is given: by a name after two dashes, alone or with a value, or by its place, where it may be left out or come often.
 #[derive(Clone, Copy)]
 pub enum Form {
     Flag(&'static str),
     Value(&'static str),
     One,
+    Maybe,
     Many,
 }
 
@@ -45,7 +48,7 @@ pub const VERSION: &str = "0.3.0";
 pub const ABOUT: &str = "Views of a source in MMIXAL, and of a run of it.";
 
 /// The commands in the order in which help has them.
-pub static COMMANDS: [Row; 4] = [
+pub static COMMANDS: [Row; 5] = [
     Row {
         face: Face::List,
         name: "list",
@@ -143,5 +146,15 @@ pub static COMMANDS: [Row; 4] = [
                 help: "what the program is handed",
             },
         ],
+    },
+    Row {
+        face: Face::Explain,
+        name: "explain",
+        about: "says what a number or a name means: a fault, a reason, an operation, a symbol",
+        words: &[Word {
+            id: "WORD",
+            form: Form::Maybe,
+            help: "the number or the name; without it all that is explained is listed",
+        }],
     },
 ];

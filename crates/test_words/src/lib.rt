@@ -1,9 +1,11 @@
-//! Rows of words, commands and texts: the command line, the lines of the console, and what instructions are
-//! shown as. There is nothing but tests here.
+//! Rows of words, commands and texts: the command line, the lines of the console, what instructions are
+//! shown as, and what words mean. There is nothing but tests here.
 #![tactic(auto)]
 
 #[cfg(test)]
 mod commands;
+#[cfg(test)]
+mod explanations;
 #[cfg(test)]
 mod faults;
 #[cfg(test)]

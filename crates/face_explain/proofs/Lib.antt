@@ -1,0 +1,4 @@
+pub mod NearTurns
+pub mod WholeTable
+pub mod ListTurns
+pub mod Covered

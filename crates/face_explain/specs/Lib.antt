@@ -1,0 +1,7 @@
+pub mod Near
+pub mod Parts
+pub mod Tables
+pub mod Answers
+pub mod Lists
+pub mod Known
+pub mod ExplainPages

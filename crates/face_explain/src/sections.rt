@@ -1,0 +1,193 @@
+//! The sections of the table.
+
+ghost use Rattle.std.specs.Prelude.{◌≡◌, map};
+ghost use Rattle.mx_explain.specs.Topics.{row};
+ghost use Rattle.face_explain.specs.Tables as spec;
+
+use crate::parts::{
+    event_rows, file_rows, more_register_rows, other_rows, pseudo_rows, register_rows, service_rows,
+};
+use mx_explain::{
+    Entry, expression_rows, inside_rows, kind_rows, line_rows, loading_rows, object_rows,
+    place_rows, source_rows, statement_rows, stop_rows, trap_rows, trie_rows,
+};
+use mx_operations::{
+    arithmetic_rows, bit_rows, branch_rows, byte_rows, comparison_rows, float_rows, hint_rows,
+    jump_rows, load_rows, more_float_rows, set_rows, store_rows, system_rows, wyde_rows,
+};
+
+/// A section of the table.
+#[derive(Clone, Copy, Debug, PartialEq, Eq)]
+pub(crate) enum Section {
+    Lines,
+    Expressions,
+    Statements,
+    Places,
+    Sources,
+    Objects,
+    Tries,
+    Loading,
+    Stops,
+    Traps,
+    Kinds,
+    Inside,
+    Arithmetic,
+    Comparisons,
+    Bits,
+    Bytes,
+    Wydes,
+    Branches,
+    Sets,
+    Loads,
+    Stores,
+    Hints,
+    Jumps,
+    System,
+    Floats,
+    MoreFloats,
+    PseudoOperations,
+    Registers,
+    MoreRegisters,
+    Events,
+    Files,
+    Services,
+    Others,
+}
+
+/// The sections in their order.
+pub(crate) static ALL: [Section; 33] = [
+    Section::Lines,
+    Section::Expressions,
+    Section::Statements,
+    Section::Places,
+    Section::Sources,
+    Section::Objects,
+    Section::Tries,
+    Section::Loading,
+    Section::Stops,
+    Section::Traps,
+    Section::Kinds,
+    Section::Inside,
+    Section::Arithmetic,
+    Section::Comparisons,
+    Section::Bits,
+    Section::Bytes,
+    Section::Wydes,
+    Section::Branches,
+    Section::Sets,
+    Section::Loads,
+    Section::Stores,
+    Section::Hints,
+    Section::Jumps,
+    Section::System,
+    Section::Floats,
+    Section::MoreFloats,
+    Section::PseudoOperations,
+    Section::Registers,
+    Section::MoreRegisters,
+    Section::Events,
+    Section::Files,
+    Section::Services,
+    Section::Others,
+];
+
+/// What a section has: its title, its entries, how wide its columns are in a list, and how many cells of a line have one to
+/// their right.
+#[derive(Clone, Copy, Debug)]
+pub(crate) struct Part {
+    pub(crate) title: &'static str,
+    pub(crate) entries: &'static [Entry],
+    pub(crate) width: usize,
+    pub(crate) most: usize,
+}
+
+/// All sections, in order.
+#[tactic(auto, unfolding(crate::specs::Tables::sections))]
+pub(crate) fn all() -> &'static [Section]
+    ensures { result.now ≡ spec.sections }
+{
+    &ALL
+}
+
+/// A section of numbers with their names.
+fn wide(title: &'static str, entries: &'static [Entry]) -> Part
+    ensures { spec.seen_part result ≡ spec.wide title.now (map (λ e. row e.0 e.1.now e.2.now e.3.now e.4.now) entries.now) }
+{
+    Part {
+        title,
+        entries,
+        width: 24,
+        most: 2,
+    }
+}
+
+/// A section of operations or registers.
+fn narrow(title: &'static str, entries: &'static [Entry]) -> Part
+    ensures { spec.seen_part result ≡ spec.narrow title.now (map (λ e. row e.0 e.1.now e.2.now e.3.now e.4.now) entries.now) }
+{
+    Part {
+        title,
+        entries,
+        width: 8,
+        most: 8,
+    }
+}
+
+/// A section of symbols.
+fn middle(title: &'static str, entries: &'static [Entry]) -> Part
+    ensures { spec.seen_part result ≡ spec.middle title.now (map (λ e. row e.0 e.1.now e.2.now e.3.now e.4.now) entries.now) }
+{
+    Part {
+        title,
+        entries,
+        width: 18,
+        most: 3,
+    }
+}
+
+/// What a section has.
+pub(crate) fn part_of(section: Section) -> Part
+    ensures { spec.seen_part result ≡ spec.part_of section }
+{
+    match section {
+        Section::Lines => wide("Faults of a line", line_rows()),
+        Section::Expressions => wide("Faults of an expression", expression_rows()),
+        Section::Statements => wide("Faults of a statement", statement_rows()),
+        Section::Places => wide("Faults of addresses and labels", place_rows()),
+        Section::Sources => wide("Faults of a source as a whole", source_rows()),
+        Section::Objects => wide("Faults of an object", object_rows()),
+        Section::Tries => wide("Faults of the symbols of an object", trie_rows()),
+        Section::Loading => wide("Faults of an object that is loaded", loading_rows()),
+        Section::Stops => wide("Reasons of a stop", stop_rows()),
+        Section::Traps => wide("Reasons of a stop of RESUME or TRAP", trap_rows()),
+        Section::Kinds => wide("Kinds of faulty words", kind_rows()),
+        Section::Inside => wide("Numbers inside the program", inside_rows()),
+        Section::Arithmetic => narrow("Instructions on numbers", arithmetic_rows()),
+        Section::Comparisons => narrow(
+            "Comparisons, negations, shifts and copies",
+            comparison_rows(),
+        ),
+        Section::Bits => narrow("Instructions on bits", bit_rows()),
+        Section::Bytes => narrow("Instructions on bytes and single bits", byte_rows()),
+        Section::Wydes => narrow("Instructions on wydes", wyde_rows()),
+        Section::Branches => narrow("Branches", branch_rows()),
+        Section::Sets => narrow("Registers that are set by a condition", set_rows()),
+        Section::Loads => narrow("Loads", load_rows()),
+        Section::Stores => narrow("Stores", store_rows()),
+        Section::Hints => narrow("Hints to the cache", hint_rows()),
+        Section::Jumps => narrow("Jumps, subroutines and special registers", jump_rows()),
+        Section::System => narrow("Trips, traps and the state", system_rows()),
+        Section::Floats => narrow("Instructions on floating-point numbers", float_rows()),
+        Section::MoreFloats => narrow(
+            "More instructions on floating-point numbers",
+            more_float_rows(),
+        ),
+        Section::PseudoOperations => narrow("Pseudo-operations", pseudo_rows()),
+        Section::Registers => narrow("Special registers", register_rows()),
+        Section::MoreRegisters => narrow("More special registers", more_register_rows()),
+        Section::Events => middle("Bits and handlers of events", event_rows()),
+        Section::Files => middle("Handles and modes of files", file_rows()),
+        Section::Services => middle("Services of TRAP", service_rows()),
+        Section::Others => middle("Other predefined symbols", other_rows()),
+    }
+}

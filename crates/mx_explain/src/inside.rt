@@ -1,0 +1,40 @@
+//! Numbers that no message has.
+
+use crate::row::{Entry, Topic};
+
+/// Numbers inside the program.
+pub(crate) static INSIDE: [Entry; 4] = [
+    (
+        Topic::Inside(100),
+        "",
+        "The number of the crate mx_registers for what the program tells as 114\n\
+        StackFull.",
+        "",
+        "",
+    ),
+    (
+        Topic::Inside(101),
+        "",
+        "The number of the crate mx_registers for what the program tells as 115\n\
+        Underflow.",
+        "",
+        "",
+    ),
+    (
+        Topic::Inside(102),
+        "",
+        "The number of the crate mx_registers for what the program tells as 116\n\
+        BadFrame.",
+        "",
+        "",
+    ),
+    (
+        Topic::Inside(140),
+        "",
+        "The answer of the crate mx_back where no step is kept that could be taken\n\
+        back. The program asks only for steps that are kept, so that it never tells\n\
+        it.",
+        "",
+        "",
+    ),
+];

@@ -1,0 +1,148 @@
+//! What words mean, row by row: numbers and names of docs/MESSAGES.md; codes and costs of TAOCP 1, Fascicle 1, Table 1; values
+//! of MMIXware's predefined symbols.
+
+use face_explain::{Answer, explain, list};
+use std::alloc::Global;
+
+/// A word, and a part of what is answered.
+type Row = (&'static str, &'static str);
+
+static PARTS: [Row; 34] = [
+    // by number and by name, in any case
+    ("43", "43 Fit: a fault of a source\n"),
+    ("Fit", "43 Fit: a fault of a source\n"),
+    ("fIT", "43 Fit: a fault of a source\n"),
+    ("117", "117 UnhandledTrip: a reason of a stop\n"),
+    ("61", "61 NoPre: a fault of an object\n"),
+    ("badring", "6 BadRing: a kind of faulty words\n"),
+    ("140", "140 NothingKept: a number inside the program\n"),
+    // a number and a name of several
+    ("3", "3 BadLocal: a fault of a source\n"),
+    ("3", "3 UnknownOption: a kind of faulty words\n"),
+    ("Twice", "30 Twice: a fault of a source\n"),
+    ("Twice", "73 Twice: a fault of an object\n"),
+    // an example and what mends it
+    ("80", "  Example:  Main JMP Later\n"),
+    ("80", "  Mended:   Main JMP Later;Later TRAP 0,Halt,0\n"),
+    // how operations are written
+    ("ADD", "  ADD $X,$Y,$Z|Z\n"),
+    ("negu", "  NEGU $X,$Z|Z or $X,Y,$Z|Z\n"),
+    ("FIX", "  FIX $X,$Z or $X,Y,$Z\n"),
+    ("STCO", "  STCO X,$Y,$Z|Z or X,$Y or X,A\n"),
+    ("SET", "SET: an instruction that the operands choose\n"),
+    ("greg", "GREG: a pseudo-operation\n"),
+    // codes
+    ("ADD", "  Opcode:   #20, and #21 with Z as a number\n"),
+    (
+        "JMP",
+        "  Opcode:   #f0, and #f1 for an address before its own\n",
+    ),
+    ("TRIP", "  Opcode:   #ff\n"),
+    // costs
+    ("MUL", "  Cost:     10υ\n"),
+    ("DIVU", "  Cost:     60υ\n"),
+    ("LDO", "  Cost:     1υ + 1μ\n"),
+    ("CSWAP", "  Cost:     2υ + 2μ\n"),
+    ("SAVE", "  Cost:     1υ + 20μ\n"),
+    ("BZ", "  Cost:     1υ, and 3υ where the branch is taken\n"),
+    ("PBZ", "  Cost:     3υ, and 1υ where the branch is taken\n"),
+    // values
+    ("StdOut", "  Value:    1\n"),
+    ("ROUND_UP", "  Value:    2\n"),
+    ("rj", "  Value:    4\n"),
+    ("D_Handler", "  Value:    16\n"),
+    ("Data_Segment", "  Value:    #2000000000000000\n"),
+];
+
+/// Words that are not explained, each with its line.
+static UNKNOWN: [Row; 7] = [
+    // a letter that is missing, wrong, or too many
+    (
+        "PUSJ",
+        "error: PUSJ is not explained; near it: PUSHJ\n",
+    ),
+    (
+        "stdoud",
+        "error: stdoud is not explained; near it: StdOut\n",
+    ),
+    (
+        "PUSHJS",
+        "error: PUSHJS is not explained; near it: PUSHJ\n",
+    ),
+    (
+        "wide1",
+        "error: wide1 is not explained; near it: Wide\n",
+    ),
+    // two letters, a number that none has, and no letters
+    (
+        "PUSHJSR",
+        "error: PUSHJSR is not explained; mmixview explain lists all that is\n",
+    ),
+    (
+        "043",
+        "error: 043 is not explained; mmixview explain lists all that is\n",
+    ),
+    (
+        "",
+        "error:  is not explained; mmixview explain lists all that is\n",
+    ),
+];
+
+/// Whether a text has a part.
+fn has(text: &[u8], part: &str) -> bool {
+    let part = part.as_bytes();
+    text.windows(part.len().max(1)).any(|it| it == part)
+}
+
+/// Whether what a word means has a part.
+fn is_explained(alloc: Global, word: &str, part: &str) -> bool {
+    match explain(alloc, word) {
+        Ok(Answer::Explained(text)) => has(text.as_slice(), part),
+        _ => false,
+    }
+}
+
+/// Whether a word is unknown with this line.
+fn is_unknown(alloc: Global, word: &str, line: &str) -> bool {
+    match explain(alloc, word) {
+        Ok(Answer::Unknown(text)) => text.as_slice() == line.as_bytes(),
+        _ => false,
+    }
+}
+
+/// Whether the list has a part.
+fn is_listed(alloc: Global, part: &str) -> bool {
+    match list(alloc) {
+        Ok(text) => has(text.as_slice(), part),
+        Err(_) => false,
+    }
+}
+
+#[test]
+fn explanations(rt: HostRuntime) {
+    for (word, part) in &PARTS {
+        assert!(rt; is_explained(rt.alloc(), word, part), "{word}: {part}");
+    }
+}
+
+#[test]
+fn unknown_words(rt: HostRuntime) {
+    for (word, line) in &UNKNOWN {
+        assert!(rt; is_unknown(rt.alloc(), word, line), "{word}");
+    }
+}
+
+/// Lines of the list: columns of three widths, and the last line of a part.
+static LISTED: [&str; 4] = [
+    "Faults of a line\n  1 TooLong               2 BadLabel              3 BadLocal\n",
+    "Pseudo-operations\n  IS      LOC     PREFIX  GREG    LOCAL   BYTE    WYDE    TETRA   OCTA\n",
+    "Special registers\n  rB      rD      rE      rH      rJ      rM      rR      rBB     rC\n",
+    "  ROUND_OFF         ROUND_UP          ROUND_DOWN        ROUND_NEAR\n  Inf\n",
+];
+
+#[test]
+fn listed_words(rt: HostRuntime) {
+    for part in &LISTED {
+        assert!(rt; is_listed(rt.alloc(), part), "{part}");
+    }
+}
