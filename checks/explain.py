@@ -97,7 +97,7 @@ def check_messages(rows):
             continue
         if (kinds if here == "Kind" else faults).get(int(cells[0])) != cells[1]:
             wrong(where, f"{cells[0]} has another name")
-        if cells[3] not in (row.example, f"`{row.example}`"):
+        if cells[3] not in (row.example or "none", f"`{row.example}`"):
             wrong(row.where, f"has another example than {where}")
     for kind, key in given:
         if kind == "Inside":
@@ -183,7 +183,7 @@ def check_manual():
     faults, kinds = names_of_numbers()
     pairs = {f"{n} {name}" for names in (faults, kinds) for n, name in names.items()}
     for page in ("docs/mmixware.1", "docs/mmixview.1"):
-        for it in re.findall(r"\b\d+ [A-Z][a-z]+(?:[A-Z][a-z]+)+\b", text_of(page)):
+        for it in re.findall(r"(?<!warning )\b\d+ [A-Z][a-z]+(?:[A-Z][a-z]+)+\b", text_of(page)):
             if it not in pairs:
                 wrong(page, f"{it} is no fault, reason or kind")
     if not re.search(r"mmixview explain\n", text_of("docs/mmixview.1")):

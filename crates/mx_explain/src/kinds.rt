@@ -8,9 +8,10 @@ pub(crate) static KINDS: [Entry; 9] = [
         Topic::Kind(1),
         "",
         "There are no words after the name of the program. The first one is the\n\
-        command: run, asm, sim, gen, type or multi; --help lists them.",
-        "mmixware",
-        "mmixware run hello.mms",
+        command: run, asm, sim, gen, type or multi. The program itself answers by\n\
+        its usage, as it does --help.",
+        "",
+        "",
     ),
     (
         Topic::Kind(2),

@@ -57,22 +57,13 @@ static PARTS: [Row; 34] = [
 /// Words that are not explained, each with its line.
 static UNKNOWN: [Row; 7] = [
     // a letter that is missing, wrong, or too many
-    (
-        "PUSJ",
-        "error: PUSJ is not explained; near it: PUSHJ\n",
-    ),
+    ("PUSJ", "error: PUSJ is not explained; near it: PUSHJ\n"),
     (
         "stdoud",
         "error: stdoud is not explained; near it: StdOut\n",
     ),
-    (
-        "PUSHJS",
-        "error: PUSHJS is not explained; near it: PUSHJ\n",
-    ),
-    (
-        "wide1",
-        "error: wide1 is not explained; near it: Wide\n",
-    ),
+    ("PUSHJS", "error: PUSHJS is not explained; near it: PUSHJ\n"),
+    ("wide1", "error: wide1 is not explained; near it: Wide\n"),
     // two letters, a number that none has, and no letters
     (
         "PUSHJSR",
