@@ -229,7 +229,7 @@ def check_examples(rows):
                 wrong(row.where, f"the example gives {outcome}")
             if not is_wordy(row.mended) and run_of(row.mended).kind != "Done":
                 wrong(row.where, f"what mends it gives {run_of(row.mended)}")
-        if row.kind == "Kind" and row.key not in UNKNOWN:
+        if row.kind == "Kind" and row.example and row.key not in UNKNOWN:
             for text, due in ((row.example, True), (row.mended, False)):
                 outcome = answer_of(shlex.split(text)[1:], None, None)
                 if (outcome.kind == "Usage") != due or due and outcome.values[0] != int(row.key):
