@@ -29,7 +29,7 @@ _mmixview() {
   local given words='' files=none
   given=$(_mmixview_given)
   case $COMP_CWORD/$command/$given/$before in
-    1/*) words='list check where count help --help --version' ;;
+    1/*) words='list check where count explain help --help --version' ;;
     */list/0/*) words='--json' files=.mms ;;
     */check/0/*) words='--json --gnu --no-warnings' files=.mms ;;
     */where/0/*) words='--json' ;;
@@ -39,7 +39,7 @@ _mmixview() {
     */count/0/--steps) ;;
     */count/0/*) words='--ring --steps' files=.mms ;;
     */count/*) files='' ;;
-    2/help/*) words='list check where count' ;;
+    2/help/*) words='list check where count explain' ;;
   esac
   if [ "$files" != none ] && { [ -z "$words" ] || [ "${word#-}" = "$word" ]; }; then
     _mmixview_files "$files" "$word"
