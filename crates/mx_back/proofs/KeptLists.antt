@@ -14,9 +14,10 @@ use Rattle.mx_run.specs.WildRuns.{RunEnd, run_ended, run_wild, HasWindow, list_m
 use Rattle.mx_run.specs.declared.end.End.{End}
 use Rattle.mx_run.specs.declared.end.End.TheVariants as end
 use Rattle.mx_run.proofs.FreeRuns.{trace-free}
-use Rattle.mx_run.proofs.ListSteps.{Beside, as_list, was_wild, list-window, list-step, list-runs}
+use Rattle.mx_run.proofs.ListSteps.{list-window}
 use Rattle.mx_run.proofs.ListTurns.{TurnWindow, turn-listed-on}
 use Rattle.mx_run.proofs.PlanEnds.{left-after, run_step, turn_ended, step-answer}
+use Rattle.mx_run.proofs.RunBoth.{Beside, as_list, was_wild, meets-wild}
 use Rattle.mx_back.specs.History.{Turned, stepped, trapped, ended, kept_turn, states_kept}
 use Rattle.mx_back.specs.KeptLists.{AreBeside, AreUntouched, as_lists}
 use Rattle.mx_back.specs.KeptRuns.{ComesStep, turn_kind, kind_at, turns_after, turns_of}
@@ -71,11 +72,6 @@ turns-beside n i s m kept l h u e =
     ∙ ap (states_kept (turns_after more (as_list_turn (turn s m)))) (kept-as-lists (kind_at s m) s kept)
     )
 
--- what the list machine comes to at a wild one
-meets-wild : (n i : ℕ) (whole : RunEnd) (s : State) (m : HostModel) → i < n → TurnWindow s → s.touched ≡ false → turn_is_wild s ≡ true → whole ≡ run_by list_machine (n - i) no_flags false (as_list_state s) m → whole ≡ run_wild m
-meets-wild n i whole s m l h u e is =
-    is ∙ list-runs n i no_flags false s m h u l ∙ ap (λ c. list-step false c (run_by list_machine (n - (i + 1)) no_flags false) no_flags (as_list_state s) m) e
-
 -- ---- on the way: what is kept so far is untouched, and what the list machine makes of it is what it makes of all; unless its
 -- run meets something wild
 
@@ -102,20 +98,20 @@ end-by more pc why t k (stops reason v n) e = refl
 
 went-by : (n i : ℕ) (whole : RunEnd) (s t : State) (m k : HostModel) (kept now goal : List State) (c : Bool) → turn_is_wild s ≡ c → i < n → TurnWindow s → s.touched ≡ false → (w : turns_after (turns_of (n - (i + 1))) (as_list_turn (turn s m)) ≡ turns_of (n - (i + 1)) (as_list_state t) k) → now ≡ kept_turn (kind_at s m) s kept →
     whole ≡ run_by list_machine (n - i) no_flags false (as_list_state s) m → AreUntouched kept → states_kept (turns_of (n - i) (as_list_state s) m) (as_lists kept) ≡ goal → KeptSoFar whole (n - (i + 1)) t k now goal
-went-by n i whole s t m k kept now goal true e l h u w is so a b = wild m (meets-wild n i whole s m l h u e so)
+went-by n i whole s t m k kept now goal true e l h u w is so a b = wild m (so ∙ meets-wild n i s m l h u e)
 went-by n i whole s t m k kept now goal false e l h u w is so a b =
     holds (subst AreUntouched (sym is) (kept-untouched (kind_at s m) s kept u a))
     (ap (λ ks. states_kept (turns_of (n - (i + 1)) (as_list_state t) k) (as_lists ks)) is
     ∙ ap (λ ts. states_kept ts (as_lists (kept_turn (kind_at s m) s kept))) (sym w) ∙ sym (turns-beside n i s m kept l h u e) ∙ b)
 
 went-on : (n i : ℕ) (whole : RunEnd) (s t : State) (m k : HostModel) (kept now goal : List State) → i < n → TurnWindow s → turns_after (turns_of (n - (i + 1))) (as_list_turn (turn s m)) ≡ turns_of (n - (i + 1)) (as_list_state t) k → now ≡ kept_turn (kind_at s m) s kept →
-    Beside whole (run_by list_machine (n - i) no_flags false (as_list_state s) m) s m → KeptSoFar whole (n - i) s m kept goal → KeptSoFar whole (n - (i + 1)) t k now goal
-went-on n i whole s t m k kept now goal l h w is (was_wild g e o) p = wild g e
+    Beside whole (run_by list_machine (n - i) no_flags false (as_list_state s) m) s → KeptSoFar whole (n - i) s m kept goal → KeptSoFar whole (n - (i + 1)) t k now goal
+went-on n i whole s t m k kept now goal l h w is (was_wild g e) p = wild g e
 went-on n i whole s t m k kept now goal l h w is (as_list u so) (wild g e) = wild g e
 went-on n i whole s t m k kept now goal l h w is (as_list u so) (holds a b) = went-by n i whole s t m k kept now goal (turn_is_wild s) refl l h u w is so a b
 
 pub went-kept-beside : (n i : ℕ) (whole : RunEnd) (u : Unit {0}) (s t : State) (m k : HostModel) (kept now goal : List State) → i < n → HasWindow s → ComesStep (s, m) (t, k) (Ok u) → now ≡ kept_turn (kind_at s m) s kept →
-    Beside whole (run_by list_machine (n - i) no_flags false (as_list_state s) m) s m → KeptSoFar whole (n - i) s m kept goal → KeptSoFar whole (n - (i + 1)) t k now goal
+    Beside whole (run_by list_machine (n - i) no_flags false (as_list_state s) m) s → KeptSoFar whole (n - i) s m kept goal → KeptSoFar whole (n - (i + 1)) t k now goal
 unfolding run_step
 went-kept-beside n i whole u s t m k kept now goal l h c is b p =
     went-on n i whole s t m k kept now goal l (list-window s h)
@@ -131,19 +127,19 @@ at-end (run_wild m) now goal h = tt
 ended-by : (n i : ℕ) (whole : RunEnd) (s : State) (m : HostModel) (kept now goal : List State) (c : Bool) → turn_is_wild s ≡ c → i < n → TurnWindow s → s.touched ≡ false → turns_after (turns_of (n - (i + 1))) (as_list_turn (turn s m)) ≡ [] → now ≡ kept_turn (kind_at s m) s kept →
     whole ≡ run_by list_machine (n - i) no_flags false (as_list_state s) m → AreUntouched kept → states_kept (turns_of (n - i) (as_list_state s) m) (as_lists kept) ≡ goal → SoFar whole now (as_lists now) goal
 unfolding states_kept
-ended-by n i whole s m kept now goal true e l h u w is so a b = wild m (meets-wild n i whole s m l h u e so)
+ended-by n i whole s m kept now goal true e l h u w is so a b = wild m (so ∙ meets-wild n i s m l h u e)
 ended-by n i whole s m kept now goal false e l h u w is so a b =
     holds (subst AreUntouched (sym is) (kept-untouched (kind_at s m) s kept u a))
     (ap as_lists is ∙ ap (λ ts. states_kept ts (as_lists (kept_turn (kind_at s m) s kept))) (sym w) ∙ sym (turns-beside n i s m kept l h u e) ∙ b)
 
 ended-on : (n i : ℕ) (whole : RunEnd) (s : State) (m : HostModel) (kept now goal : List State) → i < n → TurnWindow s → turns_after (turns_of (n - (i + 1))) (as_list_turn (turn s m)) ≡ [] → now ≡ kept_turn (kind_at s m) s kept →
-    Beside whole (run_by list_machine (n - i) no_flags false (as_list_state s) m) s m → KeptSoFar whole (n - i) s m kept goal → SoFar whole now (as_lists now) goal
-ended-on n i whole s m kept now goal l h w is (was_wild g e o) p = wild g e
+    Beside whole (run_by list_machine (n - i) no_flags false (as_list_state s) m) s → KeptSoFar whole (n - i) s m kept goal → SoFar whole now (as_lists now) goal
+ended-on n i whole s m kept now goal l h w is (was_wild g e) p = wild g e
 ended-on n i whole s m kept now goal l h w is (as_list u so) (wild g e) = wild g e
 ended-on n i whole s m kept now goal l h w is (as_list u so) (holds a b) = ended-by n i whole s m kept now goal (turn_is_wild s) refl l h u w is so a b
 
 pub ended-kept-beside : (n i : ℕ) (whole : RunEnd) (why : End) (s t : State) (m k : HostModel) (kept now goal : List State) → i < n → HasWindow s → why ≢ end.OutOfMemory → ComesStep (s, m) (t, k) (Err why) → now ≡ kept_turn (kind_at s m) s kept →
-    Beside whole (run_by list_machine (n - i) no_flags false (as_list_state s) m) s m → KeptSoFar whole (n - i) s m kept goal → AreBeside whole now goal
+    Beside whole (run_by list_machine (n - i) no_flags false (as_list_state s) m) s → KeptSoFar whole (n - i) s m kept goal → AreBeside whole now goal
 unfolding run_step
 ended-kept-beside n i whole why s t m k kept now goal l h ne c is b p =
     at-end whole now goal (ended-on n i whole s m kept now goal l (list-window s h)

@@ -22,10 +22,10 @@ use Rattle.mx_run.specs.declared.end.End.{End}
 use Rattle.mx_run.specs.declared.end.End.TheVariants as end
 use Rattle.mx_run.specs.declared.turn_answer.TurnAnswer.{TurnAnswer}
 use Rattle.mx_run.specs.declared.turn_answer.TurnAnswer.TheVariants as answer
-use Rattle.mx_run.proofs.AccompaniedRuns.{Rest, Made, ended-so}
+use Rattle.mx_run.proofs.AccompaniedRuns.{Rest, Made, of-run}
 use Rattle.mx_run.proofs.FreeRuns.{trace-free, went-turn, went-free, halted-step, stopped-step, lacking-step, run-went}
 use Rattle.mx_run.proofs.Later.{stepped-later}
-use Rattle.mx_run.proofs.PlanEnds.{left-after, run_step, turn_ended, step-end, step-answer}
+use Rattle.mx_run.proofs.PlanEnds.{left-after, run_step, turn_ended, step-end, step-answer, rest-ended}
 use Rattle.mx_run.proofs.Runners.{turn-told}
 use Rattle.mx_run.proofs.TurnAnswers.{call-told, went-comes, stopped-comes, called-comes}
 use Rattle.mx_back.specs.History.{AreNotesOf, Turned, stepped, kept_turn, states_kept, states_before}
@@ -73,15 +73,18 @@ left-fits false r old new s t c e f h = subst (λ ns. AreNotesOf ns t) (sym e) (
 
 -- ---- the run, after some of its steps
 
+ended-plainly : (n i : ℕ) (why : End) (v w start : RunWorld) → i < n → Rest n (n - i) v start → Comes running v w (Err end.OutOfMemory) (Err why) (step_plan no_flags false) → ComesAccompanied n start w why
+ended-plainly n i why v w start l r c = of-run n start w why (rest-ended n i no_flags false why v w start (run_plan n no_flags false) l r.window c)
+
 ended-by : (n i : ℕ) (why : End) (v w start : RunWorld) → i < n → Rest n (n - i) v start → Made i v start → why ≡ end.OutOfMemory →
     Stops running w (step_plan no_flags false) v ⊎ (w ≡ v) → Stops running w (run_plan n no_flags false) start ⊎ AfterSteps n start w
 ended-by n i why v w start l r h o (inl lacks) =
-    (ended-so n i why v w start l r (record { ending = λ ne. absurd (ne (ap Err o)); stopping = λ e. lacks })).stopping o
+    (ended-plainly n i why v w start l r (record { ending = λ ne. absurd (ne (ap Err o)); stopping = λ e. lacks })).stopping o
 ended-by n i why v w start l r h o (inr same) = inr (record { made = i; few = omega (arith, l); steps = h ∙ ap (λ (x : RunWorld). ended end.Spent x.0 x.1) (sym same) })
 
 pub ended-kept : (n i : ℕ) (why : End) (v w start : RunWorld) → i < n → Rest n (n - i) v start → Made i v start → ComesStep v w (Err why) → ComesAccompanied n start w why
 ended-kept n i why v w start l r h c = record {
-  ending = λ ne. (ended-so n i why v w start l r (record { ending = c.ending; stopping = λ e. absurd (ne (cc)) })).ending ne;
+  ending = λ ne. (ended-plainly n i why v w start l r (record { ending = c.ending; stopping = λ e. absurd (ne (cc)) })).ending ne;
   stopping = λ o. ended-by n i why v w start l r h o (c.stopping (ap Err o));
 }
 

@@ -2,6 +2,7 @@ pub mod Plans
 pub mod HeldLaws
 pub mod Streams
 pub mod WildLaws
+pub mod BothWorlds
 pub mod Spared
 pub mod Giving
 pub mod Taking

@@ -5,27 +5,29 @@ use Rattle.mx_word.specs.Lists.{IsFront}
 use Rattle.mx_host.specs.HostModel.{HostModel, tells, contents}
 use Rattle.mx_plan.specs.Clauses.{Stands}
 use Rattle.mx_plan.specs.Held.{KeepsStreams}
-use Rattle.mx_plan.specs.Plan.{Comes, IsRest, Stops, end_of}
+use Rattle.mx_plan.specs.Plan.{Comes, Stops, end_of}
 use Rattle.mx_core.specs.Bounds.{as_list_state}
 use Rattle.mx_core.specs.State.{State}
 use Rattle.mx_run.specs.AccompaniedRuns.{AfterSteps, ComesAccompanied}
 use Rattle.mx_run.specs.Clauses.{EndsAsList, GoesAsList, IsRun}
+use Rattle.mx_run.specs.RunCourses.{RunsBoth, RestsBoth}
 use Rattle.mx_run.specs.RunPlans.{RunWorld, running, ended_world, run_plan, step_plan}
 use Rattle.mx_run.specs.Runs.{Ended, IsLater, ended, no_flags, run}
-use Rattle.mx_run.specs.WildRuns.{HasWindow, RunEnd, list_machine, run_by}
+use Rattle.mx_run.specs.WildRuns.{HasWindow, list_machine, run_by}
 use Rattle.mx_run.specs.declared.end.End.{End}
 use Rattle.mx_run.specs.declared.end.End.TheVariants.{Halted, Stopped, Broke, Traced, Spent, OutOfMemory}
 use Rattle.mx_run.proofs.FreeRuns.{run-from}
 use Rattle.mx_run.proofs.HeldRuns.{streams-end, streams-stop}
-use Rattle.mx_run.proofs.ListSteps.{Beside, list-window, list-went, list-ended}
+use Rattle.mx_run.proofs.ListSteps.{list-window}
 use Rattle.mx_run.proofs.Outputs.{run-front}
-use Rattle.mx_run.proofs.PlanEnds.{run-end, rest-begun, rest-went, rest-ended, rest-spent, step-answer}
+use Rattle.mx_run.proofs.PlanEnds.{run-end, rest-begun, rest-went, rest-spent}
+use Rattle.mx_run.proofs.RunBoth.{rest-went-both, rest-ended-both, rest-spent-both, run-listed}
 use Rattle.mx_run.proofs.Runners.{run-told, run-begun, run-streams, keeps-by}
 
 -- ---- after some of its steps: what is left of its plan, and what is made
 
 abbrev pub Rest : ℕ → ℕ → RunWorld → RunWorld → Type 0
-Rest n left now start = IsRest running (run_plan left no_flags false) now (run_plan n no_flags false) start
+Rest n left now start = RestsBoth (run_plan left no_flags false) now (run_plan n no_flags false) start
 
 abbrev pub Made : ℕ → RunWorld → RunWorld → Type 0
 Made i now start = run i no_flags false start.0 start.1 ≡ ended Spent now.0 now.1
@@ -38,35 +40,38 @@ begun-made s m = refl
 abbrev pub GoesOn : Unit {0} → RunWorld → RunWorld → Type 0
 GoesOn u v w = (Ok u, w) ≡ end_of running (step_plan no_flags false) v
 
-pub went-rest : (n i : ℕ) (u : Unit {0}) (v w start : RunWorld) → i < n → GoesOn u v w → Rest n (n - i) v start → Rest n (n - (i + 1)) w start
-went-rest n i u v w start l e r = rest-went n i no_flags false u v w start (run_plan n no_flags false) l r e
+pub went-rest : (n i : ℕ) (u : Unit {0}) (s t : State) (m k : HostModel) (start : RunWorld) → i < n → HasWindow s → GoesOn u (s, m) (t, k) → Rest n (n - i) (s, m) start → Rest n (n - (i + 1)) (t, k) start
+went-rest n i u s t m k start l w e r =
+    rest-went-both n i no_flags false u s t m k start (run_plan n no_flags false) l (list-window s w) (record { ending = λ ne. e; stopping = λ o. absurd (cc) }) r
 
 one-made : (u : Unit {0}) (v w : RunWorld) → GoesOn u v w → Made 1 w v
 one-made u v w e =
-    let whole = rest-spent 1 1 no_flags false w v (run_plan 1 no_flags false) (omega arith) (went-rest 1 0 u v w v (omega arith) e (rest-begun 1 no_flags false v)) in
+    let whole = rest-spent 1 1 no_flags false w v (run_plan 1 no_flags false) (omega arith) (rest-went 1 0 no_flags false u v w v (run_plan 1 no_flags false) (omega arith) (rest-begun 1 no_flags false v) e) in
     sym (run-told 1 no_flags false v.0 w.0 v.1 w.1 Spent whole (λ e. absurd (cc)))
 
 pub went-made : (i : ℕ) (u : Unit {0}) (v w start : RunWorld) → GoesOn u v w → Made i v start → Made (i + 1) w start
 went-made i u v w start e h = run-from i 1 start.0 v.0 start.1 v.1 h ∙ one-made u v w e
 
-pub went-listed : (n i : ℕ) (whole : RunEnd) (u : Unit {0}) (s t : State) (m k : HostModel) → i < n → HasWindow s → GoesOn u (s, m) (t, k) → Beside whole (run_by list_machine (n - i) no_flags false (as_list_state s) m) s m →
-    Beside whole (run_by list_machine (n - (i + 1)) no_flags false (as_list_state t) k) t k
-went-listed n i whole u s t m k l w e b = list-went whole n i no_flags false s t m k u l (list-window s w) (step-answer no_flags false s t m k (Ok u) e) b
-
-pub ended-listed : (n i : ℕ) (whole : RunEnd) (why : End) (s t : State) (m k : HostModel) → i < n → HasWindow s → (Err why, (t, k)) ≡ end_of running (step_plan no_flags false) (s, m) →
-    Beside whole (run_by list_machine (n - i) no_flags false (as_list_state s) m) s m → GoesAsList whole (ended why t k)
-ended-listed n i whole why s t m k l w e b = list-ended whole n i no_flags false s t m k why l (list-window s w) (step-answer no_flags false s t m k (Err why) e) b
-
 -- ---- how it ends
+
+abbrev pub Ends : ℕ → RunWorld → RunWorld → End → Type 0
+Ends n start now r = RunsBoth start now OutOfMemory r (run_plan n no_flags false)
 
 pub of-run : (n : ℕ) (v w : RunWorld) (r : End) → Comes running v w OutOfMemory r (run_plan n no_flags false) → ComesAccompanied n v w r
 of-run n v w r c = record { ending = c.ending; stopping = λ o. inl (c.stopping o) }
 
-pub ended-so : (n i : ℕ) (why : End) (v w start : RunWorld) → i < n → Rest n (n - i) v start → Comes running v w (Err OutOfMemory) (Err why) (step_plan no_flags false) → ComesAccompanied n start w why
-ended-so n i why v w start l r c = of-run n start w why (rest-ended n i no_flags false why v w start (run_plan n no_flags false) l r c)
+pub ended-so : (n i : ℕ) (why : End) (s t : State) (m k : HostModel) (start : RunWorld) → i < n → HasWindow s → Rest n (n - i) (s, m) start →
+    Comes running (s, m) (t, k) (Err OutOfMemory) (Err why) (step_plan no_flags false) → Ends n start (t, k) why
+ended-so n i why s t m k start l w r c = rest-ended-both n i no_flags false why s t m k start (run_plan n no_flags false) l (list-window s w) c r
 
-pub spent-so : (n i : ℕ) (w start : RunWorld) → n ≤ i → Rest n (n - i) w start → ComesAccompanied n start w Spent
-spent-so n i w start l r = of-run n start w Spent (rest-spent n i no_flags false w start (run_plan n no_flags false) l r)
+pub spent-so : (n i : ℕ) (w start : RunWorld) → n ≤ i → Rest n (n - i) w start → Ends n start w Spent
+spent-so n i w start l r = rest-spent-both n i no_flags false w start (run_plan n no_flags false) l r
+
+-- so beside the list machine, where what goes along has memory
+pub ended-listed : (n i : ℕ) (why : End) (s t u : State) (m k h : HostModel) → i < n → HasWindow s → why ≢ OutOfMemory → (Err why, (t, k)) ≡ end_of running (step_plan no_flags false) (s, m) →
+    Rest n (n - i) (s, m) (u, h) → u.touched ≡ false → GoesAsList (run_by list_machine n no_flags false (as_list_state u) h) (ended why t k)
+ended-listed n i why s t u m k h l w ne e r o =
+    run-listed n no_flags false u t h k why (ended-so n i why s t m k (u, h) l w r (record { ending = λ x. e; stopping = λ x. absurd (ne (cc)) })) ne o
 
 -- what goes along lacks memory
 pub lacking-so : (n i : ℕ) (w start : RunWorld) → i ≤ n → Made i w start → ComesAccompanied n start w OutOfMemory

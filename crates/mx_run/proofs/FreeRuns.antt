@@ -3,23 +3,21 @@ use Rattle.std.proofs.Common.{◌≡◌, ℕ, zero, suc, ◌+◌, true, false, L
 use Rattle.std.specs.Prelude.{Result}
 use Rattle.mx_host.specs.HostModel.{HostModel}
 use Rattle.mx_plan.specs.Plan.{Comes, Stops, bind}
-use Rattle.mx_core.specs.Bounds.{as_list_state}
 use Rattle.mx_core.specs.State.{State}
 use Rattle.mx_code.specs.declared.trace.Trace.{Trace}
-use Rattle.mx_run.specs.Clauses.{GoesAsList}
 use Rattle.mx_run.specs.FlagMaps.{flags_at}
+use Rattle.mx_run.specs.RunCourses.{RunsBoth}
 use Rattle.mx_run.specs.RunPlans.{RunWorld, running, beside_world, turn_plan, look, ended_turn, step_plan, run_plan, end_of_trace, end_of_turn}
 use Rattle.mx_run.specs.Runs.{Ended, ended, no_flags, break_of, as_ended, after_trace, after_turn, run}
 use Rattle.mx_run.specs.Turns.{Answered, turn_answer, Turn, went_on, halts, stops, turn}
-use Rattle.mx_run.specs.WildRuns.{list_machine, run_by}
 use Rattle.mx_run.specs.declared.end.End.{End}
 use Rattle.mx_run.specs.declared.end.End.TheVariants.{Halted, Stopped, Spent, OutOfMemory}
 use Rattle.mx_run.specs.declared.flags.Flags.{Flags}
 use Rattle.mx_run.specs.declared.turn_answer.TurnAnswer.{TurnAnswer}
 use Rattle.mx_run.specs.declared.turn_answer.TurnAnswer.TheVariants as answer
 use Rattle.mx_run.proofs.FreeSteps.{no-break}
-use Rattle.mx_run.proofs.ListSteps.{free-goes}
-use Rattle.mx_run.proofs.PlanEnds.{free-comes, turn_ended, run_step, step-end}
+use Rattle.mx_run.proofs.PlanEnds.{turn_ended, run_step, step-end}
+use Rattle.mx_run.proofs.RunBoth.{free-both}
 use Rattle.mx_run.proofs.Runners.{turn-told}
 
 -- ---- runs as wholes
@@ -27,17 +25,10 @@ use Rattle.mx_run.proofs.Runners.{turn-told}
 unflagged : (entries : List (ℕ × Flags)) → entries ≡ [] → flags_at entries ≡ no_flags
 unflagged entries e = ap flags_at e
 
-pub free-run : (n : ℕ) (entries : List (ℕ × Flags)) (v w : RunWorld) (end : End) → entries ≡ [] → Comes running v w OutOfMemory end (run_plan n (flags_at entries) true) →
-    Comes running v w OutOfMemory end (run_plan n no_flags false)
+pub free-run : (n : ℕ) (entries : List (ℕ × Flags)) (v w : RunWorld) (end : End) → entries ≡ [] → RunsBoth v w OutOfMemory end (run_plan n (flags_at entries) true) →
+    RunsBoth v w OutOfMemory end (run_plan n no_flags false)
 free-run n entries v w end h c =
-    subst (λ f. Comes running v w OutOfMemory end (run_plan n f false)) (unflagged entries h) (free-comes n entries false v w end h c)
-
-pub free-list : (n : ℕ) (entries : List (ℕ × Flags)) (s : State) (m : HostModel) (r : Ended) → entries ≡ [] → GoesAsList (run_by list_machine n (flags_at entries) true (as_list_state s) m) r →
-    GoesAsList (run_by list_machine n no_flags false (as_list_state s) m) r
-free-list n entries s m r h g =
-    subst (λ f. GoesAsList (run_by list_machine n f false (as_list_state s) m) r) (unflagged entries h) (free-goes n entries false s m r h g)
-
-pub ruleset free = (free-run, free-list)
+    subst (λ f. RunsBoth v w OutOfMemory end (run_plan n f false)) (unflagged entries h) (free-both n entries false v w end h c)
 
 -- ---- a step, by the answer of its turn
 

@@ -17,3 +17,5 @@ pub mod ListSteps
 pub mod Later
 pub mod StepCounts
 pub mod SteadyRuns
+pub mod RunCourses
+pub mod RunBoth

@@ -129,13 +129,3 @@ passed (suc n) pass = refl
 
 pub free-plan : (n : ℕ) (entries : List (ℕ × Flags)) (pass : Bool) → entries ≡ [] → run_plan n (flags_at entries) pass ≡ run_plan n (flags_at entries) true
 free-plan n entries pass h = ap (λ es. run_plan n (flags_at es) pass) h ∙ passed n pass ∙ ap (λ es. run_plan n (flags_at es) true) (sym h)
-
-pub free-comes : (n : ℕ) (entries : List (ℕ × Flags)) (pass : Bool) (v w : RunWorld) (end : End) → entries ≡ [] → Comes running v w OutOfMemory end (run_plan n (flags_at entries) true) →
-    Comes running v w OutOfMemory end (run_plan n (flags_at entries) pass)
-free-comes n entries pass v w end h c = subst (λ p. Comes running v w OutOfMemory end p) (sym (free-plan n entries pass h)) c
-
-pub rest-freely : (n : ℕ) (entries : List (ℕ × Flags)) (pass : Bool) (v start : RunWorld) (whole : RunPlan End) → entries ≡ [] → IsRest running (run_plan n (flags_at entries) pass) v whole start →
-    IsRest running (run_plan n (flags_at entries) true) v whole start
-rest-freely n entries pass v start whole h r = subst (λ p. IsRest running p v whole start) (free-plan n entries pass h) r
-
-pub ruleset choosing = (free-comes)

@@ -8,11 +8,12 @@ use Rattle.mx_plan.specs.Clauses.{Stands}
 use Rattle.mx_plan.specs.Held.{KeepsStreams}
 use Rattle.mx_plan.specs.Plan.{Comes}
 use Rattle.mx_core.specs.State.{State}
-use Rattle.mx_run.specs.Clauses.{EndsAsList, IsRun, IsTurn}
+use Rattle.mx_run.specs.Clauses.{IsRun, IsTurn}
+use Rattle.mx_run.specs.RunCourses.{CarriesOutBothRuns}
 use Rattle.mx_run.specs.RunPlans.{RunPlan, RunWorld, running, turn_plan, run_plan, SparesMemory, SparesAfter, SparesStep}
 use Rattle.mx_run.specs.Runs.{FlagsOf, IsLater, ended, run}
 use Rattle.mx_run.specs.Turns.{turn_answer, turn}
-use Rattle.mx_run.specs.WildRuns.{HasWindow, list_machine, run_by}
+use Rattle.mx_run.specs.WildRuns.{HasWindow}
 use Rattle.mx_run.specs.declared.end.End.{End}
 use Rattle.mx_run.specs.declared.end.End.TheVariants as end
 use Rattle.mx_run.specs.declared.turn_answer.TurnAnswer.{TurnAnswer}
@@ -20,6 +21,7 @@ use Rattle.mx_run.specs.declared.turn_answer.TurnAnswer.TheVariants as answer
 use Rattle.mx_run.proofs.HeldRuns.{streams-end, streams-stop, output-front}
 use Rattle.mx_run.proofs.ListSteps.{turn-goes}
 use Rattle.mx_run.proofs.PlanEnds.{left-after, turn-end, run-end}
+use Rattle.mx_run.proofs.RunBoth.{run-listed}
 
 -- ---- what is kept
 
@@ -93,15 +95,15 @@ pub run-begun : (n : ℕ) (f : FlagsOf) (pass : Bool) (s t : State) (m k : HostM
     IsFront k.output (run n f pass s m).host.output
 run-begun n f pass s t m k r c e = subst (λ (p : End × RunWorld). IsFront k.output p.1.1.output) (run-end n f pass s m) (output-front (run_plan n f pass) (t, k) (s, m) (c.stopping e))
 
--- what holds of a run by its plan
-pub run-is : (old new : Option HostModel) (earlier later n : ℕ) (f : FlagsOf) (pass : Bool) (s u : State) (r : End) → (IsTrue (tells old) → Comes running (s, contents old) (u, contents new) end.OutOfMemory r (run_plan n f pass)) →
-    EndsAsList old new s u r (λ t m. run_by list_machine n f pass t m) → IsLater n s u → Stands old new earlier later → IsRun old new earlier later s u n f pass r
-run-is old new earlier later n f pass s u r c l b h = record {
-  told = λ t ne. run-told n f pass s u _ _ r (c t) ne;
-  front = λ t e. run-begun n f pass s u _ _ r (c t) e;
-  listed = l;
+-- what holds of a run by its plan over both machines
+pub run-is : (old new : Option HostModel) (earlier later n : ℕ) (f : FlagsOf) (pass : Bool) (s u : State) (r : End) → CarriesOutBothRuns old new s u end.OutOfMemory r (run_plan n f pass) →
+    IsLater n s u → Stands old new earlier later → IsRun old new earlier later s u n f pass r
+run-is old new earlier later n f pass s u r c b h = record {
+  told = λ t ne. run-told n f pass s u _ _ r (c t).window ne;
+  front = λ t e. run-begun n f pass s u _ _ r (c t).window e;
+  listed = λ t ne k. run-listed n f pass s u _ _ r (c t) ne k;
   bound = b;
-  keeps = run-keeps old new earlier later s u r (run_plan n f pass) c h;
+  keeps = run-keeps old new earlier later s u r (run_plan n f pass) (λ t. (c t).window) h;
 }
 
 -- ---- want of memory, for the loops

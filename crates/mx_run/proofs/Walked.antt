@@ -1,27 +1,26 @@
 -- Steps that go on, one after another, as steps of a run without flags.
 use Rattle.std.proofs.Common.{◌≡◌, ◌≢◌, ℕ, zero, suc, ◌+◌, ◌-◌, ◌≤◌, ◌<◌, true, false, List, [], Ok, Err, arith, sym, subst, ◌∙◌, ap}
 use Rattle.mx_host.specs.HostModel.{HostModel}
-use Rattle.mx_plan.specs.Plan.{Comes, IsRest}
-use Rattle.mx_core.specs.Bounds.{as_list_state}
+use Rattle.mx_plan.specs.Plan.{Comes}
 use Rattle.mx_core.specs.State.{State}
 use Rattle.mx_core.specs.Step.{step}
 use Rattle.mx_core.specs.Way.Stepping.{advanced}
 use Rattle.mx_core.specs.Walks.{Goes, GoesOn, IsWindowed, next_state}
 use Rattle.mx_core.specs.declared.step.Advance.{Advance}
 use Rattle.mx_core.specs.declared.step.Advance.TheVariants as advance
-use Rattle.mx_run.specs.Clauses.{GoesAsList}
 use Rattle.mx_run.specs.FlagMaps.{flags_at}
+use Rattle.mx_run.specs.RunCourses.{RunsBoth, RestsBoth}
 use Rattle.mx_run.specs.RunPlans.{RunPlan, RunWorld, running, step_plan, run_plan, SparesMemory}
-use Rattle.mx_run.specs.Runs.{IsLater, ended}
-use Rattle.mx_run.specs.WildRuns.{RunEnd, list_machine, run_by, HasWindow}
+use Rattle.mx_run.specs.Runs.{IsLater}
+use Rattle.mx_run.specs.WildRuns.{HasWindow}
 use Rattle.mx_run.specs.declared.end.End.{End}
 use Rattle.mx_run.specs.declared.end.End.TheVariants.{Spent, OutOfMemory}
 use Rattle.mx_run.specs.declared.flags.Flags.{Flags}
 use Rattle.mx_run.proofs.FreeSteps.{free-went, went-spares}
 use Rattle.mx_run.proofs.Later.{begun-later, both-later, few-later, advanced-later}
-use Rattle.mx_run.proofs.ListSteps.{Beside, list-window, list-went, list-ended, list-spent, list-freely}
+use Rattle.mx_run.proofs.ListSteps.{list-window}
 use Rattle.mx_run.proofs.ListTurns.{TurnWindow}
-use Rattle.mx_run.proofs.PlanEnds.{rest-went, rest-ended, rest-spent, rest-freely, step-answer}
+use Rattle.mx_run.proofs.RunBoth.{rest-went-both, rest-ended-both, rest-spent-both, rest-freely-both}
 use Rattle.mx_run.proofs.Runners.{Spares, spares-went, spares-ended}
 
 -- ---- one step
@@ -50,30 +49,17 @@ less k n l = omega (arith, l)
 
 -- ---- all of them
 
-pub walked-rest : (k n : ℕ) (entries : List (ℕ × Flags)) (s t : State) (m : HostModel) (start : RunWorld) (whole : RunPlan End) → entries ≡ [] → k ≤ n → Goes k s t →
-    IsRest running (run_plan n (flags_at entries) true) (s, m) whole start → IsRest running (run_plan (n - k) (flags_at entries) true) (t, m) whole start
+pub walked-both : (k n : ℕ) (entries : List (ℕ × Flags)) (s t : State) (m : HostModel) (start : RunWorld) (whole : RunPlan End) → entries ≡ [] → k ≤ n → Goes k s t →
+    RestsBoth (run_plan n (flags_at entries) true) (s, m) whole start → RestsBoth (run_plan (n - k) (flags_at entries) true) (t, m) whole start
 unfolding Goes
-walked-rest zero n entries s t m start whole h l g r =
-    rw (none-less n) (subst (λ (u : State). IsRest running (run_plan n (flags_at entries) true) (u, m) whole start) g r)
-walked-rest (suc k) n entries s t m start whole h l g r =
+walked-both zero n entries s t m start whole h l g r =
+    rw (none-less n) (subst (λ (u : State). RestsBoth (run_plan n (flags_at entries) true) (u, m) whole start) g r)
+walked-both (suc k) n entries s t m start whole h l g r =
     let f = flags_at entries in
-    let first = subst (λ i. IsRest running (run_plan i f true) (s, m) whole start) (sym (none-less n)) r in
-    let next = rest-went n 0 f true tt (s, m) (next_state s, m) start whole (some k n l) first ((free-went entries s (next_state s) m h (went s g.1)).ending (λ e. absurd (cc))) in
-    subst (λ i. IsRest running (run_plan i f true) (t, m) whole start) (less k n l)
-    (walked-rest k (n - (0 + 1)) entries (next_state s) t m start whole h (one-less k n l) g.2 (rest-freely (n - (0 + 1)) entries false (next_state s, m) start whole h next))
-
-pub walked-listed : (k n : ℕ) (entries : List (ℕ × Flags)) (s t : State) (m : HostModel) (whole : RunEnd) → entries ≡ [] → k ≤ n → Goes k s t →
-    Beside whole (run_by list_machine n (flags_at entries) true (as_list_state s) m) s m → Beside whole (run_by list_machine (n - k) (flags_at entries) true (as_list_state t) m) t m
-unfolding Goes
-walked-listed zero n entries s t m whole h l g b =
-    rw (none-less n) (subst (λ (u : State). Beside whole (run_by list_machine n (flags_at entries) true (as_list_state u) m) u m) g b)
-walked-listed (suc k) n entries s t m whole h l g b =
-    let f = flags_at entries in
-    let first = subst (λ i. Beside whole (run_by list_machine i f true (as_list_state s) m) s m) (sym (none-less n)) b in
-    let next = list-went whole n 0 f true s (next_state s) m m tt (some k n l) (on-window s g.0 g.1)
-    (step-answer f true s (next_state s) m m (Ok tt) ((free-went entries s (next_state s) m h (went s g.1)).ending (λ e. absurd (cc)))) first in
-    subst (λ i. Beside whole (run_by list_machine i f true (as_list_state t) m) t m) (less k n l)
-    (walked-listed k (n - (0 + 1)) entries (next_state s) t m whole h (one-less k n l) g.2 (list-freely (n - (0 + 1)) entries false whole (next_state s) m h next))
+    let first = subst (λ i. RestsBoth (run_plan i f true) (s, m) whole start) (sym (none-less n)) r in
+    let next = rest-went-both n 0 f true tt s (next_state s) m m start whole (some k n l) (on-window s g.0 g.1) (free-went entries s (next_state s) m h (went s g.1)) first in
+    subst (λ i. RestsBoth (run_plan i f true) (t, m) whole start) (less k n l)
+    (walked-both k (n - (0 + 1)) entries (next_state s) t m start whole h (one-less k n l) g.2 (rest-freely-both (n - (0 + 1)) entries false (next_state s, m) start whole h next))
 
 pub walked-spares : (k n : ℕ) (s t : State) → k ≤ n → Goes k s t → SparesMemory n s → SparesMemory (n - k) t
 unfolding Goes
@@ -103,43 +89,23 @@ all-made k n h = omega (arith, h)
 pub fewer-left : (k n left : ℕ) → left ≤ n → left - k - 1 ≤ n
 fewer-left k n left h = omega (arith, h)
 
-pub walk-goes-on : (k n : ℕ) (entries : List (ℕ × Flags)) (s t : State) (m : HostModel) (w start : RunWorld) (whole : RunPlan End) (u : Unit {0}) → entries ≡ [] → k < n → Goes k s t →
-    IsRest running (run_plan n (flags_at entries) true) (s, m) whole start → Comes running (t, m) w (Err OutOfMemory) (Ok u) (step_plan (flags_at entries) true) →
-    IsRest running (run_plan (n - k - 1) (flags_at entries) true) w whole start
-walk-goes-on k n entries s t m w start whole u h l g r c =
-    subst (λ i. IsRest running (run_plan i (flags_at entries) true) w whole start) (before-last k n l)
-    (rest-freely (n - (k + 1)) entries false w start whole h
-    (rest-went n k (flags_at entries) true u (t, m) w start whole l (walked-rest k n entries s t m start whole h (omega (arith, l)) g r) (c.ending (λ e. absurd (cc)))))
+pub walk-goes-on : (k n : ℕ) (entries : List (ℕ × Flags)) (s t v : State) (m o : HostModel) (start : RunWorld) (whole : RunPlan End) (u : Unit {0}) → entries ≡ [] → k < n → Goes k s t → HasWindow t →
+    RestsBoth (run_plan n (flags_at entries) true) (s, m) whole start → Comes running (t, m) (v, o) (Err OutOfMemory) (Ok u) (step_plan (flags_at entries) true) →
+    RestsBoth (run_plan (n - k - 1) (flags_at entries) true) (v, o) whole start
+walk-goes-on k n entries s t v m o start whole u h l g w r c =
+    subst (λ i. RestsBoth (run_plan i (flags_at entries) true) (v, o) whole start) (before-last k n l)
+    (rest-freely-both (n - (k + 1)) entries false (v, o) start whole h
+    (rest-went-both n k (flags_at entries) true u t v m o start whole l (list-window t w) c (walked-both k n entries s t m start whole h (omega (arith, l)) g r)))
 
-pub walk-ends : (k n : ℕ) (entries : List (ℕ × Flags)) (s t : State) (m : HostModel) (w start : RunWorld) (whole : RunPlan End) (end : End) → entries ≡ [] → k < n → Goes k s t →
-    IsRest running (run_plan n (flags_at entries) true) (s, m) whole start → Comes running (t, m) w (Err OutOfMemory) (Err end) (step_plan (flags_at entries) true) →
-    Comes running start w OutOfMemory end whole
-walk-ends k n entries s t m w start whole end h l g r c =
-    rest-ended n k (flags_at entries) true end (t, m) w start whole l (walked-rest k n entries s t m start whole h (omega (arith, l)) g r) c
+pub walk-ends : (k n : ℕ) (entries : List (ℕ × Flags)) (s t v : State) (m o : HostModel) (start : RunWorld) (whole : RunPlan End) (end : End) → entries ≡ [] → k < n → Goes k s t → HasWindow t →
+    RestsBoth (run_plan n (flags_at entries) true) (s, m) whole start → Comes running (t, m) (v, o) (Err OutOfMemory) (Err end) (step_plan (flags_at entries) true) →
+    RunsBoth start (v, o) OutOfMemory end whole
+walk-ends k n entries s t v m o start whole end h l g w r c =
+    rest-ended-both n k (flags_at entries) true end t v m o start whole l (list-window t w) c (walked-both k n entries s t m start whole h (omega (arith, l)) g r)
 
 pub walk-spends : (k n : ℕ) (entries : List (ℕ × Flags)) (s t : State) (m : HostModel) (start : RunWorld) (whole : RunPlan End) → entries ≡ [] → k ≤ n → n ≤ k → Goes k s t →
-    IsRest running (run_plan n (flags_at entries) true) (s, m) whole start → Comes running start (t, m) OutOfMemory Spent whole
-walk-spends k n entries s t m start whole h l o g r = rest-spent n k (flags_at entries) true (t, m) start whole o (walked-rest k n entries s t m start whole h l g r)
-
-pub walk-listed-on : (k n : ℕ) (entries : List (ℕ × Flags)) (s t v : State) (m o : HostModel) (whole : RunEnd) (u : Unit {0}) → entries ≡ [] → k < n → Goes k s t → HasWindow t →
-    Beside whole (run_by list_machine n (flags_at entries) true (as_list_state s) m) s m → Comes running (t, m) (v, o) (Err OutOfMemory) (Ok u) (step_plan (flags_at entries) true) →
-    Beside whole (run_by list_machine (n - k - 1) (flags_at entries) true (as_list_state v) o) v o
-walk-listed-on k n entries s t v m o whole u h l g w b c =
-    subst (λ i. Beside whole (run_by list_machine i (flags_at entries) true (as_list_state v) o) v o) (before-last k n l)
-    (list-freely (n - (k + 1)) entries false whole v o h
-    (list-went whole n k (flags_at entries) true t v m o u l (list-window t w) (step-answer (flags_at entries) true t v m o (Ok u) (c.ending (λ e. absurd (cc))))
-    (walked-listed k n entries s t m whole h (omega (arith, l)) g b)))
-
-pub walk-listed-end : (k n : ℕ) (entries : List (ℕ × Flags)) (s t v : State) (m o : HostModel) (whole : RunEnd) (end : End) → entries ≡ [] → k < n → Goes k s t → HasWindow t → end ≢ OutOfMemory →
-    Beside whole (run_by list_machine n (flags_at entries) true (as_list_state s) m) s m → Comes running (t, m) (v, o) (Err OutOfMemory) (Err end) (step_plan (flags_at entries) true) →
-    GoesAsList whole (ended end v o)
-walk-listed-end k n entries s t v m o whole end h l g w ne b c =
-    list-ended whole n k (flags_at entries) true t v m o end l (list-window t w) (step-answer (flags_at entries) true t v m o (Err end) (c.ending (λ e. ne (cc))))
-    (walked-listed k n entries s t m whole h (omega (arith, l)) g b)
-
-pub walk-listed-spent : (k n : ℕ) (entries : List (ℕ × Flags)) (s t : State) (m : HostModel) (whole : RunEnd) → entries ≡ [] → k ≤ n → n ≤ k → Goes k s t →
-    Beside whole (run_by list_machine n (flags_at entries) true (as_list_state s) m) s m → GoesAsList whole (ended Spent t m)
-walk-listed-spent k n entries s t m whole h l o g b = list-spent whole n k (flags_at entries) true t m o (walked-listed k n entries s t m whole h l g b)
+    RestsBoth (run_plan n (flags_at entries) true) (s, m) whole start → RunsBoth start (t, m) OutOfMemory Spent whole
+walk-spends k n entries s t m start whole h l o g r = rest-spent-both n k (flags_at entries) true (t, m) start whole o (walked-both k n entries s t m start whole h l g r)
 
 pub walk-spares-on : (k n : ℕ) (s t v : State) (u : Unit {0}) → k < n → Goes k s t → Spares (Ok u) t v → SparesMemory n s → SparesMemory (n - k - 1) v
 walk-spares-on k n s t v u l g c p = subst (λ i. SparesMemory i v) (before-last k n l) (spares-went n k t v u l c (walked-spares k n s t (omega (arith, l)) g p))

@@ -8,6 +8,7 @@ use Rattle.mx_plan.specs.Clauses.{Stands}
 use Rattle.mx_plan.specs.Plan.{Comes}
 use Rattle.mx_core.specs.Bounds.{as_list_state}
 use Rattle.mx_core.specs.State.{State}
+use Rattle.mx_run.specs.RunCourses.{CarriesOutBothRuns}
 use Rattle.mx_run.specs.RunPlans.{RunPlan, running, run_plan, turn_plan, SparesMemory, SparesStep}
 use Rattle.mx_run.specs.Runs.{Ended, ended, FlagsOf, IsLater, run}
 use Rattle.mx_run.specs.Turns.{Answered, turn_answer, turn}
@@ -105,10 +106,9 @@ pub record TakesStep (old new : Option HostModel) (earlier later : ℕ) (before 
   pub bound : IsLater 1 before after
   pub stands : Stands old new earlier later
 
--- the steps of a run
+-- the steps of a run, over both machines
 pub record TakesSteps (old new : Option HostModel) (earlier later : ℕ) (before after : State) (n : ℕ) (f : FlagsOf) (pass : Bool) (result : End) : Type 0 where
-  pub told : CarriesOutRun old new before after OutOfMemory result (run_plan n f pass)
-  pub listed : EndsAsList old new before after result (λ s m. run_by list_machine n f pass s m)
+  pub both : CarriesOutBothRuns old new before after OutOfMemory result (run_plan n f pass)
   pub spared : SparesMemory n before → result ≢ OutOfMemory
   pub bound : IsLater n before after
   pub stands : Stands old new earlier later

@@ -8,3 +8,4 @@ pub mod Lending
 pub mod Counts
 pub mod RunPlans
 pub mod AccompaniedRuns
+pub mod RunCourses

@@ -112,7 +112,7 @@ impl Runner {
     ///
     /// Out of memory, the turns that were made stay, and of the last one what it leaves then; what was
     /// written to standard output is a front of what the run writes.
-    #[tactic(auto, using(crate::proofs::PlanEnds::choosing, crate::proofs::ListSteps::choosing))]
+    #[tactic(auto)]
     pub fn go<H: Host>(&mut self, host: &mut H, n: u64, pass: bool) -> End
         ensures plan { CarriesOutRun (H.told host.old) (H.told host.new) (state_of self.old.machine)
             (state_of self.new.machine) End.OutOfMemory result (run_plan n (flags_at self.old.flags) pass) }

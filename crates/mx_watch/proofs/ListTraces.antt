@@ -13,9 +13,10 @@ use Rattle.mx_run.specs.WildRuns.{RunEnd, run_ended, run_wild, HasWindow, list_m
 use Rattle.mx_run.specs.declared.end.End.{End}
 use Rattle.mx_run.specs.declared.end.End.TheVariants.{OutOfMemory}
 use Rattle.mx_run.proofs.FreeRuns.{trace-free}
-use Rattle.mx_run.proofs.ListSteps.{Beside, as_list, was_wild, list-window, list-step, list-runs}
+use Rattle.mx_run.proofs.ListSteps.{list-window}
 use Rattle.mx_run.proofs.ListTurns.{TurnWindow, turn-listed-on, wild-listed}
 use Rattle.mx_run.proofs.PlanEnds.{left-after, run_step, step-answer}
+use Rattle.mx_run.proofs.RunBoth.{Beside, as_list, was_wild, meets-wild}
 use Rattle.mx_watch.specs.Listening.{Listening, told, watched}
 use Rattle.mx_watch.specs.Traces.{traces, traces_after}
 use Rattle.mx_watch.specs.WatchedRuns.{UnlessWild}
@@ -32,12 +33,7 @@ unless-wild (run_wild m) P Q f h = tt
 
 -- ---- a turn
 
--- what the list machine comes to at a wild turn
-meets-wild : (n i : ℕ) (whole : RunEnd) (s : State) (m : HostModel) → i < n → TurnWindow s → s.touched ≡ false → turn_is_wild s ≡ true → whole ≡ run_by list_machine (n - i) no_flags false (as_list_state s) m → whole ≡ run_wild m
-meets-wild n i whole s m l h u e is =
-    is ∙ list-runs n i no_flags false s m h u l ∙ ap (λ c. list-step false c (run_by list_machine (n - (i + 1)) no_flags false) no_flags (as_list_state s) m) e
-
--- its traces at one that is not wild
+-- the traces of the list machine at a turn that is not wild
 traces-on : (n i : ℕ) (s : State) (m : HostModel) → i < n → TurnWindow s → s.touched ≡ false → turn_is_wild s ≡ false →
     traces list_machine (n - i) (as_list_state s) m ≡ traces_after (traces list_machine (n - (i + 1))) (as_list_turn (turn s m))
 unfolding traces
@@ -51,20 +47,20 @@ went-by : (n i : ℕ) (whole : RunEnd) (s t : State) (m k : HostModel) (trace : 
     whole ≡ run_by list_machine (n - i) no_flags false (as_list_state s) m → watched (traces list_machine (n - i) (as_list_state s) m) l ≡ goal →
     OrWild whole (watched (traces list_machine (n - (i + 1)) (as_list_state t) k) next ≡ goal)
 unfolding watched
-went-by n i whole s t m k trace l next goal true e inside h u went is so heard = wild m (meets-wild n i whole s m inside h u e so)
+went-by n i whole s t m k trace l next goal true e inside h u went is so heard = wild m (so ∙ meets-wild n i s m inside h u e)
 went-by n i whole s t m k trace l next goal false e inside h u went is so heard =
     let more = traces list_machine (n - (i + 1)) in
     holds (ap (watched (more (as_list_state t) k)) is ∙ sym (ap (λ ts. watched ts l) (traces-on n i s m inside h u e ∙ ap (λ x. traces_after more (as_list_turn x)) went)) ∙ heard)
 
 went-beside : (n i : ℕ) (whole : RunEnd) (s t : State) (m k : HostModel) (trace : Trace) (l next goal : Listening) → i < n → TurnWindow s → turn s m ≡ went_on t k trace → next ≡ told trace l →
-    Beside whole (run_by list_machine (n - i) no_flags false (as_list_state s) m) s m → OrWild whole (watched (traces list_machine (n - i) (as_list_state s) m) l ≡ goal) →
+    Beside whole (run_by list_machine (n - i) no_flags false (as_list_state s) m) s → OrWild whole (watched (traces list_machine (n - i) (as_list_state s) m) l ≡ goal) →
     OrWild whole (watched (traces list_machine (n - (i + 1)) (as_list_state t) k) next ≡ goal)
-went-beside n i whole s t m k trace l next goal inside h went is (was_wild g e o) w = wild g e
+went-beside n i whole s t m k trace l next goal inside h went is (was_wild g e) w = wild g e
 went-beside n i whole s t m k trace l next goal inside h went is (as_list u e) (wild g x) = wild g x
 went-beside n i whole s t m k trace l next goal inside h went is (as_list u e) (holds p) = went-by n i whole s t m k trace l next goal (turn_is_wild s) refl inside h u went is e p
 
 pub went-by-list : (n i : ℕ) (whole : RunEnd) (s t : State) (m k : HostModel) (trace : Trace) (l next goal : Listening) → i < n → HasWindow s → turn s m ≡ went_on t k trace → next ≡ told trace l →
-    Beside whole (run_by list_machine (n - i) no_flags false (as_list_state s) m) s m → OrWild whole (watched (traces list_machine (n - i) (as_list_state s) m) l ≡ goal) →
+    Beside whole (run_by list_machine (n - i) no_flags false (as_list_state s) m) s → OrWild whole (watched (traces list_machine (n - i) (as_list_state s) m) l ≡ goal) →
     OrWild whole (watched (traces list_machine (n - (i + 1)) (as_list_state t) k) next ≡ goal)
 went-by-list n i whole s t m k trace l next goal inside h went is b w = went-beside n i whole s t m k trace l next goal inside (list-window s h) went is b w
 
@@ -78,13 +74,13 @@ none-after more pc (stops reason s m) end e = refl
 ended-by : (n i : ℕ) (whole : RunEnd) (s : State) (m : HostModel) (end : End) (l goal : Listening) (c : Bool) → turn_is_wild s ≡ c → i < n → TurnWindow s → s.touched ≡ false → Err end ≡ end_of_turn no_flags s.pc (turn_answer (turn s m)).0 →
     whole ≡ run_by list_machine (n - i) no_flags false (as_list_state s) m → watched (traces list_machine (n - i) (as_list_state s) m) l ≡ goal → OrWild whole (l ≡ goal)
 unfolding watched
-ended-by n i whole s m end l goal true e inside h u ends so heard = wild m (meets-wild n i whole s m inside h u e so)
+ended-by n i whole s m end l goal true e inside h u ends so heard = wild m (so ∙ meets-wild n i s m inside h u e)
 ended-by n i whole s m end l goal false e inside h u ends so heard =
     holds (sym (ap (λ ts. watched ts l) (traces-on n i s m inside h u e ∙ none-after (traces list_machine (n - (i + 1))) s.pc (turn s m) end ends)) ∙ heard)
 
 ended-beside : (n i : ℕ) (whole : RunEnd) (s : State) (m : HostModel) (end : End) (l goal : Listening) → i < n → TurnWindow s → Err end ≡ end_of_turn no_flags s.pc (turn_answer (turn s m)).0 →
-    Beside whole (run_by list_machine (n - i) no_flags false (as_list_state s) m) s m → OrWild whole (watched (traces list_machine (n - i) (as_list_state s) m) l ≡ goal) → OrWild whole (l ≡ goal)
-ended-beside n i whole s m end l goal inside h ends (was_wild g e o) w = wild g e
+    Beside whole (run_by list_machine (n - i) no_flags false (as_list_state s) m) s → OrWild whole (watched (traces list_machine (n - i) (as_list_state s) m) l ≡ goal) → OrWild whole (l ≡ goal)
+ended-beside n i whole s m end l goal inside h ends (was_wild g e) w = wild g e
 ended-beside n i whole s m end l goal inside h ends (as_list u e) (wild g x) = wild g x
 ended-beside n i whole s m end l goal inside h ends (as_list u e) (holds p) = ended-by n i whole s m end l goal (turn_is_wild s) refl inside h u ends e p
 
@@ -94,7 +90,7 @@ end-of-step s t m k end e = ap (λ (a : Answered (Result (Unit {0}) End)). a.0) 
 
 pub ended-by-list : (n i : ℕ) (whole : RunEnd) (s t : State) (m k : HostModel) (end : End) (l goal : Listening) → i < n → HasWindow s → end ≢ OutOfMemory →
     Comes running (s, m) (t, k) (Err OutOfMemory) (Err end) (step_plan no_flags false) →
-    Beside whole (run_by list_machine (n - i) no_flags false (as_list_state s) m) s m → OrWild whole (watched (traces list_machine (n - i) (as_list_state s) m) l ≡ goal) → OrWild whole (l ≡ goal)
+    Beside whole (run_by list_machine (n - i) no_flags false (as_list_state s) m) s → OrWild whole (watched (traces list_machine (n - i) (as_list_state s) m) l ≡ goal) → OrWild whole (l ≡ goal)
 ended-by-list n i whole s t m k end l goal inside h ne c b w =
     ended-beside n i whole s m end l goal inside (list-window s h) (end-of-step s t m k end (step-answer no_flags false s t m k (Err end) (c.ending (λ e. ne (cc))))) b w
 

@@ -3,19 +3,18 @@ use Rattle.mx_host.specs.HostModel.{contents}
 use Rattle.mx_core.specs.Kept.{state_of}
 use Rattle.mx_plan.proofs.Standing.{stands-all, stands-kept, stands-then}
 use Rattle.mx_run.specs.Runs.{no_flags}
-use Rattle.mx_run.proofs.AccompaniedRuns.{begun-made, went-rest, went-made, went-listed, ended-listed, spent-so, accompanied-is}
+use Rattle.mx_run.proofs.AccompaniedRuns.{begun-made, went-rest, went-made, ended-listed, spent-so, of-run, accompanied-is}
 use Rattle.mx_run.proofs.Later.{begun-later, few-later, turned-later, last-later}
-use Rattle.mx_run.proofs.ListSteps.{list-begun, list-spent}
-use Rattle.mx_run.proofs.PlanEnds.{rest-begun}
+use Rattle.mx_run.proofs.RunBoth.{rest-begun-both, rest-listed}
+use Rattle.mx_run.proofs.Runners.{run-is}
 use Rattle.mx_back.proofs.KeptLists.{begun-beside, went-kept-beside, ended-kept-beside, spent-kept-beside}
 use Rattle.mx_back.proofs.KeptSteps.{begun-kept, went-kept-on, ended-kept, ended-kept-so, spent-kept-so, none-kept, went-turns, lacking-turns}
 use Rattle.mx_back.proofs.running.run_kept.Goals as goal
 
 pub loop-made-init : goal.loop-made-init
 loop-made-init g c = record {
-  plan = λ t. rest-begun c.args.n no_flags false (state_of c.args.machine.now, contents (g.H.Host.told c.args.host.now));
+  plan = λ t. rest-begun-both c.args.n no_flags false (state_of c.args.machine.now, contents (g.H.Host.told c.args.host.now));
   made = λ t. begun-made (state_of c.args.machine.now) (contents (g.H.Host.told c.args.host.now));
-  listed = λ t u. list-begun c.args.n no_flags false (state_of c.args.machine.now) (contents (g.H.Host.told c.args.host.now)) u;
   bound = begun-later (state_of c.args.machine.now);
   stands = stands-all (g.H.Host.told c.args.host.now) (g.H.Host.faults c.args.host.now);
   fits = c.requires;
@@ -33,9 +32,8 @@ loop-made-preserved g c =
     let inside = c.loop-made-test.true in
     let e = c.in-Ok.ensures in
     record {
-      plan = λ t. went-rest _ _ _ _ _ _ inside ((e.told (subst IsTrue (sym was.stands.0) t)).ending (λ o. absurd (cc))) (was.plan t);
+      plan = λ t. went-rest _ _ _ _ _ _ _ _ inside e.over ((e.told (subst IsTrue (sym was.stands.0) t)).ending (λ o. absurd (cc))) (was.plan t);
       made = λ t. went-made _ _ _ _ _ ((e.told (subst IsTrue (sym was.stands.0) t)).ending (λ o. absurd (cc))) (was.made t);
-      listed = λ t u. went-listed _ _ _ _ _ _ _ _ inside e.over ((e.told (subst IsTrue (sym was.stands.0) t)).ending (λ o. absurd (cc))) (was.listed t u);
       bound = turned-later _ _ _ _ was.bound e.bound;
       stands = stands-then _ _ _ _ _ _ was.stands (stands-kept _ _ _ _ e.keeps);
       fits = e.fits;
@@ -45,7 +43,7 @@ loop-made-preserved g c =
       turns = λ t. went-turns _ _ _ _ _ _ (was.made t) (e.kept (subst IsTrue (sym was.stands.0) t) (λ o. absurd (cc))) (was.turns t);
       kept_listed = λ t u a.
           let now = subst IsTrue (sym was.stands.0) t in
-          went-kept-beside _ _ _ _ _ _ _ _ _ _ _ inside e.over (e.told now) (e.kept now (λ o. absurd (cc))) (was.listed t u) (was.kept_listed t u a);
+          went-kept-beside _ _ _ _ _ _ _ _ _ _ _ inside e.over (e.told now) (e.kept now (λ o. absurd (cc))) (rest-listed _ _ no_flags false false _ _ _ _ (was.plan t) u) (was.kept_listed t u a);
     }
 
 -- ---- where the run ends, or a note lacks memory
@@ -60,7 +58,7 @@ returns-in-Err-clause-run g c =
     let was = c.loop-made.invariant in
     let e = c.in-Err.ensures in
     accompanied-is _ _ _ _ _ _ _ _ (returns-in-Err-clause-plan g c)
-    (λ t ne u. ended-listed _ _ _ _ _ _ _ _ c.loop-made-test.true e.over ((e.told (subst IsTrue (sym was.stands.0) t)).ending (λ o. ne (cc))) (was.listed t u))
+    (λ t ne u. ended-listed _ _ _ _ _ _ _ _ _ c.loop-made-test.true e.over ne ((e.told (subst IsTrue (sym was.stands.0) t)).ending (λ o. ne (cc))) (was.plan t) u)
     (last-later _ _ _ _ _ c.loop-made-test.true was.bound e.bound) (stands-then _ _ _ _ _ _ was.stands (stands-kept _ _ _ _ e.keeps))
 
 pub returns-in-Err-clause-fits : goal.returns-in-Err-clause-fits
@@ -81,17 +79,17 @@ pub returns-in-Err-clause-kept_listed : goal.returns-in-Err-clause-kept_listed
 returns-in-Err-clause-kept_listed g c = λ t ne u a.
     let was = c.loop-made.invariant in
     let now = subst IsTrue (sym was.stands.0) t in
-    ended-kept-beside _ _ _ _ _ _ _ _ _ _ _ c.loop-made-test.true c.in-Err.ensures.over ne (c.in-Err.ensures.told now) (c.in-Err.ensures.kept now (λ e. ne (cc))) (was.listed t u) (was.kept_listed t u a)
+    ended-kept-beside _ _ _ _ _ _ _ _ _ _ _ c.loop-made-test.true c.in-Err.ensures.over ne (c.in-Err.ensures.told now) (c.in-Err.ensures.kept now (λ e. ne (cc))) (rest-listed _ _ no_flags false false _ _ _ _ (was.plan t) u) (was.kept_listed t u a)
 
 -- ---- where all steps are made
 
 pub returns-clause-plan : goal.returns-clause-plan
-returns-clause-plan g c = λ t. spent-so _ _ _ _ c.loop-made-test.false (c.loop-made.invariant.plan t)
+returns-clause-plan g c = λ t. of-run _ _ _ _ (spent-so _ _ _ _ c.loop-made-test.false (c.loop-made.invariant.plan t)).window
 
 pub returns-clause-run : goal.returns-clause-run
 returns-clause-run g c =
     let was = c.loop-made.invariant in
-    accompanied-is _ _ _ _ _ _ _ _ (returns-clause-plan g c) (λ t ne u. list-spent _ _ _ _ _ _ _ c.loop-made-test.false (was.listed t u)) (few-later _ _ _ _ (omega (arith, c.loop-made-test.false)) was.bound) was.stands
+    run-is _ _ _ _ _ _ _ _ _ _ (λ t. spent-so _ _ _ _ c.loop-made-test.false (was.plan t)) (few-later _ _ _ _ (omega (arith, c.loop-made-test.false)) was.bound) was.stands
 
 pub returns-clause-fits : goal.returns-clause-fits
 returns-clause-fits g c = c.loop-made.invariant.fits

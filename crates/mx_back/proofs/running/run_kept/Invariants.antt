@@ -2,12 +2,9 @@ use Rattle.std.proofs.Common.{IsTrue, false, ◌-◌, ◌≡◌}
 use Rattle.mx_host.specs.HostModel.{tells, contents}
 use Rattle.mx_plan.specs.Clauses.{Stands}
 use Rattle.mx_core.specs.Kept.{state_of}
-use Rattle.mx_core.specs.Bounds.{as_list_state}
 use Rattle.mx_run.specs.AccompaniedRuns.{list_run}
-use Rattle.mx_run.specs.Runs.{IsLater, no_flags}
-use Rattle.mx_run.specs.WildRuns.{run_by, list_machine}
+use Rattle.mx_run.specs.Runs.{IsLater}
 use Rattle.mx_run.proofs.AccompaniedRuns.{Rest, Made}
-use Rattle.mx_run.proofs.ListSteps.{Beside}
 use Rattle.mx_back.specs.History.{AreNotesOf, states_before, states_kept}
 use Rattle.mx_back.specs.KeptLists.{AreUntouched, list_kept}
 use Rattle.mx_back.specs.KeptRuns.{turns_of}
@@ -20,10 +17,6 @@ invariant-loop-made g l = record {
       Rest l.n (l.n - l._made) (state_of l.machine, contents (g.H.Host.told l.host)) (state_of l.fn.machine, contents (g.H.Host.told l.fn.host));
   made : IsTrue (tells (g.H.Host.told l.fn.host)) →
       Made l._made (state_of l.machine, contents (g.H.Host.told l.host)) (state_of l.fn.machine, contents (g.H.Host.told l.fn.host));
-  listed : IsTrue (tells (g.H.Host.told l.fn.host)) → (state_of l.fn.machine).touched ≡ false →
-      Beside (run_by list_machine l.n no_flags false (as_list_state (state_of l.fn.machine)) (contents (g.H.Host.told l.fn.host)))
-      (run_by list_machine (l.n - l._made) no_flags false (as_list_state (state_of l.machine)) (contents (g.H.Host.told l.host)))
-      (state_of l.machine) (contents (g.H.Host.told l.host));
   bound : IsLater l._made (state_of l.fn.machine) (state_of l.machine);
   stands : Stands (g.H.Host.told l.fn.host) (g.H.Host.told l.host) (g.H.Host.faults l.fn.host) (g.H.Host.faults l.host);
   fits : AreNotesOf l.back (state_of l.machine);

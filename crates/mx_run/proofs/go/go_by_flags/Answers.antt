@@ -3,16 +3,15 @@ use Rattle.mx_host.specs.HostModel.{contents}
 use Rattle.mx_core.specs.Kept.{state_of}
 use Rattle.mx_run.specs.FlagMaps.{flags_at}
 use Rattle.mx_run.proofs.Later.{begun-later, few-later, last-later, turned-later}
-use Rattle.mx_run.proofs.ListSteps.{list-window, list-begun, list-went, list-ended, list-spent}
-use Rattle.mx_run.proofs.PlanEnds.{rest-begun, rest-went, rest-ended, rest-spent, step-answer}
+use Rattle.mx_run.proofs.ListSteps.{list-window}
+use Rattle.mx_run.proofs.RunBoth.{rest-begun-both, rest-went-both, rest-ended-both, rest-spent-both}
 use Rattle.mx_plan.proofs.Standing.{stands-all, stands-then}
 use Rattle.mx_run.proofs.Runners.{spares-begun, spares-went, spares-ended}
 use Rattle.mx_run.proofs.go.go_by_flags.Goals as goal
 
 pub loop-turn-init : goal.loop-turn-init
 loop-turn-init g c = record {
-  told = λ t. rest-begun c.args.n (flags_at c.args.flags.now) c.args.pass (state_of c.args.machine.now, contents (g.H.Host.told c.args.host.now));
-  listed = λ t u. list-begun c.args.n (flags_at c.args.flags.now) c.args.pass (state_of c.args.machine.now) (contents (g.H.Host.told c.args.host.now)) u;
+  both = λ t. rest-begun-both c.args.n (flags_at c.args.flags.now) c.args.pass (state_of c.args.machine.now, contents (g.H.Host.told c.args.host.now));
   spared = spares-begun c.args.n (state_of c.args.machine.now);
   bound = begun-later (state_of c.args.machine.now);
   stands = stands-all (g.H.Host.told c.args.host.now) (g.H.Host.faults c.args.host.now);
@@ -20,9 +19,9 @@ loop-turn-init g c = record {
 
 pub loop-turn-preserved : goal.loop-turn-preserved
 loop-turn-preserved g c = record {
-  told = λ t. rest-went _ _ _ _ _ _ _ _ _ c.loop-turn-test.true (c.loop-turn.invariant.told t) ((c.in-Ok.ensures.step.told (subst IsTrue (sym c.loop-turn.invariant.stands.0) t)).ending (λ e. absurd (cc)));
-  listed = λ t u. list-went _ _ _ _ _ _ _ _ _ _ c.loop-turn-test.true (list-window _ c.in-Ok.ensures.over)
-      (step-answer _ _ _ _ _ _ _ ((c.in-Ok.ensures.step.told (subst IsTrue (sym c.loop-turn.invariant.stands.0) t)).ending (λ e. absurd (cc)))) (c.loop-turn.invariant.listed t u);
+  both = λ t.
+      rest-went-both _ _ _ _ _ _ _ _ _ _ _ c.loop-turn-test.true (list-window _ c.in-Ok.ensures.over) (c.in-Ok.ensures.step.told (subst IsTrue (sym c.loop-turn.invariant.stands.0) t))
+      (c.loop-turn.invariant.both t);
   spared = λ h. spares-went _ _ _ _ _ c.loop-turn-test.true c.in-Ok.ensures.step.spared (c.loop-turn.invariant.spared h);
   bound = turned-later _ _ _ _ c.loop-turn.invariant.bound c.run_step.ensures.step.bound;
   stands = stands-then _ _ _ _ _ _ c.loop-turn.invariant.stands c.run_step.ensures.step.stands;
@@ -33,10 +32,7 @@ returns-in-Err g c =
     let was = c.loop-turn.invariant in
     let e = c.in-Err.ensures in
     record {
-      told = λ t. rest-ended _ _ _ _ _ _ _ _ _ c.loop-turn-test.true (was.told t) (e.step.told (subst IsTrue (sym was.stands.0) t));
-      listed = λ t ne u.
-          list-ended _ _ _ _ _ _ _ _ _ _ c.loop-turn-test.true (list-window _ e.over)
-          (step-answer _ _ _ _ _ _ _ ((e.step.told (subst IsTrue (sym was.stands.0) t)).ending (λ o. ne (cc)))) (was.listed t u);
+      both = λ t. rest-ended-both _ _ _ _ _ _ _ _ _ _ _ c.loop-turn-test.true (list-window _ e.over) (e.step.told (subst IsTrue (sym was.stands.0) t)) (was.both t);
       spared = λ h. spares-ended _ _ _ _ _ c.loop-turn-test.true e.step.spared (was.spared h);
       bound = last-later _ _ _ _ _ c.loop-turn-test.true was.bound e.step.bound;
       stands = stands-then _ _ _ _ _ _ was.stands e.step.stands;
@@ -46,8 +42,7 @@ pub returns : goal.returns
 returns g c =
     let was = c.loop-turn.invariant in
     record {
-      told = λ t. rest-spent _ _ _ _ _ _ _ c.loop-turn-test.false (was.told t);
-      listed = λ t ne u. list-spent _ _ _ _ _ _ _ c.loop-turn-test.false (was.listed t u);
+      both = λ t. rest-spent-both _ _ _ _ _ _ _ c.loop-turn-test.false (was.both t);
       spared = λ h e. absurd (cc);
       bound = few-later _ _ _ _ (omega (arith, c.loop-turn-test.false)) was.bound;
       stands = was.stands;

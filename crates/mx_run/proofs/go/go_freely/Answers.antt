@@ -1,6 +1,6 @@
 use Rattle.std.proofs.Common.{sym, subst, IsTrue}
 use Rattle.mx_plan.proofs.Standing.{stands-then}
-use Rattle.mx_run.proofs.Walked.{not-last, all-made, fewer-left, walk-goes-on, walk-ends, walk-spends, walk-listed-on, walk-listed-end, walk-listed-spent, walk-spares-on, walk-spares-end, walk-later, walk-later-on, walk-later-end}
+use Rattle.mx_run.proofs.Walked.{not-last, all-made, fewer-left, walk-goes-on, walk-ends, walk-spends, walk-spares-on, walk-spares-end, walk-later, walk-later-on, walk-later-end}
 use Rattle.mx_run.proofs.go.go_freely.Goals as goal
 
 pub returns-then-left-eq0 : goal.returns-then-left-eq0
@@ -8,8 +8,7 @@ returns-then-left-eq0 g c =
     let was = c.loop-left.invariant in
     let walk = c.advance_many-walk.ensures in
     record {
-      told = λ t. walk-spends _ _ _ _ _ _ _ _ c.requires walk.most (all-made _ _ c.if-left-eq0.true) walk.goes (was.told t);
-      listed = λ t ne u. walk-listed-spent _ _ _ _ _ _ _ c.requires walk.most (all-made _ _ c.if-left-eq0.true) walk.goes (was.listed t u);
+      both = λ t. walk-spends _ _ _ _ _ _ _ _ c.requires walk.most (all-made _ _ c.if-left-eq0.true) walk.goes (was.both t);
       spared = λ h e. absurd (cc);
       bound = walk-later _ _ _ _ _ _ was.few walk.most was.bound walk.goes;
       stands = was.stands;
@@ -22,8 +21,7 @@ loop-left-preserved g c =
     let walk = c.advance_many-walk.ensures.goes in
     let e = c.in-Ok.ensures in
     record {
-      told = λ t. walk-goes-on _ _ _ _ _ _ _ _ _ _ c.requires some walk (was.told t) (e.step.told (subst IsTrue (sym was.stands.0) t));
-      listed = λ t u. walk-listed-on _ _ _ _ _ _ _ _ _ _ c.requires some walk e.over (was.listed t u) (e.step.told (subst IsTrue (sym was.stands.0) t));
+      both = λ t. walk-goes-on _ _ _ _ _ _ _ _ _ _ _ c.requires some walk e.over (was.both t) (e.step.told (subst IsTrue (sym was.stands.0) t));
       spared = λ h. walk-spares-on _ _ _ _ _ _ some walk e.step.spared (was.spared h);
       few = fewer-left _ _ _ was.few;
       bound = walk-later-on _ _ _ _ _ _ _ was.few some was.bound walk e.step.bound;
@@ -37,8 +35,7 @@ returns-in-Err g c =
     let walk = c.advance_many-walk.ensures.goes in
     let e = c.in-Err.ensures in
     record {
-      told = λ t. walk-ends _ _ _ _ _ _ _ _ _ _ c.requires some walk (was.told t) (e.step.told (subst IsTrue (sym was.stands.0) t));
-      listed = λ t ne u. walk-listed-end _ _ _ _ _ _ _ _ _ _ c.requires some walk e.over ne (was.listed t u) (e.step.told (subst IsTrue (sym was.stands.0) t));
+      both = λ t. walk-ends _ _ _ _ _ _ _ _ _ _ _ c.requires some walk e.over (was.both t) (e.step.told (subst IsTrue (sym was.stands.0) t));
       spared = λ h. walk-spares-end _ _ _ _ _ _ some walk e.step.spared (was.spared h);
       bound = walk-later-end _ _ _ _ _ _ _ was.few some was.bound walk e.step.bound;
       stands = stands-then _ _ _ _ _ _ was.stands e.step.stands;

@@ -1,25 +1,18 @@
-use Rattle.std.proofs.Common.{IsTrue, false, true, ◌≡◌, ◌≤◌, ◌-◌}
+use Rattle.std.proofs.Common.{IsTrue, true, ◌≤◌, ◌-◌}
 use Rattle.mx_host.specs.HostModel.{tells, contents}
 use Rattle.mx_plan.specs.Clauses.{Stands}
-use Rattle.mx_plan.specs.Plan.{IsRest}
-use Rattle.mx_core.specs.Bounds.{as_list_state}
 use Rattle.mx_core.specs.Kept.{state_of}
 use Rattle.mx_run.specs.FlagMaps.{flags_at}
-use Rattle.mx_run.specs.RunPlans.{running, run_plan, SparesMemory}
+use Rattle.mx_run.specs.RunCourses.{RestsBoth}
+use Rattle.mx_run.specs.RunPlans.{run_plan, SparesMemory}
 use Rattle.mx_run.specs.Runs.{IsLater}
-use Rattle.mx_run.specs.WildRuns.{run_by, list_machine}
-use Rattle.mx_run.proofs.ListSteps.{Beside}
 use Rattle.mx_run.proofs.go.go_freely.Given as goal
 
 abbrev pub invariant-loop-left : goal.invariant-loop-left
 invariant-loop-left g l = record {
-  told : IsTrue (tells (g.H.Host.told l.fn.host)) →
-      IsRest running (run_plan l.left (flags_at l.flags) true) (state_of l.machine, contents (g.H.Host.told l.host))
+  both : IsTrue (tells (g.H.Host.told l.fn.host)) →
+      RestsBoth (run_plan l.left (flags_at l.flags) true) (state_of l.machine, contents (g.H.Host.told l.host))
       (run_plan l.n (flags_at l.flags) true) (state_of l.fn.machine, contents (g.H.Host.told l.fn.host));
-  listed : IsTrue (tells (g.H.Host.told l.fn.host)) → (state_of l.fn.machine).touched ≡ false →
-      Beside (run_by list_machine l.n (flags_at l.flags) true (as_list_state (state_of l.fn.machine)) (contents (g.H.Host.told l.fn.host)))
-      (run_by list_machine l.left (flags_at l.flags) true (as_list_state (state_of l.machine)) (contents (g.H.Host.told l.host)))
-      (state_of l.machine) (contents (g.H.Host.told l.host));
   spared : SparesMemory l.n (state_of l.fn.machine) → SparesMemory l.left (state_of l.machine);
   few : l.left ≤ l.n;
   bound : IsLater (l.n - l.left) (state_of l.fn.machine) (state_of l.machine);

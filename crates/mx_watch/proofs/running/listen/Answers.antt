@@ -2,10 +2,10 @@ use Rattle.std.proofs.Common.{arith, sym, subst, refl, IsTrue, false}
 use Rattle.mx_host.specs.HostModel.{contents}
 use Rattle.mx_core.specs.Kept.{state_of}
 use Rattle.mx_run.specs.Runs.{no_flags}
-use Rattle.mx_run.proofs.AccompaniedRuns.{begun-made, went-rest, went-made, went-listed, ended-listed, ended-so, lacking-so, spent-so, accompanied-is}
+use Rattle.mx_run.proofs.AccompaniedRuns.{begun-made, went-rest, went-made, ended-so, lacking-so, spent-so, of-run, accompanied-is}
 use Rattle.mx_run.proofs.Later.{begun-later, few-later, turned-later, last-later}
-use Rattle.mx_run.proofs.ListSteps.{list-begun, list-spent}
-use Rattle.mx_run.proofs.PlanEnds.{rest-begun}
+use Rattle.mx_run.proofs.RunBoth.{rest-begun-both, rest-listed}
+use Rattle.mx_run.proofs.Runners.{run-is}
 use Rattle.mx_plan.proofs.Standing.{stands-all, stands-kept, stands-then}
 use Rattle.mx_watch.proofs.Listened.{goes-on, begun-heard, went-heard, ended-heard, spent-heard, left-heard}
 use Rattle.mx_watch.proofs.ListTraces.{unless-wild, went-by-list, ended-by-list, spent-by-list, begun-by-list}
@@ -13,9 +13,8 @@ use Rattle.mx_watch.proofs.running.listen.Goals as goal
 
 pub loop-made-init : goal.loop-made-init
 loop-made-init g c = record {
-  told = λ t. rest-begun c.args.n no_flags false (state_of c.args.machine.now, contents (g.H.Host.told c.args.host.now));
+  told = λ t. rest-begun-both c.args.n no_flags false (state_of c.args.machine.now, contents (g.H.Host.told c.args.host.now));
   made = λ t. begun-made (state_of c.args.machine.now) (contents (g.H.Host.told c.args.host.now));
-  listed = λ t u. list-begun c.args.n no_flags false (state_of c.args.machine.now) (contents (g.H.Host.told c.args.host.now)) u;
   heard = λ t. begun-heard c.args.n _ _ _;
   list_heard = λ t u. begun-by-list c.args.n _ _ _ _;
   same = c.requires;
@@ -32,11 +31,10 @@ loop-made-preserved g c =
     let inside = c.loop-made-test.true in
     let e = c.in-Ok.ensures in
     record {
-      told = λ t. went-rest _ _ tt _ _ _ inside (goes-on _ _ _ _ _ (e.told (subst IsTrue (sym was.stands.0) t))) (was.told t);
+      told = λ t. went-rest _ _ tt _ _ _ _ _ inside e.over (goes-on _ _ _ _ _ (e.told (subst IsTrue (sym was.stands.0) t))) (was.told t);
       made = λ t. went-made _ tt _ _ _ (goes-on _ _ _ _ _ (e.told (subst IsTrue (sym was.stands.0) t))) (was.made t);
-      listed = λ t u. went-listed _ _ _ tt _ _ _ _ inside e.over (goes-on _ _ _ _ _ (e.told (subst IsTrue (sym was.stands.0) t))) (was.listed t u);
       heard = λ t. went-heard _ _ _ _ _ _ _ _ _ _ inside (e.told (subst IsTrue (sym was.stands.0) t)) c.in-Ok-tell_all.ensures.told (was.heard t);
-      list_heard = λ t u. went-by-list _ _ _ _ _ _ _ _ _ _ _ inside e.over (e.told (subst IsTrue (sym was.stands.0) t)) c.in-Ok-tell_all.ensures.told (was.listed t u) (was.list_heard t u);
+      list_heard = λ t u. went-by-list _ _ _ _ _ _ _ _ _ _ _ inside e.over (e.told (subst IsTrue (sym was.stands.0) t)) c.in-Ok-tell_all.ensures.told (rest-listed _ _ no_flags false false _ _ _ _ (was.told t) u) (was.list_heard t u);
       same = c.in-Ok-tell_all.ensures.same;
       bound = turned-later _ _ _ _ was.bound e.bound;
       stands = stands-then _ _ _ _ _ _ was.stands (stands-kept _ _ _ _ e.keeps);
@@ -66,14 +64,14 @@ returns-in-Err-tell_all-clause-list_heard g c = λ t ne. absurd (ne refl)
 pub returns-in-Err-clause-plan : goal.returns-in-Err-clause-plan
 returns-in-Err-clause-plan g c = λ t.
     let was = c.loop-made.invariant in
-    ended-so _ _ _ _ _ _ c.loop-made-test.true (was.told t) (c.in-Err.ensures.told (subst IsTrue (sym was.stands.0) t))
+    let e = c.in-Err.ensures in
+    of-run _ _ _ _ (ended-so _ _ _ _ _ _ _ _ c.loop-made-test.true e.over (was.told t) (e.told (subst IsTrue (sym was.stands.0) t))).window
 
 pub returns-in-Err-clause-run : goal.returns-in-Err-clause-run
 returns-in-Err-clause-run g c =
     let was = c.loop-made.invariant in
     let e = c.in-Err.ensures in
-    accompanied-is _ _ _ _ _ _ _ _ (returns-in-Err-clause-plan g c)
-    (λ t ne u. ended-listed _ _ _ _ _ _ _ _ c.loop-made-test.true e.over ((e.told (subst IsTrue (sym was.stands.0) t)).ending (λ o. ne (cc))) (was.listed t u))
+    run-is _ _ _ _ _ _ _ _ _ _ (λ t. ended-so _ _ _ _ _ _ _ _ c.loop-made-test.true e.over (was.told t) (e.told (subst IsTrue (sym was.stands.0) t)))
     (last-later _ _ _ _ _ c.loop-made-test.true was.bound e.bound) (stands-then _ _ _ _ _ _ was.stands (stands-kept _ _ _ _ e.keeps))
 
 pub returns-in-Err-clause-heard : goal.returns-in-Err-clause-heard
@@ -85,17 +83,17 @@ pub returns-in-Err-clause-list_heard : goal.returns-in-Err-clause-list_heard
 returns-in-Err-clause-list_heard g c = λ t ne u.
     let was = c.loop-made.invariant in
     unless-wild _ _ _ (left-heard _ _ _ _ _ was.same)
-    (ended-by-list _ _ _ _ _ _ _ _ _ _ c.loop-made-test.true c.in-Err.ensures.over ne (c.in-Err.ensures.told (subst IsTrue (sym was.stands.0) t)) (was.listed t u) (was.list_heard t u))
+    (ended-by-list _ _ _ _ _ _ _ _ _ _ c.loop-made-test.true c.in-Err.ensures.over ne (c.in-Err.ensures.told (subst IsTrue (sym was.stands.0) t)) (rest-listed _ _ no_flags false false _ _ _ _ (was.told t) u) (was.list_heard t u))
 
 -- ---- where all steps are made
 
 pub returns-clause-plan : goal.returns-clause-plan
-returns-clause-plan g c = λ t. spent-so _ _ _ _ c.loop-made-test.false (c.loop-made.invariant.told t)
+returns-clause-plan g c = λ t. of-run _ _ _ _ (spent-so _ _ _ _ c.loop-made-test.false (c.loop-made.invariant.told t)).window
 
 pub returns-clause-run : goal.returns-clause-run
 returns-clause-run g c =
     let was = c.loop-made.invariant in
-    accompanied-is _ _ _ _ _ _ _ _ (returns-clause-plan g c) (λ t ne u. list-spent _ _ _ _ _ _ _ c.loop-made-test.false (was.listed t u)) (few-later _ _ _ _ (omega (arith, c.loop-made-test.false)) was.bound) was.stands
+    run-is _ _ _ _ _ _ _ _ _ _ (λ t. spent-so _ _ _ _ c.loop-made-test.false (was.told t)) (few-later _ _ _ _ (omega (arith, c.loop-made-test.false)) was.bound) was.stands
 
 pub returns-clause-heard : goal.returns-clause-heard
 returns-clause-heard g c = λ t ne. left-heard _ _ _ _ _ c.loop-made.invariant.same (spent-heard _ _ _ _ _ _ c.loop-made-test.false (c.loop-made.invariant.heard t))

@@ -6,7 +6,6 @@ use Rattle.mx_core.specs.Kept.{state_of}
 use Rattle.mx_run.specs.Runs.{IsLater, no_flags}
 use Rattle.mx_run.specs.WildRuns.{run_by, window_machine, list_machine}
 use Rattle.mx_run.proofs.AccompaniedRuns.{Rest, Made}
-use Rattle.mx_run.proofs.ListSteps.{Beside}
 use Rattle.mx_watch.specs.Listening.{listening, watched}
 use Rattle.mx_watch.specs.Traces.{traces}
 use Rattle.mx_watch.proofs.ListTraces.{OrWild}
@@ -18,10 +17,6 @@ invariant-loop-made g l = record {
       Rest l.n (l.n - l._made) (state_of l.machine, contents (g.H.Host.told l.host)) (state_of l.fn.machine, contents (g.H.Host.told l.fn.host));
   made : IsTrue (tells (g.H.Host.told l.fn.host)) →
       Made l._made (state_of l.machine, contents (g.H.Host.told l.host)) (state_of l.fn.machine, contents (g.H.Host.told l.fn.host));
-  listed : IsTrue (tells (g.H.Host.told l.fn.host)) → (state_of l.fn.machine).touched ≡ false →
-      Beside (run_by list_machine l.n no_flags false (as_list_state (state_of l.fn.machine)) (contents (g.H.Host.told l.fn.host)))
-      (run_by list_machine (l.n - l._made) no_flags false (as_list_state (state_of l.machine)) (contents (g.H.Host.told l.host)))
-      (state_of l.machine) (contents (g.H.Host.told l.host));
   heard : IsTrue (tells (g.H.Host.told l.fn.host)) →
       watched (traces window_machine (l.n - l._made) (state_of l.machine) (contents (g.H.Host.told l.host)))
       (listening l.places.items (map (λ b. (goal.Watcher-dyn g (b.vtable, b.value)).meaning b.value) l.watchers.items) l.kept)
