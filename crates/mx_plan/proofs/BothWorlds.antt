@@ -1,6 +1,6 @@
 -- Plans in a world and in the one that it represents: one after another, and what is left of a whole.
-use Rattle.std.proofs.Common.{◌≡◌, ◌≢◌, inl, inr, refl, sym, ◌∙◌, ap, subst}
-use Rattle.mx_plan.specs.Plan.{Plan, returns, calls, bind, Acts, Comes, IsRest, Stops, StopsAfter, end_of, end_after}
+use Rattle.std.proofs.Common.{◌≡◌, ◌≢◌, refl, sym, ◌∙◌, ap, subst}
+use Rattle.mx_plan.specs.Plan.{Plan, returns, bind, Acts, StopsAfter, end_of, end_after}
 use Rattle.mx_plan.specs.Wild.{Course, ends, meets_wild, then_on, course, GoesAs, ComesBoth, GoesOn, alike, was_wild, IsRestBoth}
 use Rattle.mx_plan.proofs.Plans.{end_bind, stops_after, rest_after}
 use Rattle.mx_plan.proofs.WildLaws.{course_bind}

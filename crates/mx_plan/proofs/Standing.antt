@@ -1,5 +1,5 @@
 -- What stands over two steps stands over both.
-use Rattle.std.proofs.Common.{ℕ, ◌≤◌, ◌⊎◌, inl, inr, ◌∙◌, refl, le_refl, arith}
+use Rattle.std.proofs.Common.{ℕ, ◌≤◌, inl, inr, ◌∙◌, refl, le_refl, arith}
 use Rattle.std.specs.Prelude.{Option}
 use Rattle.mx_host.specs.HostModel.{HostModel, Rose}
 use Rattle.mx_host.specs.Keeping.{Keeps, OnlyByFailure}

@@ -1,11 +1,9 @@
 -- What plans of the host take from a slot, one behind the other.
-use Rattle.std.proofs.Common.{◌≡◌, ℕ, ◌≤◌, ◌-◌, List, length, Ok, Err, arith}
-use Rattle.std.specs.Prelude.{Result}
-use Rattle.mx_host.specs.declared.faults.HostFault.{HostFault}
+use Rattle.std.proofs.Common.{ℕ, ◌≤◌, ◌-◌, List, arith}
 use Rattle.mx_host.specs.declared.slots.Mode.{Mode}
-use Rattle.mx_plan.specs.Plan.{Plan, returns, calls, bind}
-use Rattle.mx_plan.specs.Calls.{HostCall, HostSays, HostPlan, open_plan, close_plan, write_plan, need}
-use Rattle.mx_plan.specs.Taking.{CanSay, taken, Spares}
+use Rattle.mx_plan.specs.Plan.{returns, calls, bind}
+use Rattle.mx_plan.specs.Calls.{HostPlan, open_plan, close_plan, write_plan, need}
+use Rattle.mx_plan.specs.Taking.{taken, Spares}
 
 pub spares-bind : {A B : Type 0} (from : ℕ) (s : A → ℕ) (t : B → ℕ) (f : A → HostPlan B) (p : HostPlan A) (n : ℕ) → Spares from s n p →
     ((a : A) (m : ℕ) → s a ≤ m → Spares from t m (f a)) → Spares from t n (bind f p)
