@@ -1,27 +1,14 @@
 -- A turn over a window beside that over the list that it represents.
-use Rattle.std.proofs.Common.{◌≡◌, ℕ, zero, suc, ◌+◌, ◌-◌, ◌/◌, ◌<◌, ◌≤◌, Bool, true, false, cond, List, [], Option, None, Some, Ok, Err, arith, refl, sym, subst, ◌∙◌, ap}
-use Rattle.std.specs.Prelude.{Result}
-use Rattle.mx_word.specs.Lists.{IsFront}
-use Rattle.mx_word.proofs.Fronts.{front-through}
+use Rattle.std.proofs.Common.{◌≡◌, Bool, true, false, refl, sym, subst, ◌∙◌, ap}
 use Rattle.mx_host.specs.HostModel.{HostModel}
 use Rattle.mx_core.specs.Bounds.{as_list_state}
 use Rattle.mx_core.specs.State.{State}
-use Rattle.mx_code.specs.declared.trace.Trace.{Trace}
-use Rattle.mx_run.specs.Clauses.{GoesAsList, as_list_answer, TurnGoesAsList}
-use Rattle.mx_run.specs.FlagMaps.{flags_at}
-use Rattle.mx_run.specs.RunPlans.{end_of_trace}
-use Rattle.mx_run.specs.Runs.{FlagsOf, Ended, ended, break_of, after_trace, after_turn, breaks_before}
-use Rattle.mx_run.specs.Turns.{Turn, went_on, halts, stops, turn, Answered, turn_answer}
-use Rattle.mx_run.specs.WildRuns.{list_machine, RunEnd, run_ended, run_wild, turn_is_wild, run_by, HasWindow, as_list_turn, state_after}
-use Rattle.mx_run.specs.declared.end.BreakKind.{BreakKind}
-use Rattle.mx_run.specs.declared.end.BreakKind.TheVariants.{Execute}
-use Rattle.mx_run.specs.declared.end.End.{End}
-use Rattle.mx_run.specs.declared.end.End.TheVariants.{Broke, Spent}
-use Rattle.mx_run.specs.declared.flags.Flags.{Flags}
+use Rattle.mx_run.specs.Clauses.{as_list_answer, TurnGoesAsList}
+use Rattle.mx_run.specs.Turns.{Turn, went_on, halts, stops, turn, turn_answer}
+use Rattle.mx_run.specs.WildRuns.{turn_is_wild, HasWindow, as_list_turn, state_after}
 use Rattle.mx_run.specs.declared.turn_answer.TurnAnswer.{TurnAnswer}
 use Rattle.mx_run.proofs.ListTurns.{TurnWindow, turn-listed-on, wild-listed, turn-untouched}
-use Rattle.mx_run.proofs.Outputs.{step-front, answer-front}
-use Rattle.mx_run.proofs.PlanEnds.{turn_ended, step_by_break, run_step}
+use Rattle.mx_run.proofs.Outputs.{answer-front}
 
 -- ONE TURN
 

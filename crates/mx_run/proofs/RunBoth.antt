@@ -1,10 +1,10 @@
 -- Steps of a run one after another, of the machine over a window and of that over the list that it represents.
-use Rattle.std.proofs.Common.{◌≡◌, ◌≢◌, ℕ, zero, suc, ◌+◌, ◌-◌, ◌<◌, ◌≤◌, ◌/◌, Bool, true, false, cond, List, [], None, Ok, Err, arith, refl, sym, subst, ◌∙◌, ap}
+use Rattle.std.proofs.Common.{◌≡◌, ◌≢◌, ℕ, suc, ◌+◌, ◌-◌, ◌<◌, ◌≤◌, Bool, true, false, cond, List, [], None, Ok, Err, arith, refl, sym, subst, ◌∙◌, ap}
 use Rattle.std.specs.Prelude.{Result}
 use Rattle.mx_word.specs.Lists.{IsFront}
 use Rattle.mx_word.proofs.Fronts.{front-through}
 use Rattle.mx_host.specs.HostModel.{HostModel}
-use Rattle.mx_plan.specs.Plan.{Comes, returns, bind, end_of}
+use Rattle.mx_plan.specs.Plan.{Comes, IsRest, returns, bind, end_of}
 use Rattle.mx_plan.specs.Wild.{Course, ends, meets_wild, then_on, course, GoesAs, GoesOn, alike}
 use Rattle.mx_plan.specs.Wild as wild
 use Rattle.mx_plan.proofs.BothWorlds.{rest-both, whole-both, list-done}
@@ -80,24 +80,27 @@ went-both n f pass u s t m k start whole w c r =
     rest-both running (run_goes list_machine) as_list_world IsUntouched WritesOn (run_next (run_plan n f false)) (step_plan f pass) (Ok u) (Err OutOfMemory) (s, m) (t, k) start whole (λ e. absurd (cc))
     (step-writes f pass s t m k (Ok u) (λ e. absurd (cc)) c) (step-both f pass s t m k (Ok u) w c) r
 
+all-left : (n : ℕ) → suc n ≡ suc n - 0
+all-left n = omega arith
+
 pub ended-both : (n : ℕ) (f : FlagsOf) (pass : Bool) (end : End) (s t : State) (m k : HostModel) (start : RunWorld) (whole : RunPlan End) → TurnWindow s →
     Comes running (s, m) (t, k) (Err OutOfMemory) (Err end) (step_plan f pass) → RestsBoth (run_plan (suc n) f pass) (s, m) whole start → RunsBoth start (t, k) OutOfMemory end whole
 unfolding run_plan
 ended-both n f pass end s t m k start whole w c r = record {
-  window = rest-ended (suc n) 0 f pass end (s, m) (t, k) start whole (omega arith) r.window c;
+  window = rest-ended (suc n) 0 f pass end (s, m) (t, k) start whole (omega arith) (subst (λ j. IsRest running (run_plan j f pass) (s, m) whole start) (all-left n) r.window) c;
   list = λ u ne.
       list-done (run_goes list_machine) as_list_world IsUntouched WritesOn (run_next (run_plan n f false)) (step_plan f pass) (Err end) end (s, m) (t, k) _ refl
       (step-writes f pass s t m k (Err end) (λ e. ne (cc)) c) (λ a. (step-both f pass s t m k (Err end) w c).list a (λ e. ne (cc))) (r.list u);
 }
 
+none-done : (w : RunWorld) → RunsBoth w w OutOfMemory Spent (returns Spent)
+unfolding course end_of
+none-done w = record { window = record { ending = λ ne. refl; stopping = λ e. absurd (cc) }; list = λ u ne. (refl, (refl, u)) }
+
 pub spent-both : (f : FlagsOf) (pass : Bool) (w start : RunWorld) (whole : RunPlan End) → RestsBoth (run_plan 0 f pass) w whole start → RunsBoth start w OutOfMemory Spent whole
 unfolding run_plan
 spent-both f pass w start whole r =
-    whole-both running (run_goes list_machine) as_list_world IsUntouched WritesOn (returns Spent) whole OutOfMemory Spent w w start (λ v h. h) (done w) r
-  where
-    done : (w : RunWorld) → RunsBoth w w OutOfMemory Spent (returns Spent)
-    unfolding course end_of
-    done w = record { window = record { ending = λ ne. refl; stopping = λ e. absurd (cc) }; list = λ u ne. (refl, (refl, u)) }
+    whole-both running (run_goes list_machine) as_list_world IsUntouched WritesOn (returns Spent) whole OutOfMemory Spent w w start (λ v h. h) (none-done w) r
 
 -- ---- after so many of n steps
 
@@ -130,6 +133,10 @@ rest-freely-both n entries pass v start whole h r = subst (λ p. RestsBoth p v w
 
 -- ---- as a whole
 
+as-by : (n : ℕ) (f : FlagsOf) (pass : Bool) (s : State) (m : HostModel) → of_course (course (run_goes list_machine) (run_plan n f pass) (as_list_state s, m)) ≡ run_by list_machine n f pass (as_list_state s) m
+unfolding run_course
+as-by n f pass s m = run-is-course list_machine n f pass (as_list_state s) m
+
 goes-by : (c : Course End RunWorld) (e : RunEnd) (r : Ended) → of_course c ≡ e → GoesAs as_list_world IsUntouched WritesOn c r.end (r.state, r.host) → GoesAsList e r
 goes-by (ends end w) e r is g = subst (λ x. GoesAsList x r) is (by end w r g)
   where
@@ -140,8 +147,7 @@ goes-by (meets_wild w) e r is g = subst (λ x. GoesAsList x r) is g
 -- a run beside that of the list machine
 pub run-listed : (n : ℕ) (f : FlagsOf) (pass : Bool) (s t : State) (m k : HostModel) (r : End) → RunsBoth (s, m) (t, k) OutOfMemory r (run_plan n f pass) → r ≢ OutOfMemory → s.touched ≡ false →
     GoesAsList (run_by list_machine n f pass (as_list_state s) m) (ended r t k)
-unfolding run_course
-run-listed n f pass s t m k r c ne u = goes-by _ _ (ended r t k) (run-is-course list_machine n f pass (as_list_state s) m) (c.list u ne)
+run-listed n f pass s t m k r c ne u = goes-by _ _ (ended r t k) (as-by n f pass s m) (c.list u ne)
 
 -- ---- where it meets something wild
 
@@ -153,17 +159,12 @@ pub data Beside (whole rest : RunEnd) (s : State) : Type 0 where
 
 pub rest-listed : (n left : ℕ) (f : FlagsOf) (pass first : Bool) (s t : State) (m k : HostModel) → RestsBoth (run_plan left f first) (t, k) (run_plan n f pass) (s, m) → s.touched ≡ false →
     Beside (run_by list_machine n f pass (as_list_state s) m) (run_by list_machine left f first (as_list_state t) k) t
-unfolding run_course
 rest-listed n left f pass first s t m k r u = by (r.list u)
   where
-    is : (n : ℕ) (pass : Bool) (s : State) (m : HostModel) → of_course (course (run_goes list_machine) (run_plan n f pass) (as_list_state s, m)) ≡ run_by list_machine n f pass (as_list_state s) m
-    unfolding run_course
-    is n pass s m = run-is-course list_machine n f pass (as_list_state s) m
-
     by : GoesOn as_list_world IsUntouched WritesOn (course (run_goes list_machine) (run_plan n f pass) (as_list_world (s, m))) (course (run_goes list_machine) (run_plan left f first) (as_list_world (t, k))) (t, k) →
         Beside (run_by list_machine n f pass (as_list_state s) m) (run_by list_machine left f first (as_list_state t) k) t
-    by (alike a e) = as_list a (sym (is n pass s m) ∙ ap of_course e ∙ is left first t k)
-    by (wild.was_wild v e h) = was_wild v.1 (sym (is n pass s m) ∙ ap of_course e)
+    by (alike a e) = as_list a (sym (as-by n f pass s m) ∙ ap of_course e ∙ as-by left f first t k)
+    by (wild.was_wild v e h) = was_wild v.1 (sym (as-by n f pass s m) ∙ ap of_course e)
 
 pub meets-wild : (n i : ℕ) (s : State) (m : HostModel) → i < n → TurnWindow s → s.touched ≡ false → turn_is_wild s ≡ true → run_by list_machine (n - i) no_flags false (as_list_state s) m ≡ run_wild m
 unfolding run_by

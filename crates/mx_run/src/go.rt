@@ -68,7 +68,7 @@ pub fn go_freely<H: Host>(
 ///
 /// Out of memory, the turns that were made stay, and of the last one what it leaves then; what was
 /// written to standard output is a front of what the run writes.
-#[tactic(auto, using(crate::proofs::FreeRuns::free))]
+#[tactic(auto)]
 pub fn run_freely<H: Host>(alloc: Global, machine: &mut Machine, host: &mut H, n: u64) -> End
     ensures plan { CarriesOutRun (H.told host.old) (H.told host.new) (state_of machine.old) (state_of machine.new)
         End.OutOfMemory result (run_plan n no_flags false) }
