@@ -17,7 +17,7 @@ use mx_outcome::Outcome;
 use std::alloc::Global;
 
 /// What a file has.
-#[derive(Clone, Copy, Debug, PartialEq, Eq)]
+#[derive(Clone, Copy)]
 pub enum Form {
     /// A source, in MMIXAL.
     Source,

@@ -8,7 +8,7 @@ use crate::operation::Operation;
 
 /// What a step tells apart first: the frequent operations, loads and stores together, and all others
 /// together. It has one byte, so that a table of it is small and a `match` on it one jump.
-#[derive(Clone, Copy, Debug, PartialEq, Eq)]
+#[derive(Clone, Copy)]
 pub enum Group {
     Compute,
     Negate,

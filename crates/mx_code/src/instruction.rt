@@ -14,7 +14,7 @@ const FAR_BACK: u64 = 0xffff_ffff_fc00_0000;
 
 /// A tetra as an instruction, at the address where it stands or, where RESUME inserts it, as if it
 /// stood there; with the operands y and z, where RESUME gives them.
-#[derive(Clone, Copy, Debug, PartialEq, Eq)]
+#[derive(Clone, Copy)]
 pub struct Instruction {
     pub at: u64,
     pub word: u32,

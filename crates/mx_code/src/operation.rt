@@ -3,7 +3,7 @@
 use mx_mem::Part;
 
 /// How a load makes an octa of a part of memory: with its sign, without it, or as the high tetra.
-#[derive(Clone, Copy, Debug, PartialEq, Eq)]
+#[derive(Clone, Copy)]
 pub enum Loading {
     /// The part as a signed number: LDB, LDW, LDT.
     Signed(Part),
@@ -15,7 +15,7 @@ pub enum Loading {
 
 /// What a store stores: the low bytes of $X, with or without a test of the sign; its high tetra; or the
 /// byte X as an octa.
-#[derive(Clone, Copy, Debug, PartialEq, Eq)]
+#[derive(Clone, Copy)]
 pub enum Storing {
     /// The low bytes of $X, with an overflow where they lose its sign: STB, STW, STT.
     Signed(Part),
@@ -28,7 +28,7 @@ pub enum Storing {
 }
 
 /// What the machine does for a code.
-#[derive(Clone, Copy, Debug, PartialEq, Eq)]
+#[derive(Clone, Copy)]
 pub enum Operation {
     /// TRAP.
     Trap,

@@ -6,7 +6,7 @@ ghost use Rattle.mx_code.specs.Told.{answer_in};
 use crate::reason::Reason;
 
 /// Why an instruction is not carried out: it stops the machine, or there is no memory for it.
-#[derive(Clone, Copy, Debug, PartialEq, Eq)]
+#[derive(Clone, Copy)]
 pub enum Stop {
     /// The machine stops, in the state before the instruction.
     Stopped(Reason),
@@ -16,7 +16,7 @@ pub enum Stop {
 
 /// What a call answers, in two bytes: it comes back in registers, where the `Result` would stand in
 /// memory.
-#[derive(Clone, Copy, Debug, PartialEq, Eq)]
+#[derive(Clone, Copy)]
 pub enum Told {
     /// `Ok`: the instruction was carried out.
     Made,

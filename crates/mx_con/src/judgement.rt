@@ -11,7 +11,7 @@ use mx_word::STACK_SEGMENT;
 
 /// Why a line is bad: it is no command; a number is out of range; there is no such register; an address
 /// is out of range; no octa was shown, or the last address is passed; or the change is refused.
-#[derive(Clone, Copy, Debug, PartialEq, Eq)]
+#[derive(Clone, Copy)]
 pub enum Bad {
     UnknownCommand,
     BadNumber,

@@ -4,7 +4,7 @@ ghost use Rattle.std.specs.Prelude.{◌≡◌, ◌<◌, ◌/◌, ◌%◌, ◌^�
 ghost use Rattle.mx_core.specs.Way.Calls.{KeepsWhereNot, MakesWhereTold, settled, store_outcome};
 ghost use Rattle.mx_core.specs.Deeds.{deed_at, deed_of, outcome};
 ghost use Rattle.mx_core.specs.Effects.{data_address};
-ghost use Rattle.mx_code.specs.Instructions.{next_of, operation_in, x_of};
+ghost use Rattle.mx_code.specs.Instructions.{code_of, instruction, next_of, operation_in, x_of};
 ghost use Rattle.mx_core.specs.Kept.{state_of};
 ghost use Rattle.mx_core.specs.Way.Noting.{PutsLink, StoresBelow};
 
@@ -16,12 +16,14 @@ use mx_mem::{Part, with_part};
 impl Machine {
     /// MULU, DIV and DIVU, which give more than a result.
     #[inline(always)]
-    pub(crate) fn compute_known(&mut self, i: &Instruction) -> bool
-        ensures made { MakesWhereTold (λ s. outcome s (deed_at s i.now)) result self.old self.new }
+    pub(crate) fn compute_known(&mut self, at: u64, code: u8, word: u32) -> bool
+        requires { code ≡ code_of (instruction at word) }
+        ensures made { MakesWhereTold (λ s. outcome s (deed_at s (instruction at word))) result self.old self.new }
         ensures kept { KeepsWhereNot result self.old self.new }
     {
+        let i = Instruction::coded(at, code, word);
         match i.operation() {
-            Operation::Compute => match self.compute(i) {
+            Operation::Compute => match self.compute(&i) {
                 Ok(()) => true,
                 Err(_) => false,
             },
@@ -31,12 +33,14 @@ impl Machine {
 
     /// GO.
     #[inline(always)]
-    pub(crate) fn go_known(&mut self, i: &Instruction) -> bool
-        ensures made { MakesWhereTold (λ s. outcome s (deed_at s i.now)) result self.old self.new }
+    pub(crate) fn go_known(&mut self, at: u64, code: u8, word: u32) -> bool
+        requires { code ≡ code_of (instruction at word) }
+        ensures made { MakesWhereTold (λ s. outcome s (deed_at s (instruction at word))) result self.old self.new }
         ensures kept { KeepsWhereNot result self.old self.new }
     {
+        let i = Instruction::coded(at, code, word);
         match i.operation() {
-            Operation::Go => match self.go(i) {
+            Operation::Go => match self.go(&i) {
                 Ok(()) => true,
                 Err(_) => false,
             },
@@ -46,24 +50,28 @@ impl Machine {
 
     /// STB to STCO.
     #[inline(always)]
-    pub(crate) fn store_known(&mut self, i: &Instruction) -> bool
-        ensures made { MakesWhereTold (λ s. outcome s (deed_at s i.now)) result self.old self.new }
+    pub(crate) fn store_known(&mut self, at: u64, code: u8, word: u32) -> bool
+        requires { code ≡ code_of (instruction at word) }
+        ensures made { MakesWhereTold (λ s. outcome s (deed_at s (instruction at word))) result self.old self.new }
         ensures kept { KeepsWhereNot result self.old self.new }
     {
+        let i = Instruction::coded(at, code, word);
         match i.operation() {
-            Operation::Store(how) => self.store_if_usual(how, i),
+            Operation::Store(how) => self.store_if_usual(how, &i),
             _ => false,
         }
     }
 
     /// PUSHJ.
     #[inline(always)]
-    pub(crate) fn push_known(&mut self, i: &Instruction) -> bool
-        ensures made { MakesWhereTold (λ s. outcome s (deed_at s i.now)) result self.old self.new }
+    pub(crate) fn push_known(&mut self, at: u64, code: u8, word: u32) -> bool
+        requires { code ≡ code_of (instruction at word) }
+        ensures made { MakesWhereTold (λ s. outcome s (deed_at s (instruction at word))) result self.old self.new }
         ensures kept { KeepsWhereNot result self.old self.new }
     {
+        let i = Instruction::coded(at, code, word);
         match i.operation() {
-            Operation::PushJump => match self.push_jump(i) {
+            Operation::PushJump => match self.push_jump(&i) {
                 Ok(()) => true,
                 Err(_) => false,
             },
@@ -73,12 +81,14 @@ impl Machine {
 
     /// POP.
     #[inline(always)]
-    pub(crate) fn pop_known(&mut self, i: &Instruction) -> bool
-        ensures made { MakesWhereTold (λ s. outcome s (deed_at s i.now)) result self.old self.new }
+    pub(crate) fn pop_known(&mut self, at: u64, code: u8, word: u32) -> bool
+        requires { code ≡ code_of (instruction at word) }
+        ensures made { MakesWhereTold (λ s. outcome s (deed_at s (instruction at word))) result self.old self.new }
         ensures kept { KeepsWhereNot result self.old self.new }
     {
+        let i = Instruction::coded(at, code, word);
         match i.operation() {
-            Operation::Pop => match self.pop(i) {
+            Operation::Pop => match self.pop(&i) {
                 Ok(()) => true,
                 Err(_) => false,
             },
@@ -88,12 +98,14 @@ impl Machine {
 
     /// PUT.
     #[inline(always)]
-    pub(crate) fn put_known(&mut self, i: &Instruction) -> bool
-        ensures made { MakesWhereTold (λ s. outcome s (deed_at s i.now)) result self.old self.new }
+    pub(crate) fn put_known(&mut self, at: u64, code: u8, word: u32) -> bool
+        requires { code ≡ code_of (instruction at word) }
+        ensures made { MakesWhereTold (λ s. outcome s (deed_at s (instruction at word))) result self.old self.new }
         ensures kept { KeepsWhereNot result self.old self.new }
     {
+        let i = Instruction::coded(at, code, word);
         match i.operation() {
-            Operation::Put => self.put_link_if_usual(i),
+            Operation::Put => self.put_link_if_usual(&i),
             _ => false,
         }
     }

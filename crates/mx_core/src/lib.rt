@@ -30,6 +30,7 @@ mod traps;
 mod trips;
 mod undoing;
 mod usual;
+mod usual_codes;
 mod usual_noting;
 mod values;
 mod works;

@@ -1,7 +1,7 @@
 //! What a step overwrites.
 
 /// An octa outside the stack area: an address in it, what it was, and whether its page was not there.
-#[derive(Clone, Copy, Debug, PartialEq, Eq)]
+#[derive(Clone, Copy)]
 pub(crate) struct OctaWas {
     pub at: u64,
     pub octa: u64,
@@ -10,7 +10,7 @@ pub(crate) struct OctaWas {
 
 /// What a usual step overwrites beside the next address and the steps: nothing; a register, with what it had; L, with
 /// the number of locals that were; rJ, with what it had; or an octa of memory, with an address in it and what it was.
-#[derive(Clone, Copy, Debug, PartialEq, Eq)]
+#[derive(Clone, Copy)]
 pub(crate) enum Overwritten {
     Nothing,
     Register(u8, u64),
@@ -20,7 +20,7 @@ pub(crate) enum Overwritten {
 }
 
 /// What a usual step overwrites: the next address, the steps, and little beside them.
-#[derive(Clone, Copy, Debug, PartialEq, Eq)]
+#[derive(Clone, Copy)]
 pub(crate) struct UsualWas {
     pub pc: u64,
     pub steps: u64,

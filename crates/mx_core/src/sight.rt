@@ -16,7 +16,7 @@ use mx_mem::Part;
 use mx_trip::{Insert, Kind, inserted};
 
 /// The destination, and what is read and written of memory.
-#[derive(Clone, Copy, Debug, PartialEq, Eq)]
+#[derive(Clone, Copy)]
 pub(crate) struct Sight {
     pub dest: Option<u8>,
     pub reads: Option<Touch>,

@@ -1,7 +1,7 @@
 //! One step.
 
-ghost use Rattle.std.specs.Prelude.{◌≡◌, ◌≢◌, ◌<◌, ◌≤◌, ◌-◌, ◌^◌, IsTrue};
-ghost use Rattle.mx_core.specs.Way.Calls.{KeepsOnErr, LacksMemoryOnlyWhere, MakesWithMemory};
+ghost use Rattle.std.specs.Prelude.{◌≡◌, ◌≢◌, ◌<◌, ◌≤◌, ◌-◌, ◌^◌, IsTrue, true};
+ghost use Rattle.mx_core.specs.Way.Calls.{KeepsOnErr, LacksMemoryOnlyWhere, Makes, MakesWithMemory};
 ghost use Rattle.mx_core.specs.Deeds.{deed_at, outcome};
 ghost use Rattle.mx_code.specs.Instructions.{code_of, instruction, operation_in};
 ghost use Rattle.mx_core.specs.Kept.{state_of};
@@ -9,7 +9,7 @@ ghost use Rattle.mx_code.specs.Groups.{operation_by};
 ghost use Rattle.mx_core.specs.Step as spec;
 ghost use Rattle.mx_code.specs.Told.{answer_in};
 ghost use Rattle.mx_core.specs.Walks.{Goes};
-ghost use Rattle.mx_core.specs.Way.Stepping.{advanced, needs_page, step_answer, step_needs_page};
+ghost use Rattle.mx_core.specs.Way.Stepping.{advanced, is_quiet_group, needs_page, step_answer, step_needs_page};
 
 use crate::bounds::machines_keep_the_invariant;
 use crate::trips::RJ;
@@ -20,7 +20,7 @@ use mx_word::{STACK_SEGMENT, is_in_stack_segment};
 
 /// What a step comes to: the machine went on, with a trace; it calls a file trap, and is to be told its
 /// result; it stopped; or it is out of memory. But for the first the machine is as it was.
-#[derive(Clone, Copy, Debug, PartialEq, Eq)]
+#[derive(Clone, Copy, PartialEq, Eq)]
 pub enum Step {
     Went(Trace),
     Trap(TrapCall),
@@ -40,7 +40,7 @@ pub enum Advance {
 
 /// How many steps went on, one after another, and what the last call of a step came to: `Went` where as many
 /// steps as were asked for went on, and else what the step behind them comes to, which changed nothing.
-#[derive(Clone, Copy, Debug, PartialEq, Eq)]
+#[derive(Clone, Copy)]
 pub struct Advanced {
     pub made: u64,
     pub last: Advance,
@@ -257,9 +257,23 @@ impl Machine {
             (needs_page (state_of self.old) (deed_at (state_of self.old) i.now)) result }
     {
         match group {
+            Group::Move => self.carry_out_move(i),
+            Group::Put => self.carry_out_put(i),
+            Group::Trap | Group::Other => self.carry_out(i.at, i.word).answer(),
+            _ => self.carry_out_quietly(group, i),
+        }
+    }
+
+    /// Carries an instruction of a group out whose operations store nothing. It takes no memory.
+    #[inline(always)]
+    fn carry_out_quietly(&mut self, group: Group, i: &Instruction) -> Result<(), Stop>
+        requires quiet { is_quiet_group group ≡ true }
+        requires group { operation_in i.now ≡ operation_by group (code_of i.now) }
+        ensures { Makes (λ s. outcome s (deed_at s i.now)) result self.old self.new }
+    {
+        match group {
             Group::Compute => self.compute(i),
             Group::Negate => self.negate(i),
-            Group::Move => self.carry_out_move(i),
             Group::Branch => self.branch(i),
             Group::Wyde => self.set_wyde(i),
             Group::ConditionalSet => self.conditional_set(i),
@@ -269,10 +283,9 @@ impl Machine {
             Group::Go => self.go(i),
             Group::PushJump => self.push_jump(i),
             Group::Pop => self.pop(i),
-            Group::Nothing => self.do_nothing(i),
             Group::Get => self.get_special(i),
-            Group::Put => self.carry_out_put(i),
-            Group::Trap | Group::Other => self.carry_out(i.at, i.word).answer(),
+            // SWYM and its like: groups that are not quiet do not come here.
+            _ => self.do_nothing(i),
         }
     }
 

@@ -9,7 +9,7 @@ use mx_outcome::Outcome;
 
 /// The refusal of a source: the line from 1, the number of the fault, and the line of the reference that
 /// waited for the label of that line, or 0 where the fault is not about one.
-#[derive(Clone, Copy, Debug, PartialEq, Eq)]
+#[derive(Clone, Copy)]
 pub struct Refusal {
     pub line: u32,
     pub fault: u16,
@@ -30,7 +30,7 @@ impl Refusal {
 }
 
 /// Why a source comes to nothing: it is refused, or out of memory.
-#[derive(Clone, Copy, Debug, PartialEq, Eq)]
+#[derive(Clone, Copy)]
 pub enum SourceFault {
     Refused(Refusal),
     OutOfMemory,

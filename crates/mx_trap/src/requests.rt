@@ -11,7 +11,7 @@ use mx_word::signed;
 
 /// What is asked of the host. A text and a buffer are given by their address and their size in
 /// bytes: at most 2^24, and none of the bytes at an address of 2^63 or more.
-#[derive(Clone, Copy, Debug, PartialEq, Eq)]
+#[derive(Clone, Copy)]
 pub enum Request {
     /// The end of the program.
     Ending,

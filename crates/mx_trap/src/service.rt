@@ -6,7 +6,7 @@ ghost use Rattle.mx_trap.specs.Services as spec;
 use crate::answer::TrapStop;
 
 /// A service that a file trap asks for.
-#[derive(Clone, Copy, Debug, PartialEq, Eq)]
+#[derive(Clone, Copy)]
 pub enum Service {
     Halt,
     Fopen,

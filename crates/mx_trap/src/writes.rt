@@ -14,7 +14,7 @@ use mx_mem::Space;
 use mx_plan::write;
 
 /// What came of the writing of bytes.
-#[derive(Clone, Copy, Debug, PartialEq, Eq)]
+#[derive(Clone, Copy)]
 pub enum Written {
     /// All were written.
     Whole,

@@ -1,0 +1,333 @@
+//! What usual instructions do, told by their codes.
+
+ghost use Rattle.std.specs.Prelude.{◌≡◌};
+ghost use Rattle.mx_code.specs.Instructions.{code_of, instruction};
+ghost use Rattle.mx_core.specs.Kept.{state_of};
+ghost use Rattle.mx_core.specs.Way.UsualDeeds.{IsUsual};
+
+use crate::Machine;
+use crate::usual::Usual;
+use mx_code::Instruction;
+
+impl Machine {
+    /// What the instruction of a tetra does. In each case the code is a literal, so that what is done at it is settled
+    /// when the program is compiled. Cut into several functions, it would no longer become one table of jumps.
+    #[inline(always)]
+    pub(crate) fn usual_at(&self, at: u64, word: u32) -> Usual
+        ensures { IsUsual result (state_of self.now) (instruction at word) }
+    {
+        match Instruction::new(at, word).code() {
+            0x00 => Usual::Other,
+            0x01 => Usual::Other,
+            0x02 => Usual::Other,
+            0x03 => Usual::Other,
+            0x04 => Usual::Other,
+            0x05 => Usual::Other,
+            0x06 => Usual::Other,
+            0x07 => Usual::Other,
+            0x08 => Usual::Other,
+            0x09 => Usual::Other,
+            0x0a => Usual::Other,
+            0x0b => Usual::Other,
+            0x0c => Usual::Other,
+            0x0d => Usual::Other,
+            0x0e => Usual::Other,
+            0x0f => Usual::Other,
+            0x10 => Usual::Other,
+            0x11 => Usual::Other,
+            0x12 => Usual::Other,
+            0x13 => Usual::Other,
+            0x14 => Usual::Other,
+            0x15 => Usual::Other,
+            0x16 => Usual::Other,
+            0x17 => Usual::Other,
+            0x18 => self.computed_at(at, 0x18, word),
+            0x19 => self.computed_at(at, 0x19, word),
+            0x1a => Usual::Other,
+            0x1b => Usual::Other,
+            0x1c => Usual::Other,
+            0x1d => Usual::Other,
+            0x1e => Usual::Other,
+            0x1f => Usual::Other,
+            0x20 => self.computed_at(at, 0x20, word),
+            0x21 => self.computed_at(at, 0x21, word),
+            0x22 => self.computed_at(at, 0x22, word),
+            0x23 => self.computed_at(at, 0x23, word),
+            0x24 => self.computed_at(at, 0x24, word),
+            0x25 => self.computed_at(at, 0x25, word),
+            0x26 => self.computed_at(at, 0x26, word),
+            0x27 => self.computed_at(at, 0x27, word),
+            0x28 => self.computed_at(at, 0x28, word),
+            0x29 => self.computed_at(at, 0x29, word),
+            0x2a => self.computed_at(at, 0x2a, word),
+            0x2b => self.computed_at(at, 0x2b, word),
+            0x2c => self.computed_at(at, 0x2c, word),
+            0x2d => self.computed_at(at, 0x2d, word),
+            0x2e => self.computed_at(at, 0x2e, word),
+            0x2f => self.computed_at(at, 0x2f, word),
+            0x30 => self.computed_at(at, 0x30, word),
+            0x31 => self.computed_at(at, 0x31, word),
+            0x32 => self.computed_at(at, 0x32, word),
+            0x33 => self.computed_at(at, 0x33, word),
+            0x34 => self.negated_at(at, 0x34, word),
+            0x35 => self.negated_at(at, 0x35, word),
+            0x36 => self.negated_at(at, 0x36, word),
+            0x37 => self.negated_at(at, 0x37, word),
+            0x38 => self.computed_at(at, 0x38, word),
+            0x39 => self.computed_at(at, 0x39, word),
+            0x3a => self.computed_at(at, 0x3a, word),
+            0x3b => self.computed_at(at, 0x3b, word),
+            0x3c => self.computed_at(at, 0x3c, word),
+            0x3d => self.computed_at(at, 0x3d, word),
+            0x3e => self.computed_at(at, 0x3e, word),
+            0x3f => self.computed_at(at, 0x3f, word),
+            0x40 => self.branched_at(at, 0x40, word),
+            0x41 => self.branched_at(at, 0x41, word),
+            0x42 => self.branched_at(at, 0x42, word),
+            0x43 => self.branched_at(at, 0x43, word),
+            0x44 => self.branched_at(at, 0x44, word),
+            0x45 => self.branched_at(at, 0x45, word),
+            0x46 => self.branched_at(at, 0x46, word),
+            0x47 => self.branched_at(at, 0x47, word),
+            0x48 => self.branched_at(at, 0x48, word),
+            0x49 => self.branched_at(at, 0x49, word),
+            0x4a => self.branched_at(at, 0x4a, word),
+            0x4b => self.branched_at(at, 0x4b, word),
+            0x4c => self.branched_at(at, 0x4c, word),
+            0x4d => self.branched_at(at, 0x4d, word),
+            0x4e => self.branched_at(at, 0x4e, word),
+            0x4f => self.branched_at(at, 0x4f, word),
+            0x50 => self.branched_at(at, 0x50, word),
+            0x51 => self.branched_at(at, 0x51, word),
+            0x52 => self.branched_at(at, 0x52, word),
+            0x53 => self.branched_at(at, 0x53, word),
+            0x54 => self.branched_at(at, 0x54, word),
+            0x55 => self.branched_at(at, 0x55, word),
+            0x56 => self.branched_at(at, 0x56, word),
+            0x57 => self.branched_at(at, 0x57, word),
+            0x58 => self.branched_at(at, 0x58, word),
+            0x59 => self.branched_at(at, 0x59, word),
+            0x5a => self.branched_at(at, 0x5a, word),
+            0x5b => self.branched_at(at, 0x5b, word),
+            0x5c => self.branched_at(at, 0x5c, word),
+            0x5d => self.branched_at(at, 0x5d, word),
+            0x5e => self.branched_at(at, 0x5e, word),
+            0x5f => self.branched_at(at, 0x5f, word),
+            0x60 => self.chosen_at(at, 0x60, word),
+            0x61 => self.chosen_at(at, 0x61, word),
+            0x62 => self.chosen_at(at, 0x62, word),
+            0x63 => self.chosen_at(at, 0x63, word),
+            0x64 => self.chosen_at(at, 0x64, word),
+            0x65 => self.chosen_at(at, 0x65, word),
+            0x66 => Usual::Other,
+            0x67 => Usual::Other,
+            0x68 => self.chosen_at(at, 0x68, word),
+            0x69 => self.chosen_at(at, 0x69, word),
+            0x6a => self.chosen_at(at, 0x6a, word),
+            0x6b => self.chosen_at(at, 0x6b, word),
+            0x6c => self.chosen_at(at, 0x6c, word),
+            0x6e => Usual::Other,
+            0x6f => Usual::Other,
+            0x70 => Usual::Other,
+            0x71 => Usual::Other,
+            0x72 => Usual::Other,
+            0x73 => Usual::Other,
+            0x74 => Usual::Other,
+            0x75 => Usual::Other,
+            0x76 => Usual::Other,
+            0x77 => Usual::Other,
+            0x78 => Usual::Other,
+            0x79 => Usual::Other,
+            0x7a => Usual::Other,
+            0x7b => Usual::Other,
+            0x7c => Usual::Other,
+            0x7d => Usual::Other,
+            0x7e => Usual::Other,
+            0x7f => Usual::Other,
+            0x80 => self.brought_at(at, 0x80, word),
+            0x81 => self.brought_at(at, 0x81, word),
+            0x82 => self.brought_at(at, 0x82, word),
+            0x83 => self.brought_at(at, 0x83, word),
+            0x84 => self.brought_at(at, 0x84, word),
+            0x85 => self.brought_at(at, 0x85, word),
+            0x86 => self.brought_at(at, 0x86, word),
+            0x87 => self.brought_at(at, 0x87, word),
+            0x88 => self.brought_at(at, 0x88, word),
+            0x89 => self.brought_at(at, 0x89, word),
+            0x8a => self.brought_at(at, 0x8a, word),
+            0x8b => self.brought_at(at, 0x8b, word),
+            0x8c => self.brought_at(at, 0x8c, word),
+            0x8d => self.brought_at(at, 0x8d, word),
+            0x8e => self.brought_at(at, 0x8e, word),
+            0x8f => self.brought_at(at, 0x8f, word),
+            0x90 => Usual::Other,
+            0x91 => Usual::Other,
+            0x92 => Usual::Other,
+            0x93 => Usual::Other,
+            0x94 => Usual::Other,
+            0x95 => Usual::Other,
+            0x96 => Usual::Other,
+            0x97 => Usual::Other,
+            0x98 => Usual::Other,
+            0x99 => Usual::Other,
+            0x9a => Usual::Other,
+            0x9b => Usual::Other,
+            0x9c => Usual::Other,
+            0x9d => Usual::Other,
+            0x9e => Usual::Apart(0x9e),
+            0x9f => Usual::Apart(0x9f),
+            0xa0 => Usual::Apart(0xa0),
+            0xa1 => Usual::Apart(0xa1),
+            0xa2 => Usual::Apart(0xa2),
+            0xa3 => Usual::Apart(0xa3),
+            0xa4 => Usual::Apart(0xa4),
+            0xa5 => Usual::Apart(0xa5),
+            0xa6 => Usual::Apart(0xa6),
+            0xa7 => Usual::Apart(0xa7),
+            0xa8 => Usual::Apart(0xa8),
+            0xa9 => Usual::Apart(0xa9),
+            0xaa => Usual::Apart(0xaa),
+            0xab => Usual::Apart(0xab),
+            0xac => Usual::Apart(0xac),
+            0xad => Usual::Apart(0xad),
+            0xae => Usual::Apart(0xae),
+            0xaf => Usual::Apart(0xaf),
+            0xb0 => Usual::Other,
+            0xb1 => Usual::Other,
+            0xb2 => Usual::Other,
+            0xb3 => Usual::Other,
+            0xb4 => Usual::Other,
+            0xb5 => Usual::Other,
+            0xb6 => Usual::Other,
+            0xb7 => Usual::Other,
+            0xb8 => Usual::Other,
+            0xb9 => Usual::Other,
+            0xba => Usual::Other,
+            0xbb => Usual::Other,
+            0xbc => Usual::Other,
+            0xbd => Usual::Other,
+            0xbe => Usual::Other,
+            0xbf => Usual::Other,
+            0xc0 => self.computed_at(at, 0xc0, word),
+            0xc1 => self.computed_at(at, 0xc1, word),
+            0xc2 => Usual::Other,
+            0xc3 => Usual::Other,
+            0xc4 => Usual::Other,
+            0xc5 => Usual::Other,
+            0xc6 => self.computed_at(at, 0xc6, word),
+            0xc7 => self.computed_at(at, 0xc7, word),
+            0xc8 => self.computed_at(at, 0xc8, word),
+            0xc9 => self.computed_at(at, 0xc9, word),
+            0xca => Usual::Other,
+            0xcb => Usual::Other,
+            0xcc => Usual::Other,
+            0xcd => Usual::Other,
+            0xce => Usual::Other,
+            0xcf => Usual::Other,
+            0xd0 => Usual::Other,
+            0xd1 => Usual::Other,
+            0xd2 => Usual::Other,
+            0xd3 => Usual::Other,
+            0xd4 => Usual::Other,
+            0xd5 => Usual::Other,
+            0xd6 => Usual::Other,
+            0xd7 => Usual::Other,
+            0xd8 => Usual::Other,
+            0xd9 => Usual::Other,
+            0xda => Usual::Other,
+            0xdb => Usual::Other,
+            0xdc => Usual::Other,
+            0xdd => Usual::Other,
+            0xde => Usual::Other,
+            0xdf => Usual::Other,
+            0xe0 => self.with_wyde_at(at, 0xe0, word),
+            0xe1 => self.with_wyde_at(at, 0xe1, word),
+            0xe2 => self.with_wyde_at(at, 0xe2, word),
+            0xe3 => self.with_wyde_at(at, 0xe3, word),
+            0xe4 => self.with_wyde_at(at, 0xe4, word),
+            0xe5 => self.with_wyde_at(at, 0xe5, word),
+            0xe6 => self.with_wyde_at(at, 0xe6, word),
+            0xe7 => self.with_wyde_at(at, 0xe7, word),
+            0xe8 => self.with_wyde_at(at, 0xe8, word),
+            0xe9 => self.with_wyde_at(at, 0xe9, word),
+            0xea => self.with_wyde_at(at, 0xea, word),
+            0xeb => self.with_wyde_at(at, 0xeb, word),
+            0xec => Usual::Other,
+            0xed => Usual::Other,
+            0xee => Usual::Other,
+            0xef => Usual::Other,
+            0xf0 => self.jumped(&Instruction::coded(at, 0xf0, word)),
+            0xf1 => self.jumped(&Instruction::coded(at, 0xf1, word)),
+            0xf2 => Usual::Other,
+            0xf3 => Usual::Other,
+            0xf4 => self.near_one(&Instruction::coded(at, 0xf4, word)),
+            0xf5 => self.near_one(&Instruction::coded(at, 0xf5, word)),
+            0xf6 => Usual::Apart(0xf6),
+            0xf7 => Usual::Other,
+            0xf8 => Usual::Other,
+            0xf9 => Usual::Other,
+            0xfa => Usual::Other,
+            0xfb => Usual::Other,
+            0xfc => Usual::Other,
+            0xfd => Usual::Other,
+            0xfe => self.got(&Instruction::coded(at, 0xfe, word)),
+            0xff => Usual::Other,
+            // 0x6d. It differs from those without a frequent operation, so that no bound of the table of arms is tested.
+            _ => self.chosen(&Instruction::new(at, word)),
+        }
+    }
+
+    /// The frequent step of MUL to SRU and OR to MXOR, where the code is one of theirs.
+    #[inline(always)]
+    fn computed_at(&self, at: u64, code: u8, word: u32) -> Usual
+        requires { code ≡ code_of (instruction at word) }
+        ensures { IsUsual result (state_of self.now) (instruction at word) }
+    {
+        self.computed(&Instruction::coded(at, code, word))
+    }
+
+    /// The frequent step of NEG and NEGU, where the code is one of theirs.
+    #[inline(always)]
+    fn negated_at(&self, at: u64, code: u8, word: u32) -> Usual
+        requires { code ≡ code_of (instruction at word) }
+        ensures { IsUsual result (state_of self.now) (instruction at word) }
+    {
+        self.negated(&Instruction::coded(at, code, word))
+    }
+
+    /// The frequent step of BN to PBEV, where the code is one of theirs.
+    #[inline(always)]
+    fn branched_at(&self, at: u64, code: u8, word: u32) -> Usual
+        requires { code ≡ code_of (instruction at word) }
+        ensures { IsUsual result (state_of self.now) (instruction at word) }
+    {
+        self.branched(&Instruction::coded(at, code, word))
+    }
+
+    /// The frequent step of CSN to CSEV, where the code is one of theirs.
+    #[inline(always)]
+    fn chosen_at(&self, at: u64, code: u8, word: u32) -> Usual
+        requires { code ≡ code_of (instruction at word) }
+        ensures { IsUsual result (state_of self.now) (instruction at word) }
+    {
+        self.chosen(&Instruction::coded(at, code, word))
+    }
+
+    /// The frequent step of LDB to LDUNC, where the code is one of theirs.
+    #[inline(always)]
+    fn brought_at(&self, at: u64, code: u8, word: u32) -> Usual
+        requires { code ≡ code_of (instruction at word) }
+        ensures { IsUsual result (state_of self.now) (instruction at word) }
+    {
+        self.brought(&Instruction::coded(at, code, word))
+    }
+
+    /// The frequent step of SETH to ANDNL, where the code is one of theirs.
+    #[inline(always)]
+    fn with_wyde_at(&self, at: u64, code: u8, word: u32) -> Usual
+        requires { code ≡ code_of (instruction at word) }
+        ensures { IsUsual result (state_of self.now) (instruction at word) }
+    {
+        self.with_wyde(&Instruction::coded(at, code, word))
+    }
+}
