@@ -1,6 +1,7 @@
 //! Reports, row by row: those of the program's watchers, and of a list with one that is full after a trace.
 
 use crate::row::see;
+use crate::watch::once::Once;
 use mx_host::MemHost;
 use mx_top::{Outcome, mmixware_watched};
 use mx_watch::{Cover, Profile, Watcher, Writes};
@@ -9,7 +10,6 @@ use std::alloc::Global;
 use std::process::Abort;
 use std::test::Fail;
 use test_rows::{Due, FIRST, Given, host, words};
-use test_watch::Once;
 
 /// SETH and a store to the first octa of the data segment.
 const STORE: &str = " LOC #100\nMain SETH $0,#2000\n STO $0,$0,0\n TRAP 0,Halt,0\n";

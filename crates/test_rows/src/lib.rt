@@ -1,16 +1,25 @@
-//! Whole runs of the program over a host in memory: how a row is written, for the crates of rows
-//! above; sources that are refused, objects, and their listings. Each row says what it shows.
+//! Whole runs of the program over a host in memory: how a row is written, and one of a dump, for the crates of rows above;
+//! sources that are refused, objects and their listings, rings, dumps, and steps that are taken back. Each row says what it
+//! shows.
 #![tactic(auto)]
 
+#[cfg(test)]
+mod dumps;
 #[cfg(test)]
 mod listings;
 #[cfg(test)]
 mod objects;
+#[cfg(test)]
+mod rings;
 mod rows;
+mod shown;
 #[cfg(test)]
 mod sources;
+#[cfg(test)]
+mod taken_back;
 
 pub use rows::{
-    Due, FIRST, Given, HELLO, comes_from, comes_to, done, file, gives, host, outcome_over, refused,
+    Due, FIRST, Given, HELLO, comes_from, comes_to, done, file, host, outcome_over, refused,
     stopped, words,
 };
+pub use shown::{End, Row, SIZES, first_other, gives, holds, holds_all, shows, shows_on};

@@ -68,16 +68,6 @@ pub fn comes_from(alloc: Global, given: Given, all: &[&str], due: Due) -> Result
     comes_to(alloc, &mut host, all, due)
 }
 
-/// Whether `run hello.mms` comes to what is due of a source.
-pub fn gives(alloc: Global, source: &str, due: Due) -> Result<bool, Fail> {
-    comes_from(
-        alloc,
-        file("hello.mms", source.as_bytes()),
-        &["run", "hello.mms"],
-        due,
-    )
-}
-
 /// What is due of a program that halts.
 pub fn done<'a>(status: u8, output: &'a [u8]) -> Due<'a> {
     Due {

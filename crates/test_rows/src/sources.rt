@@ -1,8 +1,18 @@
 //! Sources that are refused.
 
-use crate::rows::{Due, done, gives, refused};
+use crate::rows::{Due, comes_from, done, file, refused};
 use std::alloc::Global;
 use std::test::Fail;
+
+/// Whether `run hello.mms` comes to what is due of a source.
+fn gives(alloc: Global, source: &str, due: Due) -> Result<bool, Fail> {
+    comes_from(
+        alloc,
+        file("hello.mms", source.as_bytes()),
+        &["run", "hello.mms"],
+        due,
+    )
+}
 
 /// A program that halts at once.
 const HALTS: &str = "Main TRAP 0,0,0\n";

@@ -1,15 +1,20 @@
-//! Whole runs of the program over a host in memory: programs, the ring of registers, dumps. Each row
-//! says what it shows; there is nothing but tests here, and how a row of a dump is written.
+//! Whole runs of the program over a host in memory and on rings of three sizes: programs, and the corners of the machine.
+//! Each row says what it shows; there is nothing but tests here.
 #![tactic(auto)]
 
 #[cfg(test)]
-mod dumps;
+mod addresses;
+#[cfg(test)]
+mod full;
+#[cfg(test)]
+mod inserted;
+#[cfg(test)]
+mod jumps;
 #[cfg(test)]
 mod programs;
 #[cfg(test)]
-mod rings;
-mod shown;
+mod stack;
+#[cfg(test)]
+mod trips;
 #[cfg(test)]
 mod worked;
-
-pub use shown::{End, Row, SIZES, first_other, gives, holds, holds_all, shows, shows_on};

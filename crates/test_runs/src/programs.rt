@@ -1,10 +1,9 @@
 //! Programs that run, most of them on each ring.
 
-use crate::shown::{SIZES, gives};
 use mx_top::Outcome;
 use std::alloc::Global;
 use std::test::Fail;
-use test_rows::{Due, FIRST, Given, HELLO, comes_from, done, file, refused, stopped};
+use test_rows::{Due, FIRST, Given, HELLO, SIZES, comes_from, done, file, gives, refused, stopped};
 
 /// Programs, the status that they halt with, and what they print.
 static HALTING: [(&str, u8, &[u8]); 13] = [

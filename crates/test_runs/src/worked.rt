@@ -1,11 +1,13 @@
 //! Programs whose tetras, registers and steps are known, on each ring; objects that are run.
 
-use crate::shown::End::{Done, Stop};
-use crate::shown::{Row, SIZES, first_other, holds, holds_all, shows_on};
 use mx_top::Outcome;
 use std::alloc::Global;
 use std::test::Fail;
-use test_rows::{Due, FIRST, Given, HELLO, comes_from, comes_to, done, file, host, outcome_over};
+use test_rows::End::{Done, Stop};
+use test_rows::{
+    Due, FIRST, Given, HELLO, Row, SIZES, comes_from, comes_to, done, file, first_other, holds,
+    holds_all, host, outcome_over, shows_on,
+};
 
 static TETRAS: [Row; 8] = [
     // GETA goes one tetra back

@@ -1,0 +1,6 @@
+//! The real host, on files of the system.
+
+mod failures;
+mod generated;
+mod openings;
+mod streams;
