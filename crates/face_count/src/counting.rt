@@ -1,24 +1,103 @@
-//! A source that is run and counted.
+//! A source or an object that is run and counted.
 
-ghost use Rattle.std.specs.Prelude.{◌≡◌, ◌<◌, ◌≤◌, length, map, string_bytes};
+ghost use Rattle.std.specs.Prelude.{◌≡◌, ◌≢◌, ◌<◌, ◌≤◌, length, map, string_bytes};
 ghost use Rattle.mx_begin.specs.Arguments.{arguments, word_at};
-ghost use Rattle.mx_face.specs.Pages.{FaultsOnlyBy, IsOfView};
+ghost use Rattle.mx_count.specs.Runs.{AreArguments};
+ghost use Rattle.mx_face.specs.Pages.{FaultsOnlyBy, FaultsOnward, IsOfView, page_put};
 ghost use Rattle.mx_host.specs.Keeping.{Answers};
 ghost use Rattle.face_count.specs.CountPages as spec;
+ghost use Rattle.face_count.specs.CountPages.{AnswersByKind};
 
-use crate::pages::{put_json, put_sheet};
+use crate::pages::{json_page, object_page, put_made, sheet_page, table_page, unread_page};
 use crate::words::{order_in, run_words};
 use mx_begin::{arguments, word};
-use mx_count::{count_file, count_lines};
+use mx_count::{count_lines, count_source};
 use mx_face::tell;
+use mx_files::{OBJECT_PIECES, read_file};
 use mx_host::Host;
+use mx_object::{count_object, is_object};
 use mx_outcome::Outcome;
 use mx_word::Bytes;
 use mx_words::{Order, WordsFault};
 use std::alloc::Global;
 
-/// Runs the source in the file of this name with these arguments, and shows what is counted.
-fn count_given<H: Host>(
+/// Runs a source with these arguments, and shows what is counted of it.
+fn show_source<H: Host>(
+    alloc: Global,
+    host: &mut H,
+    is_json: bool,
+    order: &Order,
+    source: &[u8],
+    given: &[Bytes],
+) -> Outcome
+    requires { AreArguments given.now }
+    ensures told { AnswersByKind (H.told host.old) (H.told host.new) result
+        (λ kind m. spec.shown_source is_json kind order.now given.now source.now m) }
+    ensures causes { FaultsOnlyBy H.told H.faults host.old host.new result }
+{
+    if is_json {
+        let counted = count_lines(alloc, host, order, source, given);
+        let page = json_page(alloc, &counted);
+        return put_made(alloc, host, page);
+    }
+    let counted = count_source(alloc, host, order, source, given);
+    put_made(alloc, host, sheet_page(alloc, counted))
+}
+
+/// Runs an object with these arguments, and shows what is counted of it.
+fn show_object<H: Host>(
+    alloc: Global,
+    host: &mut H,
+    is_json: bool,
+    order: &Order,
+    bytes: &[u8],
+    given: &[Bytes],
+) -> Outcome
+    requires { AreArguments given.now }
+    ensures told { AnswersByKind (H.told host.old) (H.told host.new) result
+        (λ kind m. spec.shown_object is_json kind order.now given.now bytes.now m) }
+    ensures causes { FaultsOnlyBy H.told H.faults host.old host.new result }
+{
+    let counted = count_object(alloc, host, order, bytes, given);
+    if is_json {
+        return put_made(alloc, host, object_page(alloc, &counted));
+    }
+    put_made(alloc, host, table_page(alloc, &counted))
+}
+
+/// Runs the object or the source that bytes are, and shows what is counted of it.
+fn show_bytes<H: Host>(
+    alloc: Global,
+    host: &mut H,
+    is_json: bool,
+    order: &Order,
+    bytes: &[u8],
+    given: &[Bytes],
+) -> Outcome
+    requires { AreArguments given.now }
+    ensures told { AnswersByKind (H.told host.old) (H.told host.new) result
+        (λ kind m. spec.shown_bytes is_json kind order.now given.now bytes.now m) }
+    ensures causes { FaultsOnlyBy H.told H.faults host.old host.new result }
+{
+    if is_object(bytes) {
+        return show_object(alloc, host, is_json, order, bytes, given);
+    }
+    show_source(alloc, host, is_json, order, bytes, given)
+}
+
+/// Shows that a file is not read.
+fn show_unread<H: Host>(alloc: Global, host: &mut H, is_json: bool, outcome: Outcome) -> Outcome
+    ensures told { Answers (H.told host.old) (H.told host.new) Outcome.OutOfMemory result
+        (λ m. page_put (spec.unread_page is_json outcome) m) }
+    ensures lacking { outcome ≡ Outcome.OutOfMemory → result ≡ Outcome.OutOfMemory }
+    ensures onward { FaultsOnward H.told H.faults host.old host.new outcome result }
+{
+    put_made(alloc, host, unread_page(alloc, is_json, outcome))
+}
+
+/// Runs the source or the object in the file of this name with these arguments, and shows what is counted. The file is
+/// read once.
+fn show_file<H: Host>(
     alloc: Global,
     host: &mut H,
     is_json: bool,
@@ -26,20 +105,18 @@ fn count_given<H: Host>(
     name: &[u8],
     given: &[Bytes],
 ) -> Outcome
-    requires { 1 ≤ length given.now }
-    ensures told { Answers (H.told host.old) (H.told host.new) Outcome.OutOfMemory result
-        (λ m. spec.shown_count is_json order.now name.now given.now m) }
+    requires { AreArguments given.now }
+    ensures told { AnswersByKind (H.told host.old) (H.told host.new) result
+        (λ kind m. spec.shown_count is_json kind order.now name.now given.now m) }
     ensures causes { FaultsOnlyBy H.told H.faults host.old host.new result }
 {
-    if is_json {
-        let counted = count_lines(alloc, host, order, name, given);
-        return put_json(alloc, host, &counted);
+    match read_file(alloc, host, name, OBJECT_PIECES) {
+        Ok(bytes) => show_bytes(alloc, host, is_json, order, bytes.as_slice(), given),
+        Err(outcome) => show_unread(alloc, host, is_json, outcome),
     }
-    let counted = count_file(alloc, host, order, name, given);
-    put_sheet(alloc, host, counted)
 }
 
-/// Runs and counts the source that an order names.
+/// Runs and counts what is in the file that an order names.
 fn count_ordered<H: Host>(
     alloc: Global,
     host: &mut H,
@@ -49,13 +126,13 @@ fn count_ordered<H: Host>(
 ) -> Outcome
     requires file { order.now.file < length words.now }
     requires rest { order.now.rest ≤ length words.now }
-    ensures told { Answers (H.told host.old) (H.told host.new) Outcome.OutOfMemory result
-        (λ m. spec.shown_count is_json order.now (word_at (map string_bytes words.now) order.now.file)
+    ensures told { AnswersByKind (H.told host.old) (H.told host.new) result
+        (λ kind m. spec.shown_count is_json kind order.now (word_at (map string_bytes words.now) order.now.file)
         (arguments (map string_bytes words.now) order.now) m) }
     ensures causes { FaultsOnlyBy H.told H.faults host.old host.new result }
 {
     match arguments(alloc, words, order) {
-        Ok(given) => count_given(
+        Ok(given) => show_file(
             alloc,
             host,
             is_json,
@@ -97,8 +174,8 @@ fn count_rest<H: Host>(alloc: Global, host: &mut H, words: &[String], left_out: 
     }
 }
 
-/// Does what the words after `count` order: the source is run as `mmixware run` runs it, and what is counted is shown as a table, or,
-/// after `--json`, as a line of JSON. It answers the outcome of the run, which its message tells.
+/// Does what the words after `count` order: the source is run as `mmixware run` runs it, or the object as `mmixware sim` does, and what
+/// is counted is shown as a table, or, after `--json`, as a line of JSON. It answers the outcome of the run, which its message tells.
 pub fn count<H: Host>(alloc: Global, host: &mut H, words: &[String]) -> Outcome
     ensures { FaultsOnlyBy H.told H.faults host.old host.new result }
 {
