@@ -8,14 +8,17 @@ use Rattle.mx_host.specs.HostModel.{HostModel, contents, tells}
 use Rattle.mx_host.specs.HostAnswer.{Then}
 use Rattle.mx_host.specs.Keeping.{Answers, ComesByFault, Keeps, OnlyAddsOutput, OnlyByFailure}
 use Rattle.mx_run.specs.WildRuns.{MachineKind, window_machine, list_machine}
+use Rattle.mx_begin.specs.Arguments.{Word, arguments, word_at}
 use Rattle.mx_count.specs.Runs.{CountAnswer, CountsByKind, GoesAs as CountGoesAs, came_to, went_wild}
 use Rattle.mx_face.specs.Pages.{FaultsBetween, IsOfView, page_put}
 use Rattle.mx_face.specs.declared.page.Page.{Page}
 use Rattle.mx_face.proofs.Faults.{faults-nowhere}
 use Rattle.mx_files.specs.Answers.{Answer, GoesAs, answered, plainly}
 use Rattle.mx_files.specs.Source.{file_bytes, object_pieces}
+use Rattle.mx_outcome.specs.Kinds.{is_usage}
 use Rattle.mx_outcome.specs.declared.outcome.Outcome.{Outcome}
 use Rattle.mx_outcome.specs.declared.outcome.Outcome.TheVariants.{HostFault, NoFile, OutOfMemory}
+use Rattle.mx_words.specs.Orders.{order_of}
 use Rattle.mx_words.specs.declared.order.Order.{Order}
 use Rattle.face_count.specs.CountPages.{AnswersByKind, page_after, shown_after, shown_bytes, shown_count, unread_page}
 
@@ -100,6 +103,24 @@ pub given-shown : (a d : Option HostModel) (r : Outcome) (is_json : Bool) (o : O
     AnswersByKind a d r (λ kind m. shown_count is_json kind o name given m) → AnswersByKind a d r (λ kind m. shown_count is_json kind o word words m)
 given-shown a d r is_json o name word given words e f told =
     subst (λ (p : List ℕ × List (List ℕ)). AnswersByKind a d r (λ kind m. shown_count is_json kind o p.0 p.1 m)) (λ i. (e i, f i)) told
+
+-- ---- the words
+
+pub ordered-shown : (a d : Option HostModel) (r : Outcome) (is_json : Bool) (words : List Word) (order o : Order) → order_of words ≡ Ok order → order_of words ≡ Ok o →
+    AnswersByKind a d r (λ kind m. shown_count is_json kind order (word_at words order.file) (arguments words order) m) →
+    AnswersByKind a d r (λ kind m. shown_count is_json kind o (word_at words o.file) (arguments words o) m)
+ordered-shown a d r is_json words order o e f told =
+    let same : order ≡ o = cc (e, f) in
+    subst (λ (p : Order). AnswersByKind a d r (λ kind m. shown_count is_json kind p (word_at words p.file) (arguments words p) m)) same told
+
+pub usage-shown : (a d : Option HostModel) (r said : Outcome) (f : MachineKind → HostModel → Answer) → is_usage said ≡ true → (r ≢ OutOfMemory → r ≡ said) → is_usage r ≡ false →
+    AnswersByKind a d r f
+usage-shown a d r said f usage same plain =
+    let never : r ≢ OutOfMemory → true ≡ false = λ ne. sym usage ∙ ap is_usage (sym (same ne)) ∙ plain in
+    (λ t ne. absurd (cc (never ne)), λ t ne. absurd (cc (never ne)))
+
+pub lacking-shown : (a d : Option HostModel) (r : Outcome) (f : MachineKind → HostModel → Answer) → (r ≢ OutOfMemory → r ≡ OutOfMemory) → AnswersByKind a d r f
+lacking-shown a d r f same = (λ t ne. absurd (ne (same ne)), λ t ne. absurd (ne (same ne)))
 
 -- ---- how it fails
 

@@ -1,9 +1,11 @@
 -- What `count` has to say of a run, after the output of the program. The file is taken for an object where its bytes begin as one, and
 -- otherwise for a source. The machine is that over a ring of registers, or that over an unbounded list.
-use Rattle.std.specs.Prelude.{ℕ, Bool, true, false, List, [], Option, None, Some, Result, Ok, Err, if◌then◌else◌}
+use Rattle.std.specs.Prelude.{ℕ, ◌≡◌, Bool, true, false, List, [], ◌∷◌, Option, None, Some, Result, Ok, Err, if◌then◌else◌, codes}
+use Rattle.std.specs.Str.{bytes_eq}
 use Rattle.mx_host.specs.HostModel.{HostModel}
 use Rattle.mx_host.specs.HostAnswer.{Then}
 use Rattle.mx_run.specs.WildRuns.{MachineKind, window_machine, list_machine}
+use Rattle.mx_begin.specs.Arguments.{Word, arguments, word_at}
 use Rattle.mx_count.specs.Runs.{CountAnswer, came_to, data_of, in_form, mapped, source_counted, went_wild}
 use Rattle.mx_count.specs.declared.count.Counted.{Counted}
 use Rattle.mx_count.specs.declared.counts.Form.TheVariants.{Octas, Text}
@@ -17,9 +19,10 @@ use Rattle.mx_object.specs.Runs.{object_counted}
 use Rattle.mx_object.specs.Sheets as sheets
 use Rattle.mx_object.specs.declared.counted.CountedObject.{CountedObject}
 use Rattle.mx_object.specs.declared.counting.ObjectSheet.{ObjectSheet}
+use Rattle.mx_outcome.specs.Kinds.{is_usage}
 use Rattle.mx_outcome.specs.Messages.{message_of}
 use Rattle.mx_outcome.specs.declared.outcome.Outcome.{Outcome}
-use Rattle.mx_outcome.specs.declared.outcome.Outcome.TheVariants.{OutOfMemory}
+use Rattle.mx_words.specs.Orders.{order_of}
 use Rattle.mx_words.specs.declared.order.Order.{Order}
 use Rattle.face_count.specs.CountJson.{counted_json}
 use Rattle.face_count.specs.ObjectJson.{object_json}
@@ -91,3 +94,26 @@ shown_count is_json kind o name given m = shown_after is_json kind o given (file
 -- machine they are, up to what is wild
 abbrev pub AnswersByKind : Option HostModel → Option HostModel → Outcome → (MachineKind → HostModel → Answer) → Type 0
 AnswersByKind old new result f = AnswersAs old new result (f window_machine) × AnswersAsList old new result (f list_machine)
+
+-- the words after `count`: whether `--json` is the first, and those that follow it
+abbrev pub is_json_word : Word → Bool
+is_json_word word = bytes_eq word (codes "--json")
+
+abbrev pub asks_json : List Word → Bool
+asks_json [] = false
+asks_json (word ∷ words) = is_json_word word
+
+abbrev pub words_after : List Word → List Word
+words_after [] = []
+words_after (word ∷ words) = if is_json_word word then words else word ∷ words
+
+-- the words with which `mmixware run` does the same run
+abbrev pub run_words : List Word → List Word
+run_words words = codes "run" ∷ words
+
+-- over a host that tells its contents, where these words are an order of the program and are not refused, what it orders is run and
+-- counted, and that is shown
+abbrev pub CountsOrder : Option HostModel → Option HostModel → Outcome → Bool → List Word → Type 0
+CountsOrder old new result is_json words =
+    (o : Order) → order_of words ≡ Ok o → is_usage result ≡ false →
+    AnswersByKind old new result (λ kind m. shown_count is_json kind o (word_at words o.file) (arguments words o) m)

@@ -1,15 +1,16 @@
 //! A source or an object that is run and counted.
 
-ghost use Rattle.std.specs.Prelude.{◌≡◌, ◌≢◌, ◌<◌, ◌≤◌, length, map, string_bytes};
+ghost use Rattle.std.specs.Prelude.{◌≡◌, ◌≢◌, ◌<◌, ◌≤◌, false, length, map, string_bytes, true};
 ghost use Rattle.mx_begin.specs.Arguments.{arguments, word_at};
 ghost use Rattle.mx_count.specs.Runs.{AreArguments};
 ghost use Rattle.mx_face.specs.Pages.{FaultsOnlyBy, FaultsOnward, IsOfView, page_put};
 ghost use Rattle.mx_host.specs.Keeping.{Answers};
 ghost use Rattle.face_count.specs.CountPages as spec;
-ghost use Rattle.face_count.specs.CountPages.{AnswersByKind};
+ghost use Rattle.mx_outcome.specs.Kinds.{is_usage};
+ghost use Rattle.face_count.specs.CountPages.{AnswersByKind, CountsOrder};
 
 use crate::pages::{json_page, object_page, put_made, sheet_page, table_page, unread_page};
-use crate::words::{order_in, run_words};
+use crate::words::{is_json_word, order_in, run_words};
 use mx_begin::{arguments, word};
 use mx_count::{count_lines, count_source};
 use mx_face::tell;
@@ -144,32 +145,36 @@ fn count_ordered<H: Host>(
     }
 }
 
-/// Faulty words, where so many words are in front of them.
-fn misordered(fault: WordsFault, in_front: usize) -> Outcome
-    ensures { IsOfView result }
+/// Faulty words, in front of which `--json` is, or nothing.
+fn misordered(fault: WordsFault, is_json: bool) -> Outcome
+    ensures view { IsOfView result }
+    ensures usage { is_usage result ≡ true }
 {
     Outcome::Usage(WordsFault {
         kind: fault.kind,
-        word: fault.word.saturating_add(in_front),
+        word: fault.word.saturating_add(usize::from(is_json)),
     })
 }
 
-/// Does what these words of a run order, in front of which so many are left out.
-fn count_words<H: Host>(alloc: Global, host: &mut H, words: &[String], left_out: usize) -> Outcome
-    ensures { FaultsOnlyBy H.told H.faults host.old host.new result }
+/// Does what these words of a run order, in front of which `--json` is left out, or nothing.
+fn count_words<H: Host>(alloc: Global, host: &mut H, is_json: bool, words: &[String]) -> Outcome
+    ensures told { CountsOrder (H.told host.old) (H.told host.new) result is_json (map string_bytes words.now) }
+    ensures causes { FaultsOnlyBy H.told H.faults host.old host.new result }
 {
     match order_in(words) {
-        Ok(order) => count_ordered(alloc, host, left_out > 0, words, &order),
-        Err(fault) => tell(alloc, host, misordered(fault, left_out)),
+        Ok(order) => count_ordered(alloc, host, is_json, words, &order),
+        Err(fault) => tell(alloc, host, misordered(fault, is_json)),
     }
 }
 
-/// Does what these words order as those of a run, in front of which so many are left out.
-fn count_rest<H: Host>(alloc: Global, host: &mut H, words: &[String], left_out: usize) -> Outcome
-    ensures { FaultsOnlyBy H.told H.faults host.old host.new result }
+/// Does what these words order as those of a run.
+fn count_rest<H: Host>(alloc: Global, host: &mut H, is_json: bool, words: &[String]) -> Outcome
+    ensures told { CountsOrder (H.told host.old) (H.told host.new) result is_json
+        (spec.run_words (map string_bytes words.now)) }
+    ensures causes { FaultsOnlyBy H.told H.faults host.old host.new result }
 {
     match run_words(alloc, words) {
-        Ok(all) => count_words(alloc, host, all.as_slice(), left_out),
+        Ok(all) => count_words(alloc, host, is_json, all.as_slice()),
         Err(_) => tell(alloc, host, Outcome::OutOfMemory),
     }
 }
@@ -177,10 +182,16 @@ fn count_rest<H: Host>(alloc: Global, host: &mut H, words: &[String], left_out: 
 /// Does what the words after `count` order: the source is run as `mmixware run` runs it, or the object as `mmixware sim` does, and what
 /// is counted is shown as a table, or, after `--json`, as a line of JSON. It answers the outcome of the run, which its message tells.
 pub fn count<H: Host>(alloc: Global, host: &mut H, words: &[String]) -> Outcome
-    ensures { FaultsOnlyBy H.told H.faults host.old host.new result }
+    ensures told { CountsOrder (H.told host.old) (H.told host.new) result
+        (spec.asks_json (map string_bytes words.now))
+        (spec.run_words (spec.words_after (map string_bytes words.now))) }
+    ensures causes { FaultsOnlyBy H.told H.faults host.old host.new result }
 {
-    match words {
-        [word, rest @ ..] if word.as_str() == "--json" => count_rest(alloc, host, rest, 1),
-        _ => count_rest(alloc, host, words, 0),
+    let [word, rest @ ..] = words else {
+        return count_rest(alloc, host, false, words);
+    };
+    if is_json_word(word) {
+        return count_rest(alloc, host, true, rest);
     }
+    count_rest(alloc, host, false, words)
 }

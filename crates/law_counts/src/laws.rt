@@ -1,6 +1,7 @@
 //! A run that is counted beside the run of the program.
 
-ghost use Rattle.std.specs.Prelude.{◌≡◌, ◌++◌, ℕ, List, Some, true};
+ghost use Rattle.std.specs.Prelude.{◌≡◌, ◌≤◌, ◌^◌, ◌++◌, ℕ, List, Ok, Some, length, true};
+ghost use Rattle.mx_files.specs.Source.{file_bytes, object_pieces, source_pieces};
 ghost use Rattle.mx_core.specs.State.{State};
 ghost use Rattle.mx_count.specs.Runs.{by_lines, came_to, halting_after, in_form, outcome_of, ran};
 ghost use Rattle.mx_count.specs.Sheets.{sheet_of};
@@ -44,4 +45,12 @@ pub fn counts_go_by_the_traces_of_their_runs()
         ran kind o.steps s begun ≡ run_ended e →
         source_file kind words o (in_form Text) m ≡ came_to (record { outcome = outcome_of o.steps e.end;
         sheet = Some (sheet_of source (carried_traces kind words (order_of words) m ++ halting_after e)) }) e.host }
+{}
+
+/// A source of at most 2^22 bytes, which is the most that is not refused, is read alike by `mmixview count`, which takes up
+/// to as many bytes as an object may have, and by `mmixware run`.
+#[tactic(auto, using(crate::proofs::ReadAlike::alike))]
+pub fn sources_are_read_alike()
+    ensures { (name source : List ℕ) (m n : HostModel) → length source ≤ 2 ^ 22 →
+        file_bytes source_pieces name m ≡ (Ok source, n) → file_bytes object_pieces name m ≡ (Ok source, n) }
 {}
