@@ -60,8 +60,7 @@ pub count-shown : {A : Type 0} (a b d : Option HostModel) (f : MachineKind → H
     IfErr p (λ none. r ≡ OutOfMemory) → OnlyAddsOutput b d → AnswersByKind a d r (λ kind m. page_after page (f kind m))
 count-shown a b d f page x o r (Ok q) same counted is enough shown lacks grows =
     let there : IsTrue (tells a) → IsTrue (tells b) = λ t. subst IsTrue (sym same) t in
-    let put : IsTrue (tells a) → r ≢ OutOfMemory → (r, contents d) ≡ page_put (page x) (contents b) = λ t ne. shown (there t) ne ∙ ap (λ y. page_put y (contents b)) is in
-    (
+    let put : IsTrue (tells a) → r ≢ OutOfMemory → (r, contents d) ≡ page_put (page x) (contents b) = λ t ne. shown (there t) ne ∙ ap (λ y. page_put y (contents b)) is in (
       λ t ne. ap plainly (put t ne) ∙ ap (page_after page) (counted.0 t enough),
       λ t ne. goes-shown page (f list_machine (contents a)) x r (contents b) (contents d) (put t ne) (grows (there t)) (counted.1 t enough),
     )
@@ -79,15 +78,14 @@ made-lacks o r (Err none) enough lacks e = lacks
 
 -- ---- the file
 
-pub read-shown : (a b d : Option HostModel) (r : Outcome) (is_json : Bool) (o : Order) (name : List ℕ) (given : List (List ℕ)) (bytes : List ℕ) → tells b ≡ tells a →
-    Answers {A = Result (List ℕ) Outcome} a b (Err OutOfMemory) (Ok bytes) (λ m. file_bytes object_pieces name m) →
-    AnswersByKind b d r (λ kind m. shown_bytes is_json kind o given bytes m) → AnswersByKind a d r (λ kind m. shown_count is_json kind o name given m)
-read-shown a b d r is_json o name given bytes same read shown =
+pub read-shown : (a b d : Option HostModel) (r : Outcome) (is_json : Bool) (o : Order) (name : List ℕ) (given : List (List ℕ)) (bytes slice : List ℕ) → tells b ≡ tells a →
+    Answers {A = Result (List ℕ) Outcome} a b (Err OutOfMemory) (Ok bytes) (λ m. file_bytes object_pieces name m) → slice ≡ bytes →
+    AnswersByKind b d r (λ kind m. shown_bytes is_json kind o given slice m) → AnswersByKind a d r (λ kind m. shown_count is_json kind o name given m)
+read-shown a b d r is_json o name given bytes slice same read whole shown =
     let there : IsTrue (tells a) → IsTrue (tells b) = λ t. subst IsTrue (sym same) t in
-    (
-      λ t ne. shown.0 (there t) ne ∙ ap (shown_after is_json window_machine o given) (read t (λ e. absurd (cc))),
-      λ t ne. subst (λ y. GoesAs y r (contents d)) (ap (shown_after is_json list_machine o given) (read t (λ e. absurd (cc)))) (shown.1 (there t) ne),
-    )
+    let reads : (kind : MachineKind) → IsTrue (tells a) → shown_bytes is_json kind o given slice (contents b) ≡ shown_count is_json kind o name given (contents a) =
+      λ kind t. ap (λ x. shown_bytes is_json kind o given x (contents b)) whole ∙ ap (shown_after is_json kind o given) (read t (λ e. absurd (cc))) in
+    (λ t ne. shown.0 (there t) ne ∙ reads window_machine t, λ t ne. subst (λ y. GoesAs y r (contents d)) (reads list_machine t) (shown.1 (there t) ne))
 
 pub unread-shown : (a b d : Option HostModel) (r : Outcome) (is_json : Bool) (o : Order) (name : List ℕ) (given : List (List ℕ)) (why : Outcome) → tells b ≡ tells a →
     Answers {A = Result (List ℕ) Outcome} a b (Err OutOfMemory) (Err why) (λ m. file_bytes object_pieces name m) → (why ≡ OutOfMemory → r ≡ OutOfMemory) →
@@ -95,7 +93,7 @@ pub unread-shown : (a b d : Option HostModel) (r : Outcome) (is_json : Bool) (o 
 unread-shown a b d r is_json o name given why same read lacks shown =
     let there : IsTrue (tells a) → IsTrue (tells b) = λ t. subst IsTrue (sym same) t in
     let put : (kind : MachineKind) → IsTrue (tells a) → r ≢ OutOfMemory → answered r (contents d) ≡ shown_count is_json kind o name given (contents a) =
-      λ kind t ne. ap plainly (shown (there t) ne) ∙ ap (shown_after is_json kind o given) (read t (λ e. ne (lacks (cc e)))) in
+    λ kind t ne. ap plainly (shown (there t) ne) ∙ ap (shown_after is_json kind o given) (read t (λ e. ne (lacks (cc e)))) in
     (put window_machine, λ t ne. goes-by (shown_count is_json list_machine o name given (contents a)) r (contents d) (put list_machine t ne))
 
 -- what the words give

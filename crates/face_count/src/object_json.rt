@@ -190,17 +190,18 @@ fn add_tetra_list(
 
 /// Adds the tetras of a sheet, if there is one.
 #[tactic(auto, unfolding(crate::specs::ObjectJson::tetras_json))]
-fn add_tetras(
-    alloc: Global,
-    text: &mut Bytes,
-    sheet: &Option<ObjectSheet>,
-) -> Result<(), NoMemory>
+fn add_tetras(alloc: Global, text: &mut Bytes, sheet: &Option<ObjectSheet>) -> Result<(), NoMemory>
     ensures { OnOk result (text.new ≡ text.old ++ spec.tetras_json sheet.now) }
 {
     match sheet {
         None => text.extend(b"null"),
         Some(sheet) => {
-            add_tetra_list(alloc, text, sheet.tetras.as_slice(), sheet.counts.as_slice())
+            add_tetra_list(
+                alloc,
+                text,
+                sheet.tetras.as_slice(),
+                sheet.counts.as_slice(),
+            )
         }
     }
 }
@@ -264,11 +265,7 @@ fn add_object_front(
 
 /// Ends what came of a run that was counted: its tetras, and the figures of all steps.
 #[tactic(auto, unfolding(crate::specs::ObjectJson::object_end))]
-fn add_object_end(
-    alloc: Global,
-    text: &mut Bytes,
-    counted: &CountedObject,
-) -> Result<(), NoMemory>
+fn add_object_end(alloc: Global, text: &mut Bytes, counted: &CountedObject) -> Result<(), NoMemory>
     ensures { OnOk result (text.new ≡ text.old ++ spec.object_end counted.now) }
 {
     text.extend(b",\"tetras\":")?;

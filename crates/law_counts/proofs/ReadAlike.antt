@@ -42,7 +42,7 @@ pieces-more (suc few) zero got source m n h short is = absurd (omega (arith, h))
 pieces-more (suc few) (suc many) got source m n h short is =
     next-more (pieces few) (pieces many) got (read_answer m input_slot 4096) n source
     (λ piece k whole. pieces-more few many (got ++ piece) source k n (omega (arith, h))
-      (let long : length (got ++ piece) ≡ length got + length piece = length-append got piece in rw long (longer (length got) (length piece) (length source) few whole short))) is
+    (let long : length (got ++ piece) ≡ length got + length piece = length-append got piece in rw long (longer (length got) (length piece) (length source) few whole short))) is
 
 -- ---- the file
 

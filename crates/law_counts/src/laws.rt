@@ -43,8 +43,10 @@ pub fn counts_go_by_the_traces_of_their_runs()
     ensures { (kind : MachineKind) (words : List Word) (o : Order) (source : List ℕ) (s : State) (m begun : HostModel)
         (e : Ended) → RunsPlainly words o Run → o.report ≡ true → StartsWith kind words o source s m begun →
         ran kind o.steps s begun ≡ run_ended e →
-        source_file kind words o (in_form Text) m ≡ came_to (record { outcome = outcome_of o.steps e.end;
-        sheet = Some (sheet_of source (carried_traces kind words (order_of words) m ++ halting_after e)) }) e.host }
+        source_file kind words o (in_form Text) m ≡ came_to (record {
+          outcome = outcome_of o.steps e.end;
+          sheet = Some (sheet_of source (carried_traces kind words (order_of words) m ++ halting_after e));
+        }) e.host }
 {}
 
 /// A source of at most 2^22 bytes, which is the most that is not refused, is read alike by `mmixview count`, which takes up

@@ -51,8 +51,8 @@ list-told w (run_ended e) h ws left earlier kept at after new end text alone non
   ap (λ (x : Ended). x.end) goes.0,
   ap (λ (x : Ended). x.host) goes.0,
   report-alone w h (halting_steps end at) ws left earlier kept text alone none hears is
-  ∙ ap (λ a. w.text (h ++ halting_steps end a)) place
-  ∙ ap (λ (x : Ended). w.text (h ++ halting_after x)) goes.0,
+      ∙ ap (λ a. w.text (h ++ halting_steps end a)) place
+      ∙ ap (λ (x : Ended). w.text (h ++ halting_after x)) goes.0,
 )
 list-told w (run_wild m) h ws left earlier kept at after new end text alone none hears is goes place = goes
 
@@ -93,13 +93,13 @@ module _ {A : Type 0} (old new : Option HostModel) (outcome : Outcome) (result :
   )
 
   -- none does
-  pub unstarted-told : (image : Image) (why : Outcome) → new ≡ old → result ≡ making.without why →
-      (outcome ≢ OutOfMemory → ◌≡◌ {A = Result State Outcome} (Err why) (started window_machine o.ring image arguments)) →
-      (outcome ≢ OutOfMemory → ◌≡◌ {A = Result State Outcome} (Err why) (started list_machine o.ring image arguments)) →
+  pub unstarted-told : (image : Image) (why : Outcome) → new ≡ old → outcome ≡ why → result ≡ making.without why →
+      (why ≢ OutOfMemory → ◌≡◌ {A = Result State Outcome} (Err why) (started window_machine o.ring image arguments)) →
+      (why ≢ OutOfMemory → ◌≡◌ {A = Result State Outcome} (Err why) (started list_machine o.ring image arguments)) →
       CountsByKind old new outcome result (λ kind m. image_counted kind o arguments making image m)
-  unstarted-told image why same is e f = (
-    λ t ne. (λ i. came_to (is i) (contents (same i))) ∙ ap (λ r. start_counted window_machine o.steps making r (contents old)) (e ne),
-    λ t ne. subst (λ x. GoesAs x result (contents new)) (ap (λ r. start_counted list_machine o.steps making r (contents old)) (f ne)) (is, ap contents same),
+  unstarted-told image why same place is e f = (
+    λ t ne. (λ i. came_to (is i) (contents (same i))) ∙ ap (λ r. start_counted window_machine o.steps making r (contents old)) (e (λ none. ne (place ∙ none))),
+    λ t ne. subst (λ x. GoesAs x result (contents new)) (ap (λ r. start_counted list_machine o.steps making r (contents old)) (f (λ none. ne (place ∙ none)))) (is, ap contents same),
   )
 
   -- ---- a source

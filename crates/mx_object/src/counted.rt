@@ -1,6 +1,6 @@
 //! An object that is run and counted.
 
-ghost use Rattle.std.specs.Prelude.{◌≡◌, ◌≢◌, ◌≤◌, ◌^◌, length};
+ghost use Rattle.std.specs.Prelude.{◌≡◌, ◌≢◌, ◌≤◌, ◌^◌, IfOk, length};
 ghost use Rattle.mx_host.specs.Keeping.{Keeps};
 ghost use Rattle.mx_load.specs.Kept.{image_of};
 ghost use Rattle.mx_count.specs.Runs.{AreArguments, CountsByKind};
@@ -16,7 +16,7 @@ use mx_host::Host;
 use mx_load::{Image, ObjectFault, load_object};
 use mx_outcome::Outcome;
 use mx_view::LineCells;
-use mx_word::Bytes;
+use mx_word::{Bytes, NoMemory};
 use mx_words::Order;
 use std::alloc::Global;
 
@@ -37,18 +37,17 @@ fn uncounted(outcome: Outcome) -> CountedObject
     }
 }
 
-/// An outcome with the sheet of tetras, by the report on their tallies.
-fn reported(alloc: Global, outcome: Outcome, tetras: ListedTetras, report: &[u8]) -> CountedObject
-    ensures value { result.outcome ≢ Outcome.OutOfMemory →
-        result ≡ spec.object_in tetras (record { outcome = outcome; sheet = Some report.now }) }
-    ensures same { result.outcome ≢ Outcome.OutOfMemory → result.outcome ≡ outcome }
+/// The sheet of tetras, if there is a report on their tallies.
+fn sheet_if(
+    alloc: Global,
+    tetras: ListedTetras,
+    report: &Option<Bytes>,
+) -> Result<Option<ObjectSheet>, NoMemory>
+    ensures { IfOk result (λ sheet. sheet ≡ spec.sheet_in tetras report.now) }
 {
-    match sheet_in(alloc, tetras, report) {
-        Ok(sheet) => CountedObject {
-            outcome,
-            sheet: Some(sheet),
-        },
-        Err(_) => uncounted(Outcome::OutOfMemory),
+    match report {
+        None => Ok(None),
+        Some(report) => Ok(Some(sheet_in(alloc, tetras, report.as_slice())?)),
     }
 }
 
@@ -56,10 +55,15 @@ fn reported(alloc: Global, outcome: Outcome, tetras: ListedTetras, report: &[u8]
 fn with_tetras(alloc: Global, tetras: ListedTetras, counted: &Counted) -> CountedObject
     ensures value { result.outcome ≢ Outcome.OutOfMemory → result ≡ spec.object_in tetras counted.now }
     ensures same { result.outcome ≢ Outcome.OutOfMemory → result.outcome ≡ counted.now.outcome }
+    ensures well { counted.now.outcome ≢ Outcome.HostFault → result.outcome ≢ Outcome.HostFault }
+    ensures present { counted.now.outcome ≢ Outcome.NoFile → result.outcome ≢ Outcome.NoFile }
 {
-    match &counted.sheet {
-        None => uncounted(counted.outcome),
-        Some(report) => reported(alloc, counted.outcome, tetras, report.as_slice()),
+    match sheet_if(alloc, tetras, &counted.sheet) {
+        Ok(sheet) => CountedObject {
+            outcome: counted.outcome,
+            sheet,
+        },
+        Err(_) => uncounted(Outcome::OutOfMemory),
     }
 }
 

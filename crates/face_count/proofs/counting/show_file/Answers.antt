@@ -4,7 +4,7 @@ use Rattle.face_count.proofs.counting.show_file.Goals as goal
 
 pub returns-in-Ok-clause-told : goal.returns-in-Ok-clause-told
 returns-in-Ok-clause-told g c =
-    read-shown _ _ _ _ c.args.is_json c.args.order.now c.args.name.now c.args.given.now _ c.in-Ok.ensures.causes.3.telling c.in-Ok.ensures.told c.show_bytes.ensures.told
+    read-shown _ _ _ _ c.args.is_json c.args.order.now c.args.name.now c.args.given.now _ _ c.in-Ok.ensures.causes.3.telling c.in-Ok.ensures.told c.as_slice.ensures c.show_bytes.ensures.told
 
 pub returns-in-Ok-clause-causes : goal.returns-in-Ok-clause-causes
 returns-in-Ok-clause-causes g c = faults-after _ _ _ _ _ _ _ c.in-Ok.ensures.causes.3 c.show_bytes.ensures.causes
