@@ -1,2 +1,3 @@
 pub mod CountJson
+pub mod ObjectJson
 pub mod CountPages

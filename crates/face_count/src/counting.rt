@@ -1,24 +1,104 @@
-//! A source that is run and counted.
+//! A source or an object that is run and counted.
 
-ghost use Rattle.std.specs.Prelude.{◌≡◌, ◌<◌, ◌≤◌, length, map, string_bytes};
+ghost use Rattle.std.specs.Prelude.{◌≡◌, ◌≢◌, ◌<◌, ◌≤◌, false, length, map, string_bytes, true};
 ghost use Rattle.mx_begin.specs.Arguments.{arguments, word_at};
-ghost use Rattle.mx_face.specs.Pages.{FaultsOnlyBy, IsOfView};
+ghost use Rattle.mx_count.specs.Runs.{AreArguments};
+ghost use Rattle.mx_face.specs.Pages.{FaultsOnlyBy, FaultsOnward, IsOfView, page_put};
 ghost use Rattle.mx_host.specs.Keeping.{Answers};
 ghost use Rattle.face_count.specs.CountPages as spec;
+ghost use Rattle.mx_outcome.specs.Kinds.{is_usage};
+ghost use Rattle.face_count.specs.CountPages.{AnswersByKind, CountsOrder};
 
-use crate::pages::{put_json, put_sheet};
-use crate::words::{order_in, run_words};
+use crate::pages::{json_page, object_page, put_made, sheet_page, table_page, unread_page};
+use crate::words::{is_json_word, order_in, run_words};
 use mx_begin::{arguments, word};
-use mx_count::{count_file, count_lines};
+use mx_count::{count_lines, count_source};
 use mx_face::tell;
+use mx_files::{OBJECT_PIECES, read_file};
 use mx_host::Host;
+use mx_object::{count_object, is_object};
 use mx_outcome::Outcome;
 use mx_word::Bytes;
 use mx_words::{Order, WordsFault};
 use std::alloc::Global;
 
-/// Runs the source in the file of this name with these arguments, and shows what is counted.
-fn count_given<H: Host>(
+/// Runs a source with these arguments, and shows what is counted of it.
+fn show_source<H: Host>(
+    alloc: Global,
+    host: &mut H,
+    is_json: bool,
+    order: &Order,
+    source: &[u8],
+    given: &[Bytes],
+) -> Outcome
+    requires { AreArguments given.now }
+    ensures told { AnswersByKind (H.told host.old) (H.told host.new) result
+        (λ kind m. spec.shown_source is_json kind order.now given.now source.now m) }
+    ensures causes { FaultsOnlyBy H.told H.faults host.old host.new result }
+{
+    if is_json {
+        let counted = count_lines(alloc, host, order, source, given);
+        let page = json_page(alloc, &counted);
+        return put_made(alloc, host, page);
+    }
+    let counted = count_source(alloc, host, order, source, given);
+    put_made(alloc, host, sheet_page(alloc, counted))
+}
+
+/// Runs an object with these arguments, and shows what is counted of it.
+fn show_object<H: Host>(
+    alloc: Global,
+    host: &mut H,
+    is_json: bool,
+    order: &Order,
+    bytes: &[u8],
+    given: &[Bytes],
+) -> Outcome
+    requires { AreArguments given.now }
+    ensures told { AnswersByKind (H.told host.old) (H.told host.new) result
+        (λ kind m. spec.shown_object is_json kind order.now given.now bytes.now m) }
+    ensures causes { FaultsOnlyBy H.told H.faults host.old host.new result }
+{
+    let counted = count_object(alloc, host, order, bytes, given);
+    if is_json {
+        return put_made(alloc, host, object_page(alloc, &counted));
+    }
+    put_made(alloc, host, table_page(alloc, &counted))
+}
+
+/// Runs the object or the source that bytes are, and shows what is counted of it.
+fn show_bytes<H: Host>(
+    alloc: Global,
+    host: &mut H,
+    is_json: bool,
+    order: &Order,
+    bytes: &[u8],
+    given: &[Bytes],
+) -> Outcome
+    requires { AreArguments given.now }
+    ensures told { AnswersByKind (H.told host.old) (H.told host.new) result
+        (λ kind m. spec.shown_bytes is_json kind order.now given.now bytes.now m) }
+    ensures causes { FaultsOnlyBy H.told H.faults host.old host.new result }
+{
+    if is_object(bytes) {
+        return show_object(alloc, host, is_json, order, bytes, given);
+    }
+    show_source(alloc, host, is_json, order, bytes, given)
+}
+
+/// Shows that a file is not read.
+fn show_unread<H: Host>(alloc: Global, host: &mut H, is_json: bool, outcome: Outcome) -> Outcome
+    ensures told { Answers (H.told host.old) (H.told host.new) Outcome.OutOfMemory result
+        (λ m. page_put (spec.unread_page is_json outcome) m) }
+    ensures lacking { outcome ≡ Outcome.OutOfMemory → result ≡ Outcome.OutOfMemory }
+    ensures onward { FaultsOnward H.told H.faults host.old host.new outcome result }
+{
+    put_made(alloc, host, unread_page(alloc, is_json, outcome))
+}
+
+/// Runs the source or the object in the file of this name with these arguments, and shows what is counted. The file is
+/// read once.
+fn show_file<H: Host>(
     alloc: Global,
     host: &mut H,
     is_json: bool,
@@ -26,20 +106,18 @@ fn count_given<H: Host>(
     name: &[u8],
     given: &[Bytes],
 ) -> Outcome
-    requires { 1 ≤ length given.now }
-    ensures told { Answers (H.told host.old) (H.told host.new) Outcome.OutOfMemory result
-        (λ m. spec.shown_count is_json order.now name.now given.now m) }
+    requires { AreArguments given.now }
+    ensures told { AnswersByKind (H.told host.old) (H.told host.new) result
+        (λ kind m. spec.shown_count is_json kind order.now name.now given.now m) }
     ensures causes { FaultsOnlyBy H.told H.faults host.old host.new result }
 {
-    if is_json {
-        let counted = count_lines(alloc, host, order, name, given);
-        return put_json(alloc, host, &counted);
+    match read_file(alloc, host, name, OBJECT_PIECES) {
+        Ok(bytes) => show_bytes(alloc, host, is_json, order, bytes.as_slice(), given),
+        Err(outcome) => show_unread(alloc, host, is_json, outcome),
     }
-    let counted = count_file(alloc, host, order, name, given);
-    put_sheet(alloc, host, counted)
 }
 
-/// Runs and counts the source that an order names.
+/// Runs and counts what is in the file that an order names.
 fn count_ordered<H: Host>(
     alloc: Global,
     host: &mut H,
@@ -49,13 +127,13 @@ fn count_ordered<H: Host>(
 ) -> Outcome
     requires file { order.now.file < length words.now }
     requires rest { order.now.rest ≤ length words.now }
-    ensures told { Answers (H.told host.old) (H.told host.new) Outcome.OutOfMemory result
-        (λ m. spec.shown_count is_json order.now (word_at (map string_bytes words.now) order.now.file)
+    ensures told { AnswersByKind (H.told host.old) (H.told host.new) result
+        (λ kind m. spec.shown_count is_json kind order.now (word_at (map string_bytes words.now) order.now.file)
         (arguments (map string_bytes words.now) order.now) m) }
     ensures causes { FaultsOnlyBy H.told H.faults host.old host.new result }
 {
     match arguments(alloc, words, order) {
-        Ok(given) => count_given(
+        Ok(given) => show_file(
             alloc,
             host,
             is_json,
@@ -67,43 +145,53 @@ fn count_ordered<H: Host>(
     }
 }
 
-/// Faulty words, where so many words are in front of them.
-fn misordered(fault: WordsFault, in_front: usize) -> Outcome
-    ensures { IsOfView result }
+/// Faulty words, in front of which `--json` is, or nothing.
+fn misordered(fault: WordsFault, is_json: bool) -> Outcome
+    ensures view { IsOfView result }
+    ensures usage { is_usage result ≡ true }
 {
     Outcome::Usage(WordsFault {
         kind: fault.kind,
-        word: fault.word.saturating_add(in_front),
+        word: fault.word.saturating_add(usize::from(is_json)),
     })
 }
 
-/// Does what these words of a run order, in front of which so many are left out.
-fn count_words<H: Host>(alloc: Global, host: &mut H, words: &[String], left_out: usize) -> Outcome
-    ensures { FaultsOnlyBy H.told H.faults host.old host.new result }
+/// Does what these words of a run order, in front of which `--json` is left out, or nothing.
+fn count_words<H: Host>(alloc: Global, host: &mut H, is_json: bool, words: &[String]) -> Outcome
+    ensures told { CountsOrder (H.told host.old) (H.told host.new) result is_json (map string_bytes words.now) }
+    ensures causes { FaultsOnlyBy H.told H.faults host.old host.new result }
 {
     match order_in(words) {
-        Ok(order) => count_ordered(alloc, host, left_out > 0, words, &order),
-        Err(fault) => tell(alloc, host, misordered(fault, left_out)),
+        Ok(order) => count_ordered(alloc, host, is_json, words, &order),
+        Err(fault) => tell(alloc, host, misordered(fault, is_json)),
     }
 }
 
-/// Does what these words order as those of a run, in front of which so many are left out.
-fn count_rest<H: Host>(alloc: Global, host: &mut H, words: &[String], left_out: usize) -> Outcome
-    ensures { FaultsOnlyBy H.told H.faults host.old host.new result }
+/// Does what these words order as those of a run.
+fn count_rest<H: Host>(alloc: Global, host: &mut H, is_json: bool, words: &[String]) -> Outcome
+    ensures told { CountsOrder (H.told host.old) (H.told host.new) result is_json
+        (spec.run_words (map string_bytes words.now)) }
+    ensures causes { FaultsOnlyBy H.told H.faults host.old host.new result }
 {
     match run_words(alloc, words) {
-        Ok(all) => count_words(alloc, host, all.as_slice(), left_out),
+        Ok(all) => count_words(alloc, host, is_json, all.as_slice()),
         Err(_) => tell(alloc, host, Outcome::OutOfMemory),
     }
 }
 
-/// Does what the words after `count` order: the source is run as `mmixware run` runs it, and what is counted is shown as a table, or,
-/// after `--json`, as a line of JSON. It answers the outcome of the run, which its message tells.
+/// Does what the words after `count` order: the source is run as `mmixware run` runs it, or the object as `mmixware sim` does, and what
+/// is counted is shown as a table, or, after `--json`, as a line of JSON. It answers the outcome of the run, which its message tells.
 pub fn count<H: Host>(alloc: Global, host: &mut H, words: &[String]) -> Outcome
-    ensures { FaultsOnlyBy H.told H.faults host.old host.new result }
+    ensures told { CountsOrder (H.told host.old) (H.told host.new) result
+        (spec.asks_json (map string_bytes words.now))
+        (spec.run_words (spec.words_after (map string_bytes words.now))) }
+    ensures causes { FaultsOnlyBy H.told H.faults host.old host.new result }
 {
-    match words {
-        [word, rest @ ..] if word.as_str() == "--json" => count_rest(alloc, host, rest, 1),
-        _ => count_rest(alloc, host, words, 0),
+    let [word, rest @ ..] = words else {
+        return count_rest(alloc, host, false, words);
+    };
+    if is_json_word(word) {
+        return count_rest(alloc, host, true, rest);
     }
+    count_rest(alloc, host, false, words)
 }

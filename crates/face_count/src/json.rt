@@ -108,7 +108,7 @@ fn add_lines(alloc: Global, text: &mut Bytes, sheet: &Option<LineSheet>) -> Resu
 
 /// Adds the figures of all steps.
 #[tactic(auto, unfolding(crate::specs::CountJson::tally_json))]
-fn add_tally(text: &mut Bytes, tally: Tally) -> Result<(), NoMemory>
+pub(crate) fn add_tally(text: &mut Bytes, tally: Tally) -> Result<(), NoMemory>
     ensures { OnOk result (text.new ≡ text.old ++ spec.tally_json tally) }
 {
     add_number(text, b"{\"away\":", tally.away)?;
@@ -167,7 +167,7 @@ fn add_status(text: &mut Bytes, outcome: Outcome) -> Result<(), NoMemory>
 
 /// Adds an outcome: the status of the program, and its message.
 #[tactic(auto, unfolding(crate::specs::CountJson::outcome_json))]
-fn add_outcome(alloc: Global, text: &mut Bytes, outcome: Outcome) -> Result<(), NoMemory>
+pub(crate) fn add_outcome(alloc: Global, text: &mut Bytes, outcome: Outcome) -> Result<(), NoMemory>
     ensures { OnOk result (text.new ≡ text.old ++ spec.outcome_json outcome) }
 {
     text.extend(message_name())?;

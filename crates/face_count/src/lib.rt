@@ -1,8 +1,9 @@
-//! A source that is run and counted: the order by the words, the run, and its sheet as a table or as JSON.
+//! A source or an object that is run and counted: the order by the words, the run, and its sheet as a table or as JSON.
 #![tactic(auto)]
 
 mod counting;
 mod json;
+mod object_json;
 mod pages;
 mod words;
 

@@ -1,13 +1,24 @@
 //! The words of `count`: `--json` if it is the first, and then those of `mmixware run`, but for the options that `count` has not.
 
-ghost use Rattle.std.specs.Prelude.{◌<◌, ◌≤◌, IfOk, length};
+ghost use Rattle.std.specs.Prelude.{◌≡◌, ◌<◌, ◌≤◌, IfOk, Ok, length, map, string_bytes};
+ghost use Rattle.mx_words.specs.Orders.{order_of};
+ghost use Rattle.face_count.specs.CountPages as spec;
 
 use mx_word::NoMemory;
 use mx_words::{Order, WordsFault, read};
 use std::alloc::Global;
 
+/// Whether a word is `--json`.
+pub fn is_json_word(word: &String) -> bool
+    ensures { result ≡ spec.is_json_word (string_bytes word.now) }
+{
+    word.as_str() == "--json"
+}
+
 /// The words with which `mmixware run` does the same run.
-pub fn run_words(alloc: Global, words: &[String]) -> Result<Vec<String>, NoMemory> {
+pub fn run_words(alloc: Global, words: &[String]) -> Result<Vec<String>, NoMemory>
+    ensures { IfOk result (λ all. map string_bytes all.items ≡ spec.run_words (map string_bytes words.now)) }
+{
     let mut all = Vec::new(alloc);
     all.push(String::from_str(alloc, "run")?)?;
     for word in words {
@@ -46,6 +57,7 @@ fn first_fault(fault: WordsFault, unknown: usize) -> WordsFault {
 
 /// What the words of a run order, if they have no option that `count` has not.
 pub fn order_in(words: &[String]) -> Result<Order, WordsFault>
+    ensures order { IfOk result (λ o. order_of (map string_bytes words.now) ≡ Ok o) }
     ensures places { IfOk result (λ o. (o.file < length words.now) × (o.rest ≤ length words.now)) }
 {
     let Some(unknown) = other_option(words) else {

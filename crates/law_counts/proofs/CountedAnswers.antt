@@ -1,40 +1,50 @@
 -- A run that is counted, and the run of the program.
-use Rattle.std.proofs.Common.{◌≡◌, ℕ, true, false, List, Result, Ok, Err, Some, ◌++◌, refl, sym, ap, ◌∙◌}
+use Rattle.std.proofs.Common.{◌≡◌, ℕ, true, false, List, [], Result, Ok, Err, Some, ◌++◌, refl, sym, ap, ◌∙◌}
+use Rattle.mx_word.specs.declared.symbols.Symbol.{Symbol}
 use Rattle.mx_host.specs.HostModel.{HostModel}
 use Rattle.mx_host.specs.HostAnswer.{Then}
 use Rattle.mx_mmo.specs.Image.{Image}
+use Rattle.mx_load.specs.Objects.{object_loaded}
 use Rattle.mx_core.specs.State.{State}
-use Rattle.mx_run.specs.Runs.{no_flags, run}
-use Rattle.mx_run.specs.WildRuns.{RunEnd, window_machine}
+use Rattle.mx_code.specs.declared.trace.Trace.{Trace}
+use Rattle.mx_run.specs.Runs.{Ended, no_flags}
+use Rattle.mx_run.specs.WildRuns.{MachineKind, window_machine, list_machine, RunEnd, run_ended, run_wild, run_by}
 use Rattle.mx_run.specs.declared.end.End.{End}
 use Rattle.mx_run.specs.declared.end.End.TheVariants as ending
 use Rattle.mx_run.proofs.BothMachines.{window-ends}
 use Rattle.mx_watch.specs.Traces.{traces}
 use Rattle.mx_words.specs.Orders.{order_of}
 use Rattle.mx_words.specs.declared.order.Command.{Command}
-use Rattle.mx_words.specs.declared.order.Command.TheVariants.{Run}
+use Rattle.mx_words.specs.declared.order.Command.TheVariants.{Run, Sim}
 use Rattle.mx_words.specs.declared.order.Order.{Order}
 use Rattle.mx_files.specs.Answers.{answered}
-use Rattle.mx_files.specs.Source.{file_bytes, source_pieces}
+use Rattle.mx_files.specs.Assembling.{refused_with}
+use Rattle.mx_files.specs.Source.{file_bytes, object_pieces, source_pieces}
 use Rattle.mx_files.specs.Sources.{source_meaning}
 use Rattle.mx_files.specs.declared.refusal.Refusal.{Refusal}
 use Rattle.mx_outcome.specs.declared.outcome.Outcome.{Outcome}
+use Rattle.mx_outcome.specs.declared.outcome.Outcome.TheVariants.{BadObject}
 use Rattle.mx_begin.specs.Arguments.{Word, word_at, arguments}
-use Rattle.mx_begin.specs.Begun.{assembled, image_after, started, started_after}
-use Rattle.mx_begin.specs.declared.images.Form.TheVariants.{Source}
+use Rattle.mx_begin.specs.Begun.{assembled, image_after, loaded, started, started_after}
+use Rattle.mx_begin.specs.declared.images.Form.TheVariants.{Object, Source}
 use Rattle.mx_top.specs.Product.{begun_run, carried_out, ordered, product, with_message}
 use Rattle.mx_top.specs.Reports.{begun_traces, carried_traces, order_traces, ordered_traces, traces_from}
 use Rattle.mx_top.specs.Runs.{dumped, machine_ran, ran_to, run_from}
 use Rattle.mx_top.specs.Runs as top
 use Rattle.mx_top.proofs.TakenBack.{forward-run}
-use Rattle.mx_count.specs.Runs.{file_counted, halting_after, lines_counted, machine_counted, meaning_counted, outcome_of, source_counted, source_lines, start_counted}
+use Rattle.mx_count.specs.Runs.{CountAnswer, Making, by_lines, came_to, counted_to, halting_after, image_counted, in_form, machine_counted, mapped, meaning_counted, outcome_of, ran, reporting, start_counted, went_wild}
 use Rattle.mx_count.specs.Sheets.{sheet_of}
 use Rattle.mx_count.specs.declared.count.Counted.{Counted}
-use Rattle.mx_count.specs.declared.counts.Form as counting
-use Rattle.mx_count.specs.declared.counts.Form.TheVariants.{Octas, Text}
-use Rattle.law_counts.specs.Counted.{RunsPlainly, StartsWith, answer_of, lines_answer}
+use Rattle.mx_count.specs.declared.counts.Form.TheVariants.{Text}
+use Rattle.mx_count.specs.declared.lines.CountedLines.{CountedLines}
+use Rattle.mx_object.specs.Addresses.{addresses_of, items_in}
+use Rattle.mx_object.specs.Listing.{tetras_at}
+use Rattle.mx_object.specs.Runs.{by_report, loaded_with, object_in, report_on}
+use Rattle.mx_object.specs.declared.counted.CountedObject.{CountedObject}
+use Rattle.mx_object.specs.declared.tetras.ListedTetra.{ListedTetra}
+use Rattle.law_counts.specs.Counted.{RunsPlainly, StartsWith, answer_by, object_file, object_read, source_file, source_read}
 
--- ---- a machine
+-- ---- a run
 
 -- the outcome of an end is the same for both
 outcome-same : (steps : ℕ) (end : End) → top.outcome_of steps end ≡ outcome_of steps end
@@ -45,88 +55,140 @@ outcome-same steps (ending.Traced trace) = refl
 outcome-same steps ending.Spent = refl
 outcome-same steps ending.OutOfMemory = refl
 
-machine-same : (form : counting.Form) (words : List Word) (o : Order) (source : List ℕ) (s : State) (m : HostModel) → RunsPlainly words o →
-    run_from window_machine o (Ok s) m ≡ answer_of (machine_counted form o.steps source s m)
-machine-same form words o source s m h =
-    let e = run o.steps no_flags false s m in
-    forward-run window_machine o s m h.interactive h.last
-    ∙ ap (λ b. dumped b (machine_ran window_machine o.steps s m)) h.dump
-    ∙ ap (λ (x : RunEnd). dumped false (ran_to o.steps x)) (window-ends o.steps no_flags false s m)
-    ∙ ap (λ outcome. answered outcome e.host) (outcome-same o.steps e.end)
+ran-same : (kind : MachineKind) (n : ℕ) (s : State) (m : HostModel) → run_by kind n no_flags false s m ≡ ran kind n s m
+ran-same window_machine n s m = window-ends n no_flags false s m
+ran-same list_machine n s m = refl
+
+-- what is made of an outcome has it
+record HasOutcome {A : Type 0} (outcome_in : A → Outcome) (making : Making A) : Type 0 where
+  without : (outcome : Outcome) → outcome_in (making.without outcome) ≡ outcome
+  with_steps : (outcome : Outcome) (h : List Trace) → outcome_in (making.with_steps outcome h) ≡ outcome
+
+module _ {A : Type 0} (outcome_in : A → Outcome) (making : Making A) (has : HasOutcome outcome_in making) where
+  ended-same : (steps : ℕ) (h : List Trace) (r : RunEnd) → dumped false (ran_to steps r) ≡ answer_by outcome_in (counted_to steps making h r)
+  ended-same steps h (run_ended e) =
+      ap (λ outcome. answered outcome e.host) (outcome-same steps e.end ∙ sym (has.with_steps (outcome_of steps e.end) (h ++ halting_after e)))
+  ended-same steps h (run_wild m) = refl
+
+  module _ (kind : MachineKind) (words : List Word) (o : Order) (command : Command) (plain : RunsPlainly words o command) where
+    machine-same : (s : State) (m : HostModel) → run_from kind o (Ok s) m ≡ answer_by outcome_in (machine_counted kind o.steps making s m)
+    machine-same s m =
+        forward-run kind o s m plain.interactive plain.last
+        ∙ ap (λ b. dumped b (machine_ran kind o.steps s m)) plain.dump
+        ∙ ap (λ (x : RunEnd). dumped false (ran_to o.steps x)) (ran-same kind o.steps s m)
+        ∙ ended-same o.steps (traces kind o.steps s m) (ran kind o.steps s m)
+
+    start-same : (r : Result State Outcome) (m : HostModel) → run_from kind o r m ≡ answer_by outcome_in (start_counted kind o.steps making r m)
+    start-same (Err outcome) m = ap (λ x. answered x m) (sym (has.without outcome))
+    start-same (Ok s) m = machine-same s m
+
+    image-same : (image : Image) (m : HostModel) →
+        begun_run kind o (started_after kind o.ring (arguments words o) (Ok image, m)) ≡ answer_by outcome_in (image_counted kind o (arguments words o) making image m)
+    image-same image m = start-same (started kind o.ring image (arguments words o)) m
+
+    meaning-same : (r : Result Image Refusal) (m : HostModel) →
+        begun_run kind o (started_after kind o.ring (arguments words o) (assembled r, m)) ≡ answer_by outcome_in (meaning_counted kind o (arguments words o) making r m)
+    meaning-same (Err refusal) m = ap (λ x. answered x m) (sym (has.without (refused_with refusal)))
+    meaning-same (Ok image) m = image-same image m
 
 -- ---- what begins it
 
-start-same : (form : counting.Form) (words : List Word) (o : Order) (source : List ℕ) (r : Result State Outcome) (m : HostModel) → RunsPlainly words o →
-    run_from window_machine o r m ≡ answer_of (start_counted form o.steps source r m)
-start-same form words o source (Err outcome) m h = refl
-start-same form words o source (Ok s) m h = machine-same form words o source s m h
+order-run : (kind : MachineKind) (words : List Word) (o : Order) (command : Command) (m : HostModel) → RunsPlainly words o command →
+    product kind words m ≡ with_message (ordered kind words o command m)
+order-run kind words o command m h =
+    ap (λ r. with_message (carried_out kind words r m)) h.order
+    ∙ ap (λ (c : Command). with_message (ordered kind words o c m)) h.command_is
 
-meaning-same : (form : counting.Form) (words : List Word) (o : Order) (source : List ℕ) (r : Result Image Refusal) (m : HostModel) → RunsPlainly words o →
-    begun_run window_machine o (started_after window_machine o.ring (arguments words o) (assembled r, m)) ≡ answer_of (meaning_counted form o (arguments words o) source r m)
-meaning-same form words o source (Err refusal) m h = refl
-meaning-same form words o source (Ok image) m h = start-same form words o source (started window_machine o.ring image (arguments words o)) m h
+source-same : {A : Type 0} (outcome_in : A → Outcome) (making : List ℕ → Making A) → ((source : List ℕ) → HasOutcome outcome_in (making source)) →
+    (kind : MachineKind) (words : List Word) (o : Order) (t : Then (Result (List ℕ) Outcome)) → RunsPlainly words o Run →
+    begun_run kind o (started_after kind o.ring (arguments words o) (image_after Source t)) ≡ answer_by outcome_in (source_read kind o (arguments words o) making t)
+source-same outcome_in making has kind words o (Err outcome, m) h = ap (λ x. answered x m) (sym ((has []).without outcome))
+source-same outcome_in making has kind words o (Ok source, m) h = meaning-same outcome_in (making source) (has source) kind words o Run h (source_meaning source) m
 
-text-same : (words : List Word) (o : Order) (t : Then (Result (List ℕ) Outcome)) → RunsPlainly words o →
-    begun_run window_machine o (started_after window_machine o.ring (arguments words o) (image_after Source t)) ≡ answer_of (source_counted o (arguments words o) t)
-text-same words o (Err outcome, m) h = refl
-text-same words o (Ok source, m) h = meaning-same Text words o source (source_meaning source) m h
+text-has : (source : List ℕ) → HasOutcome (λ (c : Counted). c.outcome) (in_form Text source)
+text-has source = record { without = λ outcome. refl; with_steps = λ outcome h. refl }
 
-data-same : (words : List Word) (o : Order) (t : Then (Result (List ℕ) Outcome)) → RunsPlainly words o →
-    begun_run window_machine o (started_after window_machine o.ring (arguments words o) (image_after Source t)) ≡ lines_answer (source_lines o (arguments words o) t)
-data-same words o (Err outcome, m) h = refl
-data-same words o (Ok source, m) h = meaning-same Octas words o source (source_meaning source) m h
+lines-have : (source : List ℕ) → HasOutcome (λ (c : CountedLines). c.outcome) (by_lines source)
+lines-have source = record { without = λ outcome. refl; with_steps = λ outcome h. refl }
 
--- ---- the words
+pub answers-text : (kind : MachineKind) (words : List Word) (o : Order) (m : HostModel) → RunsPlainly words o Run →
+    product kind words m ≡ with_message (answer_by (λ (c : Counted). c.outcome) (source_file kind words o (in_form Text) m))
+answers-text kind words o m h =
+    order-run kind words o Run m h
+    ∙ ap with_message (source-same (λ (c : Counted). c.outcome) (in_form Text) text-has kind words o (file_bytes source_pieces (word_at words o.file) m) h)
 
-order-run : (words : List Word) (o : Order) (m : HostModel) → RunsPlainly words o → product window_machine words m ≡ with_message (ordered window_machine words o Run m)
-order-run words o m h =
-    ap (λ r. with_message (carried_out window_machine words r m)) h.order
-    ∙ ap (λ (c : Command). with_message (ordered window_machine words o c m)) h.command
+pub answers-data : (kind : MachineKind) (words : List Word) (o : Order) (m : HostModel) → RunsPlainly words o Run →
+    product kind words m ≡ with_message (answer_by (λ (c : CountedLines). c.outcome) (source_file kind words o by_lines m))
+answers-data kind words o m h =
+    order-run kind words o Run m h
+    ∙ ap with_message (source-same (λ (c : CountedLines). c.outcome) by_lines lines-have kind words o (file_bytes source_pieces (word_at words o.file) m) h)
 
-pub answers-text : (words : List Word) (o : Order) (m : HostModel) → RunsPlainly words o →
-    product window_machine words m ≡ with_message (answer_of (file_counted o (word_at words o.file) (arguments words o) m))
-answers-text words o m h = order-run words o m h ∙ ap with_message (text-same words o (file_bytes source_pieces (word_at words o.file) m) h)
+-- ---- an object
 
-pub answers-data : (words : List Word) (o : Order) (m : HostModel) → RunsPlainly words o →
-    product window_machine words m ≡ with_message (lines_answer (lines_counted o (word_at words o.file) (arguments words o) m))
-answers-data words o m h = order-run words o m h ∙ ap with_message (data-same words o (file_bytes source_pieces (word_at words o.file) m) h)
+report-has : (report : List Trace → List ℕ) → HasOutcome (λ (c : Counted). c.outcome) (reporting report)
+report-has report = record { without = λ outcome. refl; with_steps = λ outcome h. refl }
 
-pub ruleset answers = (answers-text, answers-data)
+mapped-same : (tetras : List ListedTetra) (x : CountAnswer Counted) → answer_by (λ (c : Counted). c.outcome) x ≡ answer_by (λ (c : CountedObject). c.outcome) (mapped (object_in tetras) x)
+mapped-same tetras (came_to c m) = refl
+mapped-same tetras (went_wild m) = refl
+
+loaded-same : (kind : MachineKind) (words : List Word) (o : Order) (bytes : List ℕ) (r : Result (Image × List Symbol) (ℕ × ℕ)) (m : HostModel) → RunsPlainly words o Sim →
+    begun_run kind o (started_after kind o.ring (arguments words o) (loaded r, m)) ≡ answer_by (λ (c : CountedObject). c.outcome) (loaded_with by_report kind o (arguments words o) bytes r m)
+loaded-same kind words o bytes (Err (place, fault)) m h = refl
+loaded-same kind words o bytes (Ok (image, symbols)) m h =
+    let tetras : List ListedTetra = tetras_at image symbols (addresses_of (items_in bytes)) in
+    image-same (λ (c : Counted). c.outcome) (reporting (report_on tetras)) (report-has (report_on tetras)) kind words o Sim h image m
+    ∙ mapped-same tetras (image_counted kind o (arguments words o) (reporting (report_on tetras)) image m)
+
+object-same : (kind : MachineKind) (words : List Word) (o : Order) (t : Then (Result (List ℕ) Outcome)) → RunsPlainly words o Sim →
+    begun_run kind o (started_after kind o.ring (arguments words o) (image_after Object t)) ≡ answer_by (λ (c : CountedObject). c.outcome) (object_read kind o (arguments words o) t)
+object-same kind words o (Err outcome, m) h = refl
+object-same kind words o (Ok bytes, m) h = loaded-same kind words o bytes (object_loaded bytes) m h
+
+pub answers-object : (kind : MachineKind) (words : List Word) (o : Order) (m : HostModel) → RunsPlainly words o Sim →
+    product kind words m ≡ with_message (answer_by (λ (c : CountedObject). c.outcome) (object_file kind words o m))
+answers-object kind words o m h = order-run kind words o Sim m h ∙ ap with_message (object-same kind words o (file_bytes object_pieces (word_at words o.file) m) h)
+
+pub ruleset answers = (answers-text, answers-data, answers-object)
 
 -- ---- the sheet
 
--- what a machine of this source comes to
-counted-is : (words : List Word) (o : Order) (source : List ℕ) (s : State) (m begun : HostModel) → StartsWith words o source s m begun →
-    file_counted o (word_at words o.file) (arguments words o) m ≡ machine_counted Text o.steps source s begun
-counted-is words o source s m begun h =
-    ap (source_counted o (arguments words o)) h.read
-    ∙ ap (λ r. meaning_counted Text o (arguments words o) source r begun) h.means
-    ∙ ap (λ r. start_counted Text o.steps source r begun) h.starts
+module _ (kind : MachineKind) (words : List Word) (o : Order) (source : List ℕ) (s : State) (m begun : HostModel) (starts : StartsWith kind words o source s m begun) where
+  -- what a machine of this source comes to
+  counted-is : source_file kind words o (in_form Text) m ≡ machine_counted kind o.steps (in_form Text source) s begun
+  counted-is =
+      ap (source_read kind o (arguments words o) (in_form Text)) starts.read
+      ∙ ap (λ r. meaning_counted kind o (arguments words o) (in_form Text source) r begun) starts.means
+      ∙ ap (λ r. start_counted kind o.steps (in_form Text source) r begun) starts.starts
 
--- the traces that watchers are told
-begun-traces-are : (words : List Word) (o : Order) (source : List ℕ) (s : State) (m begun : HostModel) → StartsWith words o source s m begun →
-    ordered_traces window_machine words o Run m ≡ order_traces window_machine o s begun
-begun-traces-are words o source s m begun h =
-    ap (λ t. begun_traces window_machine o (started_after window_machine o.ring (arguments words o) (image_after Source t))) h.read
-    ∙ ap (λ r. begun_traces window_machine o (started_after window_machine o.ring (arguments words o) (assembled r, begun))) h.means
-    ∙ ap (λ r. traces_from window_machine o r begun) h.starts
+  -- the traces that watchers are told
+  begun-traces-are : ordered_traces kind words o Run m ≡ order_traces kind o s begun
+  begun-traces-are =
+      ap (λ t. begun_traces kind o (started_after kind o.ring (arguments words o) (image_after Source t))) starts.read
+      ∙ ap (λ r. begun_traces kind o (started_after kind o.ring (arguments words o) (assembled r, begun))) starts.means
+      ∙ ap (λ r. traces_from kind o r begun) starts.starts
 
-plain-traces : (words : List Word) (o : Order) (s : State) (m : HostModel) → RunsPlainly words o → o.report ≡ true → order_traces window_machine o s m ≡ traces window_machine o.steps s m
-plain-traces words o s m h e = rw (h.interactive, h.last, e) refl
+  module _ (plain : RunsPlainly words o Run) (reports : o.report ≡ true) where
+    plain-traces : order_traces kind o s begun ≡ traces kind o.steps s begun
+    plain-traces = rw (plain.interactive, plain.last, reports) refl
 
-traces-are : (words : List Word) (o : Order) (source : List ℕ) (s : State) (m begun : HostModel) → RunsPlainly words o → o.report ≡ true → StartsWith words o source s m begun →
-    carried_traces window_machine words (order_of words) m ≡ traces window_machine o.steps s begun
-traces-are words o source s m begun h e w =
-    ap (λ r. carried_traces window_machine words r m) h.order
-    ∙ ap (λ (c : Command). ordered_traces window_machine words o c m) h.command
-    ∙ begun-traces-are words o source s m begun w
-    ∙ plain-traces words o s begun h e
+    traces-are : carried_traces kind words (order_of words) m ≡ traces kind o.steps s begun
+    traces-are =
+        ap (λ r. carried_traces kind words r m) plain.order
+        ∙ ap (λ (c : Command). ordered_traces kind words o c m) plain.command_is
+        ∙ begun-traces-are
+        ∙ plain-traces
 
-pub sheet-is : (words : List Word) (o : Order) (source : List ℕ) (s : State) (m begun : HostModel) → RunsPlainly words o → o.report ≡ true → StartsWith words o source s m begun →
-    (file_counted o (word_at words o.file) (arguments words o) m).0.sheet
-    ≡ Some (sheet_of source (carried_traces window_machine words (order_of words) m ++ halting_after (run o.steps no_flags false s begun)))
-sheet-is words o source s m begun h e w =
-    ap (λ (t : Then Counted). t.0.sheet) (counted-is words o source s m begun w)
-    ∙ ap (λ ts. Some (sheet_of source (ts ++ halting_after (run o.steps no_flags false s begun)))) (sym (traces-are words o source s m begun h e w))
+    sheet-with : (e : Ended) → ran kind o.steps s begun ≡ run_ended e → source_file kind words o (in_form Text) m
+        ≡ came_to (record { outcome = outcome_of o.steps e.end; sheet = Some (sheet_of source (carried_traces kind words (order_of words) m ++ halting_after e)) }) e.host
+    sheet-with e ended =
+        counted-is
+        ∙ ap (λ r. counted_to o.steps (in_form Text source) (traces kind o.steps s begun) r) ended
+        ∙ ap (λ h. came_to (record { outcome = outcome_of o.steps e.end; sheet = Some (sheet_of source (h ++ halting_after e)) }) e.host) (sym traces-are)
+
+pub sheet-is : (kind : MachineKind) (words : List Word) (o : Order) (source : List ℕ) (s : State) (m begun : HostModel) (e : Ended) → RunsPlainly words o Run → o.report ≡ true →
+    StartsWith kind words o source s m begun → ran kind o.steps s begun ≡ run_ended e → source_file kind words o (in_form Text) m
+    ≡ came_to (record { outcome = outcome_of o.steps e.end; sheet = Some (sheet_of source (carried_traces kind words (order_of words) m ++ halting_after e)) }) e.host
+sheet-is kind words o source s m begun e plain reports starts ended = sheet-with kind words o source s m begun starts plain reports e ended
 
 pub ruleset sheets = (sheet-is)

@@ -1,1 +1,2 @@
 pub mod CountedAnswers
+pub mod ReadAlike

@@ -1,37 +1,58 @@
 //! A run that is counted beside the run of the program.
 
-ghost use Rattle.std.specs.Prelude.{◌≡◌, ◌++◌, ℕ, List, Some, false, true};
+ghost use Rattle.std.specs.Prelude.{◌≡◌, ◌≤◌, ◌^◌, ◌++◌, ℕ, List, Ok, Some, length, true};
+ghost use Rattle.mx_files.specs.Source.{file_bytes, object_pieces, source_pieces};
 ghost use Rattle.mx_core.specs.State.{State};
+ghost use Rattle.mx_count.specs.Runs.{by_lines, came_to, halting_after, in_form, outcome_of, ran};
+ghost use Rattle.mx_count.specs.Sheets.{sheet_of};
+ghost use Rattle.mx_count.specs.declared.count.Counted.{Counted};
+ghost use Rattle.mx_count.specs.declared.counts.Form.TheVariants.{Text};
+ghost use Rattle.mx_count.specs.declared.lines.CountedLines.{CountedLines};
+ghost use Rattle.mx_object.specs.declared.counted.CountedObject.{CountedObject};
 ghost use Rattle.mx_host.specs.HostModel.{HostModel};
-ghost use Rattle.mx_run.specs.Runs.{no_flags, run};
-ghost use Rattle.mx_run.specs.WildRuns.{window_machine};
+ghost use Rattle.mx_run.specs.Runs.{Ended};
+ghost use Rattle.mx_run.specs.WildRuns.{MachineKind, run_ended};
 ghost use Rattle.mx_words.specs.Orders.{order_of};
+ghost use Rattle.mx_words.specs.declared.order.Command.TheVariants.{Run, Sim};
 ghost use Rattle.mx_words.specs.declared.order.Order.{Order};
-ghost use Rattle.mx_begin.specs.Arguments.{Word, word_at, arguments};
+ghost use Rattle.mx_begin.specs.Arguments.{Word};
 ghost use Rattle.mx_top.specs.Product.{product, with_message};
 ghost use Rattle.mx_top.specs.Reports.{carried_traces};
-ghost use Rattle.mx_count.specs.Runs.{file_counted, halting_after, lines_counted};
-ghost use Rattle.mx_count.specs.Sheets.{sheet_of};
-ghost use Rattle.law_counts.specs.Counted.{RunsPlainly, StartsWith, answer_of, lines_answer};
+ghost use Rattle.law_counts.specs.Counted.{RunsPlainly, StartsWith, answer_by, object_file, source_file};
 
-/// A source that is counted is run as the program runs it: the outcome, and all that the host then holds, its files and its
-/// output, are those that `mmixware run` comes to by the same words before its message.
+/// A source that is counted is run as the program runs it, and an object, too: the outcome, and all that the host then
+/// holds, its files and its output, are those that `mmixware run` and `mmixware sim` come to by the same words before
+/// their message. So it is over a ring of registers, and over an unbounded list of them.
 #[tactic(auto, using(crate::proofs::CountedAnswers::answers))]
 pub fn counts_run_as_the_program()
-    ensures text { (words : List Word) (o : Order) (m : HostModel) → RunsPlainly words o →
-        product window_machine words m ≡
-        with_message (answer_of (file_counted o (word_at words o.file) (arguments words o) m)) }
-    ensures data { (words : List Word) (o : Order) (m : HostModel) → RunsPlainly words o →
-        product window_machine words m ≡
-        with_message (lines_answer (lines_counted o (word_at words o.file) (arguments words o) m)) }
+    ensures text { (kind : MachineKind) (words : List Word) (o : Order) (m : HostModel) → RunsPlainly words o Run →
+        product kind words m ≡
+        with_message (answer_by (λ (c : Counted). c.outcome) (source_file kind words o (in_form Text) m)) }
+    ensures data { (kind : MachineKind) (words : List Word) (o : Order) (m : HostModel) → RunsPlainly words o Run →
+        product kind words m ≡
+        with_message (answer_by (λ (c : CountedLines). c.outcome) (source_file kind words o by_lines m)) }
+    ensures object { (kind : MachineKind) (words : List Word) (o : Order) (m : HostModel) → RunsPlainly words o Sim →
+        product kind words m ≡
+        with_message (answer_by (λ (c : CountedObject). c.outcome) (object_file kind words o m)) }
 {}
 
-/// Its sheet is that of the traces that watchers of this run are told with `--report`, and of the step that halts.
+/// Its sheet is that of the traces that watchers of this run are told with `--report`, and of the step that halts: over a
+/// ring of registers, and, where the run meets nothing wild and so ends, over an unbounded list of them.
 #[tactic(auto, using(crate::proofs::CountedAnswers::sheets))]
 pub fn counts_go_by_the_traces_of_their_runs()
-    ensures { (words : List Word) (o : Order) (source : List ℕ) (s : State) (m begun : HostModel) →
-        RunsPlainly words o → o.report ≡ true → StartsWith words o source s m begun →
-        (file_counted o (word_at words o.file) (arguments words o) m).0.sheet
-        ≡ Some (sheet_of source (carried_traces window_machine words (order_of words) m
-        ++ halting_after (run o.steps no_flags false s begun))) }
+    ensures { (kind : MachineKind) (words : List Word) (o : Order) (source : List ℕ) (s : State) (m begun : HostModel)
+        (e : Ended) → RunsPlainly words o Run → o.report ≡ true → StartsWith kind words o source s m begun →
+        ran kind o.steps s begun ≡ run_ended e →
+        source_file kind words o (in_form Text) m ≡ came_to (record {
+          outcome = outcome_of o.steps e.end;
+          sheet = Some (sheet_of source (carried_traces kind words (order_of words) m ++ halting_after e));
+        }) e.host }
+{}
+
+/// A source of at most 2^22 bytes, which is the most that is not refused, is read alike by `mmixview count`, which takes up
+/// to as many bytes as an object may have, and by `mmixware run`.
+#[tactic(auto, using(crate::proofs::ReadAlike::alike))]
+pub fn sources_are_read_alike()
+    ensures { (name source : List ℕ) (m n : HostModel) → length source ≤ 2 ^ 22 →
+        file_bytes source_pieces name m ≡ (Ok source, n) → file_bytes object_pieces name m ≡ (Ok source, n) }
 {}

@@ -3,4 +3,6 @@
 
 mod laws;
 
-pub use laws::{counts_go_by_the_traces_of_their_runs, counts_run_as_the_program};
+pub use laws::{
+    counts_go_by_the_traces_of_their_runs, counts_run_as_the_program, sources_are_read_alike,
+};

@@ -94,7 +94,7 @@ run-count zero s m = none-later s.steps s.steps (counted []) refl counted-none
 run-count (suc n) s m = after-count n s.pc s (turn s m) (turn-count s m) (λ u k. run-count n u k)
 
 pub all-counted : (n : ℕ) (s : State) (m : HostModel) →
-    (run n no_flags false s m).state.steps % 2 ^ 64 ≡ (s.steps + (tally_in (λ a. true) (steps_counted n s m)).times) % 2 ^ 64
+    (run n no_flags false s m).state.steps % 2 ^ 64 ≡ (s.steps + (tally_in (λ a. true) (steps_counted window_machine n s m)).times) % 2 ^ 64
 all-counted n s m = run-count n s m
 
 pub ruleset counting = (all-counted)

@@ -1,24 +1,23 @@
 -- A run of few steps has tallies that its octas hold.
-use Rattle.std.proofs.Common.{◌≡◌, ℕ, zero, suc, ◌*◌, ◌+◌, ◌≤◌, ◌^◌, ◌==◌, ◌||◌, Bool, true, false, cond, List, [], ◌∷◌, length, length-append, Result, Ok, Err, arith, refl, ap}
-use Rattle.mx_host.specs.HostAnswer.{Then}
+use Rattle.std.proofs.Common.{◌≡◌, ℕ, zero, suc, ◌*◌, ◌+◌, ◌≤◌, ◌^◌, ◌==◌, ◌||◌, Bool, true, false, cond, List, [], ◌∷◌, length, length-append, Result, Ok, Err, Some, arith, refl, ap}
 use Rattle.mx_host.specs.HostModel.{HostModel}
 use Rattle.mx_mmo.specs.Image.{Image}
 use Rattle.mx_core.specs.State.{State}
 use Rattle.mx_code.specs.declared.trace.Trace.{Trace}
-use Rattle.mx_run.specs.Runs.{no_flags, run}
 use Rattle.mx_run.specs.Turns.{Turn, went_on, halts, stops, turn}
-use Rattle.mx_run.specs.WildRuns.{MachineKind, window_machine, ends_wild}
+use Rattle.mx_run.specs.WildRuns.{MachineKind, RunEnd, run_ended, run_wild, ends_wild}
 use Rattle.mx_watch.specs.Traces.{traces, traces_after}
 use Rattle.mx_words.specs.declared.order.Order.{Order}
-use Rattle.mx_files.specs.Source.{file_bytes, source_pieces}
+use Rattle.mx_files.specs.Assembling.{refused_with}
 use Rattle.mx_files.specs.Sources.{source_meaning}
 use Rattle.mx_files.specs.declared.refusal.Refusal.{Refusal}
 use Rattle.mx_outcome.specs.declared.outcome.Outcome.{Outcome}
 use Rattle.mx_begin.specs.Begun.{started}
 use Rattle.mx_costs.specs.Costs.{is_within, oops, mems}
-use Rattle.mx_count.specs.Reports.{HasOctas}
-use Rattle.mx_count.specs.Runs.{as_data, halting_after, halting_step, is_halted, lines_as, lines_counted, lines_traced, machine_counted, machine_traced, meaning_counted, meaning_traced, source_lines, source_traced, start_counted, start_traced, steps_counted}
+use Rattle.mx_count.specs.Reports.{HasOctas, report_of}
+use Rattle.mx_count.specs.Runs.{Making, by_lines, came_to, counted_to, data_of, halting_after, halting_in, halting_step, image_counted, in_form, is_halted, mapped, meaning_counted, outcome_of, ran, reporting, source_counted, start_counted, steps_counted, uncounted}
 use Rattle.mx_count.specs.Tallies.{added, code_in, goes_away, nothing, tally_in}
+use Rattle.mx_count.specs.declared.count.Counted.{Counted}
 use Rattle.mx_count.specs.declared.counts.Form.TheVariants.{Octas}
 use Rattle.mx_count.specs.declared.tally.Tally.{Tally}
 use Rattle.mx_count.proofs.ReadSheets.{read-back}
@@ -92,38 +91,56 @@ one-if : (b : Bool) (t : Trace) → length (cond b (t ∷ []) []) ≤ 1
 one-if true t = omega arith
 one-if false t = omega arith
 
-pub run-fits : (steps : ℕ) (s : State) (m : HostModel) → steps ≤ 10 ^ 12 → HasOctas (tally_in (λ a. true) (steps_counted steps s m))
-run-fits steps s m few =
-    let h = steps_counted steps s m in
-    let e = run steps no_flags false s m in
-    let length-few : length h ≤ 10 ^ 12 + 1 =
-    omega (arith, traces-few window_machine steps s m, one-if (is_halted e.end) (halting_step e.state.pc), length-append (traces window_machine steps s m) (halting_after e), few) in
+one-halting : (r : RunEnd) → length (halting_in r) ≤ 1
+one-halting (run_ended e) = one-if (is_halted e.end) (halting_step e.state.pc)
+one-halting (run_wild m) = omega arith
+
+few-fit : (h : List Trace) → length h ≤ 10 ^ 12 + 1 → HasOctas (tally_in (λ a. true) h)
+few-fit h few =
     let y = all-few h in
     record {
-      times = omega (arith, y.times, length-few);
-      away = omega (arith, y.away, length-few);
-      oops = omega (arith, y.oops, length-few);
-      mems = omega (arith, y.mems, length-few);
+      times = omega (arith, y.times, few);
+      away = omega (arith, y.away, few);
+      oops = omega (arith, y.oops, few);
+      mems = omega (arith, y.mems, few);
     }
 
--- ---- what is read is what was counted
+run-fits : (kind : MachineKind) (steps : ℕ) (s : State) (m : HostModel) → steps ≤ 10 ^ 12 → HasOctas (tally_in (λ a. true) (steps_counted kind steps s m))
+run-fits kind steps s m few =
+    few-fit (steps_counted kind steps s m)
+    (omega (arith, traces-few kind steps s m, one-halting (ran kind steps s m), length-append (traces kind steps s m) (halting_in (ran kind steps s m)), few))
 
-machine-same : (steps : ℕ) (source : List ℕ) (s : State) (m : HostModel) → steps ≤ 10 ^ 12 → as_data source (machine_counted Octas steps source s m) ≡ machine_traced steps source s m
-machine-same steps source s m few =
-    ap (λ sheet. lines_as steps sheet (run steps no_flags false s m)) (read-back source (steps_counted steps s m) (run-fits steps s m few))
+-- ---- what is made of a report is what is made of the steps
 
-module _ (o : Order) (arguments : List (List ℕ)) (few : o.steps ≤ 10 ^ 12) where
-  start-same : (source : List ℕ) (r : Result State Outcome) (m : HostModel) → as_data source (start_counted Octas o.steps source r m) ≡ start_traced o.steps source r m
-  start-same source (Err outcome) m = refl
-  start-same source (Ok s) m = machine-same o.steps source s m few
+-- of so many as the tallies in octas hold
+pub record Remakes {A : Type 0} (f : Counted → A) (report : List Trace → List ℕ) (making : Making A) : Type 0 where
+  pub without : (outcome : Outcome) → f (uncounted outcome) ≡ making.without outcome
+  pub with_steps : (outcome : Outcome) (h : List Trace) → HasOctas (tally_in (λ a. true) h) → f (record { outcome = outcome; sheet = Some (report h) }) ≡ making.with_steps outcome h
 
-  meaning-same : (source : List ℕ) (r : Result Image Refusal) (m : HostModel) → as_data source (meaning_counted Octas o arguments source r m) ≡ meaning_traced o arguments source r m
-  meaning-same source (Err refusal) m = refl
-  meaning-same source (Ok image) m = start-same source (started window_machine o.ring image arguments) m
+module _ {A : Type 0} (f : Counted → A) (report : List Trace → List ℕ) (making : Making A) (same : Remakes f report making) where
+  ended-same : (steps : ℕ) (h : List Trace) (r : RunEnd) → HasOctas (tally_in (λ a. true) (h ++ halting_in r)) → mapped f (counted_to steps (reporting report) h r) ≡ counted_to steps making h r
+  ended-same steps h (run_ended e) fit = ap (λ x. came_to x e.host) (same.with_steps (outcome_of steps e.end) (h ++ halting_after e) fit)
+  ended-same steps h (run_wild m) fit = refl
 
-  source-same : (t : Then (Result (List ℕ) Outcome)) → source_lines o arguments t ≡ source_traced o arguments t
-  source-same (Err outcome, m) = refl
-  source-same (Ok source, m) = meaning-same source (source_meaning source) m
+  module _ (kind : MachineKind) (o : Order) (arguments : List (List ℕ)) (few : o.steps ≤ 10 ^ 12) where
+    start-same : (r : Result State Outcome) (m : HostModel) → mapped f (start_counted kind o.steps (reporting report) r m) ≡ start_counted kind o.steps making r m
+    start-same (Err outcome) m = ap (λ x. came_to x m) (same.without outcome)
+    start-same (Ok s) m = ended-same o.steps (traces kind o.steps s m) (ran kind o.steps s m) (run-fits kind o.steps s m few)
 
-pub lines-same : (o : Order) (name : List ℕ) (arguments : List (List ℕ)) (m : HostModel) → o.steps ≤ 10 ^ 12 → lines_counted o name arguments m ≡ lines_traced o name arguments m
-lines-same o name arguments m few = source-same o arguments few (file_bytes source_pieces name m)
+    pub image-same : (image : Image) (m : HostModel) → mapped f (image_counted kind o arguments (reporting report) image m) ≡ image_counted kind o arguments making image m
+    image-same image m = start-same (started kind o.ring image arguments) m
+
+    pub meaning-same : (r : Result Image Refusal) (m : HostModel) → mapped f (meaning_counted kind o arguments (reporting report) r m) ≡ meaning_counted kind o arguments making r m
+    meaning-same (Err refusal) m = ap (λ x. came_to x m) (same.without (refused_with refusal))
+    meaning-same (Ok image) m = image-same image m
+
+lines-remade : (source : List ℕ) → Remakes (data_of source) (report_of Octas source) (by_lines source)
+lines-remade source = record {
+  without = λ outcome. refl;
+  with_steps = λ outcome h fit. λ i. record { outcome = outcome; sheet = Some (read-back source h fit i) };
+}
+
+pub lines-same : (kind : MachineKind) (o : Order) (arguments : List (List ℕ)) (source : List ℕ) (m : HostModel) → o.steps ≤ 10 ^ 12 →
+    mapped (data_of source) (source_counted kind o arguments (in_form Octas source) source m) ≡ source_counted kind o arguments (by_lines source) source m
+lines-same kind o arguments source m few =
+    meaning-same (data_of source) (report_of Octas source) (by_lines source) (lines-remade source) kind o arguments few (source_meaning source) m

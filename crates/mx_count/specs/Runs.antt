@@ -1,22 +1,26 @@
--- What a source comes to that is run and counted: the outcome, the host as it then stands, and the sheet where a machine ran, as a text or
--- as data.
-use Rattle.std.specs.Prelude.{ℕ, ◌≡◌, ◌≢◌, ◌+◌, IsTrue, Bool, true, false, if◌then◌else◌, List, [], ◌∷◌, ◌++◌, Option, None, Some, Result, Ok, Err}
+-- What a source comes to that is run and counted: the outcome, the host as it then is, and the sheet where a machine ran, as a text or
+-- as data. The machine is that over a ring of registers, or that over an unbounded list, which goes no further where it meets something
+-- wild.
+use Rattle.std.specs.Prelude.{ℕ, ◌≡◌, ◌≢◌, ◌≤◌, ◌+◌, ◌*◌, IsTrue, Bool, true, false, if◌then◌else◌, List, [], ◌∷◌, ◌++◌, length, Option, None, Some, Result, Ok, Err}
+use Rattle.mx_word.specs.Lists.{IsFront}
 use Rattle.mx_host.specs.HostModel.{HostModel, tells, contents}
-use Rattle.mx_host.specs.HostAnswer.{Then}
 use Rattle.mx_mmo.specs.Image.{Image}
+use Rattle.mx_ring.specs.Stack.{stack_address}
 use Rattle.mx_core.specs.State.{State}
 use Rattle.mx_code.specs.declared.trace.Trace.{Trace}
+use Rattle.mx_start.specs.Start.{pool, pool_octas}
+use Rattle.mx_run.specs.AccompaniedRuns.{list_run}
 use Rattle.mx_run.specs.Runs.{Ended, ended, no_flags, run}
-use Rattle.mx_run.specs.WildRuns.{window_machine}
+use Rattle.mx_run.specs.WildRuns.{MachineKind, window_machine, list_machine, RunEnd, run_ended, run_wild, run_by}
 use Rattle.mx_run.specs.declared.end.End.{End}
 use Rattle.mx_run.specs.declared.end.End.TheVariants as ending
 use Rattle.mx_watch.specs.Traces.{traces}
+use Rattle.mx_watch.specs.WatchedRuns.{list_traces}
 use Rattle.mx_watch.specs.Watching.{Watching}
 use Rattle.mx_words.specs.declared.order.Order.{Order}
 use Rattle.mx_word.specs.declared.no_memory.NoMemory.{NoMemory}
 use Rattle.mx_begin.specs.Begun.{started}
 use Rattle.mx_files.specs.Assembling.{refused_with}
-use Rattle.mx_files.specs.Source.{file_bytes, source_pieces}
 use Rattle.mx_files.specs.Sources.{source_meaning}
 use Rattle.mx_files.specs.declared.refusal.Refusal.{Refusal}
 use Rattle.mx_outcome.specs.declared.outcome.Outcome.{Outcome}
@@ -27,7 +31,6 @@ use Rattle.mx_count.specs.Sheets.{sheet_data}
 use Rattle.mx_count.specs.Tallies.{tally_in}
 use Rattle.mx_count.specs.declared.count.Counted.{Counted}
 use Rattle.mx_count.specs.declared.counts.Form.{Form}
-use Rattle.mx_count.specs.declared.counts.Form.TheVariants.{Octas, Text}
 use Rattle.mx_count.specs.declared.lines.CountedLines.{CountedLines}
 use Rattle.mx_count.specs.declared.lines.LineSheet.{LineSheet}
 
@@ -42,6 +45,11 @@ outcome_of steps (ending.Traced trace) = OutOfMemory
 outcome_of steps ending.Spent = StepsSpent steps
 outcome_of steps ending.OutOfMemory = OutOfMemory
 
+-- what a run of at most n steps comes to: that of the window always ends
+abbrev pub ran : MachineKind → ℕ → State → HostModel → RunEnd
+ran window_machine n s m = run_ended (run n no_flags false s m)
+ran list_machine n s m = run_by list_machine n no_flags false s m
+
 -- ---- the steps that are counted
 
 -- the step of a program that halts at an address: it has no trace, and is counted as the TRAP 0,Halt,0 that it is
@@ -55,106 +63,129 @@ is_halted end = false
 abbrev pub halting_steps : End → ℕ → List Trace
 halting_steps end pc = if is_halted end then halting_step pc ∷ [] else []
 
--- a program that halts stands where it halted
+-- a program that halts is where it halted
 abbrev pub halting_after : Ended → List Trace
 halting_after e = halting_steps e.end e.state.pc
 
--- those of a run of at most n steps: its traces, and behind them the step that halts
-abbrev pub steps_counted : ℕ → State → HostModel → List Trace
-steps_counted n s m = traces window_machine n s m ++ halting_after (run n no_flags false s m)
+abbrev pub halting_in : RunEnd → List Trace
+halting_in (run_ended e) = halting_after e
+halting_in (run_wild m) = []
+
+-- those of a run of at most n steps of the machine of a kind: its traces, and after them the step that halts
+abbrev pub steps_counted : MachineKind → ℕ → State → HostModel → List Trace
+steps_counted kind n s m = traces kind n s m ++ halting_in (ran kind n s m)
 
 -- ---- what is counted
 
--- an outcome without a sheet
-abbrev pub uncounted : Outcome → HostModel → Then Counted
-uncounted outcome m = (record { outcome = outcome; sheet = None }, m)
+-- what comes of a run that is counted, with the host as it then is; or, over the list machine, the host at the first turn that looks
+-- at rS or at the memory of the register stack
+pub data CountAnswer (A : Type 0) : Type 0 where
+  came_to : A → HostModel → CountAnswer A
+  went_wild : HostModel → CountAnswer A
 
--- the report has the steps of the run
-abbrev pub counted_as : ℕ → List ℕ → Ended → Then Counted
-counted_as steps sheet e = (record { outcome = outcome_of steps e.end; sheet = Some sheet }, e.host)
+-- a function of what comes of it
+abbrev pub mapped : {A B : Type 0} → (A → B) → CountAnswer A → CountAnswer B
+mapped f (came_to x m) = came_to (f x) m
+mapped f (went_wild m) = went_wild m
 
-abbrev pub machine_counted : Form → ℕ → List ℕ → State → HostModel → Then Counted
-machine_counted form steps source s m =
-    counted_as steps (report_of form source (steps_counted steps s m)) (run steps no_flags false s m)
+-- what is made of an outcome: where no machine ran, and where one did and these steps are counted
+pub record Making (A : Type 0) : Type 0 where
+  pub without : Outcome → A
+  pub with_steps : Outcome → List Trace → A
 
-abbrev pub start_counted : Form → ℕ → List ℕ → Result State Outcome → HostModel → Then Counted
-start_counted form steps source (Err outcome) m = uncounted outcome m
-start_counted form steps source (Ok s) m = machine_counted form steps source s m
+-- a run of these traces that comes to this
+abbrev pub counted_to : {A : Type 0} → ℕ → Making A → List Trace → RunEnd → CountAnswer A
+counted_to steps making h (run_ended e) = came_to (making.with_steps (outcome_of steps e.end) (h ++ halting_after e)) e.host
+counted_to steps making h (run_wild m) = went_wild m
+
+abbrev pub machine_counted : {A : Type 0} → MachineKind → ℕ → Making A → State → HostModel → CountAnswer A
+machine_counted kind steps making s m = counted_to steps making (traces kind steps s m) (ran kind steps s m)
+
+abbrev pub start_counted : {A : Type 0} → MachineKind → ℕ → Making A → Result State Outcome → HostModel → CountAnswer A
+start_counted kind steps making (Err outcome) m = came_to (making.without outcome) m
+start_counted kind steps making (Ok s) m = machine_counted kind steps making s m
+
+-- an image is run with these arguments, on the ring and for the steps of an order
+abbrev pub image_counted : {A : Type 0} → MachineKind → Order → List (List ℕ) → Making A → Image → HostModel → CountAnswer A
+image_counted kind o arguments making image m = start_counted kind o.steps making (started kind o.ring image arguments) m
 
 -- a source is refused, or its image is run
-abbrev pub meaning_counted : Form → Order → List (List ℕ) → List ℕ → Result Image Refusal → HostModel → Then Counted
-meaning_counted form o arguments source (Err refusal) m = uncounted (refused_with refusal) m
-meaning_counted form o arguments source (Ok image) m = start_counted form o.steps source (started window_machine o.ring image arguments) m
+abbrev pub meaning_counted : {A : Type 0} → MachineKind → Order → List (List ℕ) → Making A → Result Image Refusal → HostModel → CountAnswer A
+meaning_counted kind o arguments making (Err refusal) m = came_to (making.without (refused_with refusal)) m
+meaning_counted kind o arguments making (Ok image) m = image_counted kind o arguments making image m
 
-abbrev pub source_counted : Order → List (List ℕ) → Then (Result (List ℕ) Outcome) → Then Counted
-source_counted o arguments (Err outcome, m) = uncounted outcome m
-source_counted o arguments (Ok source, m) = meaning_counted Text o arguments source (source_meaning source) m
+abbrev pub source_counted : {A : Type 0} → MachineKind → Order → List (List ℕ) → Making A → List ℕ → HostModel → CountAnswer A
+source_counted kind o arguments making source m = meaning_counted kind o arguments making (source_meaning source) m
 
--- the source in the file of this name is run and counted, with the ring and the steps of an order
-abbrev pub file_counted : Order → List ℕ → List (List ℕ) → HostModel → Then Counted
-file_counted o name arguments m = source_counted o arguments (file_bytes source_pieces name m)
+-- ---- the sheet as a report
 
--- ---- the same as data
+abbrev pub uncounted : Outcome → Counted
+uncounted outcome = record { outcome = outcome; sheet = None }
+
+abbrev pub reporting : (List Trace → List ℕ) → Making Counted
+reporting report = record {
+  without = λ outcome. uncounted outcome;
+  with_steps = λ outcome h. record { outcome = outcome; sheet = Some (report h) };
+}
+
+-- that of a source, in one of its forms
+abbrev pub in_form : Form → List ℕ → Making Counted
+in_form form source = reporting (report_of form source)
+
+-- ---- the sheet as data: read from a report in octas, and in words of the steps alone
 
 abbrev pub data_in : List ℕ → Option (List ℕ) → Option LineSheet
 data_in source None = None
 data_in source (Some report) = Some (report_data source report)
 
--- what was counted of a source, whose report has octas
 abbrev pub data_of : List ℕ → Counted → CountedLines
 data_of source counted = record { outcome = counted.outcome; sheet = data_in source counted.sheet }
 
-abbrev pub as_data : List ℕ → Then Counted → Then CountedLines
-as_data source counted = (data_of source counted.0, counted.1)
-
-abbrev pub source_lines : Order → List (List ℕ) → Then (Result (List ℕ) Outcome) → Then CountedLines
-source_lines o arguments (Err outcome, m) = (record { outcome = outcome; sheet = None }, m)
-source_lines o arguments (Ok source, m) = as_data source (meaning_counted Octas o arguments source (source_meaning source) m)
-
-abbrev pub lines_counted : Order → List ℕ → List (List ℕ) → HostModel → Then CountedLines
-lines_counted o name arguments m = source_lines o arguments (file_bytes source_pieces name m)
-
--- ---- the same data, in words of the steps alone
-
--- an outcome without a sheet
-abbrev pub untraced : Outcome → HostModel → Then CountedLines
-untraced outcome m = (record { outcome = outcome; sheet = None }, m)
-
-abbrev pub lines_as : ℕ → LineSheet → Ended → Then CountedLines
-lines_as steps sheet e = (record { outcome = outcome_of steps e.end; sheet = Some sheet }, e.host)
-
 -- each line has the tally of the steps at the tetras that it loads
-abbrev pub machine_traced : ℕ → List ℕ → State → HostModel → Then CountedLines
-machine_traced steps source s m =
-    lines_as steps (sheet_data source (loads_of source) (λ test. tally_in test (steps_counted steps s m))) (run steps no_flags false s m)
-
-abbrev pub start_traced : ℕ → List ℕ → Result State Outcome → HostModel → Then CountedLines
-start_traced steps source (Err outcome) m = untraced outcome m
-start_traced steps source (Ok s) m = machine_traced steps source s m
-
-abbrev pub meaning_traced : Order → List (List ℕ) → List ℕ → Result Image Refusal → HostModel → Then CountedLines
-meaning_traced o arguments source (Err refusal) m = untraced (refused_with refusal) m
-meaning_traced o arguments source (Ok image) m = start_traced o.steps source (started window_machine o.ring image arguments) m
-
-abbrev pub source_traced : Order → List (List ℕ) → Then (Result (List ℕ) Outcome) → Then CountedLines
-source_traced o arguments (Err outcome, m) = untraced outcome m
-source_traced o arguments (Ok source, m) = meaning_traced o arguments source (source_meaning source) m
-
-abbrev pub lines_traced : Order → List ℕ → List (List ℕ) → HostModel → Then CountedLines
-lines_traced o name arguments m = source_traced o arguments (file_bytes source_pieces name m)
+abbrev pub by_lines : List ℕ → Making CountedLines
+by_lines source = record {
+  without = λ outcome. record { outcome = outcome; sheet = None };
+  with_steps = λ outcome h. record { outcome = outcome; sheet = Some (sheet_data source (loads_of source) (λ test. tally_in test h)) };
+}
 
 -- ---- the words of clauses: `old` and `new` are what the host told before and after
 
--- over a host that tells its contents, what is counted and what the host then holds are those of f, unless out of memory
-abbrev pub CountsAs : Option HostModel → Option HostModel → Counted → (HostModel → Then Counted) → Type 0
-CountsAs old new result f = IsTrue (tells old) → result.outcome ≢ OutOfMemory → (result, contents new) ≡ f (contents old)
+-- arguments of a program: there is argument 0, and they fit the pool segment
+abbrev pub AreArguments : List (List ℕ) → Type 0
+AreArguments arguments = (1 ≤ length arguments) × (pool + 8 * length (pool_octas arguments) ≤ stack_address 0)
 
-abbrev pub LinesCountAs : Option HostModel → Option HostModel → CountedLines → (HostModel → Then CountedLines) → Type 0
-LinesCountAs old new result f = IsTrue (tells old) → result.outcome ≢ OutOfMemory → (result, contents new) ≡ f (contents old)
+-- over a host that tells its contents, what is counted and what the host then holds are those of f, unless out of memory; this is the
+-- outcome of what is counted
+abbrev pub CountsAs : {A : Type 0} → Option HostModel → Option HostModel → Outcome → A → (HostModel → CountAnswer A) → Type 0
+CountsAs old new outcome result f = IsTrue (tells old) → outcome ≢ OutOfMemory → came_to result (contents new) ≡ f (contents old)
 
--- over a host that tells its contents, a run of at most n steps ends so, and a watcher has this report on its steps
+-- the same, up to what is wild: there standard output begins with what was written before
+abbrev pub GoesAs : {A : Type 0} → CountAnswer A → A → HostModel → Type 0
+GoesAs (came_to x m) result new = (result ≡ x) × (new ≡ m)
+GoesAs (went_wild m) result new = IsFront m.output new.output
+
+abbrev pub CountsAsList : {A : Type 0} → Option HostModel → Option HostModel → Outcome → A → (HostModel → CountAnswer A) → Type 0
+CountsAsList old new outcome result f = IsTrue (tells old) → outcome ≢ OutOfMemory → GoesAs (f (contents old)) result (contents new)
+
+-- both: they are those of f, and over the list machine those of g
+abbrev pub CountsBoth : {A : Type 0} → Option HostModel → Option HostModel → Outcome → A → (HostModel → CountAnswer A) → (HostModel → CountAnswer A) → Type 0
+CountsBoth old new outcome result f g = CountsAs old new outcome result f × CountsAsList old new outcome result g
+
+-- the same, where what comes of it is told by the kind of machine
+abbrev pub CountsByKind : {A : Type 0} → Option HostModel → Option HostModel → Outcome → A → (MachineKind → HostModel → CountAnswer A) → Type 0
+CountsByKind old new outcome result f = CountsBoth old new outcome result (f window_machine) (f list_machine)
+
+-- a run ends as this one does, and a watcher has this report on these traces and on the step that halts; where that one is wild, standard
+-- output begins with what it had written
+abbrev pub EndsAsReported : Watching → List Trace → RunEnd → End → HostModel → List ℕ → Type 0
+EndsAsReported w h (run_ended e) end new text = (end ≡ e.end) × (new ≡ e.host) × (text ≡ w.text (h ++ halting_after e))
+EndsAsReported w h (run_wild m) end new text = IsFront m.output new.output
+
+-- over a host that tells its contents, a run of at most n steps ends so, and a watcher has this report on its steps; and, from a state
+-- where nothing was touched, so it is of the list machine
 abbrev pub EndsReported : Option HostModel → Option HostModel → State → State → ℕ → Watching → Result (End × List ℕ) NoMemory → Type 0
 EndsReported old new before after n w (Err e) = Unit {0}
 EndsReported old new before after n w (Ok (end, text)) =
     IsTrue (tells old) → (ended end after (contents new) ≡ run n no_flags false before (contents old))
-    × (text ≡ w.text (steps_counted n before (contents old)))
+    × (text ≡ w.text (steps_counted window_machine n before (contents old)))
+    × (before.touched ≡ false → EndsAsReported w (list_traces old before n) (list_run old before n) end (contents new) text)

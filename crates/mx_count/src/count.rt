@@ -1,26 +1,24 @@
-//! A source that is run and counted.
+//! A source or an image that is run and counted.
 
-ghost use Rattle.std.specs.Prelude.{◌≡◌, ◌≢◌, ◌≤◌, Err, length};
+ghost use Rattle.std.specs.Prelude.{◌≡◌, ◌≢◌, false};
+ghost use Rattle.mx_core.specs.Bounds.{as_list_state};
 ghost use Rattle.mx_core.specs.Kept.{state_of};
-ghost use Rattle.mx_host.specs.Keeping.{ComesByFault, Keeps, OnlyByFailure};
+ghost use Rattle.mx_host.specs.Keeping.{Keeps};
 ghost use Rattle.mx_load.specs.Kept.{image_of};
-ghost use Rattle.mx_word.specs.Results.{map_ok};
-ghost use Rattle.mx_begin.specs.Begun.{started};
-ghost use Rattle.mx_files.specs.Sources.{source_meaning};
-ghost use Rattle.mx_run.specs.WildRuns.{window_machine};
+ghost use Rattle.mx_run.specs.WildRuns.{list_machine, window_machine};
 ghost use Rattle.mx_count.specs.Runs as spec;
-ghost use Rattle.mx_count.specs.Runs.{CountsAs};
+ghost use Rattle.mx_count.specs.Runs.{AreArguments, CountsBoth, CountsByKind, reporting};
 
 use crate::counts::{Counts, Form};
 use crate::watched::run_counted;
+use mx_begin::start;
 use mx_core::Machine;
-use mx_files::{SOURCE_PIECES, SourceFault, load_source, read_file};
+use mx_files::{SourceFault, load_source};
 use mx_host::Host;
 use mx_load::Image;
 use mx_outcome::Outcome;
-use mx_ring::RingSize;
 use mx_run::End;
-use mx_start::StartFault;
+use mx_watch::Watcher;
 use mx_word::Bytes;
 use mx_words::Order;
 use std::alloc::Global;
@@ -35,7 +33,7 @@ pub struct Counted {
 
 /// An outcome without a sheet.
 fn uncounted(outcome: Outcome) -> Counted
-    ensures { result ≡ record { outcome = outcome; sheet = None } }
+    ensures { result ≡ spec.uncounted outcome }
 {
     Counted {
         outcome,
@@ -44,7 +42,7 @@ fn uncounted(outcome: Outcome) -> Counted
 }
 
 /// The outcome of a run of at most so many steps, by its end. Without flags a run does not break.
-pub fn outcome_of(steps: u64, end: End) -> Outcome
+fn outcome_of(steps: u64, end: End) -> Outcome
     ensures value { result ≡ spec.outcome_of steps end }
     ensures well { result ≢ Outcome.HostFault }
     ensures present { result ≢ Outcome.NoFile }
@@ -57,47 +55,25 @@ pub fn outcome_of(steps: u64, end: End) -> Outcome
     }
 }
 
-/// The machine of an image with these arguments at its start, or the outcome where the pages are full.
-pub fn start(
-    alloc: Global,
-    image: Image,
-    arguments: &[Bytes],
-    ring: RingSize,
-) -> Result<Machine, Outcome>
-    requires { 1 ≤ length arguments.now }
-    ensures window { result ≢ Err Outcome.OutOfMemory → map_ok state_of result
-        ≡ started window_machine ring (image_of image) arguments.now }
-    ensures well { result ≢ Err Outcome.HostFault }
-    ensures present { result ≢ Err Outcome.NoFile }
-{
-    let pc = image.global(255) / 4 * 4;
-    match mx_start::start(alloc, image, arguments, ring) {
-        Ok(machine) => Ok(machine),
-        Err(StartFault::PagesFull) => Err(Outcome::Stopped { pc, reason: 118 }),
-        Err(StartFault::OutOfMemory) => Err(Outcome::OutOfMemory),
-    }
-}
-
-/// Makes the steps of a machine that was started, and counts them.
+/// Makes the steps of a machine that was started, and has them counted.
 fn count_machine<H: Host>(
     alloc: Global,
     host: &mut H,
-    form: Form,
     steps: u64,
     machine: Machine,
-    source: &[u8],
+    counts: Counts,
 ) -> Counted
-    ensures told { CountsAs (H.told host.old) (H.told host.new) result
-        (λ m. spec.machine_counted form steps source.now (state_of machine) m) }
+    requires { (state_of machine).touched ≡ false }
+    ensures told { CountsBoth (H.told host.old) (H.told host.new) result.outcome result
+        (λ m. spec.machine_counted window_machine steps (reporting (⟦<Counts as Watcher>⟧.meaning counts).text)
+        (state_of machine) m)
+        (λ m. spec.machine_counted list_machine steps (reporting (⟦<Counts as Watcher>⟧.meaning counts).text)
+        (as_list_state (state_of machine)) m) }
     ensures well { result.outcome ≢ Outcome.HostFault }
     ensures present { result.outcome ≢ Outcome.NoFile }
     ensures keeps { Keeps (H.told host.old) (H.told host.new) (H.faults host.old) (H.faults host.new) }
 {
     let mut machine = machine;
-    let counts = match Counts::with_form(alloc, form, source) {
-        Ok(counts) => counts,
-        Err(_) => return uncounted(Outcome::OutOfMemory),
-    };
     match run_counted(alloc, host, &mut machine, steps, counts) {
         Ok((end, sheet)) => Counted {
             outcome: outcome_of(steps, end),
@@ -107,8 +83,36 @@ fn count_machine<H: Host>(
     }
 }
 
-/// Runs an image from its start, with these arguments, and counts the steps by the lines of its source.
-fn count_image<H: Host>(
+/// Runs an image from its start, with these arguments, on the ring and for the steps of an order, and has its steps
+/// counted. The sheet is the report of what counts them.
+///
+/// Over a host that tells its contents, the outcome and all that the host then holds are those of the run, as
+/// `mmixware run` and `mmixware sim` make it, over the ring and over an unbounded list of registers; and the report is on
+/// the traces of this run.
+pub fn count_image<H: Host>(
+    alloc: Global,
+    host: &mut H,
+    order: &Order,
+    image: Image,
+    arguments: &[Bytes],
+    counts: Counts,
+) -> Counted
+    requires { AreArguments arguments.now }
+    ensures told { CountsByKind (H.told host.old) (H.told host.new) result.outcome result
+        (λ kind m. spec.image_counted kind order.now arguments.now
+        (reporting (⟦<Counts as Watcher>⟧.meaning counts).text) (image_of image) m) }
+    ensures well { result.outcome ≢ Outcome.HostFault }
+    ensures present { result.outcome ≢ Outcome.NoFile }
+    ensures keeps { Keeps (H.told host.old) (H.told host.new) (H.faults host.old) (H.faults host.new) }
+{
+    match start(alloc, image, arguments, order.ring) {
+        Ok(machine) => count_machine(alloc, host, order.steps, machine, counts),
+        Err(outcome) => uncounted(outcome),
+    }
+}
+
+/// Runs the image of a source, and counts its steps by the lines of the source.
+fn count_meaning<H: Host>(
     alloc: Global,
     host: &mut H,
     form: Form,
@@ -117,21 +121,21 @@ fn count_image<H: Host>(
     source: &[u8],
     arguments: &[Bytes],
 ) -> Counted
-    requires { 1 ≤ length arguments.now }
-    ensures told { CountsAs (H.told host.old) (H.told host.new) result (λ m. spec.start_counted form order.now.steps
-        source.now (started window_machine order.now.ring (image_of image) arguments.now) m) }
+    requires { AreArguments arguments.now }
+    ensures told { CountsByKind (H.told host.old) (H.told host.new) result.outcome result
+        (λ kind m. spec.image_counted kind order.now arguments.now (spec.in_form form source.now) (image_of image) m) }
     ensures well { result.outcome ≢ Outcome.HostFault }
     ensures present { result.outcome ≢ Outcome.NoFile }
     ensures keeps { Keeps (H.told host.old) (H.told host.new) (H.faults host.old) (H.faults host.new) }
 {
-    match start(alloc, image, arguments, order.ring) {
-        Ok(machine) => count_machine(alloc, host, form, order.steps, machine, source),
-        Err(outcome) => uncounted(outcome),
+    match Counts::with_form(alloc, form, source) {
+        Ok(counts) => count_image(alloc, host, order, image, arguments, counts),
+        Err(_) => uncounted(Outcome::OutOfMemory),
     }
 }
 
-/// Runs a source and counts its steps, or says why it is refused.
-pub(crate) fn count_source<H: Host>(
+/// Runs a source and counts its steps in a form, or says why it is refused.
+pub(crate) fn count_in_form<H: Host>(
     alloc: Global,
     host: &mut H,
     form: Form,
@@ -139,44 +143,38 @@ pub(crate) fn count_source<H: Host>(
     source: &[u8],
     arguments: &[Bytes],
 ) -> Counted
-    requires { 1 ≤ length arguments.now }
-    ensures told { CountsAs (H.told host.old) (H.told host.new) result
-        (λ m. spec.meaning_counted form order.now arguments.now source.now (source_meaning source.now) m) }
+    requires { AreArguments arguments.now }
+    ensures told { CountsByKind (H.told host.old) (H.told host.new) result.outcome result
+        (λ kind m. spec.source_counted kind order.now arguments.now (spec.in_form form source.now) source.now m) }
     ensures well { result.outcome ≢ Outcome.HostFault }
     ensures present { result.outcome ≢ Outcome.NoFile }
     ensures keeps { Keeps (H.told host.old) (H.told host.new) (H.faults host.old) (H.faults host.new) }
 {
     match load_source(alloc, source) {
-        Ok(image) => count_image(alloc, host, form, order, image, source, arguments),
+        Ok(image) => count_meaning(alloc, host, form, order, image, source, arguments),
         Err(SourceFault::Refused(refusal)) => uncounted(refusal.outcome()),
         Err(SourceFault::OutOfMemory) => uncounted(Outcome::OutOfMemory),
     }
 }
 
-/// Runs the source in the file of this name with these arguments, on the ring and for the steps of an order, and counts
-/// its steps.
+/// Runs a source with these arguments, on the ring and for the steps of an order, and counts its steps; or says why it is
+/// refused.
 ///
-/// Over a host that tells its contents, the outcome and all that the host then holds are those of the run, as
-/// `mmixware run` makes it; and the sheet has for each line the tally of the traces of this run at the addresses that
-/// the line loads.
-pub fn count_file<H: Host>(
+/// The outcome and the host are as `count_image` says, and the sheet has for each line the tally of the traces of this run
+/// at the addresses that the line loads.
+pub fn count_source<H: Host>(
     alloc: Global,
     host: &mut H,
     order: &Order,
-    name: &[u8],
+    source: &[u8],
     arguments: &[Bytes],
 ) -> Counted
-    requires { 1 ≤ length arguments.now }
-    ensures told { CountsAs (H.told host.old) (H.told host.new) result
-        (λ m. spec.file_counted order.now name.now arguments.now m) }
-    ensures host_fault { OnlyByFailure (H.told host.old) Outcome.HostFault result.outcome (H.faults host.old)
-        (H.faults host.new) }
-    ensures no_file { ComesByFault (H.told host.old) Outcome.NoFile result.outcome (H.faults host.old)
-        (H.faults host.new) }
+    requires { AreArguments arguments.now }
+    ensures told { CountsByKind (H.told host.old) (H.told host.new) result.outcome result
+        (λ kind m. spec.source_counted kind order.now arguments.now (spec.in_form Form.Text source.now) source.now m) }
+    ensures well { result.outcome ≢ Outcome.HostFault }
+    ensures present { result.outcome ≢ Outcome.NoFile }
     ensures keeps { Keeps (H.told host.old) (H.told host.new) (H.faults host.old) (H.faults host.new) }
 {
-    match read_file(alloc, host, name, SOURCE_PIECES) {
-        Ok(source) => count_source(alloc, host, Form::Text, order, source.as_slice(), arguments),
-        Err(outcome) => uncounted(outcome),
-    }
+    count_in_form(alloc, host, Form::Text, order, source, arguments)
 }

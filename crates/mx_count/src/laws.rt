@@ -10,7 +10,8 @@ ghost use Rattle.mx_view.specs.declared.cells.Cell.{Cell};
 ghost use Rattle.mx_costs.specs.Costs.{mems, oops};
 ghost use Rattle.mx_view.specs.Loads.{loads_of};
 ghost use Rattle.mx_count.specs.Reports.{HasOctas, report_data, report_of};
-ghost use Rattle.mx_count.specs.Runs.{lines_counted, lines_traced, steps_counted};
+ghost use Rattle.mx_run.specs.WildRuns.{MachineKind, window_machine};
+ghost use Rattle.mx_count.specs.Runs.{by_lines, data_of, in_form, mapped, source_counted, steps_counted};
 ghost use Rattle.mx_count.specs.Sheets.{column, is_among, sheet_data};
 ghost use Rattle.mx_count.specs.declared.counts.Form.TheVariants.{Octas};
 ghost use Rattle.mx_words.specs.declared.order.Order.{Order};
@@ -58,12 +59,14 @@ pub fn columns_stand_apart()
 #[tactic(auto, using(crate::proofs::CountedSteps::counting))]
 pub fn all_steps_are_counted()
     ensures { (n : ℕ) (s : State) (m : HostModel) → (run n no_flags false s m).state.steps % 2 ^ 64
-        ≡ (s.steps + (tally_in (λ a. true) (steps_counted n s m)).times) % 2 ^ 64 }
+        ≡ (s.steps + (tally_in (λ a. true) (steps_counted window_machine n s m)).times) % 2 ^ 64 }
 {}
 
 /// `count_lines` gives the sheet of the steps: in a run of at most 10^12 steps, which is the most that the words of the
-/// command line allow, each line has the tally of the steps at the tetras that it loads, with the one that halts.
+/// command line allow, each line has the tally of the steps at the tetras that it loads, with the one that halts. So it is
+/// over a ring of registers, and over an unbounded list of them.
 pub fn counted_lines_are_those_of_the_traces()
-    ensures { (o : Order) (name : List ℕ) (arguments : List (List ℕ)) (m : HostModel) → o.steps ≤ 10 ^ 12 →
-        lines_counted o name arguments m ≡ lines_traced o name arguments m }
+    ensures { (kind : MachineKind) (o : Order) (arguments : List (List ℕ)) (source : List ℕ) (m : HostModel) →
+        o.steps ≤ 10 ^ 12 → mapped (data_of source) (source_counted kind o arguments (in_form Octas source) source m)
+        ≡ source_counted kind o arguments (by_lines source) source m }
 {}

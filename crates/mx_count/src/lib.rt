@@ -13,7 +13,7 @@ mod table;
 mod tally;
 mod watched;
 
-pub use count::{Counted, count_file, outcome_of, start};
+pub use count::{Counted, count_image, count_source};
 pub use counted::count_lines;
 pub use counts::{Counts, Form};
 pub use laws::{
@@ -25,4 +25,3 @@ pub use octas::octas_of;
 pub use sheet::add_figures;
 pub use table::Entry;
 pub use tally::Tally;
-pub use watched::run_counted;

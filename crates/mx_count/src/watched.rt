@@ -117,7 +117,7 @@ fn run_told<H: Host>(
 /// Makes at most n steps of a machine, and counts them. The end, and the sheet.
 ///
 /// Errors: out of memory.
-pub fn run_counted<H: Host>(
+pub(crate) fn run_counted<H: Host>(
     alloc: Global,
     host: &mut H,
     machine: &mut Machine,

@@ -1,35 +1,27 @@
 -- The sheet that is read from a report is that of the steps.
-use Rattle.std.proofs.Common.{◌≡◌, ℕ, ◌+◌, ◌-◌, ◌≤◌, ◌^◌, Bool, true, false, not, cond, List, [], ◌∷◌, ◌++◌, flat_map, Result, Ok, Err, arith, refl, sym, ap, ◌∙◌}
+use Rattle.std.proofs.Common.{◌≡◌, ℕ, ◌+◌, ◌-◌, ◌≤◌, ◌^◌, Bool, true, false, not, cond, List, [], ◌∷◌, ◌++◌, flat_map, Result, Ok, Err, Some, arith, refl, sym, ap, ◌∙◌}
 use Rattle.mx_word.specs.declared.symbols.Symbol.{Symbol}
 use Rattle.mx_host.specs.HostModel.{HostModel}
-use Rattle.mx_host.specs.HostAnswer.{Then}
 use Rattle.mx_mmo.specs.Image.{Image}
 use Rattle.mx_mmo.specs.Reading.{octas_of}
 use Rattle.mx_load.specs.Objects.{object_loaded}
-use Rattle.mx_core.specs.State.{State}
 use Rattle.mx_code.specs.declared.trace.Trace.{Trace}
-use Rattle.mx_run.specs.Runs.{no_flags, run}
-use Rattle.mx_run.specs.WildRuns.{window_machine}
+use Rattle.mx_run.specs.WildRuns.{MachineKind}
 use Rattle.mx_words.specs.declared.order.Order.{Order}
-use Rattle.mx_begin.specs.Begun.{started}
-use Rattle.mx_files.specs.Source.{file_bytes, object_pieces}
-use Rattle.mx_outcome.specs.declared.outcome.Outcome.{Outcome}
 use Rattle.mx_view.specs.declared.cells.Cell.{Cell}
 use Rattle.mx_count.specs.Reports.{HasOctas, behind_tally, first_tally, tally_bytes}
 unfoldable use Rattle.mx_count.specs.Reports.{sheet_bytes}
-use Rattle.mx_count.specs.Runs.{steps_counted}
 use Rattle.mx_count.specs.Sheets.{Counts, is_among, line_tally}
 use Rattle.mx_count.specs.Tallies.{step_tally}
 unfoldable use Rattle.mx_count.specs.Tallies.{added, nothing, tally_in}
 use Rattle.mx_count.specs.declared.tally.Tally.{Tally}
 use Rattle.mx_count.proofs.ReadSheets.{all-fit, tally-back}
-use Rattle.mx_count.proofs.TracedLines.{run-fits}
+use Rattle.mx_count.proofs.TracedLines.{Remakes, image-same}
 use Rattle.mx_object.specs.Addresses.{addresses_of, items_in}
 use Rattle.mx_object.specs.Counting.{behind_count, cell_of, cells_of, count_of, less, loads_of, part_cells, part_if, sheet_of, sheet_read}
 unfoldable use Rattle.mx_object.specs.Counting.{counts_of, counts_read, loads_from}
 use Rattle.mx_object.specs.Listing.{tetras_at}
-use Rattle.mx_object.specs.Runs.{Counting, bytes_with, counted_as, file_counted, file_traced, image_with, loaded_with, machine_counted, machine_traced, start_with}
-use Rattle.mx_object.specs.declared.counted.CountedObject.{CountedObject}
+use Rattle.mx_object.specs.Runs.{by_report, by_steps, by_tetras, loaded_with, object_counted, object_in, object_traced, report_on}
 use Rattle.mx_object.specs.declared.counting.TetraCount.{TetraCount}
 use Rattle.mx_object.specs.declared.tetras.ListedTetra.{ListedTetra}
 
@@ -107,26 +99,21 @@ sheet-back tetras h fit =
 
 -- ---- the run
 
-machine-same : (steps : ℕ) (tetras : List ListedTetra) (s : State) (m : HostModel) → steps ≤ 10 ^ 12 → machine_counted steps tetras s m ≡ machine_traced steps tetras s m
-machine-same steps tetras s m few =
-    ap (λ sheet. counted_as steps sheet (run steps no_flags false s m)) (sheet-back tetras (steps_counted steps s m) (run-fits steps s m few))
+tetras-remade : (tetras : List ListedTetra) → Remakes (object_in tetras) (report_on tetras) (by_tetras tetras)
+tetras-remade tetras = record {
+  without = λ outcome. refl;
+  with_steps = λ outcome h fit. λ i. record { outcome = outcome; sheet = Some (sheet-back tetras h fit i) };
+}
 
-module _ (f g : Counting) (same : (tetras : List ListedTetra) (s : State) (m : HostModel) → f tetras s m ≡ g tetras s m) (o : Order) (arguments : List (List ℕ)) where
-  start-same : (tetras : List ListedTetra) (r : Result State Outcome) (m : HostModel) → start_with f tetras r m ≡ start_with g tetras r m
-  start-same tetras (Err outcome) m = refl
-  start-same tetras (Ok s) m = same tetras s m
+loaded-same : (kind : MachineKind) (o : Order) (arguments : List (List ℕ)) (bytes : List ℕ) (r : Result (Image × List Symbol) (ℕ × ℕ)) (m : HostModel) → o.steps ≤ 10 ^ 12 →
+    loaded_with by_report kind o arguments bytes r m ≡ loaded_with by_steps kind o arguments bytes r m
+loaded-same kind o arguments bytes (Err (place, fault)) m few = refl
+loaded-same kind o arguments bytes (Ok (image, symbols)) m few =
+    let tetras : List ListedTetra = tetras_at image symbols (addresses_of (items_in bytes)) in
+    image-same (object_in tetras) (report_on tetras) (by_tetras tetras) (tetras-remade tetras) kind o arguments few image m
 
-  loaded-same : (bytes : List ℕ) (r : Result (Image × List Symbol) (ℕ × ℕ)) (m : HostModel) → loaded_with f o arguments bytes r m ≡ loaded_with g o arguments bytes r m
-  loaded-same bytes (Err (place, fault)) m = refl
-  loaded-same bytes (Ok (image, symbols)) m =
-      start-same (tetras_at image symbols (addresses_of (items_in bytes))) (started window_machine o.ring image arguments) m
+pub object-same : (kind : MachineKind) (o : Order) (arguments : List (List ℕ)) (bytes : List ℕ) (m : HostModel) → o.steps ≤ 10 ^ 12 →
+    object_counted kind o arguments bytes m ≡ object_traced kind o arguments bytes m
+object-same kind o arguments bytes m few = loaded-same kind o arguments bytes (object_loaded bytes) m few
 
-  bytes-same : (t : Then (Result (List ℕ) Outcome)) → bytes_with f o arguments t ≡ bytes_with g o arguments t
-  bytes-same (Err outcome, m) = refl
-  bytes-same (Ok bytes, m) = loaded-same bytes (object_loaded bytes) m
-
-pub file-same : (o : Order) (name : List ℕ) (arguments : List (List ℕ)) (m : HostModel) → o.steps ≤ 10 ^ 12 → file_counted o name arguments m ≡ file_traced o name arguments m
-file-same o name arguments m few =
-    bytes-same (machine_counted o.steps) (machine_traced o.steps) (λ tetras s m. machine-same o.steps tetras s m few) o arguments (file_bytes object_pieces name m)
-
-pub ruleset counts = (file-same)
+pub ruleset counts = (object-same)

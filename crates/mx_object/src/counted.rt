@@ -1,26 +1,22 @@
 //! An object that is run and counted.
 
-ghost use Rattle.std.specs.Prelude.{◌≡◌, ◌≢◌, ◌≤◌, ◌^◌, length};
-ghost use Rattle.mx_core.specs.Kept.{state_of};
-ghost use Rattle.mx_host.specs.Keeping.{ComesByFault, Keeps, OnlyByFailure};
+ghost use Rattle.std.specs.Prelude.{◌≡◌, ◌≢◌, ◌≤◌, ◌^◌, IfOk, length};
+ghost use Rattle.mx_host.specs.Keeping.{Keeps};
 ghost use Rattle.mx_load.specs.Kept.{image_of};
-ghost use Rattle.mx_load.specs.Objects.{object_loaded};
-ghost use Rattle.mx_begin.specs.Begun.{started};
-ghost use Rattle.mx_run.specs.WildRuns.{window_machine};
+ghost use Rattle.mx_count.specs.Runs.{AreArguments, CountsByKind};
+ghost use Rattle.mx_object.specs.Counting.{loads_of as lists_of};
+ghost use Rattle.mx_object.specs.Listing.{listed_of};
 ghost use Rattle.mx_object.specs.Runs as spec;
-ghost use Rattle.mx_object.specs.Runs.{CountsAs};
 
 use crate::counting::{ObjectSheet, loads_of, sheet_in};
 use crate::tetras::ListedTetras;
 use crate::view::tetras_of;
-use mx_core::Machine;
-use mx_count::{Counts, Form, outcome_of, run_counted, start};
-use mx_files::{OBJECT_PIECES, read_file};
+use mx_count::{Counted, Counts, Form, count_image};
 use mx_host::Host;
 use mx_load::{Image, ObjectFault, load_object};
 use mx_outcome::Outcome;
 use mx_view::LineCells;
-use mx_word::Bytes;
+use mx_word::{Bytes, NoMemory};
 use mx_words::Order;
 use std::alloc::Global;
 
@@ -33,7 +29,7 @@ pub struct CountedObject {
 
 /// An outcome without a sheet.
 fn uncounted(outcome: Outcome) -> CountedObject
-    ensures { result ≡ record { outcome = outcome; sheet = None } }
+    ensures { result ≡ spec.uncounted outcome }
 {
     CountedObject {
         outcome,
@@ -41,89 +37,83 @@ fn uncounted(outcome: Outcome) -> CountedObject
     }
 }
 
-/// An outcome with the sheet of tetras, by the report on their tallies.
-fn reported(alloc: Global, outcome: Outcome, tetras: ListedTetras, report: &[u8]) -> CountedObject
-    ensures value { result.outcome ≢ Outcome.OutOfMemory → result ≡ spec.reported outcome tetras report.now }
-    ensures well { outcome ≢ Outcome.HostFault → result.outcome ≢ Outcome.HostFault }
-    ensures present { outcome ≢ Outcome.NoFile → result.outcome ≢ Outcome.NoFile }
+/// The sheet of tetras, if there is a report on their tallies.
+fn sheet_if(
+    alloc: Global,
+    tetras: ListedTetras,
+    report: &Option<Bytes>,
+) -> Result<Option<ObjectSheet>, NoMemory>
+    ensures { IfOk result (λ sheet. sheet ≡ spec.sheet_in tetras report.now) }
 {
-    match sheet_in(alloc, tetras, report) {
+    match report {
+        None => Ok(None),
+        Some(report) => Ok(Some(sheet_in(alloc, tetras, report.as_slice())?)),
+    }
+}
+
+/// What was counted of an image by these tetras, whose report has the octas of their tallies.
+fn with_tetras(alloc: Global, tetras: ListedTetras, counted: &Counted) -> CountedObject
+    ensures value { result.outcome ≢ Outcome.OutOfMemory → result ≡ spec.object_in tetras counted.now }
+    ensures same { result.outcome ≢ Outcome.OutOfMemory → result.outcome ≡ counted.now.outcome }
+    ensures well { counted.now.outcome ≢ Outcome.HostFault → result.outcome ≢ Outcome.HostFault }
+    ensures present { counted.now.outcome ≢ Outcome.NoFile → result.outcome ≢ Outcome.NoFile }
+{
+    match sheet_if(alloc, tetras, &counted.sheet) {
         Ok(sheet) => CountedObject {
-            outcome,
-            sheet: Some(sheet),
+            outcome: counted.outcome,
+            sheet,
         },
         Err(_) => uncounted(Outcome::OutOfMemory),
     }
 }
 
-/// Makes the steps of a machine that was started, and counts those at the tetras of each of these lists, for the sheet of
-/// these tetras.
+/// Runs an image, and counts its steps at the tetras of each of the lists of these tetras.
 fn count_loads<H: Host>(
     alloc: Global,
     host: &mut H,
-    steps: u64,
-    machine: Machine,
+    order: &Order,
+    image: Image,
+    arguments: &[Bytes],
     tetras: ListedTetras,
     loads: LineCells,
 ) -> CountedObject
-    ensures told { CountsAs (H.told host.old) (H.told host.new) result
-        (λ m. spec.loads_counted steps tetras loads (state_of machine) m) }
+    requires given { AreArguments arguments.now }
+    requires lists { loads ≡ lists_of tetras }
+    ensures told { CountsByKind (H.told host.old) (H.told host.new) result.outcome result
+        (λ kind m. spec.by_report kind order.now arguments.now tetras (image_of image) m) }
     ensures well { result.outcome ≢ Outcome.HostFault }
     ensures present { result.outcome ≢ Outcome.NoFile }
     ensures keeps { Keeps (H.told host.old) (H.told host.new) (H.faults host.old) (H.faults host.new) }
 {
-    let mut machine = machine;
     let counts = Counts::of_loads(alloc, Form::Octas, Bytes::new(alloc), loads);
-    match run_counted(alloc, host, &mut machine, steps, counts) {
-        Ok((end, report)) => reported(alloc, outcome_of(steps, end), tetras, report.as_slice()),
-        Err(_) => uncounted(Outcome::OutOfMemory),
-    }
+    let counted = count_image(alloc, host, order, image, arguments, counts);
+    with_tetras(alloc, tetras, &counted)
 }
 
-/// Makes the steps of a machine that was started, and counts them by these tetras.
-fn count_machine<H: Host>(
-    alloc: Global,
-    host: &mut H,
-    steps: u64,
-    machine: Machine,
-    tetras: ListedTetras,
-) -> CountedObject
-    ensures told { CountsAs (H.told host.old) (H.told host.new) result
-        (λ m. spec.machine_counted steps tetras (state_of machine) m) }
-    ensures well { result.outcome ≢ Outcome.HostFault }
-    ensures present { result.outcome ≢ Outcome.NoFile }
-    ensures keeps { Keeps (H.told host.old) (H.told host.new) (H.faults host.old) (H.faults host.new) }
-{
-    match loads_of(alloc, tetras.as_slice()) {
-        Ok(loads) => count_loads(alloc, host, steps, machine, tetras, loads),
-        Err(_) => uncounted(Outcome::OutOfMemory),
-    }
-}
-
-/// Runs an image from its start, with these arguments, and counts the steps by these tetras.
+/// Runs an image, and counts its steps by these tetras.
 fn count_tetras<H: Host>(
     alloc: Global,
     host: &mut H,
     order: &Order,
     image: Image,
-    tetras: ListedTetras,
     arguments: &[Bytes],
+    tetras: ListedTetras,
 ) -> CountedObject
-    requires { 1 ≤ length arguments.now }
-    ensures told { CountsAs (H.told host.old) (H.told host.new) result (λ m. spec.start_with
-        (spec.machine_counted order.now.steps) tetras (started window_machine order.now.ring (image_of image) arguments.now) m) }
+    requires { AreArguments arguments.now }
+    ensures told { CountsByKind (H.told host.old) (H.told host.new) result.outcome result
+        (λ kind m. spec.by_report kind order.now arguments.now tetras (image_of image) m) }
     ensures well { result.outcome ≢ Outcome.HostFault }
     ensures present { result.outcome ≢ Outcome.NoFile }
     ensures keeps { Keeps (H.told host.old) (H.told host.new) (H.faults host.old) (H.faults host.new) }
 {
-    match start(alloc, image, arguments, order.ring) {
-        Ok(machine) => count_machine(alloc, host, order.steps, machine, tetras),
-        Err(outcome) => uncounted(outcome),
+    match loads_of(alloc, tetras.as_slice()) {
+        Ok(loads) => count_loads(alloc, host, order, image, arguments, tetras, loads),
+        Err(_) => uncounted(Outcome::OutOfMemory),
     }
 }
 
-/// Runs the image of an object, and counts the steps by the tetras that the object loads.
-fn count_image<H: Host>(
+/// Runs the image of an object, and counts its steps by the tetras that the object loads.
+fn count_loaded<H: Host>(
     alloc: Global,
     host: &mut H,
     order: &Order,
@@ -131,66 +121,45 @@ fn count_image<H: Host>(
     bytes: &[u8],
     arguments: &[Bytes],
 ) -> CountedObject
-    requires some { 1 ≤ length arguments.now }
+    requires given { AreArguments arguments.now }
     requires short { length bytes.now ≤ 2 ^ 26 }
-    ensures told { CountsAs (H.told host.old) (H.told host.new) result (λ m. spec.image_with
-        (spec.machine_counted order.now.steps) order.now arguments.now bytes.now (image_of image) image.symbols m) }
+    ensures told { CountsByKind (H.told host.old) (H.told host.new) result.outcome result
+        (λ kind m. spec.by_report kind order.now arguments.now
+        (listed_of (image_of image) image.symbols bytes.now).tetras (image_of image) m) }
     ensures well { result.outcome ≢ Outcome.HostFault }
     ensures present { result.outcome ≢ Outcome.NoFile }
     ensures keeps { Keeps (H.told host.old) (H.told host.new) (H.faults host.old) (H.faults host.new) }
 {
     match tetras_of(alloc, &image, bytes) {
-        Ok(tetras) => count_tetras(alloc, host, order, image, tetras, arguments),
+        Ok(tetras) => count_tetras(alloc, host, order, image, arguments, tetras),
         Err(_) => uncounted(Outcome::OutOfMemory),
     }
 }
 
-/// Runs the object that bytes are, and counts its steps, or says why it is refused.
-fn count_bytes<H: Host>(
+/// Runs the object that bytes are with these arguments, on the ring and for the steps of an order, and counts its steps; or
+/// says why it is refused.
+///
+/// Over a host that tells its contents, the outcome and all that the host then holds are those of the run, as
+/// `mmixware sim` makes it, over the ring and over an unbounded list of registers; and the sheet has for each tetra that
+/// the object loads the tally of the steps there.
+#[tactic(auto, using(crate::proofs::ShortObjects::short))]
+pub fn count_object<H: Host>(
     alloc: Global,
     host: &mut H,
     order: &Order,
     bytes: &[u8],
     arguments: &[Bytes],
 ) -> CountedObject
-    requires { 1 ≤ length arguments.now }
-    ensures told { CountsAs (H.told host.old) (H.told host.new) result
-        (λ m. spec.loaded_with
-        (spec.machine_counted order.now.steps) order.now arguments.now bytes.now (object_loaded bytes.now) m) }
+    requires { AreArguments arguments.now }
+    ensures told { CountsByKind (H.told host.old) (H.told host.new) result.outcome result
+        (λ kind m. spec.object_counted kind order.now arguments.now bytes.now m) }
     ensures well { result.outcome ≢ Outcome.HostFault }
     ensures present { result.outcome ≢ Outcome.NoFile }
     ensures keeps { Keeps (H.told host.old) (H.told host.new) (H.faults host.old) (H.faults host.new) }
 {
     match load_object(alloc, bytes) {
-        Ok(image) => count_image(alloc, host, order, image, bytes, arguments),
+        Ok(image) => count_loaded(alloc, host, order, image, bytes, arguments),
         Err(ObjectFault::Bad { place, fault }) => uncounted(Outcome::BadObject { place, fault }),
         Err(ObjectFault::OutOfMemory) => uncounted(Outcome::OutOfMemory),
-    }
-}
-
-/// Runs the object in the file of this name with these arguments, on the ring and for the steps of an order, and counts
-/// its steps.
-///
-/// Over a host that tells its contents, the outcome and all that the host then holds are those of the run, as
-/// `mmixware sim` makes it; and the sheet has for each tetra that the object loads the tally of the steps there.
-pub fn count_object<H: Host>(
-    alloc: Global,
-    host: &mut H,
-    order: &Order,
-    name: &[u8],
-    arguments: &[Bytes],
-) -> CountedObject
-    requires { 1 ≤ length arguments.now }
-    ensures told { CountsAs (H.told host.old) (H.told host.new) result
-        (λ m. spec.file_counted order.now name.now arguments.now m) }
-    ensures host_fault { OnlyByFailure (H.told host.old) Outcome.HostFault result.outcome (H.faults host.old)
-        (H.faults host.new) }
-    ensures no_file { ComesByFault (H.told host.old) Outcome.NoFile result.outcome (H.faults host.old)
-        (H.faults host.new) }
-    ensures keeps { Keeps (H.told host.old) (H.told host.new) (H.faults host.old) (H.faults host.new) }
-{
-    match read_file(alloc, host, name, OBJECT_PIECES) {
-        Ok(bytes) => count_bytes(alloc, host, order, bytes.as_slice(), arguments),
-        Err(outcome) => uncounted(outcome),
     }
 }

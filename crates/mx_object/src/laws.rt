@@ -14,7 +14,8 @@ ghost use Rattle.mx_object.specs.Addresses.{addresses_of, has, items_in, joined}
 ghost use Rattle.mx_object.specs.Labels.{nearest, place_of};
 ghost use Rattle.mx_object.specs.Listed.{IsAsNear, shown_at};
 ghost use Rattle.mx_object.specs.Listing.{listed_of};
-ghost use Rattle.mx_object.specs.Runs.{file_counted, file_traced};
+ghost use Rattle.mx_object.specs.Runs.{object_counted, object_traced};
+ghost use Rattle.mx_run.specs.WildRuns.{MachineKind};
 
 /// An address is listed exactly where an item loads or fixes a tetra there; and addresses ascend, so none is listed twice.
 #[tactic(auto, using(crate::proofs::AddressLaws::listed))]
@@ -41,9 +42,10 @@ pub fn the_nearest_symbol_is_told()
 
 /// `count_object` gives the sheet of the steps: in a run of at most 10^12 steps, which is the most that the words of the
 /// command line allow, each tetra that the object loads has the tally of the steps there, with the one that halts, each
-/// part that of the steps at its tetras, and what is told as elsewhere is the tally of the steps at all other addresses.
+/// part that of the steps at its tetras, and what is told as elsewhere is the tally of the steps at all other addresses. So
+/// it is over a ring of registers, and over an unbounded list of them.
 #[tactic(auto, using(crate::proofs::CountedSheets::counts))]
 pub fn counted_objects_are_those_of_the_steps()
-    ensures { (o : Order) (name : List ℕ) (arguments : List (List ℕ)) (m : HostModel) → o.steps ≤ 10 ^ 12 →
-        file_counted o name arguments m ≡ file_traced o name arguments m }
+    ensures { (kind : MachineKind) (o : Order) (arguments : List (List ℕ)) (bytes : List ℕ) (m : HostModel) →
+        o.steps ≤ 10 ^ 12 → object_counted kind o arguments bytes m ≡ object_traced kind o arguments bytes m }
 {}

@@ -22,6 +22,6 @@ pub use laws::{
     the_listing_is_the_image, the_nearest_symbol_is_told,
 };
 pub use rows::{found_text, listing_text};
-pub use sheet::sheet_text;
+pub use sheet::{next_count, sheet_text};
 pub use tetras::{FoundTetra, ListedTetra, ListedTetras};
 pub use view::{ListedObject, find_tetra, is_object, list_object};

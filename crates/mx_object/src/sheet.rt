@@ -97,7 +97,7 @@ fn add_count(
 }
 
 /// The first count, where there is one for each tetra, and the others.
-fn next_count(counts: &[TetraCount]) -> (TetraCount, &[TetraCount])
+pub fn next_count(counts: &[TetraCount]) -> (TetraCount, &[TetraCount])
     ensures first { result.0 ≡ spec.first_count counts.now }
     ensures others { result.1.now ≡ drop 1 counts.now }
 {

@@ -7,6 +7,8 @@ mod costs;
 #[cfg(test)]
 mod faces;
 #[cfg(test)]
+mod object_faces;
+#[cfg(test)]
 mod objects;
 #[cfg(test)]
 mod runs;

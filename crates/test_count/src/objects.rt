@@ -13,7 +13,7 @@ use mx_words::read;
 use std::alloc::Global;
 
 /// The first object of the document: a text, and a program that prints it.
-static PRINTS: [u32; 22] = [
+pub static PRINTS: [u32; 22] = [
     0x9809_0101,
     0,
     0x9806_0001,
@@ -60,7 +60,7 @@ static FIXED: [u32; 16] = [
 
 /// A tetra at a higher address, then a jump to an address where nothing is loaded. Its symbol is the third byte of
 /// the first tetra, `:Text`.
-static JUMPS: [u32; 16] = [
+pub static JUMPS: [u32; 16] = [
     0x9809_0101,
     0,
     0x9801_0001,
@@ -80,10 +80,10 @@ static JUMPS: [u32; 16] = [
 ];
 
 /// An object that ends before its globals.
-static CUT: [u32; 5] = [0x9809_0101, 0, 0x9801_0001, 0x100, 0];
+pub static CUT: [u32; 5] = [0x9809_0101, 0, 0x9801_0001, 0x100, 0];
 
 /// The bytes of tetras, and of one more that ends the object with a trie.
-fn bytes_of(alloc: Global, tetras: &[u32], end: Option<u32>) -> Option<Bytes> {
+pub fn bytes_of(alloc: Global, tetras: &[u32], end: Option<u32>) -> Option<Bytes> {
     let mut bytes = Bytes::new(alloc);
     for tetra in tetras {
         bytes.extend(&tetra_bytes(*tetra)).ok()?;
@@ -211,21 +211,19 @@ fn words(alloc: Global) -> Option<Vec<String>> {
     Some(words)
 }
 
-/// A host with an object.
-fn host(alloc: Global, object: &Bytes) -> Option<MemHost> {
-    let mut host = MemHost::new(alloc, Vec::new(alloc), Vec::new(alloc)).ok()?;
-    let bytes = Vec::from_slice(alloc, object.as_slice()).ok()?;
-    host.put_file(b"a.mmo", bytes).ok()?;
-    Some(host)
-}
-
 /// The outcome of an object that is run and counted, and its sheet; no bytes where there is none.
 fn counted(alloc: Global, object: &Bytes) -> Option<(Outcome, Bytes)> {
-    let mut host = host(alloc, object)?;
+    let mut host = MemHost::new(alloc, Vec::new(alloc), Vec::new(alloc)).ok()?;
     let words = words(alloc)?;
     let order = read(words.as_slice()).ok()?;
     let given = arguments(alloc, words.as_slice(), &order).ok()?;
-    let counted = count_object(alloc, &mut host, &order, b"a.mmo", given.as_slice());
+    let counted = count_object(
+        alloc,
+        &mut host,
+        &order,
+        object.as_slice(),
+        given.as_slice(),
+    );
     match &counted.sheet {
         Some(sheet) => Some((counted.outcome, sheet_text(alloc, sheet).ok()?)),
         None => Some((counted.outcome, Bytes::new(alloc))),

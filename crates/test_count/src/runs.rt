@@ -1,7 +1,7 @@
 //! Runs that are counted, over the host in memory: what stands on standard output, the outcome, and the sheet.
 
 use mx_begin::arguments;
-use mx_count::{Counted, CountedLines, LineSheet, Tally, count_file, count_lines};
+use mx_count::{Counted, CountedLines, LineSheet, Tally, count_lines, count_source};
 use mx_host::MemHost;
 use mx_outcome::Outcome;
 use mx_words::read;
@@ -18,29 +18,26 @@ Main LDA $255,Text
  TRAP 0,Halt,0
 ";
 
-/// What a source comes to that is run and counted.
-fn counted(alloc: Global, host: &mut MemHost, words: &[&str]) -> Option<Counted> {
+/// A host without files.
+fn host(alloc: Global) -> Option<MemHost> {
+    MemHost::new(alloc, Vec::new(alloc), Vec::new(alloc)).ok()
+}
+
+/// What a source comes to that is run and counted by these words.
+fn counted(alloc: Global, host: &mut MemHost, source: &str, words: &[&str]) -> Option<Counted> {
     let mut all = Vec::new(alloc);
     for word in words {
         all.push(String::from_str(alloc, word).ok()?).ok()?;
     }
     let order = read(all.as_slice()).ok()?;
     let given = arguments(alloc, all.as_slice(), &order).ok()?;
-    Some(count_file(
+    Some(count_source(
         alloc,
         host,
         &order,
-        all[order.file].as_bytes(),
+        source.as_bytes(),
         given.as_slice(),
     ))
-}
-
-/// A host with a source.
-fn host(alloc: Global, source: &str) -> Option<MemHost> {
-    let mut host = MemHost::new(alloc, Vec::new(alloc), Vec::new(alloc)).ok()?;
-    host.put_file(b"a.mms", Vec::from_slice(alloc, source.as_bytes()).ok()?)
-        .ok()?;
-    Some(host)
 }
 
 /// The outcome, whether the output is this, and whether the sheet ends so; nothing is due where there is none.
@@ -51,8 +48,8 @@ fn comes_to(
     output: &str,
     last: &str,
 ) -> Option<(Outcome, bool, bool)> {
-    let mut host = host(alloc, source)?;
-    let counted = counted(alloc, &mut host, words)?;
+    let mut host = host(alloc)?;
+    let counted = counted(alloc, &mut host, source, words)?;
     let ends = match &counted.sheet {
         Some(sheet) => !last.is_empty() && sheet.as_slice().ends_with(last.as_bytes()),
         None => last.is_empty(),
@@ -91,12 +88,6 @@ fn a_refused_source(rt: HostRuntime) {
     assert_eq!(rt; got, Some((refused, true, true)));
 }
 
-#[test]
-fn no_file(rt: HostRuntime) {
-    let got = comes_to(rt.alloc(), PRINTS, &["run", "b.mms"], "", "");
-    assert_eq!(rt; got, Some((Outcome::NoFile, true, true)));
-}
-
 /// What the source comes to that is run and counted line by line.
 fn counted_lines(alloc: Global, host: &mut MemHost) -> Option<CountedLines> {
     let mut all = Vec::new(alloc);
@@ -108,7 +99,7 @@ fn counted_lines(alloc: Global, host: &mut MemHost) -> Option<CountedLines> {
         alloc,
         host,
         &order,
-        all[order.file].as_bytes(),
+        PRINTS.as_bytes(),
         given.as_slice(),
     ))
 }
@@ -128,7 +119,7 @@ fn tallies(sheet: &LineSheet) -> Option<Tallies> {
 
 /// The outcome, and these tallies.
 fn comes_to_lines(alloc: Global) -> Option<(Outcome, Tallies)> {
-    let mut host = host(alloc, PRINTS)?;
+    let mut host = host(alloc)?;
     let counted = counted_lines(alloc, &mut host)?;
     let tallies = tallies(counted.sheet.as_ref()?)?;
     Some((counted.outcome, tallies))

@@ -1,5 +1,12 @@
 use Rattle.mx_face.proofs.Faults.{faults-said}
+use Rattle.face_count.proofs.Shown.{ordered-shown, usage-shown}
 use Rattle.face_count.proofs.counting.count_words.Goals as goal
 
-pub returns-in-Err : goal.returns-in-Err
-returns-in-Err g c = faults-said _ _ _ _ _ _ c.misordered.ensures c.tell.ensures.keeps c.tell.ensures.same
+pub returns-in-Ok-clause-told : goal.returns-in-Ok-clause-told
+returns-in-Ok-clause-told g c = λ o is plain. ordered-shown _ _ _ c.args.is_json _ _ o c.in-Ok.ensures.order is c.count_ordered.ensures.told
+
+pub returns-in-Err-clause-told : goal.returns-in-Err-clause-told
+returns-in-Err-clause-told g c = λ o is plain. usage-shown _ _ _ _ _ c.misordered.ensures.usage c.tell.ensures.same plain
+
+pub returns-in-Err-clause-causes : goal.returns-in-Err-clause-causes
+returns-in-Err-clause-causes g c = faults-said _ _ _ _ _ _ c.misordered.ensures.view c.tell.ensures.keeps c.tell.ensures.same

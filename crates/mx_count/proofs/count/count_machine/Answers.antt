@@ -1,6 +1,8 @@
+use Rattle.mx_count.specs.Counting.{counting_as}
 use Rattle.mx_count.proofs.CountedRuns.{machine-told}
 use Rattle.mx_count.proofs.count.count_machine.Goals as goal
 
-pub returns-in-Ok-run_counted-clause-told : goal.returns-in-Ok-run_counted-clause-told
-returns-in-Ok-run_counted-clause-told g c = λ tells enough.
-    machine-told c.args.form c.args.steps c.args.source.now _ _ _ _ _ _ _ _ c.in-Ok.ensures c.outcome_of.ensures.value (c.in-Ok-run_counted.ensures.told tells)
+pub returns-in-Ok-clause-told : goal.returns-in-Ok-clause-told
+returns-in-Ok-clause-told g c =
+    let counts = c.args.counts in
+    machine-told c.args.steps (counting_as counts.form counts.source counts.loads counts.table) _ _ _ _ _ _ _ c.requires c.outcome_of.ensures.value c.in-Ok.ensures.told

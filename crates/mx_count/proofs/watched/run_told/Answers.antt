@@ -1,10 +1,14 @@
 use Rattle.mx_count.proofs.Alone.{report-alone}
-use Rattle.mx_count.proofs.CountedRuns.{ended-told}
+use Rattle.mx_count.proofs.CountedRuns.{ended-told, list-told}
 use Rattle.mx_count.proofs.watched.run_told.Goals as goal
 
 pub returns-in-Ok-clause-told : goal.returns-in-Ok-clause-told
 returns-in-Ok-clause-told g c = λ w alone none tells.
     let enough = c.is_lacking.ensures c.if-is_lacking.false in
     let ended = c.watched_run-end.ensures.run.told tells enough in
-    let heard = report-alone w _ _ _ _ _ _ c.in-Ok.text alone none (c.watched_run-end.ensures.heard tells enough) c.in-Ok.ensures in
-    (ended, ended-told w _ _ _ _ _ _ _ c.in-Ok.text heard c.pc-at.ensures.value ended)
+    let heard = report-alone w _ _ _ _ _ _ c.in-Ok.text alone none (c.watched_run-end.ensures.heard tells enough) c.in-Ok.ensures in (
+      ended,
+      ended-told w _ _ _ _ _ _ _ c.in-Ok.text heard c.pc-at.ensures.value ended,
+      λ untouched. list-told w _ _ _ _ _ _ _ _ _ c.in-Ok.text alone none (c.watched_run-end.ensures.list_heard tells enough untouched) c.in-Ok.ensures
+          (c.watched_run-end.ensures.run.listed tells enough untouched) c.pc-at.ensures.value,
+    )

@@ -1,0 +1,11 @@
+use Rattle.mx_load.specs.Kept.{image_of}
+use Rattle.mx_object.proofs.CountedObjects.{loaded-told, refused-told}
+use Rattle.mx_object.proofs.counted.count_object.Goals as goal
+
+pub returns-in-Ok-clause-told : goal.returns-in-Ok-clause-told
+returns-in-Ok-clause-told g c =
+    loaded-told _ _ _ c.args.order.now c.args.arguments.now c.args.bytes.now (image_of c.in-Ok.image) c.in-Ok.image.symbols (c.in-Ok.ensures (λ e. absurd (cc))) c.count_loaded.ensures.told
+
+pub returns-in-Err-Bad-clause-told : goal.returns-in-Err-Bad-clause-told
+returns-in-Err-Bad-clause-told g c =
+    refused-told _ _ c.args.order.now c.args.arguments.now c.args.bytes.now c.in-Err-Bad.place c.in-Err-Bad.fault ((rw c.in-Err-Bad.field-0-is at c.in-Err-Bad.ensures) (λ e. absurd (cc))) c.uncounted.ensures
