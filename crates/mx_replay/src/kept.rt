@@ -1,0 +1,178 @@
+//! Steps that are kept, so that others are reached quickly.
+
+ghost use Rattle.std.specs.Prelude.{◌≡◌, ◌≤◌, ◌<◌, ◌+◌, ◌^◌, [], IfSome, IsTrue, OnOk, Type, length};
+ghost use Rattle.std.specs.List.{All};
+ghost use Rattle.mx_replay.specs.Programs.{IsReached};
+ghost use Rattle.mx_replay.specs.Visits.{IsStep};
+ghost use Rattle.mx_replay.specs.Keeping.{AreSteps, IsPlaceBefore};
+ghost use Rattle.mx_replay.specs.declared.program.Program.{Program};
+
+use crate::visit::{Visit, go_on, has_more};
+use mx_word::NoMemory;
+use std::alloc::Global;
+use std::marker::Model;
+
+/// How many turns lie at first between two steps that are kept.
+const STRIDE: u64 = 1 << 20;
+
+/// How many steps are kept at most.
+const MOST_KEPT: usize = 16;
+
+/// A machine with more pages is not kept.
+const MOST_PAGES: u32 = 4096;
+
+/// A host that wrote more bytes is not kept.
+const MOST_BYTES: usize = 1 << 24;
+
+/// Some steps of a run, each at a multiple of the stride, but for one that is near those that are visited.
+#[derive(Drop)]
+pub(crate) struct Kept {
+    alloc: Global,
+    visits: Vec<Visit>,
+    stride: u64,
+}
+
+impl Model for Kept {
+    ghost use Rattle.std.specs.Prelude.{◌<◌, List};
+    ghost use Rattle.mx_replay.specs.declared.visit.Visit.{Visit};
+
+    ghost Value = { List Visit };
+
+    ghost view = { λ k. k.visits.items };
+
+    ghost invariant = { λ k. 0 < k.stride };
+}
+
+impl Kept {
+    /// No step. It takes no memory.
+    pub(crate) fn new(alloc: Global) -> Kept
+        ensures { result ≡ [] }
+    {
+        Kept {
+            alloc,
+            visits: Vec::new(alloc),
+            stride: STRIDE,
+        }
+    }
+
+    /// The next step after one that is to be kept.
+    fn next_due(&self, at: u64) -> u64
+        ensures { at + 1 < 2 ^ 64 → at < result }
+    {
+        (at - at % self.stride).saturating_add(self.stride)
+    }
+
+    /// The place of the nearest step that is kept, at step k or before it.
+    fn nearest_place(&self, k: u64) -> Option<usize>
+        ensures { IfSome result (IsPlaceBefore self.now k) }
+    {
+        let mut best = None;
+        for place in 0..self.visits.len() {
+            if self.is_nearer(best, place, k) {
+                best = Some(place);
+            }
+        }
+        best
+    }
+
+    /// Whether the step at a place is nearer to step k, or to one before it, than the best one so far.
+    fn is_nearer(&self, best: Option<usize>, place: usize, k: u64) -> bool
+        requires place { place < length self.now }
+        requires best { IfSome best (IsPlaceBefore self.now k) }
+        ensures { IsTrue result → IsPlaceBefore self.now k place }
+    {
+        let at = self.visits[place].at;
+        match best {
+            Some(best) => self.visits[best].at < at && at <= k,
+            None => at <= k,
+        }
+    }
+
+    /// A copy of the nearest step that is kept, at step k or before it. Nothing where there is none or no memory for it.
+    pub(crate) fn nearest(&self, k: u64) -> Option<Visit>
+        ensures before { IfSome result (λ v. v.at ≤ k) }
+        ensures step { IfSome result (λ v. (p : Program) → AreSteps p self.now → IsStep p v) }
+    {
+        let place = self.nearest_place(k)?;
+        self.visits[place].copy().ok()
+    }
+
+    /// Whether step k is kept.
+    fn has(&self, k: u64) -> bool {
+        match self.nearest_place(k) {
+            Some(place) => self.visits[place].at == k,
+            None => false,
+        }
+    }
+
+    /// Keeps a step, where there is memory for it.
+    fn add(&mut self, visit: &Visit)
+        ensures { (p : Program) → IsStep p visit.now → AreSteps p self.old → AreSteps p self.new }
+    {
+        if let Ok(copy) = visit.copy() {
+            let _kept = self.visits.push(copy);
+        }
+    }
+
+    /// Drops the steps that are not at a multiple of the stride.
+    fn thin_out(&mut self)
+        ensures { (p : Program) → AreSteps p self.old → AreSteps p self.new }
+    {
+        let mut left = Vec::new(self.alloc);
+        while let Some(visit) = self.visits.pop() {
+            if visit.at % self.stride == 0 {
+                let _kept = left.push(visit);
+            }
+        }
+        self.visits = left;
+    }
+
+    /// Keeps a step that is due.
+    pub(crate) fn keep(&mut self, visit: &Visit)
+        ensures { (p : Program) → IsStep p visit.now → AreSteps p self.old → AreSteps p self.new }
+    {
+        if visit.at % self.stride != 0 || !is_small(visit) || self.has(visit.at) {
+            return;
+        }
+        self.add(visit);
+        if self.visits.len() > MOST_KEPT {
+            self.stride = self.stride.saturating_mul(2);
+            self.thin_out();
+        }
+    }
+
+    /// Keeps a step that is near those that are visited, in place of another such.
+    pub(crate) fn keep_near(&mut self, visit: &Visit)
+        ensures { (p : Program) → IsStep p visit.now → AreSteps p self.old → AreSteps p self.new }
+    {
+        if is_small(visit) {
+            self.thin_out();
+            self.add(visit);
+        }
+    }
+}
+
+/// Whether a step is kept, by the memory that it takes.
+fn is_small(visit: &Visit) -> bool {
+    visit.machine.pages() <= MOST_PAGES && visit.host.output().len() <= MOST_BYTES
+}
+
+/// Goes on to step k, or to the last one before it, and keeps steps on the way. Out of memory the visit is at no step of the
+/// run.
+pub(crate) fn go_keeping(
+    alloc: Global,
+    visit: &mut Visit,
+    kept: &mut Kept,
+    k: u64,
+) -> Result<(), NoMemory>
+    requires { visit.old.at ≤ k }
+    ensures step { OnOk result ((p : Program) → IsStep p visit.old → IsStep p visit.new × IsReached p k visit.new.at) }
+    ensures kept { (p : Program) → IsStep p visit.old → AreSteps p kept.old → AreSteps p kept.new }
+{
+    while has_more(visit, k) {
+        let due = kept.next_due(visit.at).min(k);
+        go_on(alloc, visit, due)?;
+        kept.keep(visit);
+    }
+    Ok(())
+}
