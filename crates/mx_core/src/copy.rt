@@ -1,6 +1,7 @@
 //! A copy of the machine.
 
 ghost use Rattle.std.specs.Prelude.{◌≡◌, IfOk};
+ghost use Rattle.mx_core.specs.Kept.{state_of};
 
 use crate::Machine;
 use mx_word::NoMemory;
@@ -22,5 +23,13 @@ impl Machine {
             touched: self.touched,
             steps: self.steps,
         })
+    }
+
+    /// How many pages its memory has, at most 65,536.
+    #[tactic(auto, unfolding(crate::specs::Kept::state_of))]
+    pub fn pages(&self) -> u32
+        ensures { result ≡ (state_of self.now).page_count }
+    {
+        self.memory.pages()
     }
 }

@@ -118,13 +118,7 @@ impl Kept {
     fn thin_out(&mut self)
         ensures { (p : Program) → AreSteps p self.old → AreSteps p self.new }
     {
-        let mut left = Vec::new(self.alloc);
-        while let Some(visit) = self.visits.pop() {
-            if visit.at % self.stride == 0 {
-                let _kept = left.push(visit);
-            }
-        }
-        self.visits = left;
+        drop_others(self.alloc, &mut self.visits, self.stride);
     }
 
     /// Keeps a step that is due.
@@ -150,6 +144,20 @@ impl Kept {
             self.add(visit);
         }
     }
+}
+
+/// Drops the steps that are not at a multiple of the stride.
+fn drop_others(alloc: Global, visits: &mut Vec<Visit>, stride: u64)
+    requires { 0 < stride }
+    ensures { (p : Program) → AreSteps p visits.old.items → AreSteps p visits.new.items }
+{
+    let mut left = Vec::new(alloc);
+    while let Some(visit) = visits.pop() {
+        if visit.at % stride == 0 {
+            let _kept = left.push(visit);
+        }
+    }
+    *visits = left;
 }
 
 /// Whether a step is kept, by the memory that it takes.

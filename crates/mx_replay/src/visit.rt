@@ -127,7 +127,7 @@ pub(crate) fn has_more(visit: &Visit, until: u64) -> bool
 pub(crate) fn go_on(alloc: Global, visit: &mut Visit, k: u64) -> Result<(), NoMemory>
     requires { visit.old.at ≤ k }
     ensures step { OnOk result ((p : Program) → IsStep p visit.old → IsStep p visit.new × IsReached p k visit.new.at) }
-    ensures forward { OnOk result (visit.old.at ≤ visit.new.at) }
+    ensures forward { OnOk result ((visit.old.at ≤ visit.new.at) × (visit.new.at ≤ k)) }
     ensures early { OnOk result (is_over visit.new.end ≡ false → visit.new.at ≡ k) }
 {
     if is_over(visit.end) {

@@ -1,0 +1,37 @@
+-- Steps that are kept, and the way to a step along them.
+use Rattle.std.proofs.Common.{◌≡◌, ◌<◌, ◌≤◌, ◌+◌, ◌-◌, ◌⊎◌, ℕ, Bool, true, false, inl, inr, arith, refl, sym, subst, ◌∙◌, ap}
+use Rattle.std.specs.Prelude.{nat_lt, if◌then◌else◌}
+use Rattle.std.proofs.lemmas.Bool.{cases_lt, ltb-false}
+use Rattle.mx_replay.specs.Programs.{IsReached, is_over}
+use Rattle.mx_replay.specs.Searches.{has_more}
+use Rattle.mx_replay.specs.Visits.{IsStep}
+use Rattle.mx_replay.specs.declared.program.Program.{Program}
+use Rattle.mx_replay.specs.declared.visit.Visit.{Visit}
+use Rattle.mx_replay.proofs.Found.{more-here, more-on, no-more-by}
+use Rattle.mx_replay.proofs.Steps.{over-reached}
+
+-- what is left to do up to a step: the turns, and one more as long as the run goes on
+abbrev pub left_of : Visit → ℕ → ℕ
+left_of v k = (k - v.at) + (if is_over v.end then 0 else 1)
+
+less-by : (k at next due : ℕ) (over : Bool) → at < k → at < due → due ≤ k → at ≤ next → (over ≡ false → next ≡ due) → (k - next) + (if over then 0 else 1) < (k - at) + 1
+less-by k at next due true h d l f e = omega (arith, h, f)
+less-by k at next due false h d l f e = let same = e refl in omega (arith, h, d, l, same)
+
+pub left-less : (v w : Visit) (k due : ℕ) → has_more v k ≡ true → v.at < due → due ≤ k → v.at ≤ w.at → (is_over w.end ≡ false → w.at ≡ due) → left_of w k < left_of v k
+left-less v w k due more d l f e =
+    subst (λ b. left_of w k < (k - v.at) + (if b then 0 else 1)) (sym (more-on v k more)) (less-by k v.at w.at due (is_over w.end) (more-here v k more) d l f e)
+
+arrived-by : (p : Program) (v : Visit) (k : ℕ) → (nat_lt v.at k ≡ false) ⊎ (is_over v.end ≡ true) → v.at ≤ k → IsStep p v → IsStep p v × IsReached p k v.at
+arrived-by p v k (inl e) l s = (s, record { within = l; early = λ h. absurd (omega (arith, h, ltb-false v.at k e)) })
+arrived-by p v k (inr o) l s = (s, over-reached p v k s l o)
+
+pub arrived : (p : Program) (v : Visit) (k : ℕ) → has_more v k ≡ false → v.at ≤ k → IsStep p v → IsStep p v × IsReached p k v.at
+arrived p v k e l s = arrived-by p v k (no-more-by (nat_lt v.at k) (is_over v.end) e) l s
+
+all-by : (at n made k : ℕ) (over : Bool) → at + n ≡ k → made ≤ n → (made < n → over ≡ true) → over ≡ false → (made < n) ⊎ (n ≤ made) → at + made ≡ k
+all-by at n made k over sum few early no (inl l) = let done = early l in absurd (cc)
+all-by at n made k over sum few early no (inr l) = omega (arith, sum, few, l)
+
+pub all-made : (at n made k : ℕ) (over : Bool) → at + n ≡ k → made ≤ n → (made < n → over ≡ true) → over ≡ false → at + made ≡ k
+all-made at n made k over sum few early no = all-by at n made k over sum few early no (cases_lt made n)
