@@ -9,8 +9,6 @@ ghost use Rattle.mx_registers.specs.Registers.{registers_at_start, is_marginal, 
 ghost use Rattle.mx_registers.specs.Registers.{with_globals_from, push_number, registers_below, registers_from};
 ghost use Rattle.mx_registers.specs.Registers.{with_returned};
 
-mod copies;
-
 use crate::knowing::know_octas;
 use crate::results::bring_back;
 use crate::slices::{clear, copy, put};
