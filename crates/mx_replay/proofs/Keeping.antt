@@ -1,7 +1,10 @@
 -- Steps that are kept, and the way to a step along them.
-use Rattle.std.proofs.Common.{◌≡◌, ◌<◌, ◌≤◌, ◌+◌, ◌-◌, ◌⊎◌, ℕ, Bool, true, false, inl, inr, arith, refl, sym, subst, ◌∙◌, ap}
-use Rattle.std.specs.Prelude.{nat_lt, if◌then◌else◌}
+use Rattle.std.proofs.Common.{◌≡◌, ◌<◌, ◌≤◌, ◌+◌, ◌-◌, ◌⊎◌, ℕ, Bool, true, false, inl, inr, List, [], ◌∷◌, ◌++◌, length, arith, refl, sym, subst, ◌∙◌, ap}
+use Rattle.std.specs.Prelude.{nat_lt, if◌then◌else◌, slice_index_or}
+use Rattle.std.proofs.lemmas.List.{get_or_read}
+use Rattle.std.proofs.lemmas.List.Elements.{All-push}
 use Rattle.std.proofs.lemmas.Bool.{cases_lt, ltb-false}
+use Rattle.mx_replay.specs.Keeping.{AreSteps, IsPlaceBefore}
 use Rattle.mx_replay.specs.Programs.{IsReached, is_over}
 use Rattle.mx_replay.specs.Searches.{has_more}
 use Rattle.mx_replay.specs.Visits.{IsStep}
@@ -9,6 +12,19 @@ use Rattle.mx_replay.specs.declared.program.Program.{Program}
 use Rattle.mx_replay.specs.declared.visit.Visit.{Visit}
 use Rattle.mx_replay.proofs.Found.{more-here, more-on, no-more-by}
 use Rattle.mx_replay.proofs.Steps.{over-reached}
+
+-- ---- steps that are kept
+
+pub place-before : (visits : List Visit) (k place : ℕ) (v : Visit) → place < length visits → v ≡ slice_index_or visits place v → v.at ≤ k → IsPlaceBefore visits k place
+place-before visits k place v l e h = (l, λ d. subst (λ (x : Visit). x.at ≤ k) (get_or_read visits place v l e d) h)
+
+pub step-added : (p : Program) (old new : List Visit) (v w : Visit) (ok : Bool) → new ≡ (if ok then old ++ v ∷ [] else old) → v ≡ w → IsStep p w → AreSteps p old → AreSteps p new
+step-added p old new v w true e f s all = subst (AreSteps p) (sym e) (All-push (IsStep p) old v all (subst (IsStep p) (sym f) s))
+step-added p old new v w false e f s all = subst (AreSteps p) (sym e) all
+
+pub ruleset keeping = (place-before, step-added)
+
+-- ---- the way to a step
 
 -- what is left to do up to a step: the turns, and one more as long as the run goes on
 abbrev pub left_of : Visit → ℕ → ℕ

@@ -43,6 +43,7 @@ impl Model for Kept {
     ghost invariant = { λ k. 0 < k.stride };
 }
 
+#[tactic(auto, using(crate::proofs::Keeping::keeping))]
 impl Kept {
     /// No step. It takes no memory.
     pub(crate) fn new(alloc: Global) -> Kept
@@ -97,10 +98,10 @@ impl Kept {
         self.visits[place].copy().ok()
     }
 
-    /// Whether step k is kept.
-    fn has(&self, k: u64) -> bool {
+    /// Whether a step is kept after one, up to step k.
+    pub(crate) fn has_between(&self, after: u64, k: u64) -> bool {
         match self.nearest_place(k) {
-            Some(place) => self.visits[place].at == k,
+            Some(place) => after < self.visits[place].at,
             None => false,
         }
     }
@@ -125,7 +126,10 @@ impl Kept {
     pub(crate) fn keep(&mut self, visit: &Visit)
         ensures { (p : Program) → IsStep p visit.now → AreSteps p self.old → AreSteps p self.new }
     {
-        if visit.at % self.stride != 0 || !is_small(visit) || self.has(visit.at) {
+        if visit.at % self.stride != 0
+            || self.has_between(visit.at.saturating_sub(1), visit.at)
+            || !is_small(visit)
+        {
             return;
         }
         self.add(visit);
@@ -147,6 +151,7 @@ impl Kept {
 }
 
 /// Drops the steps that are not at a multiple of the stride.
+#[tactic(auto, using(crate::proofs::Keeping::keeping))]
 fn drop_others(alloc: Global, visits: &mut Vec<Visit>, stride: u64)
     requires { 0 < stride }
     ensures { (p : Program) → AreSteps p visits.old.items → AreSteps p visits.new.items }

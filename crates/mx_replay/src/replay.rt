@@ -119,7 +119,7 @@ impl Replay {
         ensures same { OnOk result (step_of self.old.program self.new.at ≡ step_of self.old.program k) }
         ensures err { OnErr result (IsLeft self.old.at self.new.at) }
     {
-        if k < self.here.at {
+        if k < self.here.at || self.kept.has_between(self.here.at, k) {
             self.here = self.visit(k)?;
             Ok(())
         } else {
