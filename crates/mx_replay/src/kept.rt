@@ -1,6 +1,6 @@
 //! Steps that are kept, so that others are reached quickly.
 
-ghost use Rattle.std.specs.Prelude.{◌≡◌, ◌≤◌, ◌<◌, ◌+◌, ◌^◌, [], IfSome, IsTrue, OnOk, Type, length};
+ghost use Rattle.std.specs.Prelude.{◌≡◌, ◌≤◌, ◌<◌, ◌+◌, ◌^◌, [], IfSome, IsTrue, OnOk, length};
 ghost use Rattle.std.specs.List.{All};
 ghost use Rattle.mx_replay.specs.Programs.{IsReached};
 ghost use Rattle.mx_replay.specs.Visits.{IsStep};
