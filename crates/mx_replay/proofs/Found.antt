@@ -222,34 +222,34 @@ last-done p mark from until v last e so = last-by p mark from until v last (no-m
 
 -- BACKWARDS, FROM ONE STEP THAT IS KEPT TO THE NEXT
 
--- none was found behind a step
-pub record NoneBehind (p : Program) (mark : Mark) (until end : ℕ) : Type 0 where
+-- none was found after a step
+pub record NoneLater (p : Program) (mark : Mark) (until end : ℕ) : Type 0 where
   pub within : end ≤ until
   pub none : NoneMarked p mark end until
 
-pub behind-begun : (p : Program) (mark : Mark) (until : ℕ) → NoneBehind p mark until until
-behind-begun p mark until = record { within = omega arith; none = none-same p mark until until (omega arith) }
+pub later-begun : (p : Program) (mark : Mark) (until : ℕ) → NoneLater p mark until until
+later-begun p mark until = record { within = omega arith; none = none-same p mark until until (omega arith) }
 
-pub behind-on : (p : Program) (mark : Mark) (until end from : ℕ) (found : Option ℕ) → found ≡ None → from ≤ end → IsLastAfter p mark from end found → NoneBehind p mark until end → NoneBehind p mark until from
-behind-on p mark until end from None e l h so = record { within = omega (arith, l, so.within); none = none-joined p mark from end until h so.none }
-behind-on p mark until end from (Some k) e l h so = absurd (cc)
+pub later-on : (p : Program) (mark : Mark) (until end from : ℕ) (found : Option ℕ) → found ≡ None → from ≤ end → IsLastAfter p mark from end found → NoneLater p mark until end → NoneLater p mark until from
+later-on p mark until end from None e l h so = record { within = omega (arith, l, so.within); none = none-joined p mark from end until h so.none }
+later-on p mark until end from (Some k) e l h so = absurd (cc)
 
-pub behind-found : (p : Program) (mark : Mark) (until end from : ℕ) (found : Option ℕ) → found ≢ None → IsLastAfter p mark from end found → NoneBehind p mark until end → IsLast p mark until found
-behind-found p mark until end from None e h so = absurd (e refl)
-behind-found p mark until end from (Some k) e h so = (omega (arith, h.1, so.within), h.2, none-joined p mark k end until h.3 so.none)
+pub later-found : (p : Program) (mark : Mark) (until end from : ℕ) (found : Option ℕ) → found ≢ None → IsLastAfter p mark from end found → NoneLater p mark until end → IsLast p mark until found
+later-found p mark until end from None e h so = absurd (e refl)
+later-found p mark until end from (Some k) e h so = (omega (arith, h.1, so.within), h.2, none-joined p mark k end until h.3 so.none)
 
 start-marked : (p : Program) (mark : Mark) (v : Visit) → IsStart p v → is_marked p mark 0 ≡ mark.start (state_of v.machine)
 unfolding is_marked
 start-marked p mark v s = ap (λ n. marks_start mark (step_of p n)) (sym s.first) ∙ ap (marks_start mark) s.step.shown
 
-pub start-last : (p : Program) (mark : Mark) (v : Visit) (until end : ℕ) → end ≡ 0 → true ≡ mark.start (state_of v.machine) → IsStart p v → NoneBehind p mark until end → IsLast p mark until (Some 0)
+pub start-last : (p : Program) (mark : Mark) (v : Visit) (until end : ℕ) → end ≡ 0 → true ≡ mark.start (state_of v.machine) → IsStart p v → NoneLater p mark until end → IsLast p mark until (Some 0)
 start-last p mark v until end e h s so = (omega arith, start-marked p mark v s ∙ sym h, subst (λ n. NoneMarked p mark n until) e so.none)
 
 none-up-to : (p : Program) (mark : Mark) (until j : ℕ) → is_marked p mark 0 ≡ false → NoneMarked p mark 0 until → j ≤ until → (0 < j) ⊎ (j ≤ 0) → is_marked p mark j ≡ false
 none-up-to p mark until j e n l (inl h) = n j h l
 none-up-to p mark until j e n l (inr h) = let first : j ≡ 0 = omega (arith, h) in ap (is_marked p mark) first ∙ e
 
-pub start-none : (p : Program) (mark : Mark) (v : Visit) (until end : ℕ) → end ≡ 0 → false ≡ mark.start (state_of v.machine) → IsStart p v → NoneBehind p mark until end → IsLast p mark until None
+pub start-none : (p : Program) (mark : Mark) (v : Visit) (until end : ℕ) → end ≡ 0 → false ≡ mark.start (state_of v.machine) → IsStart p v → NoneLater p mark until end → IsLast p mark until None
 start-none p mark v until end e h s so j l =
     none-up-to p mark until j (start-marked p mark v s ∙ sym h) (subst (λ n. NoneMarked p mark n until) e so.none) l (cases_lt 0 j)
 

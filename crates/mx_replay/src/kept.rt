@@ -1,7 +1,6 @@
 //! Steps that are kept, so that others are reached quickly.
 
 ghost use Rattle.std.specs.Prelude.{◌≡◌, ◌≤◌, ◌<◌, ◌+◌, ◌^◌, [], IfSome, IsTrue, OnOk, length};
-ghost use Rattle.std.specs.List.{All};
 ghost use Rattle.mx_replay.specs.Programs.{IsReached};
 ghost use Rattle.mx_replay.specs.Visits.{IsStep};
 ghost use Rattle.mx_replay.specs.Keeping.{AreSteps, IsPlaceBefore};
@@ -126,7 +125,8 @@ impl Kept {
     pub(crate) fn keep(&mut self, visit: &Visit)
         ensures { (p : Program) → IsStep p visit.now → AreSteps p self.old → AreSteps p self.new }
     {
-        if visit.at % self.stride != 0
+        if visit.at % STRIDE != 0
+            || visit.at % self.stride != 0
             || self.has_between(visit.at.saturating_sub(1), visit.at)
             || !is_small(visit)
         {

@@ -1,13 +1,12 @@
 //! A run that is visited step by step, forth and back.
 
 ghost use Rattle.std.specs.Prelude.{◌≡◌, ◌≢◌, ◌≤◌, ◌<◌, ◌+◌, ℕ, Ok, Err, IfOk, IfErr, OnOk, OnErr};
-ghost use Rattle.std.specs.Option.{ForSome};
 ghost use Rattle.mx_core.specs.Kept.{state_of};
 ghost use Rattle.mx_word.specs.Results.{map_ok};
-ghost use Rattle.mx_replay.specs.Marks.{depth};
+ghost use Rattle.mx_replay.specs.Marks as marks;
 ghost use Rattle.mx_replay.specs.Programs.{GoesOn, IsReached, NamesFile, step_of};
 ghost use Rattle.mx_replay.specs.Searches.{IsLeft};
-ghost use Rattle.mx_replay.specs.Visits.{IsStart, IsStep, trace_after};
+ghost use Rattle.mx_replay.specs.Visits.{trace_after};
 
 mod finding;
 mod visiting;
@@ -104,7 +103,7 @@ impl Replay {
 
     /// How many registers are hidden at this step: those of the calls that have not returned.
     pub fn depth(&self) -> u64
-        ensures { map_ok (λ e. depth e.state) (step_of self.now.program self.now.at) ≡ Ok result }
+        ensures { map_ok (λ e. marks.depth e.state) (step_of self.now.program self.now.at) ≡ Ok result }
     {
         depth(&self.here.machine)
     }

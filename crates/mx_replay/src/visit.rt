@@ -4,7 +4,7 @@ ghost use Rattle.std.specs.Prelude.{◌≡◌, ◌≢◌, ◌+◌, ◌<◌, ◌�
 ghost use Rattle.mx_core.specs.Kept.{state_of};
 ghost use Rattle.mx_run.specs.Runs.{ended};
 ghost use Rattle.mx_replay.specs.Programs as spec;
-ghost use Rattle.mx_replay.specs.Programs.{IsReached, NamesFile, is_over, step_of};
+ghost use Rattle.mx_replay.specs.Programs.{IsReached, NamesFile, step_of};
 ghost use Rattle.mx_replay.specs.Searches as searches;
 ghost use Rattle.mx_replay.specs.Visits.{ComesTo, IsStart, IsStep, turns_told};
 ghost use Rattle.mx_replay.specs.declared.program.Program.{Program};
@@ -128,7 +128,7 @@ pub(crate) fn go_on(alloc: Global, visit: &mut Visit, k: u64) -> Result<(), NoMe
     requires { visit.old.at ≤ k }
     ensures step { OnOk result ((p : Program) → IsStep p visit.old → IsStep p visit.new × IsReached p k visit.new.at) }
     ensures forward { OnOk result ((visit.old.at ≤ visit.new.at) × (visit.new.at ≤ k)) }
-    ensures early { OnOk result (is_over visit.new.end ≡ false → visit.new.at ≡ k) }
+    ensures early { OnOk result (spec.is_over visit.new.end ≡ false → visit.new.at ≡ k) }
 {
     if is_over(visit.end) {
         return Ok(());
