@@ -1,6 +1,6 @@
 -- Steps that are looked for.
-use Rattle.std.proofs.Common.{◌≡◌, ◌≢◌, ◌<◌, ◌≤◌, ◌+◌, ◌-◌, ◌⊎◌, ℕ, suc, Bool, true, false, Some, None, Ok, inl, inr, arith, refl, sym, subst, ◌∙◌, ap}
-use Rattle.std.specs.Prelude.{Option, ◌&&◌, not, nat_lt, if◌then◌else◌}
+use Rattle.std.proofs.Common.{◌≡◌, ◌<◌, ◌≤◌, ◌+◌, ◌-◌, ◌⊎◌, ℕ, suc, Bool, true, false, Some, None, Ok, inl, inr, arith, refl, sym, subst, ◌∙◌, ap}
+use Rattle.std.specs.Prelude.{Option, ◌&&◌, is_some, not, nat_lt, if◌then◌else◌}
 use Rattle.std.proofs.lemmas.Bool.{cases_lt, ltb-true, ltb-false}
 use Rattle.mx_host.specs.HostModel.{HostModel}
 use Rattle.mx_word.specs.Results.{map_ok}
@@ -230,12 +230,12 @@ pub record NoneLater (p : Program) (mark : Mark) (until end : ℕ) : Type 0 wher
 pub later-begun : (p : Program) (mark : Mark) (until : ℕ) → NoneLater p mark until until
 later-begun p mark until = record { within = omega arith; none = none-same p mark until until (omega arith) }
 
-pub later-on : (p : Program) (mark : Mark) (until end from : ℕ) (found : Option ℕ) → found ≡ None → from ≤ end → IsLastAfter p mark from end found → NoneLater p mark until end → NoneLater p mark until from
+pub later-on : (p : Program) (mark : Mark) (until end from : ℕ) (found : Option ℕ) → is_some found ≡ false → from ≤ end → IsLastAfter p mark from end found → NoneLater p mark until end → NoneLater p mark until from
 later-on p mark until end from None e l h so = record { within = omega (arith, l, so.within); none = none-joined p mark from end until h so.none }
 later-on p mark until end from (Some k) e l h so = absurd (cc)
 
-pub later-found : (p : Program) (mark : Mark) (until end from : ℕ) (found : Option ℕ) → found ≢ None → IsLastAfter p mark from end found → NoneLater p mark until end → IsLast p mark until found
-later-found p mark until end from None e h so = absurd (e refl)
+pub later-found : (p : Program) (mark : Mark) (until end from : ℕ) (found : Option ℕ) → is_some found ≡ true → IsLastAfter p mark from end found → NoneLater p mark until end → IsLast p mark until found
+later-found p mark until end from None e h so = absurd (cc)
 later-found p mark until end from (Some k) e h so = (omega (arith, h.1, so.within), h.2, none-joined p mark k end until h.3 so.none)
 
 start-marked : (p : Program) (mark : Mark) (v : Visit) → IsStart p v → is_marked p mark 0 ≡ mark.start (state_of v.machine)

@@ -1,5 +1,5 @@
 -- The calls that have not returned, turn after turn.
-use Rattle.std.proofs.Common.{◌≡◌, ◌<◌, ◌≤◌, ◌+◌, ◌-◌, ◌⊎◌, ℕ, zero, suc, Bool, true, false, Some, None, Ok, inl, inr, List, arith, refl, sym, subst, ◌∙◌, ap}
+use Rattle.std.proofs.Common.{◌≡◌, ◌<◌, ◌≤◌, ◌+◌, ◌-◌, ◌⊎◌, ℕ, zero, suc, Bool, true, false, Some, None, Ok, inl, inr, List, [], arith, refl, sym, subst, ◌∙◌, ap}
 use Rattle.std.specs.Prelude.{Option, nat_lt}
 use Rattle.std.proofs.lemmas.Bool.{ltb-false}
 use Rattle.mx_host.specs.HostModel.{HostModel}
@@ -53,9 +53,9 @@ pub record FramedSoFar (p : Program) (until : ℕ) (now : Visit) (frames : List 
   pub within : now.at ≤ until
   pub framed : frames ≡ frames_at p now.at
 
-pub frames-begun : (p : Program) (until : ℕ) (v : Visit) → IsStart p v → FramedSoFar p until v []
+pub frames-begun : (p : Program) (until : ℕ) (v : Visit) (frames : List Frame) → frames ≡ [] → IsStart p v → FramedSoFar p until v frames
 unfolding frames_at
-frames-begun p until v s = record { step = s.step; within = omega (arith, s.first); framed = sym (ap (frames_at p) s.first) }
+frames-begun p until v frames e s = record { step = s.step; within = omega (arith, s.first); framed = e ∙ sym (ap (frames_at p) s.first) }
 
 pub frames-on : (p : Program) (until : ℕ) (v w : Visit) (frames new : List Frame) → has_more v until ≡ true → MakesTurn v w → new ≡ turned (state_of v.machine) (turn_from v) frames → FramedSoFar p until v frames → FramedSoFar p until w new
 unfolding frames_at
@@ -67,7 +67,7 @@ frames-on p until v w frames new more h e so =
       step = turn-step p v w o h so.step;
       within = omega (arith, here, h.count);
       framed = e ∙ ap (turned (state_of v.machine) (turn_from v)) so.framed
-        ∙ sym (ap (frames_at p) next ∙ ap (λ r. turned_after r (frames_at p v.at)) so.step.shown ∙ ap (λ x. turned_from x (state_of v.machine) v.host (frames_at p v.at)) (is-spent v.end o));
+          ∙ sym (ap (frames_at p) next ∙ ap (λ r. turned_after r (frames_at p v.at)) so.step.shown ∙ ap (λ x. turned_from x (state_of v.machine) v.host (frames_at p v.at)) (is-spent v.end o));
     }
 
 over-unturned : (x : End) (s : State) (m : HostModel) (frames : List Frame) → is_over x ≡ true → turned_from x s m frames ≡ frames

@@ -1,8 +1,8 @@
 -- Steps that are kept, and the way to a step along them.
 use Rattle.std.proofs.Common.{◌≡◌, ◌<◌, ◌≤◌, ◌+◌, ◌-◌, ◌⊎◌, ℕ, Bool, true, false, inl, inr, List, [], ◌∷◌, ◌++◌, length, arith, refl, sym, subst, ◌∙◌, ap}
-use Rattle.std.specs.Prelude.{nat_lt, if◌then◌else◌, slice_index_or}
+use Rattle.std.specs.Prelude.{nat_lt, if◌then◌else◌, slice_index_or, option_to_list, Option, Some, Result, Ok, Err, IfSome, OnOk, OnErr}
 use Rattle.std.proofs.lemmas.List.{get_or_read}
-use Rattle.std.proofs.lemmas.List.Elements.{All-push}
+use Rattle.std.proofs.lemmas.List.Elements.{All-pop, All-push}
 use Rattle.std.proofs.lemmas.Bool.{cases_lt, ltb-false}
 use Rattle.mx_replay.specs.Keeping.{AreSteps, IsPlaceBefore}
 use Rattle.mx_replay.specs.Programs.{IsReached, is_over}
@@ -18,11 +18,17 @@ use Rattle.mx_replay.proofs.Steps.{over-reached}
 pub place-before : (visits : List Visit) (k place : ℕ) (v : Visit) → place < length visits → v ≡ slice_index_or visits place v → v.at ≤ k → IsPlaceBefore visits k place
 place-before visits k place v l e h = (l, λ d. subst (λ (x : Visit). x.at ≤ k) (get_or_read visits place v l e d) h)
 
-pub step-added : (p : Program) (old new : List Visit) (v w : Visit) (ok : Bool) → new ≡ (if ok then old ++ v ∷ [] else old) → v ≡ w → IsStep p w → AreSteps p old → AreSteps p new
-step-added p old new v w true e f s all = subst (AreSteps p) (sym e) (All-push (IsStep p) old v all (subst (IsStep p) (sym f) s))
-step-added p old new v w false e f s all = subst (AreSteps p) (sym e) all
+pub step-pushed : {A B : Type 0} (p : Program) (old new : List Visit) (v : Visit) (r : Result A B) → OnOk r (new ≡ old ++ v ∷ []) → OnErr r (new ≡ old) → IsStep p v → AreSteps p old → AreSteps p new
+step-pushed p old new v (Ok x) e f s all = subst (AreSteps p) (sym e) (All-push (IsStep p) old v all s)
+step-pushed p old new v (Err x) e f s all = subst (AreSteps p) (sym f) all
 
-pub ruleset keeping = (place-before, step-added)
+pub rest-popped : (p : Program) (old new : List Visit) (r : Option Visit) → old ≡ new ++ option_to_list r → AreSteps p old → AreSteps p new
+rest-popped p old new r e all = (All-pop (IsStep p) old new r e all).0
+
+pub step-popped : (p : Program) (old new : List Visit) (r : Option Visit) (v : Visit) → old ≡ new ++ option_to_list r → r ≡ Some v → AreSteps p old → IsStep p v
+step-popped p old new r v e f all = subst (λ x. IfSome x (IsStep p)) f (All-pop (IsStep p) old new r e all).1
+
+pub ruleset keeping = (place-before, step-pushed, rest-popped, step-popped)
 
 -- ---- the way to a step
 
@@ -46,8 +52,8 @@ pub arrived : (p : Program) (v : Visit) (k : ℕ) → has_more v k ≡ false →
 arrived p v k e l s = arrived-by p v k (no-more-by (nat_lt v.at k) (is_over v.end) e) l s
 
 all-by : (at n made k : ℕ) (over : Bool) → at + n ≡ k → made ≤ n → (made < n → over ≡ true) → over ≡ false → (made < n) ⊎ (n ≤ made) → at + made ≡ k
-all-by at n made k over sum few early no (inl l) = let done = early l in absurd (cc)
-all-by at n made k over sum few early no (inr l) = omega (arith, sum, few, l)
+all-by at n made k over sum few early still (inl l) = let done = early l in absurd (cc)
+all-by at n made k over sum few early still (inr l) = omega (arith, sum, few, l)
 
 pub all-made : (at n made k : ℕ) (over : Bool) → at + n ≡ k → made ≤ n → (made < n → over ≡ true) → over ≡ false → at + made ≡ k
-all-made at n made k over sum few early no = all-by at n made k over sum few early no (cases_lt made n)
+all-made at n made k over sum few early still = all-by at n made k over sum few early still (cases_lt made n)

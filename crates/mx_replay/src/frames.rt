@@ -33,12 +33,7 @@ fn is_save(word: u32) -> bool
 }
 
 /// The calls after a step that was made with so many registers hidden before and after it.
-fn follow(
-    frames: &mut Vec<Frame>,
-    before: u64,
-    after: u64,
-    trace: &Trace,
-) -> Result<(), NoMemory>
+fn follow(frames: &mut Vec<Frame>, before: u64, after: u64, trace: &Trace) -> Result<(), NoMemory>
     ensures { OnOk result (frames.new.items ≡ spec.traced before after trace.now frames.old.items) }
 {
     if is_save(trace.word) {
@@ -57,11 +52,7 @@ fn follow(
 
 /// Makes a turn, and follows the calls.
 #[tactic(auto, using(crate::proofs::Framed::turning))]
-fn follow_turn(
-    alloc: Global,
-    visit: &mut Visit,
-    frames: &mut Vec<Frame>,
-) -> Result<(), NoMemory>
+fn follow_turn(alloc: Global, visit: &mut Visit, frames: &mut Vec<Frame>) -> Result<(), NoMemory>
     requires { visit.old.at + 1 < 2 ^ 64 }
     ensures turn { OnOk result (MakesTurn visit.old visit.new) }
     ensures frames { OnOk result (frames.new.items

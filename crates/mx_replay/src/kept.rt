@@ -7,9 +7,10 @@ ghost use Rattle.mx_replay.specs.Keeping.{AreSteps, IsPlaceBefore};
 ghost use Rattle.mx_replay.specs.declared.program.Program.{Program};
 
 use crate::visit::{Visit, go_on, has_more};
-use mx_word::NoMemory;
+use mx_word::{NoMemory, Sequence};
 use std::alloc::Global;
 use std::marker::Model;
+use std::mem;
 
 /// How many turns lie at first between two steps that are kept.
 const STRIDE: u64 = 1 << 20;
@@ -27,7 +28,7 @@ const MOST_BYTES: usize = 1 << 24;
 #[derive(Drop)]
 pub(crate) struct Kept {
     alloc: Global,
-    visits: Vec<Visit>,
+    visits: Sequence<Visit>,
     stride: u64,
 }
 
@@ -37,7 +38,7 @@ impl Model for Kept {
 
     ghost Value = { List Visit };
 
-    ghost view = { λ k. k.visits.items };
+    ghost view = { λ k. k.visits };
 
     ghost invariant = { λ k. 0 < k.stride };
 }
@@ -50,7 +51,7 @@ impl Kept {
     {
         Kept {
             alloc,
-            visits: Vec::new(alloc),
+            visits: Sequence::new(alloc),
             stride: STRIDE,
         }
     }
@@ -67,7 +68,7 @@ impl Kept {
         ensures { IfSome result (IsPlaceBefore self.now k) }
     {
         let mut best = None;
-        for place in 0..self.visits.len() {
+        for place in 0..self.visits.as_slice().len() {
             if self.is_nearer(best, place, k) {
                 best = Some(place);
             }
@@ -81,9 +82,10 @@ impl Kept {
         requires best { IfSome best (IsPlaceBefore self.now k) }
         ensures { IsTrue result → IsPlaceBefore self.now k place }
     {
-        let at = self.visits[place].at;
+        let visits = self.visits.as_slice();
+        let at = visits[place].at;
         match best {
-            Some(best) => self.visits[best].at < at && at <= k,
+            Some(best) => visits[best].at < at && at <= k,
             None => at <= k,
         }
     }
@@ -94,23 +96,14 @@ impl Kept {
         ensures step { IfSome result (λ v. (p : Program) → AreSteps p self.now → IsStep p v) }
     {
         let place = self.nearest_place(k)?;
-        self.visits[place].copy().ok()
+        self.visits.as_slice()[place].copy().ok()
     }
 
     /// Whether a step is kept after one, up to step k.
     pub(crate) fn has_between(&self, after: u64, k: u64) -> bool {
         match self.nearest_place(k) {
-            Some(place) => after < self.visits[place].at,
+            Some(place) => after < self.visits.as_slice()[place].at,
             None => false,
-        }
-    }
-
-    /// Keeps a step, where there is memory for it.
-    fn add(&mut self, visit: &Visit)
-        ensures { (p : Program) → IsStep p visit.now → AreSteps p self.old → AreSteps p self.new }
-    {
-        if let Ok(copy) = visit.copy() {
-            let _kept = self.visits.push(copy);
         }
     }
 
@@ -118,7 +111,8 @@ impl Kept {
     fn thin_out(&mut self)
         ensures { (p : Program) → AreSteps p self.old → AreSteps p self.new }
     {
-        drop_others(self.alloc, &mut self.visits, self.stride);
+        let visits = mem::replace(&mut self.visits, Sequence::new(self.alloc));
+        self.visits = multiples(self.alloc, visits, self.stride);
     }
 
     /// Keeps a step that is due.
@@ -132,8 +126,8 @@ impl Kept {
         {
             return;
         }
-        self.add(visit);
-        if self.visits.len() > MOST_KEPT {
+        add(&mut self.visits, visit);
+        if self.visits.as_slice().len() > MOST_KEPT {
             self.stride = self.stride.saturating_mul(2);
             self.thin_out();
         }
@@ -145,24 +139,35 @@ impl Kept {
     {
         if is_small(visit) {
             self.thin_out();
-            self.add(visit);
+            add(&mut self.visits, visit);
         }
     }
 }
 
-/// Drops the steps that are not at a multiple of the stride.
+/// Adds a copy of a step, where there is memory for it.
 #[tactic(auto, using(crate::proofs::Keeping::keeping))]
-fn drop_others(alloc: Global, visits: &mut Vec<Visit>, stride: u64)
-    requires { 0 < stride }
-    ensures { (p : Program) → AreSteps p visits.old.items → AreSteps p visits.new.items }
+fn add(visits: &mut Sequence<Visit>, visit: &Visit)
+    ensures { (p : Program) → IsStep p visit.now → AreSteps p visits.old → AreSteps p visits.new }
 {
-    let mut left = Vec::new(alloc);
-    while let Some(visit) = visits.pop() {
+    if let Ok(copy) = visit.copy() {
+        let _kept = visits.push(copy);
+    }
+}
+
+/// Those of some steps that are at a multiple of the stride.
+#[tactic(auto, using(crate::proofs::Keeping::keeping))]
+fn multiples(alloc: Global, visits: Sequence<Visit>, stride: u64) -> Sequence<Visit>
+    requires { 0 < stride }
+    ensures { (p : Program) → AreSteps p visits → AreSteps p result }
+{
+    let mut left = Sequence::new(alloc);
+    let mut rest = visits.into_vec();
+    while let Some(visit) = rest.pop() {
         if visit.at % stride == 0 {
             let _kept = left.push(visit);
         }
     }
-    *visits = left;
+    left
 }
 
 /// Whether a step is kept, by the memory that it takes.

@@ -64,13 +64,7 @@ impl Replay {
         ensures err { OnErr result (IsLeft self.old.at self.new.at) }
     {
         let start = start_again(self.alloc, &self.program, self.spare.take())?;
-        match find_next(
-            self.alloc,
-            &mut self.here,
-            &mut self.kept,
-            sought,
-            until,
-        ) {
+        match find_next(self.alloc, &mut self.here, &mut self.kept, sought, until) {
             Ok(found) => {
                 self.spare = Some(start);
                 Ok(found)

@@ -16,7 +16,11 @@ use std::alloc::Global;
 const NEAR: u64 = 1 << 16;
 
 /// A start that is kept, or one more where none is.
-pub(super) fn start_again(alloc: Global, program: &Program, kept: Option<Visit>) -> Result<Visit, NoMemory>
+pub(super) fn start_again(
+    alloc: Global,
+    program: &Program,
+    kept: Option<Visit>,
+) -> Result<Visit, NoMemory>
     requires names { NamesFile program.now }
     requires kept { ForSome kept (IsStart program.now) }
     ensures { IfOk result (IsStart program.now) }

@@ -1,4 +1,4 @@
-use Rattle.std.proofs.Common.{◌-◌, ◌×◌}
+use Rattle.std.proofs.Common.{◌-◌}
 use Rattle.mx_replay.specs.Keeping.{AreSteps}
 use Rattle.mx_replay.specs.Marks.{mark_of}
 use Rattle.mx_replay.specs.Visits.{IsStep}

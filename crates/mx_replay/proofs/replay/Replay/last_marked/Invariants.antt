@@ -1,4 +1,4 @@
-use Rattle.std.proofs.Common.{◌×◌, ◌≡◌}
+use Rattle.std.proofs.Common.{◌≡◌}
 use Rattle.mx_replay.specs.Marks.{mark_of}
 use Rattle.mx_replay.proofs.Found.{NoneLater}
 use Rattle.mx_replay.proofs.replay.Replay.last_marked.Given as goal

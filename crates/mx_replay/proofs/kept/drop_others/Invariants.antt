@@ -1,7 +1,0 @@
-use Rattle.std.proofs.Common.{◌×◌}
-use Rattle.mx_replay.specs.Keeping.{AreSteps}
-use Rattle.mx_replay.specs.declared.program.Program.{Program}
-use Rattle.mx_replay.proofs.kept.drop_others.Given as goal
-
-abbrev pub invariant-loop-visit : goal.invariant-loop-visit
-invariant-loop-visit l = (p : Program) → AreSteps p l.fn.visits.items → AreSteps p l.visits.items × AreSteps p l.left.items
