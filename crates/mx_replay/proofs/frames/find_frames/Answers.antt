@@ -3,7 +3,7 @@ use Rattle.mx_replay.proofs.Framed.{frames-begun, frames-done, frames-on}
 use Rattle.mx_replay.proofs.frames.find_frames.Goals as goal
 
 pub loop-alloc-init : goal.loop-alloc-init
-loop-alloc-init c = λ p s. frames-begun p _ _ _ c.new.ensures.items s
+loop-alloc-init c = λ p s. frames-begun p _ _ _ c.new-frames.ensures.items s
 
 pub loop-alloc-preserved : goal.loop-alloc-preserved
 loop-alloc-preserved c = λ p s.

@@ -4,3 +4,6 @@ use Rattle.mx_replay.proofs.kept.multiples.Given as goal
 
 abbrev pub invariant-loop-visit : goal.invariant-loop-visit
 invariant-loop-visit l = (p : Program) → AreSteps p l.fn.visits → AreSteps p l.rest.items × AreSteps p l.left
+
+abbrev pub decreases-loop-visit : goal.decreases-loop-visit
+decreases-loop-visit l = goal.left-loop-visit l
