@@ -1,6 +1,7 @@
 -- The records of references, one after another.
-use Rattle.std.proofs.Common.{◌≡◌, ◌<◌, ◌≤◌, ℕ, ◌+◌, List, [], ◌∷◌, ◌++◌, length, drop, get_or, Result, Ok, Err, ap, sym, ◌∙◌, append_assoc, append-nil, arith}
-use Rattle.mx_asm.proofs.Words.{drop_more, drop_all, Value, Wait, Item, AsmFault, Refused, refused_from, fix_of, with_fix, fixes, onto}
+use Rattle.std.proofs.Common.{◌≡◌, ◌≢◌, Bool, true, false, refl, subst, rules, ◌<◌, ◌≤◌, ℕ, ◌+◌, List, [], ◌∷◌, ◌++◌, length, drop, get_or, Result, Ok, Err, ap, sym, ◌∙◌, append_assoc, append-nil, arith}
+use Rattle.mx_asm.proofs.Words.{drop_more, drop_all, Value, Wait, Item, AsmFault, Refused, refused_from, fix_of, with_fix, fixes, onto, fix_items, nat_tests}
+use Rattle.mx_asm.specs.Faults.{is_early, no_memory}
 
 onto-both : (front : List Item) (fix : Item) (line from : ℕ) (later : Result (List Item) Refused) → onto front (with_fix line from (Ok fix) later) ≡ onto (front ++ fix ∷ []) later
 onto-both front fix line from later = grind (arith, append_assoc)
@@ -29,5 +30,28 @@ module _ (line : ℕ) (value : Value) where
   pub fixes-end : (front : List Item) (i : ℕ) (waits : List Wait) → length waits ≤ i → onto front (fixes line value (drop i waits)) ≡ Ok front
   unfolding fixes
   fixes-end front i waits past = ap (λ ws. onto front (fixes line value ws)) (drop_all i waits past) ∙ ap (λ items. Ok items) (append-nil front)
+
+-- ---- what they are refused with is found late
+
+unfoldable IsLate : Result (List Item) Refused → Type 0
+IsLate (Ok items) = Unit {0}
+IsLate (Err r) = is_early r.fault ≡ false
+
+fixes-late : (line : ℕ) (value : Value) (waits : List Wait) → IsLate (fixes line value waits)
+unfolding IsLate fixes
+fixes-late line value [] = tt
+fixes-late line value (wait ∷ waits) = grind (arith, nat_tests, fixes-late line value waits)
+
+late-fixes : (lambda line : ℕ) (value : Value) (waits : List Wait) → IsLate (fix_items lambda line value waits)
+unfolding IsLate
+late-fixes lambda line value waits = grind (arith, nat_tests, fixes-late)
+
+late-if : (r : Refused) (x : Result (List Item) Refused) (b : Bool) → is_early r.fault ≡ b → IsLate x → (◌≢◌ {A = Result (List Item) Refused} (Err r) (Err no_memory) → Err r ≡ x) → is_early r.fault ≡ false
+unfolding IsLate
+late-if r x false e late h = e
+late-if r x true e late h = subst IsLate (sym (h (λ same. let one : r ≡ no_memory = cc in let no : is_early r.fault ≡ false = ap (λ (q : Refused). is_early q.fault) one in absurd (cc)))) late
+
+pub fixes-are-late : (r : Refused) (lambda line : ℕ) (value : Value) (waits : List Wait) → (◌≢◌ {A = Result (List Item) Refused} (Err r) (Err no_memory) → Err r ≡ fix_items lambda line value waits) → is_early r.fault ≡ false
+fixes-are-late r lambda line value waits h = late-if r (fix_items lambda line value waits) (is_early r.fault) refl (late-fixes lambda line value waits) h
 
 pub ruleset fixing = (fixes-failed, fixes-more, fixes-end)

@@ -108,4 +108,7 @@ within-line place end cut found e h = search rules
 pub cut-behind : (place end : ℕ) (cut : Cut) → InOrder place end cut → place < cut.next
 cut-behind place end cut h = omega (arith, before-op place cut.op.from cut.label h.label, h.op, h.gap, h.operands, h.next)
 
+pub behind-line : (place end : ℕ) (cut : Cut) (found : Option Cut) → found ≡ Some cut → IfSome found (InOrder place end) → place < cut.next
+behind-line place end cut found e h = search (rules, cut-behind)
+
 pub ruleset entering = (taken-none, taken-fault, taken-failed, taken-next, cut-within, cut-behind)

@@ -30,7 +30,7 @@ unless-behind f out front a text = search (rules, entries-behind)
 opening-behind : (b : Bool) (out : List Item) → with_opening b out ≡ out ++ with_opening b []
 opening-behind b out = search (rules, append-nil)
 
-line-behind : (out : List Item) (a : Standing) (text : List ℕ) → line_behind out a text ≡ behind_items out (line_behind [] a text)
+pub line-behind : (out : List Item) (a : Standing) (text : List ℕ) → line_behind out a text ≡ behind_items out (line_behind [] a text)
 line-behind out a text = search (rules, append-nil, opening-behind, unless-behind)
 
 trie-behind : (long : Bool) (out front more : List Item) (r : Refused) (trie : List ℕ) →

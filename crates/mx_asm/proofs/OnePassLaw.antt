@@ -1,7 +1,9 @@
 -- The lines of a source in one pass come to what the two passes say.
-use Rattle.std.proofs.Common.{◌≡◌, ℕ, ◌+◌, ◌^◌, Bool, true, false, cond, nat_lt, List, [], ◌∷◌, ◌++◌, fold, length, Option, None, Some, Result, Ok, Err, refl, rules, ◌-◌, take, ap, sym, ◌∙◌, subst, arith, append_assoc, length-append, sum_by}
+use Rattle.std.proofs.Common.{◌≡◌, ℕ, ◌+◌, ◌^◌, Bool, true, false, cond, nat_lt, List, [], ◌∷◌, ◌++◌, fold, length, Option, None, Some, Result, Ok, Err, refl, rules, ◌-◌, take, ap, sym, ◌∙◌, subst, arith, append_assoc, length-append, sum_by, ◌≢◌, OnOk, OnErr, IfErr}
 use Rattle.mx_asm.proofs.Words.{Item, Placed, Label, Answer, SourceTooLong, Refused, refused, Entry, line_entries, Assembly, Taken, Progress, Labelled, taken_items, taken_label, taken_with, entry_taken, behind_entry, and_entries, entries_taken, line_unless, Line, line_after, result_err, sum_by-append, take-append_seam, is_too_far, size_up_to, statement, too_far, items_of, StatementTree, entries_of, statements_in, refusal_in, nothing_known, sights_from, opening, first_head, first_fault, entries_refusal, beginning, lines_entries, lines_items, lines_taken, nat_tests, Cut, cuts_from, list_with, holds_statement, Standing, is_open, line_behind, opened}
 use Rattle.mx_line.specs.Source.{Item as Listed, before as listed_before, items_from as line_items}
+use Rattle.mx_asm.specs.Faults.{no_memory}
+use Rattle.mx_asm.specs.OnePass.{Tried, standing, standing_after}
 use Rattle.mx_asm.proofs.OpenWaits.{open_waits}
 use Rattle.mx_asm.proofs.OneStatement.{standing_at, AreLabels, outcome, entries_outcome, entries-are}
 
@@ -209,3 +211,13 @@ is-open b a is h = search rules
 
 pub line-open : (out next : List Item) (s b : Standing) (a : Assembly) (text : List ℕ) → (next, b) ≡ line_behind out s text → b ≡ Ok a → is_open b ≡ true
 line-open out next s b a text is ok = is-open b a ok (subst (λ p. IfOpen p.1) (sym is) (behind-open out s text))
+
+pub answer-open : (r : Result (Unit {0}) Refused) (out next : List Item) (s : Standing) (a : Assembly) (o : Option Refused) (text : List ℕ) → o ≡ None →
+    (r ≢ Err no_memory → (next, standing_after r a) ≡ line_behind out s text) → OnOk r (is_open (standing a o) ≡ true)
+answer-open (Ok u) out next s a o text none h = rw none (line-open out next s (Ok a) a text (h (λ e. cc)) refl)
+answer-open (Err r) out next s a o text none h = tt
+
+-- one that answers within an `Ok` was not refused before
+pub open-before : (X : Type 0) (s : Standing) (tried : Tried) (answer : Result (Unit {0}) Refused) → tried ≡ Ok answer → IfErr s (λ (r : Refused). tried ≡ Err r) → OnErr s X
+open-before X (Ok a) tried answer is h = tt
+open-before X (Err r) tried answer is h = absurd (cc)

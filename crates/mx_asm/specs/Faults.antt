@@ -1,6 +1,6 @@
 -- The faults of sources: their numbers, and refusals.
 -- A rule of this program.
-use Rattle.std.specs.Prelude.{◌≡◌, ◌<◌, ◌⊎◌, ℕ}
+use Rattle.std.specs.Prelude.{◌≡◌, ◌<◌, ◌⊎◌, ℕ, Bool, true, false}
 use Rattle.mx_line.specs.Faults as lines
 use Rattle.mx_stmt.specs.Faults as statements
 use Rattle.mx_names.specs.Numbers as names
@@ -23,6 +23,15 @@ fault_number LocalAboveGlobals = 87
 fault_number SourceTooLong = 88
 fault_number FutureNotMultiple = 89
 fault_number OutOfMemory = 0
+
+-- whether a fault is found before a statement has changed anything: that of a reference which waited for its label is not, nor is want
+-- of memory
+abbrev pub is_early : AsmFault → Bool
+is_early FutureRegister = false
+is_early FutureTooFar = false
+is_early FutureNotMultiple = false
+is_early OutOfMemory = false
+is_early fault = true
 
 -- the refusal of a line, with no line of a reference
 abbrev pub refused : ℕ → AsmFault → Refused

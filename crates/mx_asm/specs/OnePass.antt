@@ -1,6 +1,6 @@
 -- The same in one pass: each statement by what is known when it comes, each label with the references that wait for it then.
 -- (MMIXware, the part on MMIXAL: future references; TAOCP 1, Fascicle 1, section 1.3.2'.)
-use Rattle.std.specs.Prelude.{ℕ, zero, suc, ◌+◌, ◌/◌, ◌^◌, max, nat_lt, Bool, true, false, if◌then◌else◌, List, [], ◌∷◌, ◌++◌, length, slice_set, Option, None, Some, Result, Ok, Err}
+use Rattle.std.specs.Prelude.{ℕ, zero, suc, ◌+◌, ◌-◌, ◌/◌, ◌^◌, max, nat_lt, Bool, true, false, if◌then◌else◌, List, [], ◌∷◌, ◌++◌, length, slice_set, Option, None, Some, Result, Ok, Err}
 use Rattle.mx_word.specs.declared.symbols.Value.{Value}
 use Rattle.mx_word.specs.declared.symbols.Value.TheVariants.{Pure, Reg}
 use Rattle.mx_word.specs.declared.waits.Awaited.{Awaited}
@@ -166,6 +166,10 @@ cut_taken line text cut out a = behind_entry out (entry_taken a (entry_of (item_
 abbrev pub counted : Assembly → List ℕ → Assembly
 counted a text = record a { lines = a.lines + 1; size = a.size + length text + 1 }
 
+-- and the same taken back
+abbrev pub uncounted : Assembly → List ℕ → Assembly
+uncounted a text = record a { lines = a.lines - 1; size = a.size - (length text + 1) }
+
 -- Too many bytes come before all else of a line.
 abbrev pub count_fault : Assembly → List ℕ → Option Refused
 count_fault a text = if nat_lt (2 ^ 22) (a.size + length text) then Some (refused (a.lines + 1) SourceTooLong) else None
@@ -244,6 +248,19 @@ taken_after (Err refused) a = Err refused
 abbrev pub standing_after : Result (Unit {0}) Refused → Assembly → Standing
 standing_after (Ok u) a = Ok a
 standing_after (Err refused) a = Err refused
+
+-- Lines that may leave all as it was: `Ok (Err refused)` is a refusal that did, `Err refused` one that did not.
+abbrev pub Tried : Type 0
+Tried = Result (Result (Unit {0}) Refused) Refused
+
+abbrev pub line_answer : Tried → Result (Unit {0}) Refused
+line_answer (Ok answer) = answer
+line_answer (Err refused) = Err refused
+
+-- what stands after a line that is line_answer so, as long as a refusal ends the source
+abbrev pub standing_with : Result (Unit {0}) Refused → Standing → Standing
+standing_with (Ok u) a = a
+standing_with (Err refused) a = Err refused
 
 -- the assembly stands as long as nothing is refused
 abbrev pub standing : Assembly → Option Refused → Standing

@@ -56,11 +56,11 @@ impl Assembler {
     }
 
     /// Takes the next line, a text without a newline byte, and adds the items of its statements to any
-    /// list: what stands there stays, out of memory too. The first call of `line` or `finish` adds what
-    /// stands first in an object. After a refusal every later call answers it again, and the items that
-    /// were added are those of the statements before the faulty one. From `new` on, items and refusals
-    /// are those of two passes over the lines so far. Behind a line that was taken, one that holds no
-    /// statement takes no memory.
+    /// list: what stands there stays, out of memory too. The first call of `line`, `try_line` or `finish`
+    /// adds what stands first in an object. After a refusal every later call answers it again, and the
+    /// items that were added are those of the statements before the faulty one. From `new` on, items and
+    /// refusals are those of two passes over the lines so far. Behind a line that was taken, one that holds
+    /// no statement takes no memory.
     #[tactic(auto, using(crate::proofs::Fitting::grown, crate::proofs::Fronts::fronts))]
     pub fn line(&mut self, text: &[u8], out: &mut Items) -> Result<(), Refused>
         ensures answer { result ≡ map_ok (λ _. tt) self.new }
@@ -76,16 +76,41 @@ impl Assembler {
         ensures fits { AreFit out.old → AreFit out.new }
         ensures again { OnErr self.old ((out.new ≡ out.old) × (self.new ≡ self.old)) }
     {
-        if let Some(refused) = self.refused {
-            return Err(refused);
-        }
-        match take_line(self.alloc, &mut self.assembly, out, text) {
-            Ok(()) => Ok(()),
-            Err(refused) => {
+        match self.try_line(text, out) {
+            Ok(Ok(())) => Ok(()),
+            Ok(Err(refused)) => {
                 self.refused = Some(refused);
                 Err(refused)
             }
+            Err(refused) => Err(refused),
         }
+    }
+
+    /// Takes the next line as `line` does. A refusal within an `Ok` leaves the line out: the assembler is as
+    /// it was, but that what stands first in an object was added. Such is each refusal for an early fault of
+    /// the first statement of a line, or for too many bytes. Any other one stays.
+    #[tactic(auto, using(crate::proofs::Fitting::grown, crate::proofs::Fronts::fronts))]
+    pub fn try_line(&mut self, text: &[u8], out: &mut Items) -> Result<Result<(), Refused>, Refused>
+        ensures taken { spec.line_answer result ≢ Err no_memory →
+            (out.new, spec.standing_with (spec.line_answer result) self.new) ≡ spec.line_behind out.old self.old text.now }
+        ensures kept { IfOk result (λ answer. IfErr answer (λ refused. self.new ≡ map_ok spec.opened self.old)) }
+        ensures stays { IfErr result (λ refused. self.new ≡ Err refused) }
+        ensures open { OnOk (spec.line_answer result) (spec.is_open self.new ≡ true) }
+        ensures told { IfErr (spec.line_answer result) IsTold }
+        ensures sparing { spec.is_open self.old ≡ true → holds_statement text.now ≡ false → spec.line_answer result ≢ Err no_memory }
+        ensures front { IsFront out.old out.new × IsFront out.new (spec.line_behind out.old self.old text.now).0 }
+        ensures fits { AreFit out.old → AreFit out.new }
+        ensures again { OnErr self.old ((out.new ≡ out.old) × (self.new ≡ self.old)) }
+        ensures closed { IfErr self.old (λ refused. result ≡ Err refused) }
+    {
+        if let Some(refused) = self.refused {
+            return Err(refused);
+        }
+        let tried = take_line(self.alloc, &mut self.assembly, out, text);
+        if let Err(refused) = tried {
+            self.refused = Some(refused);
+        }
+        tried
     }
 
     /// Ends the source: adds the global registers to any list, where what stands stays, and gives the
@@ -135,21 +160,31 @@ fn end(assembly: &mut Assembly, out: &mut Items) -> Result<Bytes, Refused>
     assembly.end(out)
 }
 
-/// Takes a line, behind what stands first in an object.
+/// Takes a line, behind what stands first in an object. After a refusal that is within an `Ok` nothing
+/// of the line was taken.
 fn take_line(
     alloc: Global,
     assembly: &mut Assembly,
     out: &mut Items,
     text: &[u8],
-) -> Result<(), Refused>
-    ensures taken { result ≢ Err no_memory →
-        (out.new, spec.standing_after result assembly.new) ≡ spec.line_behind out.old (Ok assembly.old) text.now }
-    ensures sparing { assembly.old.opened ≡ true → holds_statement text.now ≡ false → result ≢ Err no_memory }
-    ensures told { IfErr result IsTold }
+) -> Result<Result<(), Refused>, Refused>
+    ensures taken { spec.line_answer result ≢ Err no_memory →
+        (out.new, spec.standing_after (spec.line_answer result) assembly.new) ≡ spec.line_behind out.old (Ok assembly.old) text.now }
+    ensures kept { IfOk result (λ answer. IfErr answer (λ refused. assembly.new ≡ spec.opened assembly.old)) }
+    ensures sparing { assembly.old.opened ≡ true → holds_statement text.now ≡ false → spec.line_answer result ≢ Err no_memory }
+    ensures told { IfErr (spec.line_answer result) IsTold }
     ensures front { IsFront out.new (spec.line_behind out.old (Ok assembly.old) text.now).0 }
     ensures fits { GrowsFit out.old out.new }
 {
     assembly.open(out)?;
-    let line = assembly.count(text)?;
-    take_statements(alloc, assembly, out, text, line)
+    match assembly.count(text) {
+        Ok(line) => {
+            let tried = take_statements(alloc, assembly, out, text, line);
+            if let Ok(Err(_)) = tried {
+                assembly.uncount(text);
+            }
+            tried
+        }
+        Err(refused) => Ok(Err(refused)),
+    }
 }

@@ -1,14 +1,14 @@
 //! What the assembler carries from statement to statement.
 
 ghost use Rattle.std.specs.Prelude.{◌≡◌, ◌≢◌, ◌+◌, ◌<◌, ◌≤◌, ◌^◌, ◌++◌, Ok, Err, IfOk, IfErr, OnOk, OnErr, IfSome};
-ghost use Rattle.std.specs.Prelude.{false, length};
+ghost use Rattle.std.specs.Prelude.{true, false, length};
 ghost use Rattle.std.specs.Result.{result_err};
 ghost use Rattle.mx_names.specs.Names.{AreNames};
 ghost use Rattle.mx_stmt.specs.Encoding.{statement_tree};
 ghost use Rattle.mx_stmt.specs.Reading.{LabelHasDigit, StatementHasDigits};
 ghost use Rattle.mx_asm.specs.Effects.{IsEffect, IsPlaced};
 ghost use Rattle.mx_asm.specs.Emission.{opening, piece_items, piece_head};
-ghost use Rattle.mx_asm.specs.Faults.{no_memory};
+ghost use Rattle.mx_asm.specs.Faults.{is_early, no_memory};
 ghost use Rattle.mx_asm.specs.Fitting.{AreFit, GrowsFit, IsPadded};
 ghost use Rattle.mx_asm.specs.Fronts.{IsFront};
 ghost use Rattle.mx_asm.specs.Fixes.{awaited_value};
@@ -115,6 +115,8 @@ impl Assembly {
         ensures fault { result_err result ≡ spec.count_fault self.old text.now }
         ensures number { IfOk result (λ line. line ≡ self.old.lines + 1) }
         ensures counted { OnOk result (self.new ≡ spec.counted self.old text.now) }
+        ensures bound { OnOk result (self.new.lines + length text.now ≤ self.new.size) }
+        ensures same { OnErr result (self.new ≡ self.old) }
         ensures sparing { result ≢ Err no_memory }
     {
         let line = self.lines + 1;
@@ -124,6 +126,16 @@ impl Assembly {
         self.lines = line;
         self.size += text.len() + 1;
         Ok(line)
+    }
+
+    /// Takes back that a line was counted.
+    pub(crate) fn uncount(&mut self, text: &[u8])
+        requires counted { 0 < self.old.lines }
+        requires bound { self.old.lines + length text.now ≤ self.old.size }
+        ensures { self.new ≡ spec.uncounted self.old text.now }
+    {
+        self.lines -= 1;
+        self.size -= text.len() + 1;
     }
 
     /// Ends the source: adds the global registers, and gives the symbol trie.
@@ -161,6 +173,7 @@ impl Assembly {
             spec.labelled_after result (spec.naming_of self.new) ≡ spec.labelled (spec.naming_of self.old) label.now value waits }
         ensures rest { OnOk result (self.new ≡
             record self.old { known = record self.old.known { names = self.new.known.names }; waiting = self.new.waiting }) }
+        ensures early { IfErr result (λ fault. is_early fault ≡ true → self.new ≡ self.old) }
     {
         let Some(defined) = self.defined.checked_add(1) else {
             return Err(AsmFault::OutOfMemory);
@@ -203,6 +216,7 @@ impl Assembly {
         requires { 0 < length bytes.now → start + length bytes.now ≤ 2 ^ 63 }
         ensures items { result ≢ Err no_memory →
             result ≡ piece_items self.old.head line value start bytes.now waits.now }
+        ensures late { IfErr result (λ refused. is_early refused.fault ≡ false) }
         ensures fits { IfOk result AreFit }
         ensures head { OnOk result
             (self.new ≡ record self.old { head = piece_head self.old.head line value start bytes.now waits.now }) }
@@ -220,6 +234,7 @@ impl Assembly {
         requires placed { IsPlaced self.old.known.gregs placed }
         ensures taken { result ≢ Err no_memory →
             spec.taken_after result self.new ≡ spec.taken_placed self.old line label.now placed }
+        ensures early { IfErr result (λ refused. is_early refused.fault ≡ true → self.new ≡ self.old) }
         ensures fits { IfOk result AreFit }
     {
         let value = placed.label.unwrap_or(Value::Pure(0));
@@ -228,13 +243,8 @@ impl Assembly {
             Err(AsmFault::OutOfMemory) => return Err(Refused::no_memory()),
             Err(fault) => return Err(Refused::at(line, fault)),
         };
-        let items = self.items(
-            line,
-            value,
-            placed.start,
-            placed.bytes.as_slice(),
-            waits.as_slice(),
-        )?;
+        let bytes = placed.bytes.as_slice();
+        let items = self.items(line, value, placed.start, bytes, waits.as_slice())?;
         self.at = placed.after;
         self.give_effect(placed.effect)?;
         Ok(items)
@@ -245,6 +255,7 @@ impl Assembly {
         requires { StatementHasDigits s.now }
         ensures taken { result ≢ Err no_memory →
             spec.taken_after result self.new ≡ spec.statement_taken self.old (statement_tree s.now) }
+        ensures early { IfErr result (λ refused. is_early refused.fault ≡ true → self.new ≡ self.old) }
         ensures fits { IfOk result AreFit }
     {
         let env = Env {

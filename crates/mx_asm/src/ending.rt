@@ -36,13 +36,8 @@ pub(crate) fn main_fault(names: &Names, lowest: u8, locals: u16) -> Option<AsmFa
     match names.lookup(b":Main") {
         None => Some(AsmFault::MainUndefined),
         Some(Value::Reg(_)) => Some(AsmFault::MainRegister),
-        Some(Value::Pure(_)) => {
-            if u16::from(lowest) < locals {
-                Some(AsmFault::LocalAboveGlobals)
-            } else {
-                None
-            }
-        }
+        Some(Value::Pure(_)) if u16::from(lowest) < locals => Some(AsmFault::LocalAboveGlobals),
+        Some(Value::Pure(_)) => None,
     }
 }
 

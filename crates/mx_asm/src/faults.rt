@@ -1,7 +1,7 @@
 //! Why a source is refused.
 
 ghost use Rattle.std.specs.Prelude.{◌≡◌};
-ghost use Rattle.mx_asm.specs.Faults.{fault_number};
+ghost use Rattle.mx_asm.specs.Faults.{fault_number, is_early};
 
 use mx_line::LineFault;
 use mx_names::NameFault;
@@ -62,6 +62,19 @@ impl AsmFault {
             AsmFault::FutureNotMultiple => 89,
             AsmFault::OutOfMemory => 0,
         }
+    }
+
+    /// Whether it is found before a statement has changed anything.
+    pub(crate) fn is_early(&self) -> bool
+        ensures { result ≡ is_early self.now }
+    {
+        !matches!(
+            self,
+            AsmFault::FutureRegister
+                | AsmFault::FutureTooFar
+                | AsmFault::FutureNotMultiple
+                | AsmFault::OutOfMemory
+        )
     }
 }
 

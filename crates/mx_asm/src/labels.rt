@@ -1,9 +1,10 @@
 //! Labels of statements, and the references that wait for them.
 
-ghost use Rattle.std.specs.Prelude.{◌≡◌, ◌≢◌, ◌<◌, ◌≤◌, ◌+◌, Ok, Err, OnOk, IfSome, IfErr, length};
+ghost use Rattle.std.specs.Prelude.{◌≡◌, ◌≢◌, ◌<◌, ◌≤◌, ◌+◌, Ok, Err, OnOk, IfSome, IfErr, length, true};
 ghost use Rattle.mx_names.specs.Names.{AreNames, IsFullName, define_answer};
 ghost use Rattle.mx_stmt.specs.Operands.{symbol_form};
 ghost use Rattle.mx_stmt.specs.Reading.{LabelHasDigit};
+ghost use Rattle.mx_asm.specs.Faults.{is_early};
 ghost use Rattle.mx_asm.specs.OnePass as spec;
 
 use crate::AsmFault;
@@ -31,6 +32,7 @@ fn wait_for(names: &mut Names, waits: Waits) -> Result<(), AsmFault>
 fn take_waiting(names: &mut Names, who: &Awaited) -> Result<Waits, AsmFault>
     ensures taken { result ≢ Err AsmFault.OutOfMemory →
         spec.labelled_after result names.new ≡ spec.waits_taken who.now names.old }
+    ensures only { IfErr result (λ fault. fault ≡ AsmFault.OutOfMemory) }
     ensures kept { AreNames names.new.names }
     ensures symbols { names.new.names.symbols ≡ names.old.names.symbols }
 {
@@ -41,7 +43,7 @@ fn take_waiting(names: &mut Names, who: &Awaited) -> Result<Waits, AsmFault>
 }
 
 /// Defines a symbol, and takes the references that wait for it, those of its own statement among
-/// them.
+/// them. Where it may not be defined, none of them begins to wait.
 fn define_symbol(
     alloc: Global,
     names: &mut Names,
@@ -56,11 +58,14 @@ fn define_symbol(
         spec.symbol_defined names.old full value waits (define_answer names.old.names full) }
     ensures kept { AreNames names.old.names → AreNames names.new.names }
     ensures few { length names.new.names.symbols ≤ length names.old.names.symbols + 1 }
+    ensures early { IfErr result (λ fault. is_early fault ≡ true → names.new ≡ names.old) }
 {
     let who = Awaited::Name(Bytes::copy(alloc, full.as_slice())?);
-    wait_for(names, waits)?;
     match names.define(full, value) {
-        Ok(()) => take_waiting(names, &who),
+        Ok(()) => {
+            wait_for(names, waits)?;
+            take_waiting(names, &who)
+        }
         Err(NameFault::OutOfMemory) => Err(AsmFault::OutOfMemory),
         Err(fault) => Err(AsmFault::Name(fault)),
     }
@@ -70,7 +75,7 @@ fn define_symbol(
 fn define_name(
     alloc: Global,
     names: &mut Names,
-    text: &[u8],
+    text: &Bytes,
     value: Value,
     waits: Waits,
 ) -> Result<Waits, AsmFault>
@@ -80,8 +85,9 @@ fn define_name(
         spec.symbol_label names.old value waits (symbol_form names.old.names text.now) }
     ensures kept { AreNames names.old.names → AreNames names.new.names }
     ensures few { length names.new.names.symbols ≤ length names.old.names.symbols + 1 }
+    ensures early { IfErr result (λ fault. is_early fault ≡ true → names.new ≡ names.old) }
 {
-    match names.resolve(text) {
+    match names.resolve(text.as_slice()) {
         Ok(full) => define_symbol(alloc, names, full, value, waits),
         Err(NameFault::OutOfMemory) => Err(AsmFault::OutOfMemory),
         Err(fault) => Err(AsmFault::Name(fault)),
@@ -95,6 +101,7 @@ fn define_local(names: &mut Names, d: u8, value: Value, waits: Waits) -> Result<
         spec.labelled_after result names.new ≡ spec.local_label names.old d value waits }
     ensures kept { AreNames names.old.names → AreNames names.new.names }
     ensures few { length names.new.names.symbols ≤ length names.old.names.symbols + 1 }
+    ensures early { IfErr result (λ fault. is_early fault ≡ true → names.new ≡ names.old) }
 {
     let taken = take_waiting(names, &Awaited::Local(d))?;
     names.define_local(d, value);
@@ -117,15 +124,10 @@ pub(crate) fn define(
         spec.labelled_after result names.new ≡ spec.labelled names.old label.now value waits }
     ensures kept { AreNames names.old.names → AreNames names.new.names }
     ensures few { length names.new.names.symbols ≤ length names.old.names.symbols + 1 }
+    ensures early { IfErr result (λ fault. is_early fault ≡ true → names.new ≡ names.old) }
 {
     match (label, value) {
-        (Some(Label::Name(text)), Some(value)) => define_name(
-            alloc,
-            names,
-            text.as_slice(),
-            value,
-            waits,
-        ),
+        (Some(Label::Name(text)), Some(value)) => define_name(alloc, names, text, value, waits),
         (Some(Label::Local(d)), Some(value)) => define_local(names, *d, value, waits),
         _ => {
             wait_for(names, waits)?;

@@ -11,7 +11,6 @@ mod labels;
 mod laws;
 mod lines;
 mod meaning_laws;
-mod object_laws;
 mod refused;
 
 pub use assembler::Assembler;
@@ -21,7 +20,7 @@ pub use laws::{
     one_pass_gives_the_whole, refusals_have_numbers, sources_are_emitted_or_refused,
 };
 pub use meaning_laws::{
-    items_mean_the_image, lines_are_loaded_where_there_is_room, sources_mean_their_images,
+    items_mean_the_image, lines_are_loaded_where_there_is_room, objects_can_be_written,
+    sources_mean_their_images,
 };
-pub use object_laws::objects_can_be_written;
 pub use refused::Refused;

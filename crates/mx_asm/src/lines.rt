@@ -1,13 +1,14 @@
 //! The statements of a line, one after another.
 
-ghost use Rattle.std.specs.Prelude.{◌≡◌, ◌≢◌, ◌+◌, ◌<◌, ◌≤◌, ◌++◌, Result, Ok, Err, IfOk, IfErr, OnOk, false, length};
+ghost use Rattle.std.specs.Prelude.{◌≡◌, ◌≢◌, ◌+◌, ◌<◌, ◌≤◌, ◌++◌, Result, Ok, Err, IfOk, IfErr, OnOk};
+ghost use Rattle.std.specs.Prelude.{true, false, length};
 ghost use Rattle.std.specs.Prelude.{map};
 ghost use Rattle.mx_word.specs.Results.{map_ok};
 ghost use Rattle.mx_line.specs.Source.{item_of};
 ghost use Rattle.mx_stmt.specs.Encoding.{statement_tree};
 ghost use Rattle.mx_stmt.specs.Reading.{CutWithin, StatementHasDigits};
 ghost use Rattle.mx_asm.specs.Entries as entries;
-ghost use Rattle.mx_asm.specs.Faults.{no_memory};
+ghost use Rattle.mx_asm.specs.Faults.{is_early, no_memory};
 ghost use Rattle.mx_asm.specs.Fitting.{AreFit, GrowsFit};
 ghost use Rattle.mx_asm.specs.Fronts.{IsFront};
 ghost use Rattle.mx_asm.specs.OnePass as spec;
@@ -62,6 +63,7 @@ fn take_cut(
     ensures taken { result ≢ Err no_memory → (out.new, spec.standing_after result assembly.new) ≡
         spec.cut_taken line text.now cut.now out.old assembly.old }
     ensures front { IsFront out.new (spec.cut_taken line text.now cut.now out.old assembly.old).0 }
+    ensures early { IfErr result (λ refused. is_early refused.fault ≡ true → assembly.new ≡ assembly.old) }
     ensures fits { GrowsFit out.old out.new }
 {
     let statement = read(alloc, text, cut, line)?;
@@ -70,7 +72,19 @@ fn take_cut(
     Ok(())
 }
 
-/// Takes the statements of a line with this number.
+/// What a line is line_answer that is refused at a place: nothing of it was taken where the fault is an
+/// early one of its first statement.
+fn refused_at(at: usize, refused: Refused) -> Result<Result<(), Refused>, Refused>
+    ensures answer { spec.line_answer result ≡ Err refused }
+    ensures first { IfOk result (λ answer. (at ≡ 0) × (is_early refused.fault ≡ true)) }
+{
+    match at {
+        0 if refused.fault.is_early() => Ok(Err(refused)),
+        _ => Err(refused),
+    }
+}
+
+/// Takes the statements of a line with this number; none of them where a refusal is within an `Ok`.
 #[tactic(auto, using(crate::proofs::Fronts::entering, crate::proofs::Fitting::growing))]
 pub(crate) fn take_statements(
     alloc: Global,
@@ -78,20 +92,23 @@ pub(crate) fn take_statements(
     out: &mut Items,
     text: &[u8],
     line: u32,
-) -> Result<(), Refused>
-    ensures taken { result ≢ Err no_memory → (out.new, spec.standing_after result assembly.new) ≡
+) -> Result<Result<(), Refused>, Refused>
+    ensures taken { spec.line_answer result ≢ Err no_memory → (out.new, spec.standing_after (spec.line_answer result) assembly.new) ≡
         spec.entries_taken (entries.line_entries line text.now) out.old assembly.old }
+    ensures kept { IfOk result (λ answer. IfErr answer (λ refused. assembly.new ≡ assembly.old)) }
     ensures front { IsFront out.new (spec.entries_taken (entries.line_entries line text.now) out.old assembly.old).0 }
-    ensures sparing { entries.holds_statement text.now ≡ false → result ≢ Err no_memory }
+    ensures sparing { entries.holds_statement text.now ≡ false → spec.line_answer result ≢ Err no_memory }
     ensures fits { GrowsFit out.old out.new }
 {
     let mut at = 0;
     'statements: loop {
         match next_statement(text, at) {
-            Ok(None) => return Ok(()),
-            Err(fault) => return Err(Refused::at(line, AsmFault::Line(fault))),
+            Ok(None) => return Ok(Ok(())),
+            Err(fault) => return refused_at(at, Refused::at(line, AsmFault::Line(fault))),
             Ok(Some(cut)) => {
-                take_cut(alloc, assembly, out, text, &cut, line)?;
+                if let Err(refused) = take_cut(alloc, assembly, out, text, &cut, line) {
+                    return refused_at(at, refused);
+                }
                 at = cut.next;
             }
         }

@@ -1,13 +1,17 @@
-//! What the items of a source mean.
+//! What the items of a source mean, and what an object is written from.
 
-ghost use Rattle.std.specs.Prelude.{◌≡◌, ◌+◌, ◌++◌, ◌∷◌, [], ℕ, List, Err, None, Ok, Some, is_some, length, not};
+ghost use Rattle.std.specs.Prelude.{◌≡◌, ◌≤◌, ◌+◌, ◌++◌, ◌^◌, ◌∷◌, [], ℕ, List, Err, None, Ok, Some, is_some, length, not};
 ghost use Rattle.std.specs.List.{AllByRecursion};
 ghost use Rattle.std.specs.Result.{result_err};
 ghost use Rattle.mx_word.specs.Ranges.{AreBytes};
 ghost use Rattle.mx_mmo.specs.Meaning.{PagesFull, meaning, nothing, take_items};
+ghost use Rattle.mx_mmo.specs.Spelling.{ending, written};
+ghost use Rattle.mx_mmo.specs.declared.items.Item.{Item};
+ghost use Rattle.mx_stab.specs.Reading.{trie_answer};
 ghost use Rattle.mx_stmt.specs.Encoding.{StatementTree};
 ghost use Rattle.mx_asm.specs.Emission.{emission};
-ghost use Rattle.mx_asm.specs.Image.{image};
+ghost use Rattle.mx_asm.specs.Fitting.{AreWritable};
+ghost use Rattle.mx_asm.specs.Image.{image, symbols_of};
 ghost use Rattle.mx_asm.specs.Entries.{source_entries, statements_in};
 ghost use Rattle.mx_asm.specs.Pages.{AreAccepted, accepted_in, has_room, loaded_image, outlined, page_fault};
 ghost use Rattle.mx_asm.specs.Pages.{page_refusal, run_refusal};
@@ -50,4 +54,16 @@ pub fn sources_mean_their_images()
     ensures fault { (source : List ℕ) → AreBytes source →
         result_err (take_items (assembled_source source).0 (Ok nothing)) ≡
         page_fault (accepted_in (source_entries source)) }
+{}
+
+/// An object can be written from the items and the trie that a source of bytes is assembled into, the
+/// trie is read as the symbols of the source, and the object is not too long to be read.
+pub fn objects_can_be_written()
+    ensures writable { (source : List ℕ) (items : List Item) (trie : List ℕ) → AreBytes source →
+        assembled_source source ≡ (items, Ok trie) → AreWritable items trie }
+    ensures symbols { (source : List ℕ) (items : List Item) (trie : List ℕ) → AreBytes source →
+        assembled_source source ≡ (items, Ok trie) →
+        trie_answer trie ≡ Ok (symbols_of (statements_in (source_entries source))) }
+    ensures short { (source : List ℕ) (items : List Item) (trie : List ℕ) → AreBytes source →
+        assembled_source source ≡ (items, Ok trie) → length (written items ++ ending trie) ≤ 2 ^ 26 }
 {}

@@ -1,6 +1,5 @@
-use Rattle.std.proofs.Common.{sym, ◌∙◌, ap, Err, subst}
-use Rattle.std.proofs.lemmas.Result.{err_from_is_err_and}
-use Rattle.mx_asm.proofs.Fronts.{taken-none, taken-fault, taken-failed, taken-next, taken-front, within-line, front-same, front-trans}
+use Rattle.std.proofs.Common.{sym, ◌∙◌, ap, Err, subst, arith}
+use Rattle.mx_asm.proofs.Fronts.{taken-none, taken-fault, taken-failed, taken-next, taken-front, within-line, behind-line, front-same, front-trans}
 use Rattle.mx_asm.proofs.OnePassLaw.{no-statement}
 use Rattle.mx_asm.specs.Fronts.{IsFront}
 use Rattle.mx_asm.proofs.Fitting.{grows-on}
@@ -10,29 +9,28 @@ pub returns-in-Ok-None-clause-taken : goal.returns-in-Ok-None-clause-taken
 returns-in-Ok-None-clause-taken c = λ memory.
     sym (taken-none c.args.line c.args.text.now c.statements.at c.statements.out c.statements.assembly c.in-Ok-None.field-0 (cc) c.in-Ok-None.ensures.list) ∙ c.statements.invariant.1
 
-pub returns-in_err-take_cut-in-Ok-Some-clause-taken : goal.returns-in_err-take_cut-in-Ok-Some-clause-taken
-returns-in_err-take_cut-in-Ok-Some-clause-taken c =
-    let p = err_from_is_err_and c.from_residual.result c.from_residual.ensures.1 in
-    rw (p.1, p.2) (λ memory.
-    sym (taken-failed c.args.line c.args.text.now c.statements.at c.statements.out c.take_cut.new.out c.statements.assembly c.in-Ok-Some.cut c.in_err-take_cut-in-Ok-Some.field-0.0 c.in-Ok-Some.field-0 (cc) c.in-Ok-Some.ensures.list
-    (c.in_err-take_cut-in-Ok-Some.ensures.taken (λ same. memory (cc))))
-    ∙ c.statements.invariant.1)
-
 pub statements-preserved : goal.statements-preserved
 statements-preserved c = (
   within-line c.statements.at _ c.in-Ok-Some.cut c.in-Ok-Some.field-0 (cc) c.in-Ok-Some.ensures.order,
   taken-next c.args.line c.args.text.now c.statements.at c.statements.out c.take_cut.new.out c.statements.assembly c.take_cut.new.assembly c.in-Ok-Some.cut c.in-Ok-Some.field-0 (cc) c.in-Ok-Some.ensures.list
-      (c.in_ok-take_cut-in-Ok-Some.ensures.taken (λ same. cc))
+      (c.in_default.ensures.taken (λ same. cc))
       ∙ c.statements.invariant.1,
   λ none. absurd (no-statement c.args.text.now c.statements.at c.in-Ok-Some.field-0 c.in-Ok-Some.cut (c.statements.invariant.2 none) (cc) c.in-Ok-Some.ensures.list none),
-  grows-on _ _ _ c.statements.invariant.3 c.in_ok-take_cut-in-Ok-Some.ensures.fits,
+  grows-on _ _ _ c.statements.invariant.3 c.in_default.ensures.fits,
+  λ first. absurd (omega (arith, first, behind-line c.statements.at _ c.in-Ok-Some.cut c.in-Ok-Some.field-0 (cc) c.in-Ok-Some.ensures.order)),
 )
 
 pub returns-in-Err-clause-taken : goal.returns-in-Err-clause-taken
-returns-in-Err-clause-taken c = λ memory.
+returns-in-Err-clause-taken c = rw c.refused_at-in-Err.ensures.answer (λ memory.
     ap (λ r. (c.statements.out, Err r)) c.at.ensures
     ∙ sym (taken-fault c.args.line c.args.text.now c.statements.at c.statements.out c.statements.assembly c.in-Err.fault c.in-Err.ensures.list)
-    ∙ c.statements.invariant.1
+    ∙ c.statements.invariant.1)
+
+pub returns-in-Err-take_cut-clause-taken : goal.returns-in-Err-take_cut-clause-taken
+returns-in-Err-take_cut-clause-taken c = rw c.refused_at.ensures.answer (λ memory.
+    sym (taken-failed c.args.line c.args.text.now c.statements.at c.statements.out c.take_cut.new.out c.statements.assembly c.in-Ok-Some.cut c.in-Err-take_cut.refused c.in-Ok-Some.field-0 (cc) c.in-Ok-Some.ensures.list
+    (c.in-Err-take_cut.ensures.taken (λ same. memory (cc))))
+    ∙ c.statements.invariant.1)
 
 pub returns-in-Ok-None-clause-front : goal.returns-in-Ok-None-clause-front
 returns-in-Ok-None-clause-front c =
@@ -42,15 +40,11 @@ pub returns-in-Err-clause-front : goal.returns-in-Err-clause-front
 returns-in-Err-clause-front c =
     front-same _ _ (ap (λ p. p.0) (sym (taken-fault c.args.line c.args.text.now c.statements.at c.statements.out c.statements.assembly c.in-Err.fault c.in-Err.ensures.list) ∙ c.statements.invariant.1))
 
-pub returns-in_err-take_cut-in-Ok-Some-clause-front : goal.returns-in_err-take_cut-in-Ok-Some-clause-front
-returns-in_err-take_cut-in-Ok-Some-clause-front c =
+pub returns-in-Err-take_cut-clause-front : goal.returns-in-Err-take_cut-clause-front
+returns-in-Err-take_cut-clause-front c =
     subst (λ p. IsFront c.take_cut.new.out p.0) c.statements.invariant.1
-    (front-trans _ _ _ c.in_err-take_cut-in-Ok-Some.ensures.front
+    (front-trans _ _ _ c.in-Err-take_cut.ensures.front
     (taken-front c.args.line c.args.text.now c.statements.at c.statements.out c.statements.assembly c.in-Ok-Some.cut c.in-Ok-Some.field-0 (cc) c.in-Ok-Some.ensures.list))
 
-pub returns-in_err-take_cut-in-Ok-Some-clause-sparing : goal.returns-in_err-take_cut-in-Ok-Some-clause-sparing
-returns-in_err-take_cut-in-Ok-Some-clause-sparing c = λ none.
-    absurd (no-statement c.args.text.now c.statements.at c.in-Ok-Some.field-0 c.in-Ok-Some.cut (c.statements.invariant.2 none) (cc) c.in-Ok-Some.ensures.list none)
-
-pub returns-in_err-take_cut-in-Ok-Some-clause-fits : goal.returns-in_err-take_cut-in-Ok-Some-clause-fits
-returns-in_err-take_cut-in-Ok-Some-clause-fits c = grows-on _ _ _ c.statements.invariant.3 c.in_err-take_cut-in-Ok-Some.ensures.fits
+pub returns-in-Err-take_cut-clause-fits : goal.returns-in-Err-take_cut-clause-fits
+returns-in-Err-take_cut-clause-fits c = grows-on _ _ _ c.statements.invariant.3 c.in-Err-take_cut.ensures.fits

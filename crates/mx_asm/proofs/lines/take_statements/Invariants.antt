@@ -9,6 +9,7 @@ invariant-statements l =
     × (taken_from l.line l.text l.at l.out l.assembly ≡ entries_taken (line_entries l.line l.text) l.fn.out l.fn.assembly)
     × (holds_statement l.text ≡ false → l.at ≡ 0)
     × GrowsFit l.fn.out l.out
+    × (l.at ≡ 0 → l.assembly ≡ l.fn.assembly)
 
 abbrev pub decreases-statements : goal.decreases-statements
 decreases-statements l = length l.text - l.at

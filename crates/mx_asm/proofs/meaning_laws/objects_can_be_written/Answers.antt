@@ -1,5 +1,5 @@
 use Rattle.mx_asm.proofs.ObjectLaws.{source-writable, source-told, source-few}
-use Rattle.mx_asm.proofs.object_laws.objects_can_be_written.Goals as goal
+use Rattle.mx_asm.proofs.meaning_laws.objects_can_be_written.Goals as goal
 
 pub returns-clause-writable : goal.returns-clause-writable
 returns-clause-writable c = λ source items trie bytes is. source-writable source bytes items trie is
