@@ -9,6 +9,7 @@ mod bare;
 mod bounds;
 mod changes;
 mod compute;
+mod copy;
 mod jumps;
 mod laws;
 mod load;

@@ -6,6 +6,7 @@ ghost use Rattle.mx_host.specs.HostModel.{counted, is_failing, fault_count, plac
 ghost use Rattle.mx_host.specs.HostAnswer.{file_of, with_file};
 
 mod calls;
+mod copy;
 mod files;
 mod start;
 mod streams;

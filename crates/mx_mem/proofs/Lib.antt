@@ -11,3 +11,4 @@ pub mod PartBytes
 pub mod Spaces
 pub mod Tetras
 pub mod Removals
+pub mod Copies

@@ -12,6 +12,8 @@ ghost use Rattle.mx_mem.specs.Memory.{octa_at, byte_at, tetra_at, page_numbers, 
 ghost use Rattle.mx_mem.specs.Memory.{is_refused, with_page, count_with_page, stored_at, stored_bytes, in_half};
 ghost use Rattle.mx_mem.specs.Memory.{with_tetra, bytes_with_tetra, IsNextNonzero};
 
+mod copy;
+
 use crate::dropping::take_away;
 use crate::page::{LOW_PAGES, Page};
 use crate::part::with_part;

@@ -7,6 +7,8 @@ ghost use Rattle.mx_mem.specs.Low.{IsLowNumber, low_pages};
 ghost use Rattle.mx_mem.specs.Parts.{with_part};
 ghost use Rattle.mx_mem.specs.Tetras.{octas_of};
 
+pub(crate) mod copy;
+
 use crate::Part;
 use mx_word::NoMemory;
 use std::alloc::Global;

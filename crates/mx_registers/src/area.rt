@@ -7,6 +7,8 @@ ghost use Rattle.mx_word.specs.Lists.{with_part};
 ghost use Rattle.mx_registers.specs.HiddenPart.{zeros};
 ghost use Rattle.mx_registers.specs.StackArea.{AreKept, filled};
 
+mod copy;
+
 use crate::RingFault;
 use crate::hidden::ROOM;
 use crate::knowing::know_octas;

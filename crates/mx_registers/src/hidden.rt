@@ -8,6 +8,7 @@ ghost use Rattle.mx_registers.specs.HiddenPart.{octas_of, with_hidden, with_spil
 ghost use Rattle.mx_registers.specs.HiddenPart.{with_stack_first, with_octa, nothing_hidden};
 
 mod back;
+mod copy;
 
 use crate::RingFault;
 use crate::area::Area;

@@ -19,6 +19,7 @@ ghost use Rattle.mx_ring.specs.Window.{window_at_start};
 ghost use Rattle.mx_word.specs.Ranges.{AreOctas};
 
 mod back;
+mod copy;
 
 use crate::frame::{frame_at, specials_at, upper_octas};
 use crate::{RingFault, RingSize, Saved};
