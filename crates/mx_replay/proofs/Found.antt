@@ -1,6 +1,6 @@
--- Turns that are looked for.
+-- Steps that are looked for.
 use Rattle.std.proofs.Common.{◌≡◌, ◌<◌, ◌≤◌, ◌+◌, ◌-◌, ◌⊎◌, ℕ, suc, Bool, true, false, Some, None, Ok, inl, inr, arith, refl, sym, subst, ◌∙◌, ap}
-use Rattle.std.specs.Prelude.{Option, ◌&&◌, not, nat_lt, if◌then◌else◌}
+use Rattle.std.specs.Prelude.{Option, ◌&&◌, is_some, not, nat_lt, if◌then◌else◌}
 use Rattle.std.proofs.lemmas.Bool.{cases_lt, ltb-true, ltb-false}
 use Rattle.mx_host.specs.HostModel.{HostModel}
 use Rattle.mx_word.specs.Results.{map_ok}
@@ -12,10 +12,10 @@ use Rattle.mx_run.specs.Turns.{Turn, went_on, halts, stops, turn}
 use Rattle.mx_run.specs.declared.end.End.{End}
 use Rattle.mx_run.specs.declared.end.End.TheVariants.{Halted, Stopped, Broke, Traced, Spent, OutOfMemory}
 use Rattle.mx_run.proofs.FreeRuns.{run-went}
-use Rattle.mx_replay.specs.Marks.{Mark, is_marked, marks_after, marks_from}
+use Rattle.mx_replay.specs.Marks.{Mark, is_marked, marks_after, marks_from, marks_start}
 use Rattle.mx_replay.specs.Programs.{IsReached, is_over, step_of}
-use Rattle.mx_replay.specs.Searches.{FindsNext, IsLast, NoneMarked, has_more}
-use Rattle.mx_replay.specs.Visits.{ComesTo, IsStep, MakesTurn, came_by, came_to, trace_after, trace_of, turn_from}
+use Rattle.mx_replay.specs.Searches.{FindsNext, IsLast, IsLastAfter, IsLastBefore, NoneMarked, has_more}
+use Rattle.mx_replay.specs.Visits.{ComesTo, IsStart, IsStep, MakesTurn, came_by, came_to, trace_after, trace_of, turn_from}
 use Rattle.mx_replay.specs.declared.program.Program.{Program}
 use Rattle.mx_replay.specs.declared.visit.Visit.{Visit}
 use Rattle.mx_replay.proofs.RunEnds.{none-made, run-halts, run-stops}
@@ -39,10 +39,10 @@ turn-comes v w h = record {
   on = none-below (state_of v.machine) v.host;
 }
 
-turn-step : (p : Program) (v w : Visit) → is_over v.end ≡ false → MakesTurn v w → IsStep p v → IsStep p w
+pub turn-step : (p : Program) (v w : Visit) → is_over v.end ≡ false → MakesTurn v w → IsStep p v → IsStep p w
 turn-step p v w o h s = on-step p v w 1 1 o (turn-comes v w h) h.count s
 
-turn-mark : (p : Program) (mark : Mark) (v w : Visit) → is_over v.end ≡ false → MakesTurn v w → IsStep p v → is_marked p mark w.at ≡ mark (state_of v.machine) (turn_from v)
+turn-mark : (p : Program) (mark : Mark) (v w : Visit) → is_over v.end ≡ false → MakesTurn v w → IsStep p v → is_marked p mark w.at ≡ mark.turn (state_of v.machine) (turn_from v)
 unfolding is_marked
 turn-mark p mark v w o h s =
     let next : w.at ≡ suc v.at = omega (arith, h.count) in
@@ -115,10 +115,10 @@ more-by false b h = absurd (cc)
 pub more-here : (v : Visit) (until : ℕ) → has_more v until ≡ true → v.at < until
 more-here v until h = ltb-true v.at until (more-by (nat_lt v.at until) (is_over v.end) h).0
 
-more-on : (v : Visit) (until : ℕ) → has_more v until ≡ true → is_over v.end ≡ false
+pub more-on : (v : Visit) (until : ℕ) → has_more v until ≡ true → is_over v.end ≡ false
 more-on v until h = (more-by (nat_lt v.at until) (is_over v.end) h).1
 
-no-more-by : (a b : Bool) → (a && not b) ≡ false → (a ≡ false) ⊎ (b ≡ true)
+pub no-more-by : (a b : Bool) → (a && not b) ≡ false → (a ≡ false) ⊎ (b ≡ true)
 no-more-by true true h = inr refl
 no-more-by true false h = absurd (cc)
 no-more-by false b h = inl refl
@@ -136,7 +136,7 @@ pub record NextSoFar (p : Program) (mark : Mark) (until : ℕ) (old now : Visit)
 pub next-begun : (p : Program) (mark : Mark) (until : ℕ) (v : Visit) → IsStep p v → NextSoFar p mark until v v
 next-begun p mark until v s = record { step = s; later = omega arith; none = none-same p mark v.at v.at (omega arith); within = λ l. l; stays = λ l. refl }
 
-pub next-on : (p : Program) (mark : Mark) (until : ℕ) (old v w : Visit) → has_more v until ≡ true → MakesTurn v w → false ≡ mark (state_of v.machine) (turn_from v) → NextSoFar p mark until old v → NextSoFar p mark until old w
+pub next-on : (p : Program) (mark : Mark) (until : ℕ) (old v w : Visit) → has_more v until ≡ true → MakesTurn v w → false ≡ mark.turn (state_of v.machine) (turn_from v) → NextSoFar p mark until old v → NextSoFar p mark until old w
 next-on p mark until old v w more h un so =
     let here = more-here v until more in
     let o = more-on v until more in
@@ -148,7 +148,7 @@ next-on p mark until old v w more h un so =
       stays = λ l. absurd (omega (arith, so.later, l, here));
     }
 
-pub next-found : (p : Program) (mark : Mark) (until : ℕ) (old v w : Visit) → has_more v until ≡ true → MakesTurn v w → true ≡ mark (state_of v.machine) (turn_from v) → NextSoFar p mark until old v → FindsNext p mark until old w (Some w.at)
+pub next-found : (p : Program) (mark : Mark) (until : ℕ) (old v w : Visit) → has_more v until ≡ true → MakesTurn v w → true ≡ mark.turn (state_of v.machine) (turn_from v) → NextSoFar p mark until old v → FindsNext p mark until old w (Some w.at)
 next-found p mark until old v w more h un so =
     let here = more-here v until more in
     let o = more-on v until more in
@@ -177,42 +177,85 @@ next-none p mark until old v e so = ended-by p mark until old v (no-more-by (nat
 
 -- THE LAST ONE
 
-pub record LastSoFar (p : Program) (mark : Mark) (until : ℕ) (now : Visit) (last : Option ℕ) : Type 0 where
+pub record LastSoFar (p : Program) (mark : Mark) (from until : ℕ) (now : Visit) (last : Option ℕ) : Type 0 where
   pub step : IsStep p now
+  pub later : from ≤ now.at
   pub within : now.at ≤ until
-  pub found : IsLast p mark now.at last
+  pub found : IsLastAfter p mark from now.at last
 
-pub last-begun : (p : Program) (mark : Mark) (until : ℕ) (v : Visit) → v.at ≡ 0 → IsStep p v → LastSoFar p mark until v None
-last-begun p mark until v e s = record { step = s; within = omega (arith, e); found = none-same p mark 0 v.at (omega (arith, e)) }
+pub last-begun : (p : Program) (mark : Mark) (until : ℕ) (v : Visit) → v.at ≤ until → IsStep p v → LastSoFar p mark v.at until v None
+last-begun p mark until v l s = record { step = s; later = omega arith; within = l; found = none-same p mark v.at v.at (omega arith) }
 
-last-further : (p : Program) (mark : Mark) (at until : ℕ) (last : Option ℕ) → at ≤ until → NoneMarked p mark at until → IsLast p mark at last → IsLast p mark until last
-last-further p mark at until None l n h = none-joined p mark 0 at until h n
-last-further p mark at until (Some k) l n h = (omega (arith, h.0, l), h.1, none-joined p mark k at until h.2 n)
+last-further : (p : Program) (mark : Mark) (from at until : ℕ) (last : Option ℕ) → at ≤ until → NoneMarked p mark at until → IsLastAfter p mark from at last → IsLastAfter p mark from until last
+last-further p mark from at until None l n h = none-joined p mark from at until h n
+last-further p mark from at until (Some k) l n h = (h.0, omega (arith, h.1, l), h.2, none-joined p mark k at until h.3 n)
 
-pub last-on : (p : Program) (mark : Mark) (until : ℕ) (v w : Visit) (last : Option ℕ) → has_more v until ≡ true → MakesTurn v w → false ≡ mark (state_of v.machine) (turn_from v) → LastSoFar p mark until v last → LastSoFar p mark until w last
-last-on p mark until v w last more h un so =
+pub last-on : (p : Program) (mark : Mark) (from until : ℕ) (v w : Visit) (last : Option ℕ) → has_more v until ≡ true → MakesTurn v w → false ≡ mark.turn (state_of v.machine) (turn_from v) → LastSoFar p mark from until v last → LastSoFar p mark from until w last
+last-on p mark from until v w last more h un so =
     let here = more-here v until more in
     let o = more-on v until more in
     record {
       step = turn-step p v w o h so.step;
+      later = omega (arith, so.later, h.count);
       within = omega (arith, here, h.count);
-      found = last-further p mark v.at w.at last (omega (arith, h.count)) (none-one p mark v.at w.at h.count (turn-mark p mark v w o h so.step ∙ sym un)) so.found;
+      found = last-further p mark from v.at w.at last (omega (arith, h.count)) (none-one p mark v.at w.at h.count (turn-mark p mark v w o h so.step ∙ sym un)) so.found;
     }
 
-pub last-found : (p : Program) (mark : Mark) (until : ℕ) (v w : Visit) (last : Option ℕ) → has_more v until ≡ true → MakesTurn v w → true ≡ mark (state_of v.machine) (turn_from v) → LastSoFar p mark until v last → LastSoFar p mark until w (Some w.at)
-last-found p mark until v w last more h un so =
+pub last-found : (p : Program) (mark : Mark) (from until : ℕ) (v w : Visit) (last : Option ℕ) → has_more v until ≡ true → MakesTurn v w → true ≡ mark.turn (state_of v.machine) (turn_from v) → LastSoFar p mark from until v last → LastSoFar p mark from until w (Some w.at)
+last-found p mark from until v w last more h un so =
     let here = more-here v until more in
     let o = more-on v until more in
     record {
       step = turn-step p v w o h so.step;
+      later = omega (arith, so.later, h.count);
       within = omega (arith, here, h.count);
-      found = (omega arith, turn-mark p mark v w o h so.step ∙ sym un, none-same p mark w.at w.at (omega arith));
+      found = (omega (arith, so.later, h.count), omega arith, turn-mark p mark v w o h so.step ∙ sym un, none-same p mark w.at w.at (omega arith));
     }
 
-last-by : (p : Program) (mark : Mark) (until : ℕ) (v : Visit) (last : Option ℕ) → (nat_lt v.at until ≡ false) ⊎ (is_over v.end ≡ true) → LastSoFar p mark until v last → IsLast p mark until last
-last-by p mark until v last (inl e) so =
-    let here : v.at ≡ until = omega (arith, ltb-false v.at until e, so.within) in subst (λ n. IsLast p mark n last) here so.found
-last-by p mark until v last (inr o) so = last-further p mark v.at until last so.within (over-none p mark v until so.step o) so.found
+last-by : (p : Program) (mark : Mark) (from until : ℕ) (v : Visit) (last : Option ℕ) → (nat_lt v.at until ≡ false) ⊎ (is_over v.end ≡ true) → LastSoFar p mark from until v last → IsLastAfter p mark from until last
+last-by p mark from until v last (inl e) so =
+    let here : v.at ≡ until = omega (arith, ltb-false v.at until e, so.within) in subst (λ n. IsLastAfter p mark from n last) here so.found
+last-by p mark from until v last (inr o) so = last-further p mark from v.at until last so.within (over-none p mark v until so.step o) so.found
 
-pub last-done : (p : Program) (mark : Mark) (until : ℕ) (v : Visit) (last : Option ℕ) → has_more v until ≡ false → LastSoFar p mark until v last → IsLast p mark until last
-last-done p mark until v last e so = last-by p mark until v last (no-more-by (nat_lt v.at until) (is_over v.end) e) so
+pub last-done : (p : Program) (mark : Mark) (from until : ℕ) (v : Visit) (last : Option ℕ) → has_more v until ≡ false → LastSoFar p mark from until v last → IsLastAfter p mark from until last
+last-done p mark from until v last e so = last-by p mark from until v last (no-more-by (nat_lt v.at until) (is_over v.end) e) so
+
+-- BACKWARDS, FROM ONE STEP THAT IS KEPT TO THE NEXT
+
+-- none was found after a step
+pub record NoneLater (p : Program) (mark : Mark) (until end : ℕ) : Type 0 where
+  pub within : end ≤ until
+  pub none : NoneMarked p mark end until
+
+pub later-begun : (p : Program) (mark : Mark) (until : ℕ) → NoneLater p mark until until
+later-begun p mark until = record { within = omega arith; none = none-same p mark until until (omega arith) }
+
+pub later-on : (p : Program) (mark : Mark) (until end from : ℕ) (found : Option ℕ) → is_some found ≡ false → from ≤ end → IsLastAfter p mark from end found → NoneLater p mark until end → NoneLater p mark until from
+later-on p mark until end from None e l h so = record { within = omega (arith, l, so.within); none = none-joined p mark from end until h so.none }
+later-on p mark until end from (Some k) e l h so = absurd (cc)
+
+pub later-found : (p : Program) (mark : Mark) (until end from : ℕ) (found : Option ℕ) → is_some found ≡ true → IsLastAfter p mark from end found → NoneLater p mark until end → IsLast p mark until found
+later-found p mark until end from None e h so = absurd (cc)
+later-found p mark until end from (Some k) e h so = (omega (arith, h.1, so.within), h.2, none-joined p mark k end until h.3 so.none)
+
+start-marked : (p : Program) (mark : Mark) (v : Visit) → IsStart p v → is_marked p mark 0 ≡ mark.start (state_of v.machine)
+unfolding is_marked
+start-marked p mark v s = ap (λ n. marks_start mark (step_of p n)) (sym s.first) ∙ ap (marks_start mark) s.step.shown
+
+pub start-last : (p : Program) (mark : Mark) (v : Visit) (until end : ℕ) → end ≡ 0 → true ≡ mark.start (state_of v.machine) → IsStart p v → NoneLater p mark until end → IsLast p mark until (Some 0)
+start-last p mark v until end e h s so = (omega arith, start-marked p mark v s ∙ sym h, subst (λ n. NoneMarked p mark n until) e so.none)
+
+none-up-to : (p : Program) (mark : Mark) (until j : ℕ) → is_marked p mark 0 ≡ false → NoneMarked p mark 0 until → j ≤ until → (0 < j) ⊎ (j ≤ 0) → is_marked p mark j ≡ false
+none-up-to p mark until j e n l (inl h) = n j h l
+none-up-to p mark until j e n l (inr h) = let first : j ≡ 0 = omega (arith, h) in ap (is_marked p mark) first ∙ e
+
+pub start-none : (p : Program) (mark : Mark) (v : Visit) (until end : ℕ) → end ≡ 0 → false ≡ mark.start (state_of v.machine) → IsStart p v → NoneLater p mark until end → IsLast p mark until None
+start-none p mark v until end e h s so j l =
+    none-up-to p mark until j (start-marked p mark v s ∙ sym h) (subst (λ n. NoneMarked p mark n until) e so.none) l (cases_lt 0 j)
+
+pub last-before : (p : Program) (mark : Mark) (at : ℕ) (found : Option ℕ) → 0 < at → IsLast p mark (at - 1) found → IsLastBefore p mark at found
+last-before p mark at None l h = λ j k. h j (omega (arith, k))
+last-before p mark at (Some k) l h = (omega (arith, l, h.0), h.1, λ j a b. h.2 j a (omega (arith, b)))
+
+pub none-before : (p : Program) (mark : Mark) (at : ℕ) → at ≡ 0 → IsLastBefore p mark at None
+none-before p mark at e j l = absurd (omega (arith, e, l))

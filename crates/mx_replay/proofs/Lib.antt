@@ -3,3 +3,5 @@ pub mod RunEnds
 pub mod Steps
 pub mod Turning
 pub mod Found
+pub mod Framed
+pub mod Keeping

@@ -1,7 +1,7 @@
 -- One turn of a visit, and its marks.
 use Rattle.std.proofs.lemmas.Option.{same_Some}
 use Rattle.std.proofs.Common.{◌≡◌, ◌≢◌, IsTrue, ◌/◌, ℕ, false, Some, None, refl, subst, ◌∙◌, ap}
-use Rattle.std.specs.Prelude.{Option, ◌||◌, ◌==◌, not}
+use Rattle.std.specs.Prelude.{Option, ◌||◌, ◌==◌, nat_le, not}
 use Rattle.mx_host.specs.HostModel.{HostModel, tells, contents}
 use Rattle.mx_code.specs.declared.trace.Trace.{Trace}
 use Rattle.mx_core.specs.Kept.{state_of}
@@ -13,7 +13,7 @@ use Rattle.mx_run.specs.declared.end.End.{End}
 use Rattle.mx_run.specs.declared.end.End.TheVariants.{Halted, Stopped, Spent}
 use Rattle.mx_run.specs.declared.turn_answer.TurnAnswer.{TurnAnswer}
 use Rattle.mx_run.specs.declared.turn_answer.TurnAnswer.TheVariants as answer
-use Rattle.mx_replay.specs.Marks.{changes, comes_to_flag, is_watched, value_at}
+use Rattle.mx_replay.specs.Marks.{changes_value, depth, is_at_most, is_watched, meets_flag, value_at}
 use Rattle.mx_replay.specs.Visits.{MakesTurn, came_by, came_to, trace_of, turn_end, turn_from}
 use Rattle.mx_replay.specs.declared.marks.Place.{Place}
 use Rattle.mx_replay.specs.declared.visit.Visit.{Visit}
@@ -45,22 +45,22 @@ turned pc s t m n r e trace h f at =
 -- ---- whether it comes to a flag
 
 flag-by : (f : FlagsOf) (s : State) (pc : ℕ) (trace : Trace) (x : Turn) (e : Ended) → e ≡ came_by pc x → Some trace ≡ trace_of x →
-    ((f (s.pc / 4)).t || is_watched f trace || (f (e.state.pc / 4)).x) ≡ comes_to_flag f s x
+    ((f (s.pc / 4)).t || is_watched f trace || (f (e.state.pc / 4)).x) ≡ meets_flag f s x
 flag-by f s pc trace (went_on u k other) e h t =
     let same : trace ≡ other = cc in ap (λ (x : Ended). (f (s.pc / 4)).t || is_watched f trace || (f (x.state.pc / 4)).x) h ∙ ap (λ x. (f (s.pc / 4)).t || is_watched f x || (f (u.pc / 4)).x) same
 flag-by f s pc trace (halts status u k) e h t = absurd (cc)
 flag-by f s pc trace (stops reason u k) e h t = absurd (cc)
 
 pub flag-told : (f : FlagsOf) (v w : Visit) (trace : Trace) → MakesTurn v w → Some trace ≡ trace_of (turn_from v) →
-    ((f ((state_of v.machine).pc / 4)).t || is_watched f trace || (f ((state_of w.machine).pc / 4)).x) ≡ comes_to_flag f (state_of v.machine) (turn_from v)
+    ((f ((state_of v.machine).pc / 4)).t || is_watched f trace || (f ((state_of w.machine).pc / 4)).x) ≡ meets_flag f (state_of v.machine) (turn_from v)
 flag-told f v w trace h t = flag-by f (state_of v.machine) (state_of v.machine).pc trace (turn_from v) (came_to w) h.came t
 
-no-flag-by : (f : FlagsOf) (s : State) (x : Turn) → None ≡ trace_of x → false ≡ comes_to_flag f s x
+no-flag-by : (f : FlagsOf) (s : State) (x : Turn) → None ≡ trace_of x → false ≡ meets_flag f s x
 no-flag-by f s (went_on u k other) t = absurd (cc)
 no-flag-by f s (halts status u k) t = refl
 no-flag-by f s (stops reason u k) t = refl
 
-pub no-flag-told : (f : FlagsOf) (v : Visit) → None ≡ trace_of (turn_from v) → false ≡ comes_to_flag f (state_of v.machine) (turn_from v)
+pub no-flag-told : (f : FlagsOf) (v : Visit) → None ≡ trace_of (turn_from v) → false ≡ meets_flag f (state_of v.machine) (turn_from v)
 no-flag-told f v t = no-flag-by f (state_of v.machine) (turn_from v) t
 
 -- ---- whether it changes a value
@@ -71,9 +71,17 @@ after-by pc (halts status u k) = refl
 after-by pc (stops reason u k) = refl
 
 pub change-told : (place : Place) (v w : Visit) (before after : ℕ) → MakesTurn v w → before ≡ value_at place (state_of v.machine) → after ≡ value_at place (state_of w.machine) →
-    not (before == after) ≡ changes place (state_of v.machine) (turn_from v)
+    not (before == after) ≡ changes_value place (state_of v.machine) (turn_from v)
 change-told place v w before after h e f =
     ap (λ n. not (n == after)) e
     ∙ ap (λ n. not (value_at place (state_of v.machine) == n)) (f ∙ ap (value_at place) (ap (λ (x : Ended). x.state) h.came ∙ after-by (state_of v.machine).pc (turn_from v)))
 
-pub ruleset marking = (flag-told, no-flag-told, change-told)
+-- ---- how many registers are hidden
+
+pub depth-told : (v w : Visit) (after : ℕ) → MakesTurn v w → after ≡ depth (state_of w.machine) → after ≡ depth (state_after (turn_from v))
+depth-told v w after h e = e ∙ ap depth (ap (λ (x : Ended). x.state) h.came ∙ after-by (state_of v.machine).pc (turn_from v))
+
+pub shallow-told : (most : ℕ) (v w : Visit) (after : ℕ) → MakesTurn v w → after ≡ depth (state_of w.machine) → nat_le after most ≡ is_at_most most (state_after (turn_from v))
+shallow-told most v w after h e = ap (λ n. nat_le n most) (depth-told v w after h e)
+
+pub ruleset marking = (flag-told, no-flag-told, change-told, shallow-told)

@@ -15,20 +15,31 @@ pub record Replayed : Type 0 where
 abbrev pub IsLeft : ℕ → ℕ → Type 0
 IsLeft old new = (new ≡ old) ⊎ (new ≡ 0)
 
--- no turn after `from` up to `until` has the mark
+-- no step after `from` up to `until` has the mark
 abbrev pub NoneMarked : Program → Mark → ℕ → ℕ → Type 0
 NoneMarked p mark from until = (j : ℕ) → from < j → j ≤ until → is_marked p mark j ≡ false
 
--- the least step after `from` up to `until` whose turn has the mark
+-- the least step after `from` up to `until` that has the mark
 abbrev pub IsNext : Program → Mark → ℕ → ℕ → Option ℕ → Type 0
 IsNext p mark from until None = NoneMarked p mark from until
 IsNext p mark from until (Some k) =
     (from < k) × (k ≤ until) × (is_marked p mark k ≡ true) × ((j : ℕ) → from < j → j < k → is_marked p mark j ≡ false)
 
--- the greatest step up to `until` whose turn has the mark
+-- the greatest step up to `until` that has the mark
 abbrev pub IsLast : Program → Mark → ℕ → Option ℕ → Type 0
-IsLast p mark until None = NoneMarked p mark 0 until
+IsLast p mark until None = (j : ℕ) → j ≤ until → is_marked p mark j ≡ false
 IsLast p mark until (Some k) = (k ≤ until) × (is_marked p mark k ≡ true) × NoneMarked p mark k until
+
+-- the greatest step before `here` that has the mark
+abbrev pub IsLastBefore : Program → Mark → ℕ → Option ℕ → Type 0
+IsLastBefore p mark here None = (j : ℕ) → j < here → is_marked p mark j ≡ false
+IsLastBefore p mark here (Some k) =
+    (k < here) × (is_marked p mark k ≡ true) × ((j : ℕ) → k < j → j < here → is_marked p mark j ≡ false)
+
+-- the greatest step after `from` up to `until` that has the mark
+abbrev pub IsLastAfter : Program → Mark → ℕ → ℕ → Option ℕ → Type 0
+IsLastAfter p mark from until None = NoneMarked p mark from until
+IsLastAfter p mark from until (Some k) = (from < k) × (k ≤ until) × (is_marked p mark k ≡ true) × NoneMarked p mark k until
 
 -- ---- on the way
 

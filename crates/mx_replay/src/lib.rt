@@ -2,6 +2,8 @@
 //! start.
 #![tactic(auto)]
 
+mod frames;
+mod kept;
 mod laws;
 mod marks;
 mod program;
@@ -10,6 +12,7 @@ mod searches;
 mod turns;
 mod visit;
 
+pub use frames::Frame;
 pub use laws::steps_follow_each_other;
 pub use marks::Place;
 pub use program::Program;

@@ -1,12 +1,13 @@
 //! What is looked for in a run.
 
-ghost use Rattle.std.specs.Prelude.{◌≡◌, false};
+ghost use Rattle.std.specs.Prelude.{◌≡◌};
 ghost use Rattle.mx_core.specs.Kept.{state_of};
 ghost use Rattle.mx_run.specs.FlagMaps.{flags_at};
 ghost use Rattle.mx_replay.specs.Marks as spec;
 
 use mx_core::{Machine, Touch, Trace};
 use mx_run::FlagMap;
+use mx_word::STACK_SEGMENT;
 
 /// A place that has a value.
 #[derive(Clone, Copy, Debug, PartialEq, Eq)]
@@ -17,14 +18,37 @@ pub enum Place {
     Octa(u64),
 }
 
-/// What a turn is looked for by.
+/// What a step is looked for by.
 #[derive(Clone, Copy)]
 pub(crate) enum Sought<'a> {
-    /// It comes to a flag: it carries out a tetra with `t`, reads one with `r`, writes one with `w`, or leads to one with
-    /// `x`.
+    /// Its turn comes to a flag: it carries out a tetra with `t`, reads one with `r`, writes one with `w`, or leads to one
+    /// with `x`.
     Flags(&'a FlagMap),
-    /// It changes the value at a place.
+    /// Its turn changes the value at a place.
     Change(Place),
+    /// At most so many registers are hidden there.
+    Shallow(u64),
+}
+
+/// The code of rO.
+const RO: u8 = 10;
+
+/// How many registers are hidden.
+#[tactic(auto, unfolding(mx_core::specs::State::special_register))]
+pub(crate) fn depth(machine: &Machine) -> u64
+    ensures { result ≡ spec.depth (state_of machine.now) }
+{
+    (machine.special(RO) - STACK_SEGMENT) / 8
+}
+
+/// Whether the start of a run has a mark, by its machine.
+pub(crate) fn marks_start(machine: &Machine, sought: Sought<'_>) -> bool
+    ensures { result ≡ (spec.mark_of sought.entry).start (state_of machine.now) }
+{
+    match sought {
+        Sought::Flags(_) | Sought::Change(_) => false,
+        Sought::Shallow(most) => depth(machine) <= most,
+    }
 }
 
 /// The value at a place. Where there is no memory it is 0.

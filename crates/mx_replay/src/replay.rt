@@ -1,27 +1,29 @@
 //! A run that is visited step by step, forth and back.
 
-ghost use Rattle.std.specs.Prelude.{◌≡◌, ◌≢◌, ◌≤◌, ◌<◌, ◌+◌, ◌-◌, ℕ, Ok, Err, None, IfOk, IfErr, OnOk, OnErr};
-ghost use Rattle.std.specs.Option.{ForSome};
+ghost use Rattle.std.specs.Prelude.{◌≡◌, ◌≢◌, ◌≤◌, ◌<◌, ◌+◌, ℕ, Ok, Err, IfOk, IfErr, OnOk, OnErr};
 ghost use Rattle.mx_core.specs.Kept.{state_of};
 ghost use Rattle.mx_word.specs.Results.{map_ok};
-ghost use Rattle.mx_run.specs.FlagMaps.{flags_at};
-ghost use Rattle.mx_replay.specs.Marks.{changes, comes_to_flag, mark_of};
+ghost use Rattle.mx_replay.specs.Marks as marks;
 ghost use Rattle.mx_replay.specs.Programs.{GoesOn, IsReached, NamesFile, step_of};
-ghost use Rattle.mx_replay.specs.Searches.{FoundAt, IsLast, IsLeft, IsNext};
-ghost use Rattle.mx_replay.specs.Visits.{IsStart, trace_after};
+ghost use Rattle.mx_replay.specs.Searches.{IsLeft};
+ghost use Rattle.mx_replay.specs.Visits.{trace_after};
 
-use crate::marks::{Place, Sought};
+mod finding;
+mod visiting;
+
+use crate::kept::{Kept, go_keeping};
+use crate::marks::depth;
 use crate::program::Program;
-use crate::searches::{find_last, find_next};
 use crate::turns::make_next;
-use crate::visit::{Visit, go_on, start};
+use crate::visit::{Visit, start};
 use mx_core::{Machine, Trace};
 use mx_host::MemHost;
 use mx_outcome::Outcome;
-use mx_run::{End, FlagMap};
+use mx_run::End;
 use mx_word::NoMemory;
 use std::alloc::Global;
 use std::marker::Model;
+use visiting::start_again;
 
 /// The run of a program over a host in memory, at one of its steps: step k is what k turns from the start come to.
 /// Whatever way one went, what is shown at step k is step k of the run, also after a call that found no memory.
@@ -31,10 +33,12 @@ pub struct Replay {
     program: Program,
     here: Visit,
     spare: Option<Visit>,
+    kept: Kept,
 }
 
 impl Model for Replay {
     ghost use Rattle.std.specs.Option.{ForSome};
+    ghost use Rattle.mx_replay.specs.Keeping.{AreSteps};
     ghost use Rattle.mx_replay.specs.Programs.{NamesFile};
     ghost use Rattle.mx_replay.specs.Visits.{IsStart, IsStep};
     ghost use Rattle.mx_replay.specs.Searches.{Replayed};
@@ -43,22 +47,8 @@ impl Model for Replay {
 
     ghost view = { λ r. record { program = r.program; at = r.here.at } };
 
-    ghost invariant = { λ r. NamesFile r.program × IsStep r.program r.here × ForSome r.spare (IsStart r.program) };
-}
-
-/// A start that is kept, or one more where none is.
-fn start_again(alloc: Global, program: &Program, kept: Option<Visit>) -> Result<Visit, NoMemory>
-    requires names { NamesFile program.now }
-    requires kept { ForSome kept (IsStart program.now) }
-    ensures { IfOk result (IsStart program.now) }
-{
-    match kept {
-        Some(visit) => Ok(visit),
-        None => match start(alloc, program) {
-            Ok(visit) => Ok(visit),
-            Err(_) => Err(NoMemory),
-        },
-    }
+    ghost invariant = { λ r. NamesFile r.program × IsStep r.program r.here × ForSome r.spare (IsStart r.program)
+        × AreSteps r.program r.kept };
 }
 
 impl Replay {
@@ -76,6 +66,7 @@ impl Replay {
                 program,
                 here,
                 spare: None,
+                kept: Kept::new(alloc),
             }),
             Err(outcome) => Err(outcome),
         }
@@ -110,7 +101,15 @@ impl Replay {
         self.here.end
     }
 
-    /// Goes to step k, forth or back, or to the last step where the run ends before.
+    /// How many registers are hidden at this step: those of the calls that have not returned.
+    pub fn depth(&self) -> u64
+        ensures { map_ok (λ e. marks.depth e.state) (step_of self.now.program self.now.at) ≡ Ok result }
+    {
+        depth(&self.here.machine)
+    }
+
+    /// Goes to step k, forth or back, or to the last step where the run ends before. It takes the time of the turns from a
+    /// step that is kept, which is at most some 10^6 turns away in a run of 10^7.
     ///
     /// Errors: out of memory; then it is where it was, or at the start.
     pub fn go_to(&mut self, k: u64) -> Result<(), NoMemory>
@@ -119,10 +118,12 @@ impl Replay {
         ensures same { OnOk result (step_of self.old.program self.new.at ≡ step_of self.old.program k) }
         ensures err { OnErr result (IsLeft self.old.at self.new.at) }
     {
-        if k < self.here.at {
-            self.restart()?;
+        if k < self.here.at || self.kept.has_between(self.here.at, k) {
+            self.here = self.visit(k)?;
+            Ok(())
+        } else {
+            self.go_on(k)
         }
-        self.go_on(k)
     }
 
     /// Makes one turn, and gives its trace. There is none where the turn halts or stops the machine, and no turn where the run
@@ -149,15 +150,6 @@ impl Replay {
         }
     }
 
-    /// Goes back to the start.
-    fn restart(&mut self) -> Result<(), NoMemory>
-        ensures ok { OnOk result (self.new ≡ record self.old { at = 0 }) }
-        ensures err { OnErr result (self.new ≡ self.old) }
-    {
-        self.here = start_again(self.alloc, &self.program, self.spare.take())?;
-        Ok(())
-    }
-
     /// Goes on to step k, or to the last one before it. Out of memory it is where it was, or at the start.
     #[tactic(auto, using(crate::proofs::Steps::reaching))]
     fn go_on(&mut self, k: u64) -> Result<(), NoMemory>
@@ -168,7 +160,7 @@ impl Replay {
         ensures err { OnErr result (IsLeft self.old.at self.new.at) }
     {
         let start = start_again(self.alloc, &self.program, self.spare.take())?;
-        match go_on(self.alloc, &mut self.here, k) {
+        match go_keeping(self.alloc, &mut self.here, &mut self.kept, k) {
             Ok(()) => {
                 self.spare = Some(start);
                 Ok(())
@@ -178,61 +170,5 @@ impl Replay {
                 Err(NoMemory)
             }
         }
-    }
-}
-
-/// What is looked for in a run.
-impl Replay {
-    /// Goes on to the next step whose turn comes to a flag, up to step `until`: the least step after this one. Where there
-    /// is none, it goes on as far as `until`, or to the last step before it.
-    ///
-    /// Errors: out of memory; then it is where it was, or at the start.
-    pub fn next_hit(&mut self, flags: &FlagMap, until: u64) -> Result<Option<u64>, NoMemory>
-        ensures program { self.new.program ≡ self.old.program }
-        ensures next { IfOk result (IsNext self.old.program (comes_to_flag (flags_at flags.now)) self.old.at until) }
-        ensures place { IfOk result (FoundAt self.old.program until self.old.at self.new.at) }
-        ensures err { OnErr result (IsLeft self.old.at self.new.at) }
-    {
-        let start = start_again(self.alloc, &self.program, self.spare.take())?;
-        match find_next(self.alloc, &mut self.here, Sought::Flags(flags), until) {
-            Ok(found) => {
-                self.spare = Some(start);
-                Ok(found)
-            }
-            Err(NoMemory) => {
-                self.here = start;
-                Err(NoMemory)
-            }
-        }
-    }
-
-    /// The last step before this one whose turn comes to a flag: the greatest. It stays where it is.
-    ///
-    /// Errors: out of memory.
-    pub fn last_hit(&mut self, flags: &FlagMap) -> Result<Option<u64>, NoMemory>
-        ensures same { self.new ≡ self.old }
-        ensures last { IfOk result (IsLast self.old.program (comes_to_flag (flags_at flags.now)) (self.old.at - 1)) }
-    {
-        self.last_marked(Sought::Flags(flags), self.here.at.saturating_sub(1))
-    }
-
-    /// The step whose turn made the value that is at a place now: the greatest up to this one whose turn changed it.
-    /// Nothing where it never changed. It stays where it is.
-    ///
-    /// Errors: out of memory.
-    pub fn maker(&mut self, place: Place) -> Result<Option<u64>, NoMemory>
-        ensures same { self.new ≡ self.old }
-        ensures last { IfOk result (IsLast self.old.program (changes place) self.old.at) }
-    {
-        self.last_marked(Sought::Change(place), self.here.at)
-    }
-
-    /// The greatest step up to `until` whose turn has a mark.
-    fn last_marked(&mut self, sought: Sought<'_>, until: u64) -> Result<Option<u64>, NoMemory>
-        ensures same { self.new ≡ self.old }
-        ensures last { IfOk result (IsLast self.old.program (mark_of sought.entry) until) }
-    {
-        let mut visit = start_again(self.alloc, &self.program, self.spare.take())?;
-        find_last(self.alloc, &mut visit, sought, until)
     }
 }

@@ -3,13 +3,14 @@
 ghost use Rattle.std.specs.Prelude.{◌≡◌, ◌+◌, ◌<◌, ◌^◌, IfOk, OnOk};
 ghost use Rattle.mx_core.specs.Kept.{state_of};
 ghost use Rattle.mx_run.specs.FlagMaps.{flags_at};
+ghost use Rattle.mx_run.specs.WildRuns.{state_after};
 ghost use Rattle.mx_replay.specs.Marks as marks;
 ghost use Rattle.mx_replay.specs.Visits as spec;
 ghost use Rattle.mx_replay.specs.Programs.{IsReached};
 ghost use Rattle.mx_replay.specs.Visits.{IsStep, MakesTurn, turn_from};
 ghost use Rattle.mx_replay.specs.declared.program.Program.{Program};
 
-use crate::marks::{Place, Sought, is_watched, value_at};
+use crate::marks::{Place, Sought, depth, is_watched, value_at};
 use crate::visit::{Visit, is_over};
 use mx_code::Trace;
 use mx_run::{End, FlagMap, TurnAnswer, turn};
@@ -29,7 +30,7 @@ fn turn_end(pc: u64, answer: TurnAnswer) -> Option<(End, Option<Trace>)>
 }
 
 /// Makes a turn, and gives its trace where the machine went on. Out of memory the visit is at no step of the run.
-fn make_turn(alloc: Global, visit: &mut Visit) -> Result<Option<Trace>, NoMemory>
+pub(crate) fn make_turn(alloc: Global, visit: &mut Visit) -> Result<Option<Trace>, NoMemory>
     requires { visit.old.at + 1 < 2 ^ 64 }
     ensures turn { OnOk result (MakesTurn visit.old visit.new) }
     ensures trace { IfOk result (λ trace. trace ≡ spec.trace_of (turn_from visit.old)) }
@@ -69,7 +70,7 @@ fn turn_to_flag(alloc: Global, visit: &mut Visit, flags: &FlagMap) -> Result<boo
     requires { visit.old.at + 1 < 2 ^ 64 }
     ensures turn { OnOk result (MakesTurn visit.old visit.new) }
     ensures mark { IfOk result (λ marked. marked
-        ≡ marks.comes_to_flag (flags_at flags.now) (state_of visit.old.machine) (turn_from visit.old)) }
+        ≡ marks.meets_flag (flags_at flags.now) (state_of visit.old.machine) (turn_from visit.old)) }
 {
     let traced = flags.flags(visit.machine.pc()).t;
     match make_turn(alloc, visit) {
@@ -88,11 +89,22 @@ fn turn_changes(alloc: Global, visit: &mut Visit, place: Place) -> Result<bool, 
     requires { visit.old.at + 1 < 2 ^ 64 }
     ensures turn { OnOk result (MakesTurn visit.old visit.new) }
     ensures mark { IfOk result (λ marked. marked
-        ≡ marks.changes place (state_of visit.old.machine) (turn_from visit.old)) }
+        ≡ marks.changes_value place (state_of visit.old.machine) (turn_from visit.old)) }
 {
     let before = value_at(&visit.machine, place);
     make_turn(alloc, visit)?;
     Ok(before != value_at(&visit.machine, place))
+}
+
+/// Makes a turn, and says whether at most so many registers are hidden then.
+#[tactic(auto, using(crate::proofs::Turning::marking))]
+fn turn_to_depth(alloc: Global, visit: &mut Visit, most: u64) -> Result<bool, NoMemory>
+    requires { visit.old.at + 1 < 2 ^ 64 }
+    ensures turn { OnOk result (MakesTurn visit.old visit.new) }
+    ensures mark { IfOk result (λ marked. marked ≡ marks.is_at_most most (state_after (turn_from visit.old))) }
+{
+    make_turn(alloc, visit)?;
+    Ok(depth(&visit.machine) <= most)
 }
 
 /// Makes a turn, and says whether it has a mark. Out of memory the visit is at no step of the run.
@@ -104,10 +116,11 @@ pub(crate) fn turn_marked(
     requires { visit.old.at + 1 < 2 ^ 64 }
     ensures turn { OnOk result (MakesTurn visit.old visit.new) }
     ensures mark { IfOk result (λ marked. marked
-        ≡ marks.mark_of sought.entry (state_of visit.old.machine) (turn_from visit.old)) }
+        ≡ (marks.mark_of sought.entry).turn (state_of visit.old.machine) (turn_from visit.old)) }
 {
     match sought {
         Sought::Flags(flags) => turn_to_flag(alloc, visit, flags),
         Sought::Change(place) => turn_changes(alloc, visit, place),
+        Sought::Shallow(most) => turn_to_depth(alloc, visit, most),
     }
 }

@@ -1,10 +1,11 @@
 //! A machine and its host at a step of a run.
 
-ghost use Rattle.std.specs.Prelude.{◌≡◌, ◌≢◌, ◌+◌, ◌<◌, ◌≤◌, Err, IfOk, IfErr, OnOk};
+ghost use Rattle.std.specs.Prelude.{◌≡◌, ◌≢◌, ◌+◌, ◌<◌, ◌≤◌, Err, IfOk, IfErr, OnOk, false};
 ghost use Rattle.mx_core.specs.Kept.{state_of};
 ghost use Rattle.mx_run.specs.Runs.{ended};
 ghost use Rattle.mx_replay.specs.Programs as spec;
 ghost use Rattle.mx_replay.specs.Programs.{IsReached, NamesFile, step_of};
+ghost use Rattle.mx_replay.specs.Searches as searches;
 ghost use Rattle.mx_replay.specs.Visits.{ComesTo, IsStart, IsStep, turns_told};
 ghost use Rattle.mx_replay.specs.declared.program.Program.{Program};
 
@@ -24,6 +25,20 @@ pub(crate) struct Visit {
     pub(crate) end: End,
     pub(crate) machine: Machine,
     pub(crate) host: MemHost,
+}
+
+impl Visit {
+    /// The same step once more. `NoMemory` where there is no memory for it.
+    pub(crate) fn copy(&self) -> Result<Visit, NoMemory>
+        ensures { IfOk result (λ v. v ≡ self.now) }
+    {
+        Ok(Visit {
+            at: self.at,
+            end: self.end,
+            machine: self.machine.copy()?,
+            host: self.host.copy()?,
+        })
+    }
 }
 
 /// Whether a run with this end has no further turn.
@@ -101,10 +116,19 @@ fn run_on(
     }
 }
 
+/// Whether there are turns to make up to a step.
+pub(crate) fn has_more(visit: &Visit, until: u64) -> bool
+    ensures { result ≡ searches.has_more visit.now until }
+{
+    visit.at < until && !is_over(visit.end)
+}
+
 /// Goes on to step k, or to the last one before it. Out of memory the visit is at no step of the run.
 pub(crate) fn go_on(alloc: Global, visit: &mut Visit, k: u64) -> Result<(), NoMemory>
     requires { visit.old.at ≤ k }
-    ensures { OnOk result ((p : Program) → IsStep p visit.old → IsStep p visit.new × IsReached p k visit.new.at) }
+    ensures step { OnOk result ((p : Program) → IsStep p visit.old → IsStep p visit.new × IsReached p k visit.new.at) }
+    ensures forward { OnOk result ((visit.old.at ≤ visit.new.at) × (visit.new.at ≤ k)) }
+    ensures early { OnOk result (spec.is_over visit.new.end ≡ false → visit.new.at ≡ k) }
 {
     if is_over(visit.end) {
         return Ok(());

@@ -3,6 +3,10 @@
 #![tactic(auto)]
 
 #[cfg(test)]
+mod calls;
+#[cfg(test)]
+mod far;
+#[cfg(test)]
 mod programs;
 #[cfg(test)]
 mod searches;

@@ -51,6 +51,29 @@ Loop LDO $1,Sum
 /// The address of `Sum`.
 pub const SUM: u64 = 0x2000_0000_0000_0000;
 
+/// A call within a call. Turn 1 is SET, and 2 the call of `Outer`, at #110: GET is turn 3, and 4 the call of `Inner`, at #120: SET
+/// is turn 5, and POP 6. In `Outer` PUT is turn 7, and POP 8. SET is turn 9, and Halt 10. Each call hides two octas: `$0` and the
+/// number of registers.
+pub static CALLS: &str = " LOC #100
+Main SET $0,1
+ PUSHJ $1,Outer
+ SET $0,2
+ TRAP 0,Halt,0
+Outer GET $0,rJ
+ PUSHJ $1,Inner
+ PUT rJ,$0
+ POP 0,0
+Inner SET $0,5
+ POP 0,0
+";
+
+/// It counts without an end: turn 1 is SET, 2 is ADD, 3 is JMP, and so on. At step k, from 1, `$1` has half of k.
+pub static COUNTS: &str = " LOC #100
+Main SET $1,0
+Loop ADD $1,$1,1
+ JMP Loop
+";
+
 /// The words `run p.mms`.
 fn words(alloc: Global) -> Option<Vec<String>> {
     let mut words = Vec::new(alloc);

@@ -1,6 +1,6 @@
 //! Turns that are found.
 
-use crate::programs::{ECHOES, LETTER, SUM, SUMS, WHERE, replay};
+use crate::programs::{CALLS, ECHOES, LETTER, SUM, SUMS, WHERE, replay};
 use mx_replay::{Place, Replay};
 use mx_run::{FlagMap, Flags};
 use std::alloc::Global;
@@ -16,6 +16,10 @@ enum Sought {
     Last,
     Register(u8),
     Octa(u64),
+    NextChange(u64, u64),
+    LastChange(u64),
+    NextShallow(u64, u64),
+    LastShallow(u64),
 }
 
 /// The loop begins at #104, and its instructions lead there from the turns 1, 7 and 13.
@@ -55,6 +59,32 @@ static SUM_MAKERS: [Search; 3] = [
     (22, Sought::Octa(1 << 63), None),
 ];
 
+/// The sum changes in the turns 4, 9, 14 and 19.
+static SUM_CHANGES: [Search; 7] = [
+    (0, Sought::NextChange(SUM, 1_000), Some(4)),
+    (4, Sought::NextChange(SUM, 1_000), Some(9)),
+    (4, Sought::NextChange(SUM, 8), None),
+    (19, Sought::NextChange(SUM, 1_000), None),
+    (9, Sought::LastChange(SUM), Some(4)),
+    (10, Sought::LastChange(SUM), Some(9)),
+    (4, Sought::LastChange(SUM), None),
+];
+
+/// Two octas are hidden from step 2 on, four at the steps 4 and 5, two up to step 7, and then none.
+static DEPTHS: [Search; 11] = [
+    (2, Sought::NextShallow(2, 1_000), Some(3)),
+    (3, Sought::NextShallow(2, 1_000), Some(6)),
+    (5, Sought::NextShallow(3, 1_000), Some(6)),
+    (3, Sought::NextShallow(1, 1_000), Some(8)),
+    (3, Sought::NextShallow(1, 7), None),
+    (10, Sought::NextShallow(9, 1_000), None),
+    (8, Sought::LastShallow(0), Some(1)),
+    (6, Sought::LastShallow(2), Some(3)),
+    (7, Sought::LastShallow(1), Some(1)),
+    (1, Sought::LastShallow(0), Some(0)),
+    (0, Sought::LastShallow(9), None),
+];
+
 /// What is found at a step, and where one is then.
 fn found(
     replay: &mut Replay,
@@ -68,15 +98,20 @@ fn found(
         Sought::Last => replay.last_hit(flags).ok()?,
         Sought::Register(k) => replay.maker(Place::Register(k)).ok()?,
         Sought::Octa(a) => replay.maker(Place::Octa(a)).ok()?,
+        Sought::NextChange(a, until) => replay.next_change(Place::Octa(a), until).ok()?,
+        Sought::LastChange(a) => replay.last_change(Place::Octa(a)).ok()?,
+        Sought::NextShallow(most, until) => replay.next_shallow(most, until).ok()?,
+        Sought::LastShallow(most) => replay.last_shallow(most).ok()?,
     };
     Some((found, replay.at()))
 }
 
 /// Where one is who looked from a step, and found this, in a run of so many turns.
 fn place(at: u64, sought: Sought, found: Option<u64>, last: u64) -> u64 {
-    match (sought, found) {
-        (Sought::Next(_), Some(k)) => k,
-        (Sought::Next(until), None) => until.min(last),
+    match sought {
+        Sought::Next(until) | Sought::NextChange(_, until) | Sought::NextShallow(_, until) => {
+            found.unwrap_or(until.min(last))
+        }
         _ => at,
     }
 }
@@ -148,6 +183,18 @@ fn values_have_makers(rt: HostRuntime) -> Result<(), Fail> {
     let wrong = (
         wrong_of(rt.alloc(), ECHOES, (0x104, BEFORE), &ECHO_MAKERS, 21),
         wrong_of(rt.alloc(), SUMS, (SUM, WRITTEN), &SUM_MAKERS, 22),
+    );
+    if wrong != (None, None) {
+        return Err(Fail::new(format_args!("{wrong:?}")));
+    }
+    Ok(())
+}
+
+#[test]
+fn changes_and_depths_are_found_both_ways(rt: HostRuntime) -> Result<(), Fail> {
+    let wrong = (
+        wrong_of(rt.alloc(), SUMS, (SUM, WRITTEN), &SUM_CHANGES, 22),
+        wrong_of(rt.alloc(), CALLS, (SUM, WRITTEN), &DEPTHS, 10),
     );
     if wrong != (None, None) {
         return Err(Fail::new(format_args!("{wrong:?}")));

@@ -1,4 +1,15 @@
+use Rattle.std.proofs.Common.{arith, subst, sym, ◌∙◌}
+use Rattle.mx_replay.specs.Searches.{Replayed}
+use Rattle.mx_replay.specs.Visits.{IsStart}
+use Rattle.mx_replay.proofs.Found.{start-last, start-none}
 use Rattle.mx_replay.proofs.replay.Replay.last_marked.Goals as goal
 
-pub start_again-requires-clause-kept : goal.start_again-requires-clause-kept
-start_again-requires-clause-kept c = λ x e. let is = c.take.ensures.value in c.self.invariant.2 x (cc)
+pub returns-then-marks_start-clause-last : goal.returns-then-marks_start-clause-last
+returns-then-marks_start-clause-last c =
+    let at_start = subst (λ (r : Replayed). IsStart r.program c.in_ok-start.start) c.loop-end.invariant.0 c.in_ok-start.ensures.start in
+    start-last _ _ _ _ _ (omega (arith, c.loop-end-test.false)) (sym c.if-marks_start.true ∙ c.marks_start.ensures) at_start c.loop-end.invariant.1
+
+pub returns-clause-last : goal.returns-clause-last
+returns-clause-last c =
+    let at_start = subst (λ (r : Replayed). IsStart r.program c.in_ok-start.start) c.loop-end.invariant.0 c.in_ok-start.ensures.start in
+    start-none _ _ _ _ _ (omega (arith, c.loop-end-test.false)) (sym c.if-marks_start.false ∙ c.marks_start.ensures) at_start c.loop-end.invariant.1

@@ -1,0 +1,161 @@
+//! What is looked for in a run.
+
+ghost use Rattle.std.specs.Prelude.{◌≡◌, ◌-◌, IfOk, OnErr};
+ghost use Rattle.mx_run.specs.FlagMaps.{flags_at};
+ghost use Rattle.mx_replay.specs.Frames.{frames_at};
+ghost use Rattle.mx_replay.specs.Marks.{changes, comes_to_flag, is_shallow, mark_of};
+ghost use Rattle.mx_replay.specs.Searches.{FoundAt, IsLast, IsLastBefore, IsLeft, IsNext};
+
+use super::Replay;
+use super::visiting::start_again;
+use crate::frames::{Frame, find_frames};
+use crate::marks::{Place, Sought, marks_start};
+use crate::searches::{find_last, find_next};
+use mx_run::FlagMap;
+use mx_word::{NoMemory, Sequence};
+
+/// The next step, from the one that is shown.
+impl Replay {
+    /// Goes on to the next step whose turn comes to a flag, up to step `until`: the least step after this one. Where there
+    /// is none, it goes on as far as `until`, or to the last step before it.
+    ///
+    /// Errors: out of memory; then it is where it was, or at the start.
+    pub fn next_hit(&mut self, flags: &FlagMap, until: u64) -> Result<Option<u64>, NoMemory>
+        ensures program { self.new.program ≡ self.old.program }
+        ensures next { IfOk result (IsNext self.old.program (comes_to_flag (flags_at flags.now)) self.old.at until) }
+        ensures place { IfOk result (FoundAt self.old.program until self.old.at self.new.at) }
+        ensures err { OnErr result (IsLeft self.old.at self.new.at) }
+    {
+        self.next_marked(Sought::Flags(flags), until)
+    }
+
+    /// Goes on to the next step whose turn changed the value at a place, up to step `until`: the least step after this one.
+    /// Where there is none, it goes on as far as `until`, or to the last step before it.
+    ///
+    /// Errors: out of memory; then it is where it was, or at the start.
+    pub fn next_change(&mut self, place: Place, until: u64) -> Result<Option<u64>, NoMemory>
+        ensures program { self.new.program ≡ self.old.program }
+        ensures next { IfOk result (IsNext self.old.program (changes place) self.old.at until) }
+        ensures place { IfOk result (FoundAt self.old.program until self.old.at self.new.at) }
+        ensures err { OnErr result (IsLeft self.old.at self.new.at) }
+    {
+        self.next_marked(Sought::Change(place), until)
+    }
+
+    /// Goes on to the next step at which at most so many registers are hidden, up to step `until`: the least step after this
+    /// one. With the depth of this step that is the next step of the same call, or of one that it returned to; with one less,
+    /// the step after the return. Where there is none, it goes on as far as `until`, or to the last step before it.
+    ///
+    /// Errors: out of memory; then it is where it was, or at the start.
+    pub fn next_shallow(&mut self, at_most: u64, until: u64) -> Result<Option<u64>, NoMemory>
+        ensures program { self.new.program ≡ self.old.program }
+        ensures next { IfOk result (IsNext self.old.program (is_shallow at_most) self.old.at until) }
+        ensures place { IfOk result (FoundAt self.old.program until self.old.at self.new.at) }
+        ensures err { OnErr result (IsLeft self.old.at self.new.at) }
+    {
+        self.next_marked(Sought::Shallow(at_most), until)
+    }
+
+    /// Goes on to the next step that has a mark, up to step `until`.
+    fn next_marked(&mut self, sought: Sought<'_>, until: u64) -> Result<Option<u64>, NoMemory>
+        ensures program { self.new.program ≡ self.old.program }
+        ensures next { IfOk result (IsNext self.old.program (mark_of sought.entry) self.old.at until) }
+        ensures place { IfOk result (FoundAt self.old.program until self.old.at self.new.at) }
+        ensures err { OnErr result (IsLeft self.old.at self.new.at) }
+    {
+        let start = start_again(self.alloc, &self.program, self.spare.take())?;
+        match find_next(self.alloc, &mut self.here, &mut self.kept, sought, until) {
+            Ok(found) => {
+                self.spare = Some(start);
+                Ok(found)
+            }
+            Err(NoMemory) => {
+                self.here = start;
+                Err(NoMemory)
+            }
+        }
+    }
+}
+
+/// The last step before the one that is shown. It stays where it is.
+impl Replay {
+    /// The last step before this one whose turn comes to a flag: the greatest. It stays where it is.
+    ///
+    /// Errors: out of memory.
+    pub fn last_hit(&mut self, flags: &FlagMap) -> Result<Option<u64>, NoMemory>
+        ensures same { self.new ≡ self.old }
+        ensures last { IfOk result (IsLast self.old.program (comes_to_flag (flags_at flags.now)) (self.old.at - 1)) }
+    {
+        self.last_marked(Sought::Flags(flags), self.here.at.saturating_sub(1))
+    }
+
+    /// The last step before this one whose turn changed the value at a place: the greatest. It stays where it is.
+    ///
+    /// Errors: out of memory.
+    pub fn last_change(&mut self, place: Place) -> Result<Option<u64>, NoMemory>
+        ensures same { self.new ≡ self.old }
+        ensures last { IfOk result (IsLast self.old.program (changes place) (self.old.at - 1)) }
+    {
+        self.last_marked(Sought::Change(place), self.here.at.saturating_sub(1))
+    }
+
+    /// The step whose turn made the value that is at a place now: the greatest up to this one whose turn changed it.
+    /// Nothing where it never changed. It stays where it is.
+    ///
+    /// Errors: out of memory.
+    pub fn maker(&mut self, place: Place) -> Result<Option<u64>, NoMemory>
+        ensures same { self.new ≡ self.old }
+        ensures last { IfOk result (IsLast self.old.program (changes place) self.old.at) }
+    {
+        self.last_marked(Sought::Change(place), self.here.at)
+    }
+
+    /// The last step before this one at which at most so many registers are hidden: the greatest, and the start too may be
+    /// one. With the depth of this step that is the step before in the same call, or in one that called it; with one less,
+    /// the step that called. It stays where it is.
+    ///
+    /// Errors: out of memory.
+    pub fn last_shallow(&mut self, at_most: u64) -> Result<Option<u64>, NoMemory>
+        ensures same { self.new ≡ self.old }
+        ensures last { IfOk result (IsLastBefore self.old.program (is_shallow at_most) self.old.at) }
+    {
+        if self.here.at == 0 {
+            return Ok(None);
+        }
+        self.last_marked(Sought::Shallow(at_most), self.here.at - 1)
+    }
+
+    /// The calls that have not returned at this step, the outermost first. SAVE and UNSAVE leave none.
+    ///
+    /// Errors: out of memory.
+    pub fn frames(&mut self) -> Result<Sequence<Frame>, NoMemory>
+        ensures same { self.new ≡ self.old }
+        ensures frames { IfOk result (λ frames. frames ≡ frames_at self.old.program self.old.at) }
+    {
+        let mut visit = self.visit_start()?;
+        find_frames(self.alloc, &mut visit, self.here.at)
+    }
+
+    /// The greatest step up to `until` that has a mark. Looked for from one step that is kept to the next, backwards.
+    fn last_marked(&mut self, sought: Sought<'_>, until: u64) -> Result<Option<u64>, NoMemory>
+        ensures same { self.new ≡ self.old }
+        ensures last { IfOk result (IsLast self.old.program (mark_of sought.entry) until) }
+    {
+        let mut end = until;
+        while end > 0 {
+            let mut visit = self.visit_before(end - 1)?;
+            let from = visit.at;
+            let found = find_last(self.alloc, &mut visit, sought, end)?;
+            if found.is_some() {
+                return Ok(found);
+            }
+            end = from;
+        }
+        let start = self.visit_start()?;
+        if marks_start(&start.machine, sought) {
+            Ok(Some(0))
+        } else {
+            Ok(None)
+        }
+    }
+}

@@ -1,0 +1,41 @@
+//! Steps far from the start, which are reached from steps that are kept.
+
+use crate::programs::{COUNTS, replay};
+use mx_replay::{Place, Replay};
+use std::alloc::Global;
+use std::test::Fail;
+
+/// Steps that are gone to, forth and back: step 2^20 = 1,048,576 is kept, and some that are before others gone back to.
+static STEPS: [u64; 7] = [
+    1_100_000, 1_099_999, 1_048_577, 1_048_576, 5, 1_048_600, 1_099_998,
+];
+
+/// Whether half of the step is in `$1` there.
+fn shows(replay: &mut Replay, k: u64) -> bool {
+    replay.go_to(k).is_ok() && replay.at() == k && replay.machine().register(1) == k / 2
+}
+
+/// The first step that shows something else; 0 where the run does not begin, or where another turn than the last one made `$1`.
+fn first_wrong(alloc: Global) -> Option<u64> {
+    let Some(mut replay) = replay(alloc, COUNTS, "") else {
+        return Some(0);
+    };
+    for k in &STEPS {
+        if !shows(&mut replay, *k) {
+            return Some(*k);
+        }
+    }
+    match replay.maker(Place::Register(1)) {
+        Ok(Some(1_099_998)) => None,
+        _ => Some(0),
+    }
+}
+
+#[test]
+fn steps_far_away_are_visited(rt: HostRuntime) -> Result<(), Fail> {
+    let wrong = first_wrong(rt.alloc());
+    if wrong != None {
+        return Err(Fail::new(format_args!("{wrong:?}")));
+    }
+    Ok(())
+}
