@@ -1,6 +1,6 @@
 -- The calls that have not returned, turn after turn.
-use Rattle.std.proofs.Common.{◌≡◌, ◌<◌, ◌≤◌, ◌+◌, ◌-◌, ◌⊎◌, ℕ, zero, suc, Bool, true, false, Some, None, Ok, inl, inr, List, [], arith, refl, sym, subst, ◌∙◌, ap}
-use Rattle.std.specs.Prelude.{Option, nat_lt}
+use Rattle.std.proofs.Common.{◌≡◌, ◌≤◌, ◌+◌, ◌-◌, ◌⊎◌, ℕ, zero, suc, true, false, Some, None, Ok, inl, inr, List, [], arith, refl, sym, ◌∙◌, ap}
+use Rattle.std.specs.Prelude.{nat_lt}
 use Rattle.std.proofs.lemmas.Bool.{ltb-false}
 use Rattle.mx_host.specs.HostModel.{HostModel}
 use Rattle.mx_word.specs.Results.{map_ok}
@@ -13,7 +13,7 @@ use Rattle.mx_run.specs.declared.end.End.{End}
 use Rattle.mx_run.specs.declared.end.End.TheVariants.{Halted, Stopped, Broke, Traced, Spent, OutOfMemory}
 use Rattle.mx_replay.specs.Frames.{frames_at, traced, turned, turned_after, turned_from}
 use Rattle.mx_replay.specs.Marks.{depth}
-use Rattle.mx_replay.specs.Programs.{is_over, step_of}
+use Rattle.mx_replay.specs.Programs.{is_over}
 use Rattle.mx_replay.specs.Searches.{has_more}
 use Rattle.mx_replay.specs.Visits.{IsStart, IsStep, MakesTurn, came_by, came_to, trace_of, turn_from}
 use Rattle.mx_replay.specs.declared.frames.Frame.{Frame}

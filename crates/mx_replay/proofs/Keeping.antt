@@ -1,6 +1,6 @@
 -- Steps that are kept, and the way to a step along them.
-use Rattle.std.proofs.Common.{◌≡◌, ◌<◌, ◌≤◌, ◌+◌, ◌-◌, ◌⊎◌, ℕ, Bool, true, false, inl, inr, List, [], ◌∷◌, ◌++◌, length, arith, refl, sym, subst, ◌∙◌, ap}
-use Rattle.std.specs.Prelude.{nat_lt, if◌then◌else◌, slice_index_or, option_to_list, Option, Some, Result, Ok, Err, IfSome, OnOk, OnErr}
+use Rattle.std.proofs.Common.{◌≡◌, ◌<◌, ◌≤◌, ◌+◌, ◌-◌, ◌⊎◌, ℕ, Bool, true, false, inl, inr, List, [], ◌∷◌, ◌++◌, length, arith, refl, sym, subst, ◌∙◌}
+use Rattle.std.specs.Prelude.{nat_lt, if◌then◌else◌, slice_index_or, option_to_list, Option, None, Some, Result, Ok, Err, IfSome, OnOk, OnErr}
 use Rattle.std.proofs.lemmas.List.{get_or_read}
 use Rattle.std.proofs.lemmas.List.Elements.{All-pop, All-push}
 use Rattle.std.proofs.lemmas.Bool.{cases_lt, ltb-false}
@@ -27,6 +27,9 @@ rest-popped p old new r e all = (All-pop (IsStep p) old new r e all).0
 
 pub step-popped : (p : Program) (old new : List Visit) (r : Option Visit) (v : Visit) → old ≡ new ++ option_to_list r → r ≡ Some v → AreSteps p old → IsStep p v
 step-popped p old new r v e f all = subst (λ x. IfSome x (IsStep p)) f (All-pop (IsStep p) old new r e all).1
+
+pub no-start : {B : Type 0} (r : Option Visit) (x : Visit) → r ≡ None → r ≡ Some x → B
+no-start r x e f = let none = sym e ∙ f in absurd (cc)
 
 pub ruleset keeping = (place-before, step-pushed, rest-popped, step-popped)
 

@@ -15,6 +15,9 @@ use std::mem;
 /// How many turns lie at first between two steps that are kept.
 const STRIDE: u64 = 1 << 20;
 
+/// How many turns before a step another is kept, where one goes far to it.
+const NEAR: u64 = 1 << 16;
+
 /// How many steps are kept at most.
 const MOST_KEPT: usize = 16;
 
@@ -56,11 +59,14 @@ impl Kept {
         }
     }
 
-    /// The next step after one that is to be kept.
-    fn next_due(&self, at: u64) -> u64
-        ensures { at + 1 < 2 ^ 64 → at < result }
+    /// The next step after one that is to be kept, or step k where that comes first.
+    fn next_due(&self, at: u64, k: u64) -> u64
+        requires { at < k }
+        ensures later { at < result }
+        ensures within { result ≤ k }
     {
-        (at - at % self.stride).saturating_add(self.stride)
+        let due = (at - at % self.stride).saturating_add(self.stride);
+        if due < k { due } else { k }
     }
 
     /// The place of the nearest step that is kept, at step k or before it.
@@ -185,12 +191,45 @@ pub(crate) fn go_keeping(
 ) -> Result<(), NoMemory>
     requires { visit.old.at ≤ k }
     ensures step { OnOk result ((p : Program) → IsStep p visit.old → IsStep p visit.new × IsReached p k visit.new.at) }
+    ensures within { OnOk result (visit.new.at ≤ k) }
     ensures kept { (p : Program) → IsStep p visit.old → AreSteps p kept.old → AreSteps p kept.new }
 {
     while has_more(visit, k) {
-        let due = kept.next_due(visit.at).min(k);
+        let due = kept.next_due(visit.at, k);
         go_on(alloc, visit, due)?;
         kept.keep(visit);
     }
     Ok(())
+}
+
+/// Goes on to a step a little before step k, where that is far, and keeps it. Out of memory the visit is at no step of the
+/// run.
+fn come_near(alloc: Global, visit: &mut Visit, kept: &mut Kept, k: u64) -> Result<(), NoMemory>
+    requires { visit.old.at ≤ k }
+    ensures step { OnOk result ((p : Program) → IsStep p visit.old → IsStep p visit.new) }
+    ensures within { OnOk result (visit.new.at ≤ k) }
+    ensures kept { (p : Program) → IsStep p visit.old → AreSteps p kept.old → AreSteps p kept.new }
+{
+    if k - visit.at <= 2 * NEAR {
+        return Ok(());
+    }
+    go_keeping(alloc, visit, kept, k - NEAR)?;
+    kept.keep_near(visit);
+    Ok(())
+}
+
+/// Goes on to step k, or to the last one before it, and keeps a step a little before it, too: those before step k are likely
+/// to be next. Out of memory the visit is at no step of the run.
+pub(crate) fn go_near(
+    alloc: Global,
+    visit: &mut Visit,
+    kept: &mut Kept,
+    k: u64,
+) -> Result<(), NoMemory>
+    requires { visit.old.at ≤ k }
+    ensures step { OnOk result ((p : Program) → IsStep p visit.old → IsStep p visit.new × IsReached p k visit.new.at) }
+    ensures kept { (p : Program) → IsStep p visit.old → AreSteps p kept.old → AreSteps p kept.new }
+{
+    come_near(alloc, visit, kept, k)?;
+    go_keeping(alloc, visit, kept, k)
 }

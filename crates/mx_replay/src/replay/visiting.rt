@@ -2,18 +2,15 @@
 
 ghost use Rattle.std.specs.Prelude.{◌≡◌, ◌≤◌, IfOk};
 ghost use Rattle.std.specs.Option.{ForSome};
-ghost use Rattle.mx_replay.specs.Programs.{IsReached, NamesFile};
+ghost use Rattle.mx_replay.specs.Programs.{IsReached, NamesFile, step_of};
 ghost use Rattle.mx_replay.specs.Visits.{IsStart, IsStep};
 
 use super::Replay;
-use crate::kept::go_keeping;
+use crate::kept::go_near;
 use crate::program::Program;
 use crate::visit::{Visit, start};
 use mx_word::NoMemory;
 use std::alloc::Global;
-
-/// How many turns before a step another is kept, where one goes back far.
-const NEAR: u64 = 1 << 16;
 
 /// A start that is kept, or one more where none is.
 pub(super) fn start_again(
@@ -59,17 +56,15 @@ impl Replay {
     }
 
     /// Step k, or the last one before it. One that is a little before it is kept, too.
+    #[tactic(auto, using(crate::proofs::Steps::reaching))]
     pub(super) fn visit(&mut self, k: u64) -> Result<Visit, NoMemory>
         ensures same { self.new ≡ self.old }
         ensures step { IfOk result (λ v. IsStep self.old.program v) }
         ensures reached { IfOk result (λ v. IsReached self.old.program k v.at) }
+        ensures shows { IfOk result (λ v. step_of self.old.program v.at ≡ step_of self.old.program k) }
     {
         let mut visit = self.visit_before(k)?;
-        if k - visit.at > 2 * NEAR {
-            go_keeping(self.alloc, &mut visit, &mut self.kept, k - NEAR)?;
-            self.kept.keep_near(&visit);
-        }
-        go_keeping(self.alloc, &mut visit, &mut self.kept, k)?;
+        go_near(self.alloc, &mut visit, &mut self.kept, k)?;
         Ok(visit)
     }
 }
