@@ -10,4 +10,4 @@ returns-in-Ok-clause-told g c =
 pub returns-in-Err-Refused-clause-told : goal.returns-in-Err-Refused-clause-told
 returns-in-Err-Refused-clause-told g c =
     refused-told _ _ _ _ c.args.order.now c.args.arguments.now (in_form c.args.form c.args.source.now) c.args.source.now _ refl ((rw c.in-Err-Refused.field-0-is at c.in-Err-Refused.ensures) (λ e. absurd (cc)))
-    (c.uncounted.ensures ∙ ap uncounted c.outcome.ensures)
+    (c.uncounted.ensures ∙ ap uncounted (rw c.in-Err-Refused.field-0-is at c.outcome.ensures))

@@ -9,6 +9,6 @@ returns-in-Ok-clause-told g c = λ w alone none tells.
     let heard = report-alone w _ _ _ _ _ _ c.in-Ok.text alone none (c.watched_run-end.ensures.heard tells enough) c.in-Ok.ensures in (
       ended,
       ended-told w _ _ _ _ _ _ _ c.in-Ok.text heard c.pc-at.ensures.value ended,
-      λ untouched. list-told w _ _ _ _ _ _ _ _ _ c.in-Ok.text alone none (c.watched_run-end.ensures.list_heard tells enough untouched) c.in-Ok.ensures
+      λ untouched. list-told w _ _ _ _ _ _ _ _ _ _ c.in-Ok.text alone none (c.watched_run-end.ensures.list_heard tells enough untouched) c.in-Ok.ensures
           (c.watched_run-end.ensures.run.listed tells enough untouched) c.pc-at.ensures.value,
     )
