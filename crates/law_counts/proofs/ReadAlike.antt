@@ -10,7 +10,7 @@ use Rattle.mx_host.specs.declared.slots.Mode.TheVariants.{BinaryRead}
 use Rattle.mx_outcome.specs.declared.outcome.Outcome.{Outcome}
 use Rattle.mx_files.specs.Source.{closed_after, closed_with, file_bytes, input_slot, next_piece, object_pieces, one_piece, piece_read, pieces, read_after, source_pieces}
 
-Reading : Type 0
+abbrev Reading : Type 0
 Reading = Then (Result (List ℕ) Outcome)
 
 -- a pair with a fault is no pair with bytes
