@@ -84,7 +84,7 @@ pub read-shown : (a b d : Option HostModel) (r : Outcome) (is_json : Bool) (o : 
 read-shown a b d r is_json o name given bytes slice same read whole shown =
     let there : IsTrue (tells a) → IsTrue (tells b) = λ t. subst IsTrue (sym same) t in
     let reads : (kind : MachineKind) → IsTrue (tells a) → shown_bytes is_json kind o given slice (contents b) ≡ shown_count is_json kind o name given (contents a) =
-      λ kind t. ap (λ x. shown_bytes is_json kind o given x (contents b)) whole ∙ ap (shown_after is_json kind o given) (read t (λ e. absurd (cc))) in
+    λ kind t. ap (λ x. shown_bytes is_json kind o given x (contents b)) whole ∙ ap (shown_after is_json kind o given) (read t (λ e. absurd (cc))) in
     (λ t ne. shown.0 (there t) ne ∙ reads window_machine t, λ t ne. subst (λ y. GoesAs y r (contents d)) (reads list_machine t) (shown.1 (there t) ne))
 
 pub unread-shown : (a b d : Option HostModel) (r : Outcome) (is_json : Bool) (o : Order) (name : List ℕ) (given : List (List ℕ)) (why : Outcome) → tells b ≡ tells a →

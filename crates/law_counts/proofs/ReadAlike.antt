@@ -66,5 +66,3 @@ read-more (Ok u, m) source n short is =
 
 pub short-alike : (name source : List ℕ) (m n : HostModel) → length source ≤ 2 ^ 22 → file_bytes source_pieces name m ≡ (Ok source, n) → file_bytes object_pieces name m ≡ (Ok source, n)
 short-alike name source m n short is = read-more (open_answer m input_slot name BinaryRead) source n short is
-
-pub ruleset alike = (short-alike)
