@@ -20,10 +20,10 @@ use Rattle.mx_outcome.specs.declared.outcome.Outcome.{Outcome}
 use Rattle.mx_outcome.specs.declared.outcome.Outcome.TheVariants.{HostFault, NoFile, OutOfMemory}
 use Rattle.mx_words.specs.Orders.{order_of}
 use Rattle.mx_words.specs.declared.order.Order.{Order}
-use Rattle.face_count.specs.CountPages.{AnswersByKind, page_after, shown_after, shown_bytes, shown_count, unread_page}
+use Rattle.face_count.specs.CountPages.{AnswersByKind, CountsOrder, page_after, shown_after, shown_bytes, shown_count, unread_page}
 
 -- to tell that there was no memory is that there was none
-is_lacking : Outcome → Bool
+abbrev is_lacking : Outcome → Bool
 is_lacking OutOfMemory = true
 is_lacking o = false
 
@@ -84,7 +84,7 @@ pub read-shown : (a b d : Option HostModel) (r : Outcome) (is_json : Bool) (o : 
 read-shown a b d r is_json o name given bytes slice same read whole shown =
     let there : IsTrue (tells a) → IsTrue (tells b) = λ t. subst IsTrue (sym same) t in
     let reads : (kind : MachineKind) → IsTrue (tells a) → shown_bytes is_json kind o given slice (contents b) ≡ shown_count is_json kind o name given (contents a) =
-      λ kind t. ap (λ x. shown_bytes is_json kind o given x (contents b)) whole ∙ ap (shown_after is_json kind o given) (read t (λ e. absurd (cc))) in
+    λ kind t. ap (λ x. shown_bytes is_json kind o given x (contents b)) whole ∙ ap (shown_after is_json kind o given) (read t (λ e. absurd (cc))) in
     (λ t ne. shown.0 (there t) ne ∙ reads window_machine t, λ t ne. subst (λ y. GoesAs y r (contents d)) (reads list_machine t) (shown.1 (there t) ne))
 
 pub unread-shown : (a b d : Option HostModel) (r : Outcome) (is_json : Bool) (o : Order) (name : List ℕ) (given : List (List ℕ)) (why : Outcome) → tells b ≡ tells a →
@@ -110,6 +110,9 @@ pub ordered-shown : (a d : Option HostModel) (r : Outcome) (is_json : Bool) (wor
 ordered-shown a d r is_json words order o e f told =
     let same : order ≡ o = cc (e, f) in
     subst (λ (p : Order). AnswersByKind a d r (λ kind m. shown_count is_json kind p (word_at words p.file) (arguments words p) m)) same told
+
+pub words-shown : (a d : Option HostModel) (r : Outcome) (is_json : Bool) (few many : List Word) → few ≡ many → CountsOrder a d r is_json few → CountsOrder a d r is_json many
+words-shown a d r is_json few many e told = subst (λ (w : List Word). CountsOrder a d r is_json w) e told
 
 pub usage-shown : (a d : Option HostModel) (r said : Outcome) (f : MachineKind → HostModel → Answer) → is_usage said ≡ true → (r ≢ OutOfMemory → r ≡ said) → is_usage r ≡ false →
     AnswersByKind a d r f

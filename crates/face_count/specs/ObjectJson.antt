@@ -81,8 +81,11 @@ line_front (Some sheet) = codes "\n"
 unfoldable pub elsewhere_name : List ℕ
 elsewhere_name = codes "{\"elsewhere\":"
 
+unfoldable pub object_head : CountedObject → List ℕ
+object_head c = line_front c.sheet ++ elsewhere_name ++ elsewhere_json c.sheet
+
 unfoldable pub object_front : CountedObject → List ℕ
-object_front c = line_front c.sheet ++ elsewhere_name ++ elsewhere_json c.sheet ++ codes ",\"outcome\":" ++ outcome_json c.outcome
+object_front c = object_head c ++ codes ",\"outcome\":" ++ outcome_json c.outcome
 
 unfoldable pub object_end : CountedObject → List ℕ
 object_end c = codes ",\"tetras\":" ++ tetras_json c.sheet ++ codes ",\"total\":" ++ total_json c.sheet ++ codes "}\n"

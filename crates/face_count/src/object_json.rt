@@ -247,7 +247,17 @@ fn elsewhere_name() -> &'static [u8]
     b"{\"elsewhere\":"
 }
 
-/// Begins what came of a run that was counted: the steps elsewhere, and its outcome.
+/// Begins what came of a run that was counted: the steps elsewhere.
+#[tactic(auto, unfolding(crate::specs::ObjectJson::object_head))]
+fn add_object_head(text: &mut Bytes, counted: &CountedObject) -> Result<(), NoMemory>
+    ensures { OnOk result (text.new ≡ text.old ++ spec.object_head counted.now) }
+{
+    add_front(text, &counted.sheet)?;
+    text.extend(elsewhere_name())?;
+    add_elsewhere(text, &counted.sheet)
+}
+
+/// Goes on with its outcome.
 #[tactic(auto, unfolding(crate::specs::ObjectJson::object_front))]
 fn add_object_front(
     alloc: Global,
@@ -256,9 +266,7 @@ fn add_object_front(
 ) -> Result<(), NoMemory>
     ensures { OnOk result (text.new ≡ text.old ++ spec.object_front counted.now) }
 {
-    add_front(text, &counted.sheet)?;
-    text.extend(elsewhere_name())?;
-    add_elsewhere(text, &counted.sheet)?;
+    add_object_head(text, counted)?;
     text.extend(b",\"outcome\":")?;
     add_outcome(alloc, text, counted.outcome)
 }

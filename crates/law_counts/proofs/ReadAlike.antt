@@ -10,7 +10,7 @@ use Rattle.mx_host.specs.declared.slots.Mode.TheVariants.{BinaryRead}
 use Rattle.mx_outcome.specs.declared.outcome.Outcome.{Outcome}
 use Rattle.mx_files.specs.Source.{closed_after, closed_with, file_bytes, input_slot, next_piece, object_pieces, one_piece, piece_read, pieces, read_after, source_pieces}
 
-Reading : Type 0
+abbrev Reading : Type 0
 Reading = Then (Result (List ℕ) Outcome)
 
 -- a pair with a fault is no pair with bytes
@@ -66,5 +66,3 @@ read-more (Ok u, m) source n short is =
 
 pub short-alike : (name source : List ℕ) (m n : HostModel) → length source ≤ 2 ^ 22 → file_bytes source_pieces name m ≡ (Ok source, n) → file_bytes object_pieces name m ≡ (Ok source, n)
 short-alike name source m n short is = read-more (open_answer m input_slot name BinaryRead) source n short is
-
-pub ruleset alike = (short-alike)

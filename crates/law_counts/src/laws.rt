@@ -51,7 +51,6 @@ pub fn counts_go_by_the_traces_of_their_runs()
 
 /// A source of at most 2^22 bytes, which is the most that is not refused, is read alike by `mmixview count`, which takes up
 /// to as many bytes as an object may have, and by `mmixware run`.
-#[tactic(auto, using(crate::proofs::ReadAlike::alike))]
 pub fn sources_are_read_alike()
     ensures { (name source : List ℕ) (m n : HostModel) → length source ≤ 2 ^ 22 →
         file_bytes source_pieces name m ≡ (Ok source, n) → file_bytes object_pieces name m ≡ (Ok source, n) }

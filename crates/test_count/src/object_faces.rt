@@ -137,7 +137,10 @@ fn wrong(alloc: Global, row: &'static Row) -> Option<&'static str> {
 
 #[test]
 fn tables_of_objects(rt: HostRuntime) {
-    assert_eq!(rt; (wrong(rt.alloc(), &PRINTED), wrong(rt.alloc(), &SPENT)), (None, None));
+    assert_eq!(rt;
+        (wrong(rt.alloc(), &PRINTED), wrong(rt.alloc(), &SPENT)),
+        (None, None)
+    );
 }
 
 #[test]
@@ -148,7 +151,10 @@ fn objects_as_json(rt: HostRuntime) {
 #[test]
 fn refused_objects(rt: HostRuntime) {
     assert_eq!(rt;
-        (wrong(rt.alloc(), &REFUSED), wrong(rt.alloc(), &REFUSED_JSON)),
+        (
+            wrong(rt.alloc(), &REFUSED),
+            wrong(rt.alloc(), &REFUSED_JSON)
+        ),
         (None, None)
     );
 }

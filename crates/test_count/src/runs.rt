@@ -31,13 +31,7 @@ fn counted(alloc: Global, host: &mut MemHost, source: &str, words: &[&str]) -> O
     }
     let order = read(all.as_slice()).ok()?;
     let given = arguments(alloc, all.as_slice(), &order).ok()?;
-    Some(count_source(
-        alloc,
-        host,
-        &order,
-        source.as_bytes(),
-        given.as_slice(),
-    ))
+    Some(count_source(alloc, host, &order, source.as_bytes(), given.as_slice()))
 }
 
 /// The outcome, whether the output is this, and whether the sheet ends so; nothing is due where there is none.
@@ -95,13 +89,7 @@ fn counted_lines(alloc: Global, host: &mut MemHost) -> Option<CountedLines> {
     all.push(String::from_str(alloc, "a.mms").ok()?).ok()?;
     let order = read(all.as_slice()).ok()?;
     let given = arguments(alloc, all.as_slice(), &order).ok()?;
-    Some(count_lines(
-        alloc,
-        host,
-        &order,
-        PRINTS.as_bytes(),
-        given.as_slice(),
-    ))
+    Some(count_lines(alloc, host, &order, PRINTS.as_bytes(), given.as_slice()))
 }
 
 /// The tallies of line 1, of line 5, of line 8 and of all steps.

@@ -13,9 +13,9 @@ returns-then-is_json-clause-told g c =
 pub returns-clause-told : goal.returns-clause-told
 unfolding shown_object
 returns-clause-told g c =
-    let kept = count-keeps _ _ _ _ c.count_object-counted.result.outcome _ c.count_object-counted.ensures.well c.count_object-counted.ensures.present (c.put_made.ensures.onward c.count_object-counted.result.outcome c.table_page.ensures.outcome) in
+    let kept = count-keeps _ _ _ _ c.count_object-counted.result.outcome _ c.count_object-counted.ensures.well c.count_object-counted.ensures.present (c.put_made-2.ensures.onward c.count_object-counted.result.outcome c.table_page.ensures.outcome) in
     rw c.if-is_json.false (count-shown _ _ _ (λ kind m. object_counted kind c.args.order.now c.args.given.now c.args.bytes.now m)
-    table_page _ _ _ _ c.count_object-counted.ensures.keeps.telling c.count_object-counted.ensures.told c.table_page.ensures.page c.table_page.ensures.enough c.put_made.ensures.told c.put_made.ensures.lacking kept.growing)
+    table_page _ _ _ _ c.count_object-counted.ensures.keeps.telling c.count_object-counted.ensures.told c.table_page.ensures.page c.table_page.ensures.enough c.put_made-2.ensures.told c.put_made-2.ensures.lacking kept.growing)
 
 pub returns-then-is_json-clause-causes : goal.returns-then-is_json-clause-causes
 returns-then-is_json-clause-causes g c =
@@ -24,5 +24,5 @@ returns-then-is_json-clause-causes g c =
 
 pub returns-clause-causes : goal.returns-clause-causes
 returns-clause-causes g c =
-    c.put_made.ensures.onward c.count_object-counted.result.outcome c.table_page.ensures.outcome _ _
+    c.put_made-2.ensures.onward c.count_object-counted.result.outcome c.table_page.ensures.outcome _ _
     (count-faults _ _ _ _ _ c.count_object-counted.ensures.well c.count_object-counted.ensures.present c.count_object-counted.ensures.keeps)

@@ -14,9 +14,9 @@ returns-then-is_json-clause-told g c =
 pub returns-clause-told : goal.returns-clause-told
 unfolding shown_source
 returns-clause-told g c =
-    let kept = count-keeps _ _ _ _ c.count_source-counted.result.outcome _ c.count_source-counted.ensures.well c.count_source-counted.ensures.present (c.put_made.ensures.onward c.count_source-counted.result.outcome c.sheet_page.ensures.outcome) in
+    let kept = count-keeps _ _ _ _ c.count_source-counted.result.outcome _ c.count_source-counted.ensures.well c.count_source-counted.ensures.present (c.put_made-2.ensures.onward c.count_source-counted.result.outcome c.sheet_page.ensures.outcome) in
     rw c.if-is_json.false (count-shown _ _ _ (λ kind m. source_counted kind c.args.order.now c.args.given.now (in_form Text c.args.source.now) c.args.source.now m)
-    sheet_page _ _ _ _ c.count_source-counted.ensures.keeps.telling c.count_source-counted.ensures.told c.sheet_page.ensures.page c.sheet_page.ensures.enough c.put_made.ensures.told c.put_made.ensures.lacking kept.growing)
+    sheet_page _ _ _ _ c.count_source-counted.ensures.keeps.telling c.count_source-counted.ensures.told c.sheet_page.ensures.page c.sheet_page.ensures.enough c.put_made-2.ensures.told c.put_made-2.ensures.lacking kept.growing)
 
 pub returns-then-is_json-clause-causes : goal.returns-then-is_json-clause-causes
 returns-then-is_json-clause-causes g c =
@@ -25,5 +25,5 @@ returns-then-is_json-clause-causes g c =
 
 pub returns-clause-causes : goal.returns-clause-causes
 returns-clause-causes g c =
-    c.put_made.ensures.onward c.count_source-counted.result.outcome c.sheet_page.ensures.outcome _ _
+    c.put_made-2.ensures.onward c.count_source-counted.result.outcome c.sheet_page.ensures.outcome _ _
     (count-faults _ _ _ _ _ c.count_source-counted.ensures.well c.count_source-counted.ensures.present c.count_source-counted.ensures.keeps)
