@@ -37,13 +37,14 @@ counted-end : (count : ℕ) (names : List ℕ) (who : ℕ) → counted_from coun
 counted-end count [] who = refl
 counted-end count (x ∷ xs) who = counted-end (with_named count x) xs who
 
-greatest-step : (most who : ℕ) → with_named (most + 1) who ≡ max most who + 1
-greatest-step most who = grind (arith, nat_tests)
+greatest-step : (most who : ℕ) (b : Bool) → nat_le (most + 1) who ≡ b → cond b (who + 1) (most + 1) ≡ max most who + 1
+greatest-step most who true e = let l : most < who = grind (arith, nat_tests) in omega (arith, l)
+greatest-step most who false e = let l : who < most + 1 = grind (arith, nat_tests) in omega (arith, l)
 
 pub greatest-more : (schedule : List ℕ) (at d most : ℕ) → at < length schedule → counted_from 1 (take at schedule) ≡ most + 1 →
     counted_from 1 (take (at + 1) schedule) ≡ max most (get_or schedule at d) + 1
 greatest-more schedule at d most inside e =
     ap (counted_from 1) (take_more schedule at d inside) ∙ counted-end 1 (take at schedule) (get_or schedule at d) ∙ ap (λ n. with_named n (get_or schedule at d)) e
-    ∙ greatest-step most (get_or schedule at d)
+    ∙ greatest-step most (get_or schedule at d) (nat_le (most + 1) (get_or schedule at d)) refl
 
 pub ruleset counting = (counted-most, greatest-more)
