@@ -19,14 +19,15 @@ greatest-more bytes at d most inside all i l =
     (λ ne. (let low = all i (omega (arith, l, ne)) in omega (arith, low, up)))
     (cases_eq i at)
 
+named-by : (bytes : List ℕ) (most : ℕ) → ((place : ℕ) → place < length bytes → get_or bytes place 0 ≤ most) → most ≤ 7 →
+    (found : Option ℕ) → position is_unnamed bytes ≡ found → None ≡ found
+named-by bytes most all l None e = refl
+named-by bytes most all l (Some place) e =
+    let at = position-Some is_unnamed bytes place 0 e in
+    let low = all place at.0 in
+    let up = eight-up (get_or bytes place 0) at.1 in absurd (omega (arith, l, low, up))
+
 pub all-named : (bytes : List ℕ) (most : ℕ) → ((place : ℕ) → place < length bytes → get_or bytes place 0 ≤ most) → most ≤ 7 → None ≡ position is_unnamed bytes
-all-named bytes most all l = by (position is_unnamed bytes) refl
-  where
-    by : (found : Option ℕ) → position is_unnamed bytes ≡ found → None ≡ found
-    by None e = refl
-    by (Some place) e =
-        let at = position-Some is_unnamed bytes place 0 e in
-        let low = all place at.0 in
-        let up = eight-up (get_or bytes place 0) at.1 in absurd (omega (arith, l, low, up))
+all-named bytes most all l = named-by bytes most all l (position is_unnamed bytes) refl
 
 pub ruleset greatest = (greatest-more, all-named)
