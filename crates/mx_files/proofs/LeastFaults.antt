@@ -19,7 +19,7 @@ use Rattle.mx_files.proofs.ReadSchedules.{none-named}
 
 -- ---- bytes that name none of eight
 
-eight-up : (b : ℕ) → is_unnamed b ≡ true → 8 ≤ b
+pub eight-up : (b : ℕ) → is_unnamed b ≡ true → 8 ≤ b
 eight-up b h = grind (arith, nat_tests)
 
 below-eight : (b : ℕ) → is_unnamed b ≡ false → 8 ≤ b → ⊥

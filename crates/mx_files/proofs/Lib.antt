@@ -19,4 +19,5 @@ pub mod ReadSchedules
 pub mod Serving
 pub mod TypedLines
 pub mod LeastFaults
+pub mod GreatestBytes
 pub mod TakenFiles

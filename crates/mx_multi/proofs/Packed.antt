@@ -1,7 +1,8 @@
 -- The names of processors that have not halted, packed where they stand.
-use Rattle.std.proofs.Common.{◌≡◌, ◌<◌, ◌≤◌, ℕ, zero, suc, ◌+◌, not, Bool, true, false, List, [], ◌∷◌, ◌++◌, drop, take, length, get_or, set, arith, refl, sym, subst, ap, ◌∙◌}
+use Rattle.std.proofs.Common.{◌≡◌, ◌<◌, ◌≤◌, ⊎_elim, ℕ, zero, suc, ◌+◌, not, Bool, true, false, List, [], ◌∷◌, ◌++◌, drop, take, length, get_or, set, arith, refl, sym, subst, ap, ◌∙◌}
 use Rattle.std.specs.Int.{from_bool}
-use Rattle.std.proofs.lemmas.List.{append-nil, append_assoc, at_drop_more, drop-append-le, drop-set-lt, drop_all, length-set, length-take-le, take-append-drop, take-set-le, take_all, take_more, take_more_set}
+use Rattle.std.proofs.lemmas.Bool.{cases_eq}
+use Rattle.std.proofs.lemmas.List.{append-nil, append_assoc, at_drop_more, drop-append-le, drop-set-lt, drop_all, get_or_default, length-set, length-take-le, take-append-drop, take-set-le, take_all, take_more, take_more_set}
 use Rattle.std.proofs.lemmas.List.Elements.{filter-append}
 use Rattle.std.proofs.Math.Seq.{drop-append_seam, take-append_seam}
 use Rattle.mx_multi.specs.Joint.{has_halted}
@@ -121,3 +122,18 @@ module _ (halted : List Bool) (old mid new : List ℕ) (at n place packed : ℕ)
   place-packed =
       ap (drop place) back-is ∙ ap (λ n. drop n (take place mid ++ running halted (drop at old))) (sym (length-take-le place mid inside))
       ∙ drop-append_seam (take place mid) (running halted (drop at old))
+
+-- ---- where none has halted
+
+pub all-run : (halted : List Bool) → ((i : ℕ) → i < length halted → get_or halted i true ≡ false) → (names : List ℕ) → AreNames (length halted) names →
+    running halted names ≡ names
+all-run halted none [] named = refl
+all-run halted none (x ∷ xs) named = rw (none x named.0) (ap (λ ys. x ∷ ys) (all-run halted none xs named.1))
+
+-- one more of them
+pub none-more : (halted : List Bool) (at : ℕ) (d : Bool) → at < length halted → get_or halted at d ≡ false → ((i : ℕ) → i < at → get_or halted i true ≡ false) →
+    (i : ℕ) → i < at + 1 → get_or halted i true ≡ false
+none-more halted at d inside here none i l =
+    ⊎_elim (λ e. subst (λ k. get_or halted k true ≡ false) (sym e) (get_or_default halted at true d inside ∙ here)) (λ ne. none i (omega (arith, l, ne))) (cases_eq i at)
+
+pub ruleset flags = (all-run, none-more)

@@ -82,6 +82,14 @@ impl Multi {
         self.halted[usize::from(who)]
     }
 
+    /// Which processors have halted, by their numbers. It takes no memory.
+    pub(crate) fn flags(&self) -> &[bool]
+        ensures flags { result.now ≡ self.now.halted }
+        ensures count { length result.now ≡ processor_count self.now }
+    {
+        self.halted.as_slice()
+    }
+
     /// The octa of the one memory that holds an address below the stack area; 0 where nothing stands.
     pub fn octa(&self, a: u64) -> u64
         requires { a < 0x6000_0000_0000_0000 }

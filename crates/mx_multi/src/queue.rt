@@ -1,7 +1,7 @@
 //! The turns of a schedule that are steps: those of processors that have not halted.
 
-ghost use Rattle.std.specs.Prelude.{◌≡◌, ◌≤◌, ◌<◌, ◌++◌, IfErr, IfOk, IfSome, None, [], drop, false, length, take, true};
-ghost use Rattle.mx_multi.specs.Joint.{processor_count};
+ghost use Rattle.std.specs.Prelude.{◌≡◌, ◌≤◌, ◌<◌, ◌++◌, ℕ, List, IfErr, IfOk, IfSome, None, [], drop, false, length, take, true};
+ghost use Rattle.mx_multi.specs.Joint.{has_halted, processor_count};
 ghost use Rattle.mx_multi.specs.Stretches.{IsPlaceFrom, running};
 ghost use Rattle.mx_multi.specs.Turns.{AllHaveHalted, AreNames};
 
@@ -45,8 +45,23 @@ pub(crate) fn queue_of(alloc: Global, multi: &Multi, schedule: &[u8]) -> Result<
     }
     let names = Vec::from_slice(alloc, schedule)?;
     let mut queue = Queue { names, at: 0 };
-    leave_out_halted(multi, &mut queue);
+    if any_halted(multi.flags()) {
+        leave_out_halted(multi, &mut queue);
+    }
     Ok(queue)
+}
+
+/// Whether one of all processors has halted. Where none has, each name is that of one which has not.
+#[tactic(auto, using(crate::proofs::Packed::flags))]
+fn any_halted(halted: &[bool]) -> bool
+    ensures { result ≡ false → (names : List ℕ) → AreNames (length halted.now) names → running halted.now names ≡ names }
+{
+    for flag in halted {
+        if *flag {
+            return true;
+        }
+    }
+    false
 }
 
 /// Whether a name is that of a processor which has not halted.
@@ -70,22 +85,24 @@ pub(crate) fn leave_out_halted(multi: &Multi, queue: &mut Queue)
     ensures names { queue.new.names.items ≡ running multi.now.halted queue.old.names.items }
     ensures place { drop queue.new.at queue.new.names.items ≡ running multi.now.halted (drop queue.old.at queue.old.names.items) }
 {
+    let halted = multi.flags();
     let length = queue.names.len();
     let names = queue.names.as_mut_slice();
-    let place = pack(multi, names, 0, queue.at, 0);
-    let packed = pack(multi, names, queue.at, length, place);
+    let place = pack(halted, names, 0, queue.at, 0);
+    let packed = pack(halted, names, queue.at, length, place);
     queue.names.truncate(packed);
     queue.at = place;
 }
 
 /// Moves the names of a part that are those of processors which have not halted down to a place: where the next one goes.
-/// No step of it depends on a test, so names in any order take the same time.
-fn pack(multi: &Multi, names: &mut [u8], from: usize, to: usize, place: usize) -> usize
-    requires names { AreNames (processor_count multi.now) (drop from names.now) }
+/// No step of it depends on a test, so names in any order take the same time; and the flags are handed over as a slice,
+/// whose place need not be read again after a name was written.
+fn pack(halted: &[bool], names: &mut [u8], from: usize, to: usize, place: usize) -> usize
+    requires names { AreNames (length halted.now) (drop from names.now) }
     requires order { place ≤ from }
     requires part { from ≤ to }
     requires inside { to ≤ length names.now }
-    ensures packed { take result names.new ≡ take place names.old ++ running multi.now.halted (drop from (take to names.old)) }
+    ensures packed { take result names.new ≡ take place names.old ++ running halted.now (drop from (take to names.old)) }
     ensures rest { drop to names.new ≡ drop to names.old }
     ensures few { result ≤ to }
     ensures count { length names.new ≡ length names.old }
@@ -94,7 +111,15 @@ fn pack(multi: &Multi, names: &mut [u8], from: usize, to: usize, place: usize) -
     for at in from..to {
         let who = names[at];
         names[place] = who;
-        place += usize::from(!multi.halted(who));
+        place += usize::from(!is_halted(halted, who));
     }
     place
+}
+
+/// Whether a processor has halted, by the flags of all.
+fn is_halted(halted: &[bool], who: u8) -> bool
+    requires { who < length halted.now }
+    ensures { result ≡ has_halted halted.now who }
+{
+    halted[usize::from(who)]
 }

@@ -1,6 +1,7 @@
 -- How many processors a schedule needs.
-use Rattle.std.proofs.Common.{◌≡◌, ◌≤◌, ◌<◌, ℕ, ◌+◌, Bool, true, false, cond, nat_le, List, [], ◌∷◌, length, arith, refl}
+use Rattle.std.proofs.Common.{◌≡◌, ◌≤◌, ◌<◌, ℕ, ◌+◌, Bool, true, false, cond, nat_le, List, [], ◌∷◌, ◌++◌, ap, get_or, length, max, take, arith, refl, ◌∙◌}
 use Rattle.std.proofs.lemmas.Bool.Decides.{nat_tests}
+use Rattle.std.proofs.lemmas.List.{take_more}
 use Rattle.mx_multi.specs.Turns.{AreNames}
 use Rattle.mx_files.specs.Schedules.{AreEight}
 use Rattle.mx_top.specs.Processors.{with_named, counted_from}
@@ -30,6 +31,20 @@ counted-names count (who ∷ rest) =
     let step = named-step count who (nat_le count who) refl in
     (omega (arith, more, step.1), counted-names (with_named count who) rest)
 
-pub counted-none : (count : ℕ) (rest : List ℕ) → length rest < 1 → counted_from count rest ≡ count
-counted-none count [] l = refl
-counted-none count (who ∷ rest) l = absurd (omega (arith, l))
+-- ---- by the greatest name
+
+counted-end : (count : ℕ) (names : List ℕ) (who : ℕ) → counted_from count (names ++ who ∷ []) ≡ with_named (counted_from count names) who
+counted-end count [] who = refl
+counted-end count (x ∷ xs) who = counted-end (with_named count x) xs who
+
+greatest-step : (most who : ℕ) (b : Bool) → nat_le (most + 1) who ≡ b → cond b (who + 1) (most + 1) ≡ max most who + 1
+greatest-step most who true e = let l : most < who = grind (arith, nat_tests) in omega (arith, l)
+greatest-step most who false e = let l : who < most + 1 = grind (arith, nat_tests) in omega (arith, l)
+
+pub greatest-more : (schedule : List ℕ) (at d most : ℕ) → at < length schedule → counted_from 1 (take at schedule) ≡ most + 1 →
+    counted_from 1 (take (at + 1) schedule) ≡ max most (get_or schedule at d) + 1
+greatest-more schedule at d most inside e =
+    ap (counted_from 1) (take_more schedule at d inside) ∙ counted-end 1 (take at schedule) (get_or schedule at d) ∙ ap (λ n. with_named n (get_or schedule at d)) e
+    ∙ greatest-step most (get_or schedule at d) (nat_le (most + 1) (get_or schedule at d)) refl
+
+pub ruleset counting = (counted-most, greatest-more)

@@ -1,6 +1,6 @@
 //! An object that several processors run by a schedule.
 
-ghost use Rattle.std.specs.Prelude.{◌≡◌, ◌≤◌, ◌<◌};
+ghost use Rattle.std.specs.Prelude.{◌≡◌, ◌≤◌, ◌<◌, ◌+◌};
 ghost use Rattle.mx_load.specs.Kept.{image_of};
 ghost use Rattle.mx_multi.specs.Joint.{NoneTouched, joint_of, processor_count};
 ghost use Rattle.mx_multi.specs.Turns.{AreNames};
@@ -20,14 +20,16 @@ use mx_outcome::Outcome;
 use mx_words::Order;
 use std::alloc::Global;
 
-/// So many processors, or more where one is named that is none of them.
-fn with_named(count: u8, who: u8) -> u8
-    requires { who < 8 }
-    ensures value { result ≡ spec.with_named count who }
-    ensures least { count ≤ result }
-    ensures most { count ≤ 8 → result ≤ 8 }
+/// The greatest byte of a schedule, and 0 where it has none.
+#[tactic(auto, using(crate::proofs::CountedProcessors::counting))]
+fn greatest(schedule: &[u8]) -> u8
+    ensures { spec.counted_from 1 schedule.now ≡ result + 1 }
 {
-    if count <= who { who + 1 } else { count }
+    let mut most = 0u8;
+    for who in schedule {
+        most = most.max(*who);
+    }
+    most
 }
 
 /// As many processors as the greatest byte of a schedule and one.
@@ -38,13 +40,7 @@ fn processors_named(schedule: &[u8]) -> u8
     ensures most { result ≤ 8 }
     ensures names { AreNames result schedule.now }
 {
-    let mut count = 1u8;
-    let mut rest = schedule;
-    while let [who, others @ ..] = rest {
-        count = with_named(count, *who);
-        rest = others;
-    }
-    count
+    greatest(schedule) + 1
 }
 
 /// The outcome of at most so many steps, by their end.

@@ -1,11 +1,17 @@
-use Rattle.std.proofs.Common.{sym, subst, ◌∙◌}
+use Rattle.std.proofs.Common.{arith, subst}
 use Rattle.mx_multi.specs.Turns.{AreNames}
-use Rattle.mx_top.proofs.CountedProcessors.{counted-none, counted-names}
+use Rattle.mx_top.proofs.CountedProcessors.{counted-most, counted-names}
 use Rattle.mx_top.proofs.schedules.processors_named.Goals as goal
 
-pub returns-clause-value : goal.returns-clause-value
-returns-clause-value c = sym (c.loop-rest.invariant.left ∙ counted-none c.loop-rest.count c.loop-rest.rest.now c.in_default.len_below)
+pub overflow_add-result : goal.overflow_add-result
+overflow_add-result c =
+    let most = counted-most 1 c.args.schedule.now (omega arith) c.requires in
+    let same = c.greatest.ensures in omega (arith, most, same)
+
+pub returns-clause-most : goal.returns-clause-most
+returns-clause-most c =
+    let most = counted-most 1 c.args.schedule.now (omega arith) c.requires in
+    let same = c.greatest.ensures in omega (arith, most, same)
 
 pub returns-clause-names : goal.returns-clause-names
-returns-clause-names c =
-    subst (λ n. AreNames n c.args.schedule.now) (c.loop-rest.invariant.left ∙ counted-none c.loop-rest.count c.loop-rest.rest.now c.in_default.len_below) (counted-names 1 c.args.schedule.now)
+returns-clause-names c = subst (λ n. AreNames n c.args.schedule.now) c.greatest.ensures (counted-names 1 c.args.schedule.now)
