@@ -1,5 +1,0 @@
-//! Rows of what words mean. There is nothing but tests here.
-#![tactic(auto)]
-
-#[cfg(test)]
-mod explanations;
