@@ -1,6 +1,6 @@
 //! An object that several processors run by a schedule.
 
-ghost use Rattle.std.specs.Prelude.{◌≡◌, ◌≤◌, ◌<◌, ◌+◌};
+ghost use Rattle.std.specs.Prelude.{◌≡◌, ◌≤◌, ◌+◌};
 ghost use Rattle.mx_load.specs.Kept.{image_of};
 ghost use Rattle.mx_multi.specs.Joint.{NoneTouched, joint_of, processor_count};
 ghost use Rattle.mx_multi.specs.Turns.{AreNames};
