@@ -226,6 +226,9 @@ pub none-come : (n : ℕ) (before : List Refused) (front rest : List ℕ) → le
 none-come n before front [] e = ap (λ ls. found n before (front ++ text_of ls)) no-lines ∙ ap (found n before) (append-nil front)
 none-come n before front (b ∷ bs) e = absurd (omega (arith, e))
 
+pub none-found : (n : ℕ) (before lines : List Refused) (source : List ℕ) → n ≤ 0 → lines ≡ before → found n before source ≡ record { lines = lines; whole = None; is_cut = true }
+none-found n before lines source e is = subst (λ l. found n before source ≡ record { lines = l; whole = None; is_cut = true }) (sym is) (found-none n before source e)
+
 pub all-come : (n : ℕ) (before : List Refused) (front source : List ℕ) → front ≡ [] → found n before (front ++ text_of (lines_of source)) ≡ found n before source
 all-come n before front source e =
     ap (λ (t : List ℕ). found n before (t ++ text_of (lines_of source))) e ∙ same-found n before (text_of (lines_of source)) source (text-back (lines_of source) (plain-lines source))

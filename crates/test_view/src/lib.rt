@@ -6,4 +6,6 @@ mod data;
 #[cfg(test)]
 mod faces;
 #[cfg(test)]
+mod search;
+#[cfg(test)]
 mod views;
