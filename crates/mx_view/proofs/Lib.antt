@@ -2,6 +2,7 @@ pub mod CellTurns
 pub mod LineTurns
 pub mod Shown
 pub mod SearchTurns
+pub mod MendedLines
 pub mod EveryCell
 pub mod LoadedTetras
 pub mod CoveredBytes

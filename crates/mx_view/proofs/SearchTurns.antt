@@ -10,7 +10,7 @@ use Rattle.mx_view.specs.Search.{assembly_refusal, ended_as, found, found_with, 
 
 -- ---- one source after another
 
-step : (n : ℕ) (before : List Refused) (source : List ℕ) → 0 < n →
+pub step : (n : ℕ) (before : List Refused) (source : List ℕ) → 0 < n →
     found n before source ≡ ended_as (found (n - 1)) (found_with before (assembly_refusal source)) (looked_with before source (assembly_refusal source))
 unfolding found
 step zero before source e = absurd (omega arith)

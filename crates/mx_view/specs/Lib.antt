@@ -3,6 +3,7 @@ pub mod Rows
 pub mod Listing
 pub mod InTurn
 pub mod Search
+pub mod Mending
 pub mod Refusals
 pub mod Loads
 pub mod Joined

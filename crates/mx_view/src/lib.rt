@@ -6,6 +6,7 @@ mod checking;
 mod laws;
 mod lines;
 mod loads;
+mod mending;
 mod rows;
 mod search;
 mod told;

@@ -8,10 +8,10 @@ ghost use Rattle.mx_view.specs.InTurn as turns;
 ghost use Rattle.mx_view.specs.Loads as spec;
 
 use crate::cells::{Cells, Wanted, cells_of, lambda_behind};
-use crate::turns::take_line;
 use mx_asm::Assembler;
 use mx_line::cut_line;
 use mx_mmo::Items;
+use mx_walk::take_line;
 use mx_word::{NoMemory, Sequence};
 use std::alloc::Global;
 

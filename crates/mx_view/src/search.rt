@@ -1,20 +1,16 @@
 //! How the faults of a source are found.
 
-ghost use Rattle.std.specs.Prelude.{◌≡◌, ◌≤◌, true, IfOk, OnOk, take_while, length};
-ghost use Rattle.std.specs.Result.{is_ok};
+ghost use Rattle.std.specs.Prelude.{◌≡◌, ◌≤◌, Some, IfOk, OnOk, take_while, length};
 ghost use Rattle.mx_files.specs.Loading as loading;
-ghost use Rattle.mx_line.specs.Lines.{lines_of};
-ghost use Rattle.mx_view.specs.InTurn.{standing_behind};
 ghost use Rattle.mx_view.specs.Listing.{refusal_in};
 ghost use Rattle.mx_view.specs.Search as spec;
 
-use crate::turns::take_line;
-use crate::view::{end, meaning_of, refusal_of};
-use mx_asm::{AsmFault, Assembler, Refused};
+use crate::mending::{Search, walk_on};
+use crate::view::{meaning_of, refusal_of};
+use mx_asm::{AsmFault, Refused};
 use mx_files::Refusal;
-use mx_line::cut_line;
 use mx_marks::{with_blank, with_label};
-use mx_mmo::Items;
+use mx_walk::Walk;
 use mx_word::{Bytes, NoMemory, Sequence};
 use std::alloc::Global;
 
@@ -23,41 +19,6 @@ const MOST_LINES: usize = 100;
 
 /// The most sources that are looked at: two for each line that is told, and one that shows whether there are more.
 const MOST_SOURCES: u32 = 201;
-
-/// Takes the lines of a source up to one that is refused.
-#[tactic(auto, using(crate::proofs::LineTurns::standings))]
-fn take_lines(alloc: Global, assembler: &mut Assembler, source: &[u8]) -> Result<(), NoMemory>
-    requires open { is_ok assembler.old ≡ true }
-    ensures { OnOk result (assembler.new ≡ standing_behind assembler.old (lines_of source.now)) }
-{
-    let mut rest = source;
-    while !rest.is_empty() {
-        let (line, others) = cut_line(rest);
-        let mut items = Items::new(alloc);
-        match take_line(assembler, &mut items, line) {
-            Ok(true) => {}
-            Ok(false) => return Ok(()),
-            Err(e) => return Err(e),
-        }
-        rest = others;
-    }
-    Ok(())
-}
-
-/// Why a source is refused when it is assembled, if it is.
-#[tactic(auto, using(crate::proofs::Shown::shown))]
-fn assembly_refusal(alloc: Global, source: &[u8]) -> Result<Option<Refused>, NoMemory>
-    ensures { IfOk result (λ refusal. refusal ≡ spec.assembly_refusal source.now) }
-{
-    let Ok(mut assembler) = Assembler::new(alloc) else {
-        return Err(NoMemory);
-    };
-    take_lines(alloc, &mut assembler, source)?;
-    match end(alloc, &mut assembler)? {
-        Ok(_) => Ok(None),
-        Err(refused) => Ok(Some(refused)),
-    }
-}
 
 /// Why a source is refused when it is run, if it is.
 pub(crate) fn run_refusal(alloc: Global, source: &[u8]) -> Result<Option<Refusal>, NoMemory>
@@ -123,7 +84,7 @@ fn count_before(lines: &[Refused], line: u32) -> usize
 
 /// Puts a refusal between those at earlier lines and those at later lines.
 #[tactic(auto, using(crate::proofs::SearchTurns::insertions))]
-fn insert_refusal(lines: &mut Vec<Refused>, refused: Refused) -> Result<(), NoMemory>
+pub(crate) fn insert_refusal(lines: &mut Vec<Refused>, refused: Refused) -> Result<(), NoMemory>
     ensures { OnOk result (lines.new.items ≡ spec.inserted refused lines.old.items) }
 {
     let place = count_before(lines.as_slice(), line_at_fault(refused));
@@ -133,7 +94,7 @@ fn insert_refusal(lines: &mut Vec<Refused>, refused: Refused) -> Result<(), NoMe
 
 /// What a refusal is for the search.
 #[derive(Clone, Copy, Debug, PartialEq, Eq)]
-enum Finding {
+pub(crate) enum Finding {
     /// Its line was not refused before.
     New,
     /// Its line was refused before.
@@ -145,7 +106,7 @@ enum Finding {
 }
 
 /// What a refusal is, where these were found before.
-fn kind_of(lines: &[Refused], refused: Refused) -> Finding
+pub(crate) fn kind_of(lines: &[Refused], refused: Refused) -> Finding
     ensures { result ≡ spec.kind_of lines.now refused }
 {
     if is_of_whole(refused.fault) {
@@ -162,13 +123,13 @@ fn kind_of(lines: &[Refused], refused: Refused) -> Finding
 /// What follows once a source was looked at: the source that is looked at next; or the end, with the fault of the source as a whole,
 /// if it has one, and whether there are more faulty lines than are told.
 #[derive(Drop)]
-enum Looked {
+pub(crate) enum Looked {
     Next(Bytes),
     Ended(Option<Refusal>, bool),
 }
 
 /// Adds why a source is refused.
-fn add_refused(
+pub(crate) fn add_refused(
     alloc: Global,
     lines: &mut Vec<Refused>,
     source: &[u8],
@@ -190,19 +151,6 @@ fn add_refused(
     }
 }
 
-/// Looks at a source, where these refusals were found before.
-fn look(alloc: Global, lines: &mut Vec<Refused>, source: &[u8]) -> Result<Looked, NoMemory>
-    ensures lines { OnOk result (
-        lines.new.items ≡ spec.found_with lines.old.items (spec.assembly_refusal source.now)) }
-    ensures next { IfOk result (λ looked.
-        looked ≡ spec.looked_with lines.old.items source.now (spec.assembly_refusal source.now)) }
-{
-    match assembly_refusal(alloc, source)? {
-        Some(refused) => add_refused(alloc, lines, source, refused),
-        None => Ok(Looked::Ended(run_refusal(alloc, source)?, false)),
-    }
-}
-
 /// What is found: the refusals of lines, in the order of the lines at fault, the fault of the source as a whole, if it has one, and
 /// whether there are more faulty lines.
 #[derive(Drop)]
@@ -213,28 +161,30 @@ pub(crate) struct Found {
 }
 
 /// Finds the faults of a source.
-#[tactic(auto, using(crate::proofs::SearchTurns::turns))]
+#[tactic(auto, using(crate::proofs::MendedLines::walks))]
 pub(crate) fn find_faults(alloc: Global, source: &[u8]) -> Result<Found, NoMemory>
     ensures { IfOk result (λ found. found ≡ spec.found_in source.now) }
 {
-    let mut lines = Vec::new(alloc);
+    let walk = Walk::begin(alloc)?;
+    let lines = Vec::new(alloc);
+    let left = MOST_SOURCES;
+    let mut search = Search { walk, lines, left };
     let mut current = Bytes::copy(alloc, source)?;
-    let mut left = MOST_SOURCES;
-    while left > 0 {
-        match look(alloc, &mut lines, current.as_slice())? {
+    while search.left > 0 {
+        match walk_on(alloc, &mut search, current.as_slice())? {
             Looked::Next(next) => current = next,
             Looked::Ended(whole, is_cut) => {
                 return Ok(Found {
-                    lines: Sequence::from_vec(lines),
+                    lines: Sequence::from_vec(search.lines),
                     whole,
                     is_cut,
                 });
             }
         }
-        left -= 1;
+        search.walk = Walk::begin(alloc)?;
     }
     Ok(Found {
-        lines: Sequence::from_vec(lines),
+        lines: Sequence::from_vec(search.lines),
         whole: None,
         is_cut: true,
     })

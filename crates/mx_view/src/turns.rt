@@ -1,9 +1,7 @@
 //! The lines of a source, taken one after another.
 
-ghost use Rattle.std.specs.Prelude.{◌≡◌, ◌≢◌, ◌++◌, true, Ok, Err, IfOk, OnOk};
+ghost use Rattle.std.specs.Prelude.{◌≡◌, ◌++◌, true, IfOk, OnOk};
 ghost use Rattle.std.specs.Result.{is_ok};
-ghost use Rattle.mx_asm.specs.Faults.{no_memory};
-ghost use Rattle.mx_asm.specs.OnePass.{line_behind};
 ghost use Rattle.mx_line.specs.Lines.{lines_of};
 ghost use Rattle.mx_type.specs.Lambda as lambdas;
 ghost use Rattle.mx_view.specs.InTurn as spec;
@@ -11,40 +9,12 @@ ghost use Rattle.mx_view.specs.Rows.{meaning_in};
 
 use crate::cells::{Wanted, cells_of, lambda_behind};
 use crate::lines::{ListedLines, Meaning, add_listed};
-use mx_asm::{AsmFault, Assembler, Refused};
+use mx_asm::Assembler;
 use mx_line::cut_line;
 use mx_mmo::Items;
+use mx_walk::take_line;
 use mx_word::NoMemory;
 use std::alloc::Global;
-
-/// A refusal, unless there was no memory.
-pub(crate) fn told(refused: Refused) -> Result<Refused, NoMemory>
-    ensures value { IfOk result (λ told. told ≡ refused) }
-    ensures memory { OnOk result (refused ≢ no_memory) }
-{
-    match refused.fault {
-        AsmFault::OutOfMemory => Err(NoMemory),
-        _ => Ok(refused),
-    }
-}
-
-/// Takes a line, and says whether it was taken and not refused.
-pub(crate) fn take_line(
-    assembler: &mut Assembler,
-    items: &mut Items,
-    line: &[u8],
-) -> Result<bool, NoMemory>
-    ensures taken { OnOk result ((items.new, assembler.new) ≡ line_behind items.old assembler.old line.now) }
-    ensures open { IfOk result (λ is. is ≡ is_ok assembler.new) }
-{
-    match assembler.line(line, items) {
-        Ok(()) => Ok(true),
-        Err(refused) => match told(refused) {
-            Ok(_) => Ok(false),
-            Err(e) => Err(e),
-        },
-    }
-}
 
 /// Takes a line with this number, adds it if it is listed, and moves lambda. Whether it was taken and not refused.
 fn add_line(

@@ -1,9 +1,8 @@
 //! What is shown of a source.
 
-ghost use Rattle.std.specs.Prelude.{◌≡◌, ◌≢◌, ◌++◌, [], IfOk, OnOk};
+ghost use Rattle.std.specs.Prelude.{◌≡◌, ◌++◌, IfOk, OnOk};
 ghost use Rattle.std.specs.List.{flat_map};
 ghost use Rattle.std.specs.Result.{result_err};
-ghost use Rattle.mx_asm.specs.OnePass.{end_behind};
 ghost use Rattle.mx_asm.specs.Whole.{assembled_source};
 ghost use Rattle.mx_files.specs.Sources.{source_meaning};
 ghost use Rattle.mx_line.specs.Lines.{lines_of};
@@ -16,12 +15,12 @@ ghost use Rattle.mx_view.specs.Rows.{meaning_in};
 use crate::cells::Wanted;
 use crate::lines::{ListedLines, Meaning};
 use crate::rows::add_all_rows;
-use crate::turns::{add_lines, told};
+use crate::turns::add_lines;
 use mx_asm::{Assembler, Refused};
 use mx_files::{Refusal, SourceFault, load_source};
-use mx_mmo::Items;
 use mx_stab::StabFault;
 use mx_type::Lister;
+use mx_walk::end;
 use mx_word::{Bytes, NoMemory, Symbol, Symbols};
 use std::alloc::Global;
 
@@ -43,23 +42,6 @@ pub(crate) fn refusal_of(meaning: &Meaning) -> Option<Refusal>
     match meaning {
         Ok(_) => None,
         Err(refusal) => Some(*refusal),
-    }
-}
-
-/// The end of a source: its trie or its refusal.
-pub(crate) fn end(
-    alloc: Global,
-    assembler: &mut Assembler,
-) -> Result<Result<Bytes, Refused>, NoMemory>
-    ensures { IfOk result (λ ended. ended ≡ (end_behind [] assembler.old).1) }
-{
-    let mut items = Items::new(alloc);
-    match assembler.finish(&mut items) {
-        Ok(trie) => Ok(Ok(trie)),
-        Err(refused) => match told(refused) {
-            Ok(refused) => Ok(Err(refused)),
-            Err(e) => Err(e),
-        },
     }
 }
 

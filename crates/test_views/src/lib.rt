@@ -19,6 +19,8 @@ mod pages;
 #[cfg(test)]
 mod runs;
 #[cfg(test)]
+mod search;
+#[cfg(test)]
 mod sheets;
 #[cfg(test)]
 mod views;

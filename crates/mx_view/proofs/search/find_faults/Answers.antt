@@ -1,9 +1,8 @@
-use Rattle.std.proofs.Common.{◌∙◌, arith, rules, sym}
-use Rattle.mx_view.proofs.SearchTurns.{found-last}
+use Rattle.std.proofs.Common.{◌∙◌, arith, sym}
+use Rattle.mx_view.proofs.MendedLines.{none-found}
 use Rattle.mx_view.proofs.search.find_faults.Goals as goal
 
-pub returns-in-Ended : goal.returns-in-Ended
-returns-in-Ended c =
-    sym (c.loop-left.invariant
-    ∙ found-last c.loop-left.left c.loop-left.lines.items c.loop-left.current c.from_vec.result c.in-Ended.whole c.in-Ended.is_cut
-    (omega (arith, c.loop-left-test.true)) (search (rules, c.from_vec.ensures, c.in_ok-next.ensures.lines)) (search (rules, c.in-Ended.is, c.in_ok-next.ensures.next)))
+pub returns : goal.returns
+returns c =
+    sym (c.loop-search.invariant.0
+    ∙ none-found c.loop-search.search.left c.loop-search.search.lines.items c.from_vec-2.result c.loop-search.current (omega (arith, c.loop-search-test.false)) c.from_vec-2.ensures)
