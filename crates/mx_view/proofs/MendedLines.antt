@@ -1,5 +1,5 @@
 -- What a search that walks over lines finds.
-use Rattle.std.proofs.Common.{◌≡◌, ◌≢◌, ℕ, zero, suc, ◌+◌, ◌-◌, ◌<◌, ◌≤◌, true, false, List, [], ◌∷◌, ◌++◌, length, codes, append-nil, append_assoc, Option, None, Some, arith, rules, refl, sym, ap, subst, ◌∙◌}
+use Rattle.std.proofs.Common.{◌≡◌, ◌≢◌, ℕ, zero, suc, ◌-◌, ◌<◌, ◌≤◌, true, false, List, [], ◌∷◌, ◌++◌, length, codes, append-nil, append_assoc, Option, None, Some, arith, refl, sym, ap, subst, ◌∙◌}
 use Rattle.mx_line.specs.Lines.{lines_of}
 use Rattle.mx_line.proofs.LineLemmas.{no-lines}
 use Rattle.mx_stab.proofs.Orders.{all-both}
@@ -18,7 +18,7 @@ use Rattle.mx_view.specs.declared.search.Finding.TheVariants.{New, Again, Beyond
 use Rattle.mx_view.specs.declared.search.Looked.{Looked}
 use Rattle.mx_view.specs.declared.search.Looked.TheVariants.{Next, Ended}
 use Rattle.mx_view.specs.Listing.{refusal_in}
-use Rattle.mx_view.specs.Mending.{HasGone, HasReplaced, IsReplaced, IsStopped, IsTaken, is_found, is_found_by, left_as, to_come}
+use Rattle.mx_view.specs.Mending.{HasGone, IsReplaced, IsStopped, IsTaken, is_found, left_as, to_come}
 use Rattle.mx_view.specs.Search.{added_as, assembly_refusal, ended_as, found, found_with, kind_of, line_at_fault, looked_with, next_as}
 use Rattle.mx_view.proofs.SearchTurns.{found-none, step}
 

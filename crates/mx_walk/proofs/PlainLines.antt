@@ -1,6 +1,6 @@
 -- Lines without a newline, and texts of them.
-use Rattle.std.proofs.Common.{◌≡◌, ℕ, ◌+◌, ◌-◌, ◌<◌, Bool, true, false, not, cond, List, [], ◌∷◌, ◌++◌, length, ◌==◌, ◌≢◌, take_while, length-append, append_assoc, append-nil, codes, arith, rules, refl, sym, ap, subst, ◌∙◌}
-use Rattle.std.specs.List.{AllByRecursion, flat_map, list_all, onto_first, slice_split}
+use Rattle.std.proofs.Common.{◌≡◌, ℕ, ◌+◌, ◌-◌, ◌<◌, Bool, false, not, List, [], ◌∷◌, ◌++◌, length, ◌==◌, ◌≢◌, take_while, length-append, append_assoc, append-nil, codes, arith, rules, refl, sym, ap, subst, ◌∙◌}
+use Rattle.std.specs.List.{list_all, onto_first, slice_split}
 use Rattle.std.proofs.lemmas.Bool.{and_parts, cond-false, cond_both}
 use Rattle.std.proofs.lemmas.Grind.{flat_map-append}
 use Rattle.std.proofs.lemmas.List.Folds.{list_all-append}
@@ -13,7 +13,7 @@ use Rattle.mx_asm.specs.Whole.{Line}
 use Rattle.mx_line.specs.Bytes.{is_name_byte, run}
 use Rattle.mx_marks.specs.Fields.{from_field}
 use Rattle.mx_marks.specs.declared.fields.Field.TheVariants.{Operands, Operation}
-use Rattle.mx_marks.specs.Mending.{front_label, is_value, label_alone, line_text, lines_with, replaced, value_text, with_label, with_line, with_newline, with_value}
+use Rattle.mx_marks.specs.Mending.{front_label, is_value, label_alone, line_text, lines_with, value_text, with_label, with_line, with_newline, with_value}
 use Rattle.mx_walk.specs.Walks.{ArePlain, IsPlain, text_of}
 
 abbrev is_other : ℕ → Bool

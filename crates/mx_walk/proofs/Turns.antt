@@ -1,6 +1,5 @@
 -- The turns of a walk.
-use Rattle.std.proofs.Common.{◌≡◌, ◌≢◌, IfOk, IfErr, subst, ℕ, ◌+◌, Bool, true, false, cond, List, [], ◌∷◌, ◌++◌, fold, length, length-append, append_assoc, append-nil, codes, Option, None, Some, Result, Ok, Err, arith, rules, refl, sym, ap, ◌∙◌}
-use Rattle.std.specs.List.{AllByRecursion}
+use Rattle.std.proofs.Common.{◌≡◌, ◌≢◌, IfOk, IfErr, subst, ℕ, ◌+◌, Bool, true, false, cond, List, [], ◌∷◌, ◌++◌, fold, length, length-append, append_assoc, codes, Option, None, Some, Ok, Err, arith, refl, sym, ap, ◌∙◌}
 use Rattle.std.specs.Result.{result_err}
 use Rattle.std.proofs.lemmas.List.Sums.{fold-append}
 use Rattle.mx_word.specs.Results.{map_ok}
@@ -10,7 +9,7 @@ use Rattle.mx_mmo.specs.declared.items.Item.{Item}
 use Rattle.mx_stab.proofs.Orders.{all-both}
 use Rattle.mx_asm.specs.OnePass.{Assembly, Ended, Progress, Standing, beginning, end_behind, ended_main, ended_waits, line_answer, line_behind, opened, standing_with, with_opening, Tried}
 use Rattle.mx_asm.specs.Faults.{no_memory}
-use Rattle.mx_asm.specs.Whole.{Line, assembled_lines, assembled_source, line_after, lines_taken, one_pass}
+use Rattle.mx_asm.specs.Whole.{Line, assembled_lines, line_after, lines_taken}
 use Rattle.mx_asm.specs.declared.faults.AsmFault.{AsmFault}
 use Rattle.mx_asm.specs.declared.refused.Refused.{Refused}
 use Rattle.mx_asm.proofs.InTurn.{line-behind, refusal-stays}
@@ -143,8 +142,8 @@ module _ (w x : Walk) (line : Line) (out items : List Item) (a : Standing) (t : 
       (line_answer t ≢ Err no_memory → (items, standing_with (line_answer t) a) ≡ line_behind out x.assembler line) → IsRefused x.front line r
   refused-so r h plain none is memory taken =
       let taken_so : (items, Err r) ≡ line_behind [] x.assembler line =
-          subst (λ l. (items, Err r) ≡ line_behind l x.assembler line) none
-          (subst (λ q. q ≢ Err no_memory → (items, standing_with q a) ≡ line_behind out x.assembler line) is taken (λ m. let same : r ≡ no_memory = cc in memory same)) in
+      subst (λ l. (items, Err r) ≡ line_behind l x.assembler line) none
+      (subst (λ q. q ≢ Err no_memory → (items, standing_with q a) ≡ line_behind out x.assembler line) is taken (λ m. let same : r ≡ no_memory = cc in memory same)) in
       refused-at x line items r h plain taken_so
 
   pub left-out : (r : Refused) (s : Stop) → IsAt w → IsPlain line → x ≡ w → out ≡ [] → t ≡ Ok (Err r) → r ≢ no_memory →

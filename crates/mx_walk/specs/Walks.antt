@@ -1,5 +1,5 @@
 -- A walk over the lines of a source: the lines that were taken, and what is refused after them.
-use Rattle.std.specs.Prelude.{◌≡◌, ◌+◌, ℕ, Bool, true, not, ◌==◌, List, [], ◌∷◌, ◌++◌, length, Option, None, Some}
+use Rattle.std.specs.Prelude.{◌≡◌, ◌+◌, ℕ, true, not, ◌==◌, List, ◌∷◌, ◌++◌, length, Option, None, Some}
 use Rattle.std.specs.List.{AllByRecursion, flat_map, list_all}
 use Rattle.std.specs.Result.{result_err}
 use Rattle.mx_word.specs.Results.{map_ok}
