@@ -1,5 +1,5 @@
 -- The records of references, one after another.
-use Rattle.std.proofs.Common.{◌≡◌, ◌≢◌, Bool, true, false, refl, subst, ◌<◌, ◌≤◌, ℕ, ◌+◌, List, [], ◌∷◌, ◌++◌, length, drop, get_or, Result, Ok, Err, ap, sym, ◌∙◌, append_assoc, append-nil, arith}
+use Rattle.std.proofs.Common.{◌≡◌, ◌≢◌, Bool, true, false, refl, subst, rules, ◌<◌, ◌≤◌, ℕ, ◌+◌, List, [], ◌∷◌, ◌++◌, length, drop, get_or, Result, Ok, Err, ap, sym, ◌∙◌, append_assoc, append-nil, arith}
 use Rattle.mx_asm.proofs.Words.{drop_more, drop_all, Value, Wait, Item, AsmFault, Refused, refused_from, fix_of, with_fix, fixes, onto, fix_items, nat_tests}
 use Rattle.mx_asm.specs.Faults.{is_early, no_memory}
 
