@@ -1,0 +1,34 @@
+-- The parts of a line of the debugger.
+use Rattle.std.specs.Prelude.{ℕ, ◌==◌, ◌||◌, not, Bool, List}
+use Rattle.mx_cmd.specs.Numerals.{front, past}
+
+abbrev pub is_blank : ℕ → Bool
+is_blank b = b == 32 || b == 9
+
+abbrev pub is_ink : ℕ → Bool
+is_ink b = not (is_blank b)
+
+abbrev pub is_no_stroke : ℕ → Bool
+is_no_stroke b = not (b == 47)
+
+-- what follows the blanks at the front
+abbrev pub without_blanks : List ℕ → List ℕ
+without_blanks text = past is_blank text
+
+-- the first word, and what follows it after blanks
+unfoldable pub first_word : List ℕ → List ℕ
+first_word text = front is_ink (without_blanks text)
+
+unfoldable pub after_word : List ℕ → List ℕ
+after_word text = without_blanks (past is_ink (without_blanks text))
+
+-- the name in a word, and the rest from the first stroke on: `print/x` has the name `print` and the form `/x`
+abbrev pub name_in : List ℕ → List ℕ
+name_in word = front is_no_stroke word
+
+abbrev pub form_in : List ℕ → List ℕ
+form_in word = past is_no_stroke word
+
+-- what follows the label of a line of a source, and the blanks after it
+unfoldable pub code_of : List ℕ → List ℕ
+code_of line = without_blanks (past is_ink line)
