@@ -1,7 +1,7 @@
 #!/bin/sh
 # Long schedules cost no time of their own: a program with traps, one whose other processor has halted, and one of which seven
-# halt while nearly all names are left take at most a tenth of a second more by a schedule of 2^22 bytes than by a short one.
-# It prints the seconds of each, the least of three runs, and proves and builds nothing.
+# halt while nearly all names are left take at most 50 milliseconds more by a schedule of 2^22 bytes than by a short one.
+# It prints the seconds of each, of the user and of the system, the least of nine runs, and proves and builds nothing.
 # Usage: checks/schedules.sh [PROGRAM]
 here=$(cd "$(dirname "$0")/.." && pwd) || exit 1
 program=$(realpath "${1:-$here/.built/mmixware}") || exit 1
@@ -37,12 +37,16 @@ import resource, subprocess, sys
 def seconds(schedule, source):
     open("schedule", "wb").write(schedule)
     subprocess.run([sys.argv[1], "asm", source, "object"], check=True)
-    return min(run_seconds() for _ in range(3))
+    return min(run_seconds() for _ in range(9))
+
+def used():
+    usage = resource.getrusage(resource.RUSAGE_CHILDREN)
+    return usage.ru_utime + usage.ru_stime
 
 def run_seconds():
-    before = resource.getrusage(resource.RUSAGE_CHILDREN).ru_utime
+    before = used()
     subprocess.run([sys.argv[1], "multi", "schedule", "object"], check=True, stdout=subprocess.DEVNULL, timeout=60)
-    return resource.getrusage(resource.RUSAGE_CHILDREN).ru_utime - before
+    return used() - before
 
 size = 1 << 22
 rows = [
@@ -56,6 +60,6 @@ bad = 0
 for told, short, long, source in rows:
     first, second = seconds(short, source), seconds(long, source)
     print(f"{told}: {first:.3f} s by {len(short)} bytes, {second:.3f} s by 2^22")
-    bad |= second > first + 0.1
+    bad |= second > first + 0.05
 sys.exit(bad)
 END
