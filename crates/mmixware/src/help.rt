@@ -54,7 +54,7 @@ exit status: that of the program (the low byte of $255 at Halt), and
 ";
 
 /// What `--version` prints.
-const VERSION: &str = "mmixware 0.3.0\n";
+const VERSION: &str = "mmixware 0.4.0\n";
 
 /// The text that the program answers by itself, if these are words for one: no words ask for help, too.
 pub fn own_text(words: &[String]) -> Option<&'static str> {

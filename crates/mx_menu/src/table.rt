@@ -43,7 +43,7 @@ pub struct Row {
 /// The name, the version and the text of help of the program.
 pub const NAME: &str = "mmixview";
 
-pub const VERSION: &str = "0.3.0";
+pub const VERSION: &str = "0.4.0";
 
 pub const ABOUT: &str = "Views of a source in MMIXAL, and of a run of it.";
 
