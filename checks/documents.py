@@ -322,7 +322,7 @@ def source_in(cell):
 
 def check_examples_of_messages():
     """In a row of five cells an example in backquotes, the fourth, gives the message of the row: its number and name, or
-    its line, where that has no word of capitals, which stands for others."""
+    its line, where that has no word of capitals, which means others."""
     if not is_fresh():
         return
     for where, line in lines_of("docs/MESSAGES.md"):
