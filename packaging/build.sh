@@ -81,7 +81,7 @@ build() {
   return $status
 }
 
-# sees to it that the program that is kept is that of the sources here, or fails
+# makes the program that is kept that of the sources here, or fails
 make_ready() {
   is_kept || {
     { wait_for_turn && { is_kept || take_over; }; } || build || return 1

@@ -153,14 +153,14 @@ odd/bad.mms 2 output 0 1 hello\\n <&"
 odd/none 1 failed 0 1 null null
 odd/none 2 failed 0 1 null null
 END
-  diff wanted out >&2 || wrong 'JSON is another'
+  diff wanted out >&2 || wrong 'the JSON differs'
   grade --format gradescope points half.mms |
     jq -c '.tests[] | [.name, .score, .max_score, .status, .visibility, .output]' >out
   cat >wanted <<'END'
 ["1",8,8,"passed","visible",null]
 ["2",0,2,"failed","visible","another byte is printed: byte 1, line 1\nexpected: other\\n\nprinted:  hello\\n"]
 END
-  diff wanted out >&2 || wrong "Gradescope's results are others"
+  diff wanted out >&2 || wrong "Gradescope's results differ"
   grade --format gradescope --count secret quick.mms | jq -c '[.tests[1].visibility, .leaderboard]' >out
   echo '["hidden",[{"name":"steps","value":9,"order":"asc"}]]' | diff - out >&2 || wrong "Gradescope's results lack something"
   grade --format gradescope points half.mms whole.mms | jq -e '.score == 0 and (.tests | not)' >out ||
@@ -177,7 +177,7 @@ if command -v xmllint >/dev/null; then
   xmllint --xpath 'concat(//testsuite[1]/@name, " ", count(//testcase), " ", count(//failure), " ", count(//error),
     " ", //testsuite[2]/testcase[1]/failure)' odd.xml >out
   printf '%s\n' "$shown 6 2 2 another byte is printed: byte 1, line 1" 'expected: hello\n' 'printed:  <&"' | diff - out >&2 ||
-    wrong 'JUnit is another'
+    wrong "JUnit's XML differs"
 fi
 
 # ---- rows come one by one, in the order of the words, also where a later solution is over first
