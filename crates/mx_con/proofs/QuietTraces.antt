@@ -35,13 +35,16 @@ use Rattle.mx_code.specs.declared.trace.Touch.{Touch}
 use Rattle.mx_code.specs.declared.trace.Trace.{Trace}
 use Rattle.mx_core.proofs.Same.Quiet.{free}
 use Rattle.mx_core.proofs.Steps.{other_deed, step_went, step_stopped, step_traps, step_negative}
-use Rattle.mx_run.specs.Runs.{FlagsOf, ended, break_of, after_trace, after_turn, breaks_before}
-use Rattle.mx_run.specs.Turns.{Turn, went_on, halts, stops, area_size, turn_with, trap_turn, turn_of, turn}
+use Rattle.mx_run.specs.RunPlans.{RunWorld, end_of_trace, end_of_turn}
+use Rattle.mx_run.specs.Runs.{FlagsOf, break_of}
+use Rattle.mx_run.specs.Turns.{Turn, went_on, halts, stops, area_size, turn_with, trap_turn, turn_of, turn, turn_answer}
 use Rattle.mx_run.specs.WildRuns.{list_machine, RunEnd, run_ended, run_wild, trap_touches, turn_is_wild, run_by}
 use Rattle.mx_run.specs.declared.end.BreakKind.{BreakKind}
-use Rattle.mx_run.specs.declared.end.BreakKind.TheVariants.{Execute}
 use Rattle.mx_run.specs.declared.end.End.{End}
 use Rattle.mx_run.specs.declared.end.End.TheVariants as ending
+use Rattle.mx_run.specs.declared.turn_answer.TurnAnswer.{TurnAnswer}
+use Rattle.mx_run.specs.declared.turn_answer.TurnAnswer.TheVariants as answers
+use Rattle.mx_run.proofs.RunCases.{OnOr, LeadsTo, AnyWay, RunEndsSo, run-ends-so}
 
 -- what is touched lies outside the stack area
 abbrev pub Outside : Option Touch → Type 0
@@ -216,30 +219,41 @@ abbrev pub RunOutside : RunEnd → Type 0
 RunOutside (run_ended e) = EndOutside e.end
 RunOutside (run_wild m) = Unit {0}
 
-trace-outside : (more : State → HostModel → RunEnd) (traced : Bool) (trace : Trace) (b : Option (BreakKind × ℕ)) (s : State) (m : HostModel) → Outside trace.writes →
-    ((t : State) (n : HostModel) → RunOutside (more t n)) → RunOutside (after_trace run_ended more traced trace b s m)
-trace-outside more true trace (Some (kind, n)) s m h g = h
-trace-outside more false trace (Some (kind, n)) s m h g = tt
-trace-outside more true trace None s m h g = h
-trace-outside more false trace None s m h g = g s m
+-- what is known of a turn that is not wild
+abbrev AnswersOutside : RunWorld → TurnAnswer → RunWorld → Type 0
+AnswersOutside w (answers.Went trace) v = Outside trace.writes
+AnswersOutside w (answers.Halted status) v = Unit {0}
+AnswersOutside w (answers.Stopped reason) v = Unit {0}
+AnswersOutside w answers.OutOfMemory v = Unit {0}
 
-after-outside : (more : State → HostModel → RunEnd) (f : FlagsOf) (pc : ℕ) (t : Turn) → TurnOutside t → ((s : State) (n : HostModel) → RunOutside (more s n)) →
-    RunOutside (after_turn run_ended more f pc t)
-after-outside more f pc (went_on s m trace) h g = trace-outside more (f (pc / 4)).t trace (break_of f trace) s m h g
-after-outside more f pc (halts status s m) h g = tt
-after-outside more f pc (stops reason s m) h g = tt
+abbrev EndsOutside : End → RunWorld → Type 0
+EndsOutside end w = EndOutside end
 
-abbrev list-step : Bool → Bool → (State → HostModel → RunEnd) → FlagsOf → State → HostModel → RunEnd
-list-step b w more f s m = cond b (run_ended (ended (ending.Broke Execute s.pc None) s m)) (cond w (run_wild m) (after_turn run_ended more f s.pc (turn s m)))
+trace-outside : (n : ℕ) (traced : Bool) (trace : Trace) (b : Option (BreakKind × ℕ)) (v : RunWorld) → Outside trace.writes → OnOr (AnyWay n) EndsOutside (end_of_trace traced trace b) v
+trace-outside n true trace (Some (kind, at)) v h = h
+trace-outside n false trace (Some (kind, at)) v h = tt
+trace-outside n true trace None v h = h
+trace-outside n false trace None v h = tt
 
-list-outside : (b w : Bool) (more : State → HostModel → RunEnd) (f : FlagsOf) (s : State) (m : HostModel) → turn_is_wild s ≡ w → ((t : State) (n : HostModel) → RunOutside (more t n)) →
-    RunOutside (list-step b w more f s m)
-list-outside true w more f s m e g = tt
-list-outside false true more f s m e g = tt
-list-outside false false more f s m e g = after-outside more f s.pc (turn s m) (turn-outside s m e) g
+turned-outside : (n : ℕ) (f : FlagsOf) (pc : ℕ) (a : TurnAnswer) (w v : RunWorld) → AnswersOutside w a v → OnOr (AnyWay n) EndsOutside (end_of_turn f pc a) v
+turned-outside n f pc (answers.Went trace) w v h = trace-outside n (f (pc / 4)).t trace (break_of f trace) v h
+turned-outside n f pc (answers.Halted status) w v h = tt
+turned-outside n f pc (answers.Stopped reason) w v h = tt
+turned-outside n f pc answers.OutOfMemory w v h = tt
+
+leads-outside : (f : FlagsOf) → LeadsTo f AnswersOutside AnyWay EndsOutside
+leads-outside f = record { spent = λ w g. tt; broken = λ n w x g. tt; turned = λ n a w v g h. turned-outside n f w.0.pc a w v h }
+
+answer-outside : (w v : RunWorld) (t : Turn) → TurnOutside t → AnswersOutside w (turn_answer t).0 v
+answer-outside w v (went_on s m trace) h = h
+answer-outside w v (halts status s m) h = tt
+answer-outside w v (stops reason s m) h = tt
+
+as-outside : (r : RunEnd) → RunEndsSo EndsOutside r → RunOutside r
+as-outside (run_ended e) h = h
+as-outside (run_wild m) h = tt
 
 pub run-outside : (n : ℕ) (f : FlagsOf) (pass : Bool) (s : State) (m : HostModel) → RunOutside (run_by list_machine n f pass s m)
-unfolding run_by
-run-outside zero f pass s m = tt
-run-outside (suc n) f pass s m =
-    list-outside (breaks_before f pass s) (turn_is_wild s) (run_by list_machine n f false) f s m refl (λ t k. run-outside n f false t k)
+run-outside n f pass s m =
+    as-outside (run_by list_machine n f pass s m)
+    (run-ends-so list_machine f AnswersOutside AnyWay EndsOutside (leads-outside f) (λ t k tame. answer-outside (t, k) _ (turn t k) (turn-outside t k tame)) n pass s m tt)

@@ -1,5 +1,5 @@
 -- By its definition a session does not lack memory: no call that the host answers does, and no run.
-use Rattle.std.proofs.Common.{◌≡◌, ℕ, zero, suc, ◌+◌, ◌/◌, ◌==◌, List, [], ◌∷◌, ◌++◌, Bool, true, false, cond, Option, None, Some, Result, Ok, Err, refl}
+use Rattle.std.proofs.Common.{◌≡◌, ◌≢◌, ℕ, zero, suc, ◌+◌, ◌/◌, ◌==◌, List, [], ◌∷◌, ◌++◌, Bool, true, false, cond, Option, None, Some, Result, Ok, Err, refl}
 use Rattle.mx_host.specs.HostAnswer.{Then, read_answer, read_from, read_lead, write_answer, write_to, write_lead}
 use Rattle.mx_host.specs.HostModel.{HostModel, counted, is_failing, slot_at, is_read_only, is_write_only}
 use Rattle.mx_host.specs.declared.faults.HostFault.{HostFault}
@@ -11,13 +11,16 @@ use Rattle.mx_host.specs.declared.slots.Lead.{Lead}
 use Rattle.mx_host.specs.declared.slots.Lead.TheVariants.{Input, Output, Errors, File}
 use Rattle.mx_core.specs.State.{State}
 use Rattle.mx_code.specs.declared.trace.Trace.{Trace}
-use Rattle.mx_run.specs.Runs.{FlagsOf, break_of, breaks_before, after_trace}
-use Rattle.mx_run.specs.Runs.{after_turn as run_after_turn}
+use Rattle.mx_run.specs.RunPlans.{RunWorld, end_of_trace, end_of_turn}
+use Rattle.mx_run.specs.Runs.{FlagsOf, break_of}
 use Rattle.mx_run.specs.Turns.{Turn, went_on, halts, stops, turn, turn_answer}
 use Rattle.mx_run.specs.WildRuns.{MachineKind, RunEnd, run_ended, run_wild, ends_wild, run_by}
 use Rattle.mx_run.specs.declared.end.BreakKind.{BreakKind}
 use Rattle.mx_run.specs.declared.end.End.{End}
 use Rattle.mx_run.specs.declared.end.End.TheVariants as ending
+use Rattle.mx_run.specs.declared.turn_answer.TurnAnswer.{TurnAnswer}
+use Rattle.mx_run.specs.declared.turn_answer.TurnAnswer.TheVariants as answer
+use Rattle.mx_run.proofs.RunCases.{OnOr, LeadsTo, AnyWay, HasMemory, has-memory, RunEndsSo, run-ends-so}
 use Rattle.mx_cmd.specs.Commands.{command_of}
 use Rattle.mx_cmd.specs.declared.command.Command.{Command}
 use Rattle.mx_cmd.specs.declared.command.Command.TheVariants as command
@@ -194,26 +197,30 @@ is_run_told (run_wild m) = true
 abbrev RunTold : RunEnd → Type 0
 RunTold r = is_run_told r ≡ true
 
-either-run : (b : Bool) (x y : RunEnd) → RunTold x → RunTold y → RunTold (cond b x y)
-either-run true x y h k = h
-either-run false x y h k = k
+-- what is known of the end of a run
+abbrev EndTold : End → RunWorld → Type 0
+EndTold end w = is_end_of_run_told end ≡ true
 
-trace-told : (more : State → HostModel → RunEnd) (traced : Bool) (trace : Trace) (b : Option (BreakKind × ℕ)) (s : State) (m : HostModel) → RunTold (more s m) → RunTold (after_trace run_ended more traced trace b s m)
-trace-told more traced trace (Some (kind, n)) s m h = refl
-trace-told more true trace None s m h = refl
-trace-told more false trace None s m h = h
+trace-told : (n : ℕ) (traced : Bool) (trace : Trace) (b : Option (BreakKind × ℕ)) (v : RunWorld) → OnOr (AnyWay n) EndTold (end_of_trace traced trace b) v
+trace-told n traced trace (Some (kind, at)) v = refl
+trace-told n true trace None v = refl
+trace-told n false trace None v = tt
 
-run-turn-told : (more : State → HostModel → RunEnd) (f : FlagsOf) (pc : ℕ) (t : Turn) → ((s : State) (m : HostModel) → RunTold (more s m)) → RunTold (run_after_turn run_ended more f pc t)
-run-turn-told more f pc (halts status s m) g = refl
-run-turn-told more f pc (stops reason s m) g = refl
-run-turn-told more f pc (went_on s m trace) g = trace-told more (f (pc / 4)).t trace (break_of f trace) s m (g s m)
+turned-told : (n : ℕ) (f : FlagsOf) (pc : ℕ) (a : TurnAnswer) (v : RunWorld) → a ≢ answer.OutOfMemory → OnOr (AnyWay n) EndTold (end_of_turn f pc a) v
+turned-told n f pc (answer.Went trace) v h = trace-told n (f (pc / 4)).t trace (break_of f trace) v
+turned-told n f pc (answer.Halted status) v h = refl
+turned-told n f pc (answer.Stopped reason) v h = refl
+turned-told n f pc answer.OutOfMemory v h = absurd (h refl)
+
+leads-told : (f : FlagsOf) → LeadsTo f HasMemory AnyWay EndTold
+leads-told f = record { spent = λ w g. refl; broken = λ n w x g. refl; turned = λ n a w v g h. turned-told n f w.0.pc a v h }
+
+as-told : (r : RunEnd) → RunEndsSo EndTold r → RunTold r
+as-told (run_ended e) h = h
+as-told (run_wild m) h = refl
 
 run-told : (kind : MachineKind) (n : ℕ) (f : FlagsOf) (pass : Bool) (s : State) (m : HostModel) → RunTold (run_by kind n f pass s m)
-unfolding run_by
-run-told kind zero f pass s m = refl
-run-told kind (suc n) f pass s m =
-    either-run (breaks_before f pass s) _ _ refl
-    (either-run (ends_wild kind s) _ _ refl (run-turn-told (run_by kind n f false) f s.pc (turn s m) (λ t k. run-told kind n f false t k)))
+run-told kind n f pass s m = as-told (run_by kind n f pass s m) (run-ends-so kind f HasMemory AnyWay EndTold (leads-told f) (λ t k tame. has-memory (turn t k)) n pass s m tt)
 
 goes-told : (going : Bool) (w : Written) → AnswerTold w.0 → AnswerTold (goes going w).0
 goes-told going (Ok u, m) h = refl
