@@ -1,6 +1,6 @@
 -- Where no call that is made fails, turns of several processors come to the same whatever the count of calls, and whatever the
 -- list of those that fail.
-use Rattle.std.proofs.Common.{◌≡◌, ℕ, ◌&&◌, not, List, Bool, true, false, cond}
+use Rattle.std.proofs.Common.{ℕ, ◌&&◌, not, List, Bool, true, false, cond}
 use Rattle.mx_host.specs.HostModel.{HostModel}
 use Rattle.mx_host.proofs.Still.{still}
 use Rattle.mx_plan.specs.Wild.{Course, ends, meets_wild, world_of, course}

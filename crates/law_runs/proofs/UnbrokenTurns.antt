@@ -1,8 +1,7 @@
 -- Turns of several processors do not lack memory by their definition.
-use Rattle.std.proofs.Common.{◌≡◌, ◌≢◌, ℕ, zero, suc, ◌&&◌, not, List, Bool, true, false, cond, Option, None, Some, Ok, Err, refl}
-use Rattle.std.specs.Prelude.{Result}
+use Rattle.std.proofs.Common.{◌≡◌, ◌≢◌, ℕ, zero, suc, ◌&&◌, not, List, Bool, true, false, cond, Option, None, Some, refl}
 use Rattle.mx_host.specs.HostModel.{HostModel}
-use Rattle.mx_plan.specs.Plan.{returns, bind}
+use Rattle.mx_plan.specs.Plan.{bind}
 use Rattle.mx_plan.specs.Wild.{Course, ends, meets_wild}
 use Rattle.mx_plan.proofs.Giving.{Gives}
 use Rattle.mx_plan.proofs.WildLaws.{Answers, course_gives}
@@ -17,7 +16,6 @@ use Rattle.mx_multi.specs.Turns.{multi_goes, TurnsEnd, turns_ended, turns_wild, 
 use Rattle.mx_multi.specs.declared.turn.Turn.{Turn}
 use Rattle.mx_multi.specs.declared.turn.Turn.TheVariants as turned
 use Rattle.mx_multi.specs.declared.end.MultiEnd.{MultiEnd}
-use Rattle.mx_multi.specs.declared.end.MultiEnd.TheVariants.{AllHalted}
 use Rattle.mx_top.specs.Processors.{multi_outcome}
 use Rattle.law_runs.specs.Unbroken.{is_outcome_told}
 

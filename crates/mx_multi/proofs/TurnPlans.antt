@@ -2,9 +2,9 @@
 use Rattle.std.proofs.Common.{◌≡◌, ◌≢◌, ℕ, zero, suc, ◌&&◌, not, Bool, true, false, cond, List, Option, None, Some, Ok, Err, inr, refl, sym, subst, ◌∙◌, ap}
 use Rattle.std.specs.Prelude.{Result, ◌⊎◌}
 use Rattle.mx_host.specs.HostModel.{HostModel}
-use Rattle.mx_plan.specs.Plan.{returns, bind, Stops, end_of}
-use Rattle.mx_plan.specs.Wild.{Course, ends, meets_wild, then_on, course, carried, GoesAs, GoesOn, alike, was_wild}
-use Rattle.mx_plan.proofs.BothWorlds.{begun-both, mapped-both, rest-both, done-both, whole-both}
+use Rattle.mx_plan.specs.Plan.{bind, Stops, end_of}
+use Rattle.mx_plan.specs.Wild.{Course, ends, meets_wild, then_on, course, carried, GoesAs, GoesOn, alike}
+use Rattle.mx_plan.proofs.BothWorlds.{mapped-both, rest-both, done-both, whole-both}
 use Rattle.mx_plan.proofs.WildLaws.{course_carried}
 use Rattle.mx_run.specs.WildRuns.{MachineKind, window_machine, list_machine, ends_wild}
 use Rattle.mx_multi.specs.Clauses.{TurnGoesAsLists, GoAsLists, as_list_joints, AreUntouched, WriteOn, TurnsBoth, RestsBoth}

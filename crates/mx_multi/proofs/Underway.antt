@@ -1,15 +1,15 @@
 -- Turns by a schedule that are under way: how many steps are left, and what of the schedule.
-use Rattle.std.proofs.Common.{◌≡◌, ◌≢◌, ◌<◌, ◌≤◌, ℕ, zero, suc, ◌+◌, ◌-◌, Bool, IsTrue, true, List, [], ◌∷◌, drop, length, Option, None, Some, Ok, Err, inl, inr, arith, refl, sym, subst, ap, ◌∙◌}
+use Rattle.std.proofs.Common.{◌≡◌, ◌<◌, ◌≤◌, ℕ, zero, suc, ◌+◌, ◌-◌, Bool, IsTrue, true, List, [], ◌∷◌, drop, length, None, Some, Ok, Err, inl, inr, arith, refl, sym, subst, ap, ◌∙◌}
 use Rattle.std.specs.Prelude.{◌⊎◌, ◌↔◌}
 use Rattle.std.proofs.lemmas.Bool.{cases_lt}
 use Rattle.std.proofs.lemmas.List.{drop_all}
-use Rattle.mx_host.specs.HostModel.{HostModel, tells, contents}
+use Rattle.mx_host.specs.HostModel.{tells, contents}
 use Rattle.mx_host.specs.Keeping.{Keeps}
 use Rattle.mx_host.proofs.Keeping.{keeps-then, keeps-all}
 use Rattle.mx_word.proofs.Fronts.{front-through}
 use Rattle.mx_plan.specs.Plan.{Stops}
 use Rattle.mx_multi.specs.Clauses.{MakesAtMost, RestsBoth, TakesTurns, TurnsBoth, WriteOn}
-use Rattle.mx_multi.specs.Joint.{Joint, has_halted}
+use Rattle.mx_multi.specs.Joint.{has_halted}
 use Rattle.mx_multi.specs.JointTurns.{JointWorld, halted_by}
 use Rattle.mx_multi.specs.MultiPlans.{MultiPlan, multi, step_plan, steps_plan, turns_plan}
 use Rattle.mx_multi.specs.Schedules.{AllHaveHalted, end_at_last, end_of_turn, next_in, next_turn, or_again}
