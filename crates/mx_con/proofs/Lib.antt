@@ -19,5 +19,5 @@ pub mod SessionClauses
 pub mod ListedReplies
 pub mod ListedSessions
 pub mod SteadySessions
+pub mod WalkedPlans
 pub mod ToldSessions
-pub mod TakenInput
