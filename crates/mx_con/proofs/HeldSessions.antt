@@ -10,7 +10,7 @@ use Rattle.mx_plan.specs.Held.{Held, KeepsStreams, OnlyAdds}
 use Rattle.mx_plan.proofs.HeldLaws.{held-end, held-stop, held-on}
 use Rattle.mx_plan.proofs.Streams.{streams-held}
 use Rattle.mx_plan.proofs.WildLaws.{course_held}
-use Rattle.mx_run.specs.RunCourses.{run_goes, run_course}
+use Rattle.mx_run.specs.WildRuns.{run_goes, run_course}
 use Rattle.mx_run.specs.RunPlans.{RunCall, turning, looking, RunWorld, running, run_plan}
 use Rattle.mx_run.specs.Runs.{FlagsOf}
 use Rattle.mx_run.specs.WildRuns.{MachineKind, ends_wild}

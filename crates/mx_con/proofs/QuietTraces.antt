@@ -37,7 +37,7 @@ use Rattle.mx_code.specs.declared.trace.Touch.{Touch}
 use Rattle.mx_code.specs.declared.trace.Trace.{Trace}
 use Rattle.mx_core.proofs.Same.Quiet.{free}
 use Rattle.mx_core.proofs.Steps.{other_deed, step_went, step_stopped, step_traps, step_negative}
-use Rattle.mx_run.specs.RunCourses.{run_goes, run_course}
+use Rattle.mx_run.specs.WildRuns.{run_goes, run_course}
 use Rattle.mx_run.specs.RunPlans.{RunCall, turning, looking, RunWorld, running, end_of_trace, end_of_turn, run_plan}
 use Rattle.mx_run.specs.Runs.{FlagsOf, break_of}
 use Rattle.mx_run.specs.Turns.{Turn, area_size, turn_with, trap_turn, turn_of, turn, turn_answer}

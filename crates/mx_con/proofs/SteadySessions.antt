@@ -11,7 +11,7 @@ use Rattle.mx_plan.proofs.Spared.{Spares, uncalled, after, plan-spared}
 use Rattle.mx_plan.proofs.WildLaws.{SparedCourse, course_still, course_spared}
 use Rattle.mx_core.specs.State.{State}
 use Rattle.mx_run.proofs.SteadyRuns.{turn_still, turn-steady}
-use Rattle.mx_run.specs.RunCourses.{run_goes, run_course}
+use Rattle.mx_run.specs.WildRuns.{run_goes, run_course}
 use Rattle.mx_run.specs.RunPlans.{RunCall, turning, looking, RunWorld, running, run_plan}
 use Rattle.mx_run.specs.Runs.{FlagsOf}
 use Rattle.mx_run.specs.Turns.{Turn, went_on, halts, stops, turn, turn_answer}

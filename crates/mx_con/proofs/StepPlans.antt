@@ -12,7 +12,7 @@ use Rattle.mx_core.specs.Bounds.{as_list_state}
 use Rattle.mx_core.specs.State.{State}
 use Rattle.mx_code.specs.declared.trace.Trace.{Trace}
 use Rattle.mx_run.specs.RunCourses as runs
-use Rattle.mx_run.specs.RunCourses.{run_goes, run_course}
+use Rattle.mx_run.specs.WildRuns.{run_goes, run_course}
 use Rattle.mx_run.specs.RunPlans.{turning, RunWorld, running, turn_plan, run_plan}
 use Rattle.mx_run.specs.Runs.{FlagsOf}
 use Rattle.mx_run.specs.WildRuns.{list_machine}

@@ -15,7 +15,7 @@ use Rattle.mx_plan.specs.Wild.{Course, ends, meets_wild, course, carried}
 use Rattle.mx_plan.proofs.WildLaws.{Answers, course_gives}
 use Rattle.mx_core.specs.State.{State}
 use Rattle.mx_code.specs.declared.trace.Trace.{Trace}
-use Rattle.mx_run.specs.RunCourses.{run_goes, run_course}
+use Rattle.mx_run.specs.WildRuns.{run_goes, run_course}
 use Rattle.mx_run.specs.RunPlans.{RunCall, turning, looking, RunWorld, running, end_of_trace, end_of_turn, run_plan}
 use Rattle.mx_run.specs.Runs.{FlagsOf, break_of}
 use Rattle.mx_run.specs.Turns.{Turn, went_on, halts, stops, turn, turn_answer}

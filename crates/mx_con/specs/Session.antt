@@ -5,7 +5,7 @@ use Rattle.mx_host.specs.HostModel.{HostModel}
 use Rattle.mx_plan.specs.Wild.{Course, ends, meets_wild, course, carried}
 use Rattle.mx_cmd.specs.declared.command.Command.{Command}
 use Rattle.mx_core.specs.State.{State}
-use Rattle.mx_run.specs.RunCourses.{run_goes, run_course}
+use Rattle.mx_run.specs.WildRuns.{run_goes, run_course}
 use Rattle.mx_run.specs.RunPlans.{turning, RunWorld}
 use Rattle.mx_run.specs.Runs.{FlagsOf}
 use Rattle.mx_run.specs.WildRuns.{MachineKind, window_machine, list_machine}
