@@ -8,7 +8,6 @@ pub mod StepBounds
 pub mod HeldSessions
 pub mod SessionCourses
 pub mod SessionBoth
-pub mod RunAnswers
 pub mod QuietTraces
 pub mod SameTexts
 pub mod ListedRuns

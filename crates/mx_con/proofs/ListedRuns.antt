@@ -13,7 +13,7 @@ use Rattle.mx_run.specs.WildRuns.{of_course, run_course}
 use Rattle.mx_run.specs.RunPlans.{RunWorld, running, run_plan}
 use Rattle.mx_run.specs.Runs.{FlagsOf, Ended, ended}
 use Rattle.mx_run.specs.Turns.{Answered, turn, turn_answer}
-use Rattle.mx_run.specs.WildRuns.{list_machine, RunEnd, run_by, turn_is_wild, HasWindow}
+use Rattle.mx_run.specs.WildRuns.{list_machine, run_by, turn_is_wild, HasWindow}
 use Rattle.mx_run.specs.declared.end.BreakKind.{BreakKind}
 use Rattle.mx_run.specs.declared.end.End.{End}
 use Rattle.mx_run.specs.declared.end.End.TheVariants as ending

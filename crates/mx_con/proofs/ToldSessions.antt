@@ -12,14 +12,13 @@ use Rattle.mx_host.specs.declared.slots.Lead.TheVariants.{Input, Output, Errors,
 use Rattle.mx_plan.specs.Calls.{HostCall, reading, writing, host}
 use Rattle.mx_plan.specs.Taking.{CanSay}
 use Rattle.mx_plan.specs.Wild.{Course, ends, meets_wild, course, carried}
-use Rattle.mx_plan.proofs.WildLaws.{Answers, course_gives}
+use Rattle.mx_plan.proofs.WildLaws.{Answers, EndsSo, course_gives}
 use Rattle.mx_core.specs.State.{State}
 use Rattle.mx_code.specs.declared.trace.Trace.{Trace}
-use Rattle.mx_run.specs.WildRuns.{run_goes, run_course}
-use Rattle.mx_run.specs.RunPlans.{RunCall, turning, looking, RunWorld, running, end_of_trace, end_of_turn, run_plan}
+use Rattle.mx_run.specs.RunPlans.{turning, RunWorld, running, end_of_trace, end_of_turn}
 use Rattle.mx_run.specs.Runs.{FlagsOf, break_of}
 use Rattle.mx_run.specs.Turns.{Turn, went_on, halts, stops, turn, turn_answer}
-use Rattle.mx_run.specs.WildRuns.{MachineKind, ends_wild}
+use Rattle.mx_run.specs.WildRuns.{MachineKind, ends_wild, run_goes, run_course, run_by}
 use Rattle.mx_run.specs.declared.end.BreakKind.{BreakKind}
 use Rattle.mx_run.specs.declared.end.End.{End}
 use Rattle.mx_run.specs.declared.turn_answer.TurnAnswer.{TurnAnswer}
@@ -28,7 +27,8 @@ use Rattle.mx_con.specs.Session.{keeping_flags, command_ends_wild, session_goes,
 use Rattle.mx_con.specs.SessionPlans.{SessionCall, of_host, of_turn, of_run, replying, SessionWorld, conversing, session_plan}
 use Rattle.mx_con.specs.Told.{is_end_told, is_told}
 use Rattle.mx_con.specs.declared.end.SessionEnd.{SessionEnd}
-use Rattle.mx_con.proofs.RunAnswers.{TurnsMay, EndsSo, run-gives}
+use Rattle.mx_con.proofs.QuietTraces.{run-ends}
+use Rattle.mx_run.proofs.RunCases.{OnOr, AnyWay, run-ends-so}
 use Rattle.mx_con.proofs.WalkedPlans.{is_call_told, is_host_told, is_turn_told, is_run_told, SessionTold, session-gives}
 
 -- ---- calls of a host
@@ -96,45 +96,50 @@ turn-told (went_on s m trace) = refl
 turn-told (halts status s m) = refl
 turn-told (stops reason s m) = refl
 
-run-call-told : (kind : MachineKind) (o : RunCall) (w : RunWorld) → Answers (TurnsMay TurnTold o) (run_goes kind o w)
+turning-told : (kind : MachineKind) (w : RunWorld) → Answers TurnTold (run_goes kind turning w)
 unfolding running
-run-call-told kind turning w = by (ends_wild kind w.0)
+turning-told kind w = by (ends_wild kind w.0)
   where
     by : (b : Bool) → Answers TurnTold (cond b (meets_wild w) (carried running turning w))
     by true = tt
     by false = turn-told (turn w.0 w.1)
-run-call-told kind looking w = tt
 
-trace-told : (traced : Bool) (trace : Trace) (b : Option (BreakKind × ℕ)) → EndsSo RunTold (end_of_trace traced trace b)
-trace-told traced trace (Some (kind, n)) = refl
-trace-told true trace None = refl
-trace-told false trace None = tt
+abbrev EndsTold : End → RunWorld → Type 0
+EndsTold end w = RunTold end
 
-answer-told : (f : FlagsOf) (pc : ℕ) (a : TurnAnswer) → TurnTold a → EndsSo RunTold (end_of_turn f pc a)
-answer-told f pc (answer.Went trace) h = trace-told (f (pc / 4)).t trace (break_of f trace)
-answer-told f pc (answer.Halted status) h = refl
-answer-told f pc (answer.Stopped reason) h = refl
-answer-told f pc answer.OutOfMemory h = h
+trace-told : (n : ℕ) (traced : Bool) (trace : Trace) (b : Option (BreakKind × ℕ)) (v : RunWorld) → OnOr (AnyWay n) EndsTold (end_of_trace traced trace b) v
+trace-told n traced trace (Some (kind, at)) v = refl
+trace-told n true trace None v = refl
+trace-told n false trace None v = tt
 
-run-told : (kind : MachineKind) (n : ℕ) (f : FlagsOf) (pass : Bool) (w : RunWorld) → Answers RunTold (course (run_goes kind) (run_plan n f pass) w)
-run-told kind n f pass w = course_gives (run_goes kind) (TurnsMay TurnTold) RunTold (run-call-told kind) (run_plan n f pass) w (run-gives TurnTold RunTold answer-told (λ pc. refl) refl n f pass)
+answer-told : (n : ℕ) (f : FlagsOf) (pc : ℕ) (a : TurnAnswer) (v : RunWorld) → TurnTold a → OnOr (AnyWay n) EndsTold (end_of_turn f pc a) v
+answer-told n f pc (answer.Went trace) v h = trace-told n (f (pc / 4)).t trace (break_of f trace) v
+answer-told n f pc (answer.Halted status) v h = refl
+answer-told n f pc (answer.Stopped reason) v h = refl
+answer-told n f pc answer.OutOfMemory v h = h
+
+run-told : (kind : MachineKind) (n : ℕ) (f : FlagsOf) (pass : Bool) (s : State) (m : HostModel) → EndsSo EndsTold (run_course kind n f pass s m)
+unfolding run_by
+run-told kind n f pass s m =
+    run-ends EndsTold (run_course kind n f pass s m)
+    (run-ends-so kind f (λ w a v. TurnTold a) AnyWay EndsTold (record { spent = λ w g. refl; broken = λ k w x g. refl; turned = λ k a w v g h. answer-told k f w.0.pc a v h })
+    (λ t k tame. turn-told (turn t k)) n pass s m tt)
 
 -- ---- the calls of a session, and a session
 
-flags-told : {A : Type 0} (Such : A → Type 0) (f : FlagsOf) (c : Course A RunWorld) → Answers Such c → Answers Such (keeping_flags f c)
-flags-told Such f (ends a w) h = h
-flags-told Such f (meets_wild w) h = tt
+turn-flags : (f : FlagsOf) (c : Course TurnAnswer RunWorld) → Answers TurnTold c → Answers (SessionTold of_turn) (keeping_flags f c)
+turn-flags f (ends a w) h = (tt, h)
+turn-flags f (meets_wild w) h = tt
 
-also : {A W : Type 0} (Such : A → Type 0) (c : Course A W) → Answers Such c → Answers (λ a. Unit {0} × Such a) c
-also Such (ends a w) h = (tt, h)
-also Such (meets_wild w) h = tt
+run-flags : (n : ℕ) (pass : Bool) (f : FlagsOf) (c : Course End RunWorld) → EndsSo EndsTold c → Answers (SessionTold (of_run n pass)) (keeping_flags f c)
+run-flags n pass f (ends end w) h = (tt, h)
+run-flags n pass f (meets_wild w) h = tt
 
 call-told : (kind : MachineKind) (o : SessionCall) (w : SessionWorld) → Answers (SessionTold o) (session_goes kind o w)
-unfolding conversing run_course
+unfolding conversing
 call-told kind (of_host o) w = host-told o w.0.1
-call-told kind of_turn w = flags-told (λ a. Unit {0} × TurnTold a) w.1 (run_goes kind turning w.0) (also TurnTold (run_goes kind turning w.0) (run-call-told kind turning w.0))
-call-told kind (of_run n pass) w =
-    flags-told (λ end. Unit {0} × RunTold end) w.1 (course (run_goes kind) (run_plan n w.1 pass) w.0) (also RunTold (course (run_goes kind) (run_plan n w.1 pass) w.0) (run-told kind n w.1 pass w.0))
+call-told kind of_turn w = turn-flags w.1 (run_goes kind turning w.0) (turning-told kind w.0)
+call-told kind (of_run n pass) w = run-flags n pass w.1 (run_course kind n w.1 pass w.0.0 w.0.1) (run-told kind n w.1 pass w.0.0 w.0.1)
 call-told kind (replying shown command) w = by (command_ends_wild kind shown command)
   where
     by : (b : Bool) → Answers (SessionTold (replying shown command)) (cond b (meets_wild w) (carried conversing (replying shown command) w))
