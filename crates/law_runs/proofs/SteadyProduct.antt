@@ -1,6 +1,6 @@
 -- Where no call that is made fails, the program does and answers the same whatever the count of calls, and whatever the
 -- list of those that fail.
-use Rattle.std.proofs.Common.{◌≡◌, ◌≤◌, ℕ, zero, suc, List, [], ◌∷◌, Bool, true, false, cond, length, take, refl, sym, subst, ◌∙◌, ap, Ok, Err}
+use Rattle.std.proofs.Common.{◌≡◌, ◌≤◌, ℕ, zero, suc, List, [], ◌∷◌, Bool, true, false, cond, length, take, refl, sym, ◌∙◌, ap, Ok, Err}
 use Rattle.std.specs.Prelude.{Result, ◌&&◌, codes}
 use Rattle.mx_word.specs.declared.symbols.Symbol.{Symbol}
 use Rattle.mx_host.specs.HostModel.{HostModel}
@@ -21,12 +21,11 @@ use Rattle.mx_run.specs.Counts.{end_host}
 use Rattle.mx_back.specs.History.{kept_turn, states_kept}
 use Rattle.mx_back.specs.KeptRuns.{turn_kind, turns_after, turns_of}
 use Rattle.mx_core.specs.Step.{step}
-use Rattle.mx_code.specs.declared.trace.Trace.{Trace}
-use Rattle.mx_run.specs.Runs.{Ended, ended, no_flags, after_trace, after_turn}
+use Rattle.mx_run.specs.Runs.{Ended, ended, no_flags}
 use Rattle.mx_run.specs.Turns.{Turn, went_on, halts, stops, turn, turn_answer}
 use Rattle.mx_run.specs.declared.end.End.TheVariants.{Halted, Stopped as Stop, Spent}
 use Rattle.mx_run.specs.declared.turn_answer.TurnAnswer.TheVariants as answer
-use Rattle.mx_run.proofs.FreeSteps.{no-break}
+use Rattle.mx_run.proofs.FreeTurns.{after_first, none-by, run-by-turn}
 use Rattle.mx_run.specs.WildRuns.{MachineKind, RunEnd, run_ended, run_wild, ends_wild, host_after, run_by}
 use Rattle.mx_con.specs.Session.{SessionRun, session_ended, session_wild, session}
 use Rattle.mx_con.proofs.SteadySessions.{session_host, session_still, SparedSessions, session-steady}
@@ -134,12 +133,7 @@ module _ (kind : MachineKind) (dump : Bool) (last steps : ℕ) where
 
   -- the same by a turn, from a state, where turns follow it
   abbrev turn-answer : ℕ → State → List State → Turn → Answer
-  turn-answer n s kept t = back-answer dump last steps (kept-by n s kept t) (after_turn run_ended (run_by kind n no_flags false) no_flags s.pc t)
-
-  went-answer : (n : ℕ) (s u : State) (kept : List State) (m : HostModel) (trace : Trace) →
-      turn-answer n s kept (went_on u m trace) ≡ back-answer dump last steps (states_kept (turns_of n u m) (kept_turn (turn_kind (step s) (answer.Went trace)) s kept)) (run_by kind n no_flags false u m)
-  went-answer n s u kept m trace =
-      ap (λ b. back-answer dump last steps (states_kept (turns_of n u m) (kept_turn (turn_kind (step s) (answer.Went trace)) s kept)) (after_trace run_ended (run_by kind n no_flags false) false trace b u m)) (no-break trace)
+  turn-answer n s kept t = back-answer dump last steps (kept-by n s kept t) (after_first kind n s.pc t)
 
   turn-case : (n : ℕ) (s : State) (kept : List State) → ((ks : List State) (u : State) (m : HostModel) →
       SparedAnswers m (back-answer dump last steps (states_kept (turns_of n u m) ks) (run_by kind n no_flags false u m)) (back-answer dump last steps (states_kept (turns_of n u (still m)) ks) (run_by kind n no_flags false u (still m)))) →
@@ -147,25 +141,22 @@ module _ (kind : MachineKind) (dump : Bool) (last steps : ℕ) where
   unfolding states_kept
   turn-case n s kept more (halts status u m) = back-case (kept_turn (turn_kind (step s) (answer.Halted status)) s kept) (ended (Halted status) u m)
   turn-case n s kept more (stops reason u m) = back-case (kept_turn (turn_kind (step s) (answer.Stopped reason)) s kept) (ended (Stop s.pc reason) u m)
-  turn-case n s kept more (went_on u m trace) =
-      subst (λ (a : Answer). SparedAnswers m (turn-answer n s kept (went_on u m trace)) a) (sym (went-answer n s u kept (still m) trace))
-      (subst (λ (a : Answer). SparedAnswers m a (back-answer dump last steps (states_kept (turns_of n u (still m)) (kept_turn (turn_kind (step s) (answer.Went trace)) s kept)) (run_by kind n no_flags false u (still m)))) (sym (went-answer n s u kept m trace))
-      (more (kept_turn (turn_kind (step s) (answer.Went trace)) s kept) u m))
+  turn-case n s kept more (went_on u m trace) = more (kept_turn (turn_kind (step s) (answer.Went trace)) s kept) u m
 
   abbrev AreSpared : ℕ → List State → State → HostModel → Type 0
   AreSpared n kept s m =
       SparedAnswers m (back-answer dump last steps (states_kept (turns_of n s m) kept) (run_by kind n no_flags false s m)) (back-answer dump last steps (states_kept (turns_of n s (still m)) kept) (run_by kind n no_flags false s (still m)))
 
   back-step : (n : ℕ) (kept : List State) (s : State) (m : HostModel) → ((ks : List State) (u : State) (k : HostModel) → AreSpared n ks u k) → (b : Bool) →
-      SparedAnswers m (back-answer dump last steps (kept-by n s kept (turn s m)) (cond b (run_wild m) (after_turn run_ended (run_by kind n no_flags false) no_flags s.pc (turn s m))))
-      (back-answer dump last steps (kept-by n s kept (turn s (still m))) (cond b (run_wild (still m)) (after_turn run_ended (run_by kind n no_flags false) no_flags s.pc (turn s (still m)))))
+      SparedAnswers m (back-answer dump last steps (kept-by n s kept (turn s m)) (cond b (run_wild m) (after_first kind n s.pc (turn s m))))
+      (back-answer dump last steps (kept-by n s kept (turn s (still m))) (cond b (run_wild (still m)) (after_first kind n s.pc (turn s (still m)))))
   back-step n kept s m more true = uncalled
   back-step n kept s m more false = after (turn-answer n s kept) (turn-steady s m) (turn-case n s kept more (turn s m))
 
   back-steady : (n : ℕ) (kept : List State) (s : State) (m : HostModel) → AreSpared n kept s m
-  unfolding run_by turns_of states_kept
-  back-steady zero kept s m = back-case kept (ended Spent s m)
-  back-steady (suc n) kept s m = back-step n kept s m (back-steady n) (ends_wild kind s)
+  unfolding turns_of states_kept
+  back-steady zero kept s m = rw (none-by kind s m, none-by kind s (still m)) (back-case kept (ended Spent s m))
+  back-steady (suc n) kept s m = rw (run-by-turn kind n s m, run-by-turn kind n s (still m)) (back-step n kept s m (back-steady n) (ends_wild kind s))
 
 played-case : (dump : Bool) (steps : ℕ) (r : SessionRun) → SparedAnswers (session_host r) (dumped dump (played steps r)) (dumped dump (played steps (session_still r)))
 played-case dump steps (session_wild m) = uncalled

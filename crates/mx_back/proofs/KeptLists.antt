@@ -13,7 +13,7 @@ use Rattle.mx_run.specs.Turns.{Answered, Turn, went_on, halts, stops, turn, turn
 use Rattle.mx_run.specs.WildRuns.{RunEnd, run_ended, run_wild, HasWindow, list_machine, run_by, turn_is_wild, trap_touches, as_list_turn}
 use Rattle.mx_run.specs.declared.end.End.{End}
 use Rattle.mx_run.specs.declared.end.End.TheVariants as end
-use Rattle.mx_run.proofs.FreeRuns.{trace-free}
+use Rattle.mx_run.proofs.FreeTurns.{trace-free}
 use Rattle.mx_run.proofs.ListSteps.{list-window}
 use Rattle.mx_run.proofs.ListTurns.{TurnWindow, turn-listed-on}
 use Rattle.mx_run.proofs.PlanEnds.{left-after, run_step, turn_ended, step-answer}

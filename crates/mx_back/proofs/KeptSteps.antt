@@ -16,14 +16,15 @@ use Rattle.mx_core.specs.declared.step.Step.TheVariants as made
 use Rattle.mx_code.specs.declared.trace.Trace.{Trace}
 use Rattle.mx_run.specs.RunPlans.{RunWorld, running, beside_world, turn_plan, step_plan, run_plan}
 use Rattle.mx_run.specs.AccompaniedRuns.{AfterSteps, ComesAccompanied}
-use Rattle.mx_run.specs.Runs.{Ended, IsLater, ended, no_flags, as_ended, after_turn, run}
+use Rattle.mx_run.specs.Runs.{Ended, IsLater, ended, no_flags, run}
 use Rattle.mx_run.specs.Turns.{Answered, Turn, went_on, halts, stops, turn, turn_answer, may_change}
 use Rattle.mx_run.specs.declared.end.End.{End}
 use Rattle.mx_run.specs.declared.end.End.TheVariants as end
 use Rattle.mx_run.specs.declared.turn_answer.TurnAnswer.{TurnAnswer}
 use Rattle.mx_run.specs.declared.turn_answer.TurnAnswer.TheVariants as answer
 use Rattle.mx_run.proofs.AccompaniedRuns.{Rest, Made, of-run}
-use Rattle.mx_run.proofs.FreeRuns.{trace-free, went-turn, went-free, halted-step, stopped-step, lacking-step, run-went}
+use Rattle.mx_run.proofs.FreeRuns.{went-turn, went-free, halted-step, stopped-step, lacking-step}
+use Rattle.mx_run.proofs.FreeTurns.{trace-free, none-made, run-went, run-halts, run-stops}
 use Rattle.mx_run.proofs.Later.{stepped-later}
 use Rattle.mx_run.proofs.PlanEnds.{left-after, run_step, turn_ended, step-end, step-answer, rest-ended}
 use Rattle.mx_run.proofs.Runners.{turn-told}
@@ -212,25 +213,20 @@ none-after (went_on s m trace) = refl
 none-after (halts status s m) = refl
 none-after (stops reason s m) = refl
 
-none-made : (s t : State) (m n : HostModel) → run zero no_flags false s m ≡ ended end.Spent t n → ended end.Spent s m ≡ ended end.Spent t n
-unfolding run
-none-made s t m n h = h
-
 -- such turns behind one
 abbrev KeepsMore : ℕ → State → HostModel → State → HostModel → List State → Type 0
 KeepsMore i s m t n kept = run i no_flags false s m ≡ ended end.Spent t n → states_kept (turns_of (suc i) s m) kept ≡ kept_turn (kind_at t n) t (states_kept (turns_of i s m) kept)
 
 more-by : (i : ℕ) (s t : State) (m n : HostModel) (kept : List State) (x : Turn) → turn s m ≡ x → ((u : State) (h : HostModel) → KeepsMore i u h t n kept) → run (suc i) no_flags false s m ≡ ended end.Spent t n →
     states_kept (turns_after (turns_of (suc i)) x) kept ≡ kept_turn (kind_at t n) t (states_kept (turns_after (turns_of i) x) kept)
-unfolding run
 more-by i s t m n kept (went_on u h trace) e more r = more u h (sym (run-went i s u m h trace e) ∙ r)
-more-by i s t m n kept (halts status u h) e more r = let wrong : end.Halted status ≡ end.Spent = ap (λ (x : Ended). x.end) (sym (ap (after_turn as_ended (run i no_flags false) no_flags s.pc) e) ∙ r) in absurd (cc)
-more-by i s t m n kept (stops reason u h) e more r = let wrong : end.Stopped s.pc reason ≡ end.Spent = ap (λ (x : Ended). x.end) (sym (ap (after_turn as_ended (run i no_flags false) no_flags s.pc) e) ∙ r) in absurd (cc)
+more-by i s t m n kept (halts status u h) e more r = let wrong : end.Halted status ≡ end.Spent = ap (λ (x : Ended). x.end) (sym (run-halts i s u m h status e) ∙ r) in absurd (cc)
+more-by i s t m n kept (stops reason u h) e more r = let wrong : end.Stopped s.pc reason ≡ end.Spent = ap (λ (x : Ended). x.end) (sym (run-stops i s u m h reason e) ∙ r) in absurd (cc)
 
 kept-more : (i : ℕ) (s t : State) (m n : HostModel) (kept : List State) → KeepsMore i s m t n kept
 unfolding turns_of states_kept
 kept-more zero s t m n kept h =
-    let same : ended end.Spent s m ≡ ended end.Spent t n = none-made s t m n h in
+    let same : ended end.Spent s m ≡ ended end.Spent t n = sym (none-made s m) ∙ h in
     ap (λ ts. states_kept ts (kept_turn (kind_at s m) s kept)) (none-after (turn s m)) ∙ ap (λ (x : Ended). kept_turn (kind_at x.state x.host) x.state kept) same
 kept-more (suc i) s t m n kept h = more-by i s t m n (kept_turn (kind_at s m) s kept) (turn s m) refl (λ u g. kept-more i u t g n (kept_turn (kind_at s m) s kept)) h
 

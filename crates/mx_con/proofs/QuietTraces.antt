@@ -1,11 +1,13 @@
 -- A step that does not look at Stack_Segment writes outside the stack area: the touches of its trace.
-use Rattle.std.proofs.Common.{◌≡◌, ℕ, zero, suc, ◌/◌, ◌^◌, ◌<◌, ◌≤◌, Bool, true, false, cond, Option, None, Some, arith, refl, sym, ◌∙◌, ap, subst}
+use Rattle.std.proofs.Common.{◌≡◌, ℕ, ◌/◌, ◌^◌, ◌<◌, ◌≤◌, Bool, true, false, cond, Option, None, Some, arith, refl, sym, ◌∙◌, ap, subst}
 use Rattle.std.specs.Prelude.{◌||◌, ◌&&◌, ◌==◌, not}
 use Rattle.std.specs.Option.{option_map}
 use Rattle.std.proofs.lemmas.Bool.Decides.{nat_tests}
 use Rattle.mx_host.specs.HostModel.{HostModel}
 use Rattle.mx_mem.specs.declared.part.Part.{Part}
 use Rattle.mx_mem.specs.declared.part.Part.TheVariants as part
+use Rattle.mx_plan.specs.Wild.{Course, ends, meets_wild}
+use Rattle.mx_plan.proofs.WildLaws.{EndsSo}
 use Rattle.mx_ring.specs.Stack.{in_stack_area}
 use Rattle.mx_spec.specs.SpecialRegisters.{rW, rX}
 use Rattle.mx_trip.specs.declared.call.TrapCall.{TrapCall}
@@ -35,13 +37,16 @@ use Rattle.mx_code.specs.declared.trace.Touch.{Touch}
 use Rattle.mx_code.specs.declared.trace.Trace.{Trace}
 use Rattle.mx_core.proofs.Same.Quiet.{free}
 use Rattle.mx_core.proofs.Steps.{other_deed, step_went, step_stopped, step_traps, step_negative}
-use Rattle.mx_run.specs.Runs.{FlagsOf, ended, break_of, after_trace, after_turn, breaks_before}
-use Rattle.mx_run.specs.Turns.{Turn, went_on, halts, stops, area_size, turn_with, trap_turn, turn_of, turn}
-use Rattle.mx_run.specs.WildRuns.{list_machine, RunEnd, run_ended, run_wild, trap_touches, turn_is_wild, run_by}
+use Rattle.mx_run.specs.RunPlans.{RunWorld, end_of_trace, end_of_turn}
+use Rattle.mx_run.specs.Runs.{FlagsOf, break_of}
+use Rattle.mx_run.specs.Turns.{Turn, area_size, turn_with, trap_turn, turn_of, turn, turn_answer}
+use Rattle.mx_run.specs.WildRuns.{list_machine, trap_touches, turn_is_wild, run_course, of_course, run_by}
 use Rattle.mx_run.specs.declared.end.BreakKind.{BreakKind}
-use Rattle.mx_run.specs.declared.end.BreakKind.TheVariants.{Execute}
 use Rattle.mx_run.specs.declared.end.End.{End}
 use Rattle.mx_run.specs.declared.end.End.TheVariants as ending
+use Rattle.mx_run.specs.declared.turn_answer.TurnAnswer.{TurnAnswer}
+use Rattle.mx_run.specs.declared.turn_answer.TurnAnswer.TheVariants as answer
+use Rattle.mx_run.proofs.RunCases.{OnOr, AnyWay, RunEndsSo, run-ends-so}
 
 -- what is touched lies outside the stack area
 abbrev pub Outside : Option Touch → Type 0
@@ -174,10 +179,12 @@ step-outside s w = stepped-outside (step s) (by-sign s (is_negative s.pc) refl w
 
 -- ---- A TURN
 
+abbrev pub AnswerOutside : TurnAnswer → Type 0
+AnswerOutside (answer.Went trace) = Outside trace.writes
+AnswerOutside other = Unit {0}
+
 abbrev pub TurnOutside : Turn → Type 0
-TurnOutside (went_on s m trace) = Outside trace.writes
-TurnOutside (halts status s m) = Unit {0}
-TurnOutside (stops reason s m) = Unit {0}
+TurnOutside t = AnswerOutside (turn_answer t).0
 
 with-outside : (b : Bool) (call : TrapCall) (s : State) (m : HostModel) (a : TrapAnswer) → TurnOutside (turn_with b call s m a)
 with-outside b call s m (trap.Value value) = tt
@@ -212,34 +219,29 @@ EndOutside (ending.Traced trace) = Outside trace.writes
 EndOutside ending.Spent = Unit {0}
 EndOutside ending.OutOfMemory = Unit {0}
 
-abbrev pub RunOutside : RunEnd → Type 0
-RunOutside (run_ended e) = EndOutside e.end
-RunOutside (run_wild m) = Unit {0}
+abbrev EndsOutside : End → RunWorld → Type 0
+EndsOutside end w = EndOutside end
 
-trace-outside : (more : State → HostModel → RunEnd) (traced : Bool) (trace : Trace) (b : Option (BreakKind × ℕ)) (s : State) (m : HostModel) → Outside trace.writes →
-    ((t : State) (n : HostModel) → RunOutside (more t n)) → RunOutside (after_trace run_ended more traced trace b s m)
-trace-outside more true trace (Some (kind, n)) s m h g = h
-trace-outside more false trace (Some (kind, n)) s m h g = tt
-trace-outside more true trace None s m h g = h
-trace-outside more false trace None s m h g = g s m
+trace-outside : (n : ℕ) (traced : Bool) (trace : Trace) (b : Option (BreakKind × ℕ)) (v : RunWorld) → Outside trace.writes → OnOr (AnyWay n) EndsOutside (end_of_trace traced trace b) v
+trace-outside n true trace (Some (kind, at)) v h = h
+trace-outside n false trace (Some (kind, at)) v h = tt
+trace-outside n true trace None v h = h
+trace-outside n false trace None v h = tt
 
-after-outside : (more : State → HostModel → RunEnd) (f : FlagsOf) (pc : ℕ) (t : Turn) → TurnOutside t → ((s : State) (n : HostModel) → RunOutside (more s n)) →
-    RunOutside (after_turn run_ended more f pc t)
-after-outside more f pc (went_on s m trace) h g = trace-outside more (f (pc / 4)).t trace (break_of f trace) s m h g
-after-outside more f pc (halts status s m) h g = tt
-after-outside more f pc (stops reason s m) h g = tt
+turned-outside : (n : ℕ) (f : FlagsOf) (pc : ℕ) (a : TurnAnswer) (v : RunWorld) → AnswerOutside a → OnOr (AnyWay n) EndsOutside (end_of_turn f pc a) v
+turned-outside n f pc (answer.Went trace) v h = trace-outside n (f (pc / 4)).t trace (break_of f trace) v h
+turned-outside n f pc (answer.Halted status) v h = tt
+turned-outside n f pc (answer.Stopped reason) v h = tt
+turned-outside n f pc answer.OutOfMemory v h = tt
 
-abbrev list-step : Bool → Bool → (State → HostModel → RunEnd) → FlagsOf → State → HostModel → RunEnd
-list-step b w more f s m = cond b (run_ended (ended (ending.Broke Execute s.pc None) s m)) (cond w (run_wild m) (after_turn run_ended more f s.pc (turn s m)))
+-- what is known of the end of a run is known of its course
+pub run-ends : (Such : End → RunWorld → Type 0) (c : Course End RunWorld) → RunEndsSo Such (of_course c) → EndsSo Such c
+run-ends Such (ends end w) h = h
+run-ends Such (meets_wild w) h = tt
 
-list-outside : (b w : Bool) (more : State → HostModel → RunEnd) (f : FlagsOf) (s : State) (m : HostModel) → turn_is_wild s ≡ w → ((t : State) (n : HostModel) → RunOutside (more t n)) →
-    RunOutside (list-step b w more f s m)
-list-outside true w more f s m e g = tt
-list-outside false true more f s m e g = tt
-list-outside false false more f s m e g = after-outside more f s.pc (turn s m) (turn-outside s m e) g
-
-pub run-outside : (n : ℕ) (f : FlagsOf) (pass : Bool) (s : State) (m : HostModel) → RunOutside (run_by list_machine n f pass s m)
+pub run-outside : (n : ℕ) (f : FlagsOf) (pass : Bool) (s : State) (m : HostModel) → EndsSo (λ end w. EndOutside end) (run_course list_machine n f pass s m)
 unfolding run_by
-run-outside zero f pass s m = tt
-run-outside (suc n) f pass s m =
-    list-outside (breaks_before f pass s) (turn_is_wild s) (run_by list_machine n f false) f s m refl (λ t k. run-outside n f false t k)
+run-outside n f pass s m =
+    run-ends EndsOutside (run_course list_machine n f pass s m)
+    (run-ends-so list_machine f (λ w a v. AnswerOutside a) AnyWay EndsOutside (record { spent = λ w g. tt; broken = λ k w x g. tt; turned = λ k a w v g h. turned-outside k f w.0.pc a v h })
+    (λ t k tame. turn-outside t k tame) n pass s m tt)

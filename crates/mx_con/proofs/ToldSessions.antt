@@ -1,320 +1,160 @@
--- By its definition a session does not lack memory: no call that the host answers does, and no run.
-use Rattle.std.proofs.Common.{◌≡◌, ℕ, zero, suc, ◌+◌, ◌/◌, ◌==◌, List, [], ◌∷◌, ◌++◌, Bool, true, false, cond, Option, None, Some, Result, Ok, Err, refl}
-use Rattle.mx_host.specs.HostAnswer.{Then, read_answer, read_from, read_lead, write_answer, write_to, write_lead}
+-- A session does not lack memory: no call that the host answers does, no turn and no run.
+use Rattle.std.proofs.Common.{◌≡◌, ℕ, zero, suc, ◌/◌, ◌≤◌, List, [], ◌∷◌, length, take, drop, Bool, true, false, cond, Option, None, Some, refl, arith}
+use Rattle.std.specs.Prelude.{Result}
+use Rattle.mx_host.specs.HostAnswer.{Then, bytes_at, read_answer, read_from, read_lead, write_answer, write_to, write_lead}
 use Rattle.mx_host.specs.HostModel.{HostModel, counted, is_failing, slot_at, is_read_only, is_write_only}
 use Rattle.mx_host.specs.declared.faults.HostFault.{HostFault}
-use Rattle.mx_host.specs.declared.faults.HostFault.TheVariants as fault
 use Rattle.mx_host.specs.declared.slots.Slot.{Slot}
 use Rattle.mx_host.specs.declared.slots.Slot.TheVariants.{Closed, Open}
 use Rattle.mx_host.specs.declared.slots.Mode.{Mode}
 use Rattle.mx_host.specs.declared.slots.Lead.{Lead}
 use Rattle.mx_host.specs.declared.slots.Lead.TheVariants.{Input, Output, Errors, File}
+use Rattle.mx_plan.specs.Calls.{HostCall, reading, writing, host}
+use Rattle.mx_plan.specs.Taking.{CanSay}
+use Rattle.mx_plan.specs.Wild.{Course, ends, meets_wild, course, carried}
+use Rattle.mx_plan.proofs.WildLaws.{Answers, EndsSo, course_gives}
 use Rattle.mx_core.specs.State.{State}
 use Rattle.mx_code.specs.declared.trace.Trace.{Trace}
-use Rattle.mx_run.specs.Runs.{FlagsOf, break_of, breaks_before, after_trace}
-use Rattle.mx_run.specs.Runs.{after_turn as run_after_turn}
+use Rattle.mx_run.specs.RunPlans.{turning, RunWorld, running, end_of_trace, end_of_turn}
+use Rattle.mx_run.specs.Runs.{FlagsOf, break_of}
 use Rattle.mx_run.specs.Turns.{Turn, went_on, halts, stops, turn, turn_answer}
-use Rattle.mx_run.specs.WildRuns.{MachineKind, RunEnd, run_ended, run_wild, ends_wild, run_by}
+use Rattle.mx_run.specs.WildRuns.{MachineKind, ends_wild, run_goes, run_course, run_by}
 use Rattle.mx_run.specs.declared.end.BreakKind.{BreakKind}
 use Rattle.mx_run.specs.declared.end.End.{End}
-use Rattle.mx_run.specs.declared.end.End.TheVariants as ending
-use Rattle.mx_cmd.specs.Commands.{command_of}
-use Rattle.mx_cmd.specs.declared.command.Command.{Command}
-use Rattle.mx_cmd.specs.declared.command.Command.TheVariants as command
-use Rattle.mx_show.specs.Texts.{trace_text}
-use Rattle.mx_con.specs.HostLines.{Written, written, text_write, line_write, after_write, lines_write, input_slot, output_slot}
-use Rattle.mx_con.specs.HostLines.{byte_of, byte_read, Growing, last_line, byte_added, with_byte, grown, Reading, after_byte, line_read, without_return}
-use Rattle.mx_con.specs.Judgement.{bad_text, command_bad}
-use Rattle.mx_con.specs.Replies.{Reply, reply_to}
-use Rattle.mx_con.specs.Session.{Console, Progress, Done, on, over, wild, and_then, write_done, line_done, steps_left, with_run, after_turn, stepped}
-use Rattle.mx_con.specs.Session.{goes, break_lines, end_answer, end_done, after_run, one_run, run_on, runs, with_reply, carried_out}
-use Rattle.mx_con.specs.Session.{line_ends_wild, judged, answered, command_done, reading_done, prompt, line_of, prompted, asked, one_line}
-use Rattle.mx_con.specs.Session.{session_lines, most_input, at_start, run_of, session}
+use Rattle.mx_run.specs.declared.turn_answer.TurnAnswer.{TurnAnswer}
+use Rattle.mx_run.specs.declared.turn_answer.TurnAnswer.TheVariants as answer
+use Rattle.mx_con.specs.Session.{keeping_flags, command_ends_wild, session_goes, of_course, session_course, session}
+use Rattle.mx_con.specs.SessionPlans.{SessionCall, of_host, of_turn, of_run, replying, SessionWorld, conversing, session_plan}
 use Rattle.mx_con.specs.Told.{is_end_told, is_told}
 use Rattle.mx_con.specs.declared.end.SessionEnd.{SessionEnd}
-use Rattle.mx_con.specs.declared.judgement.Bad.{Bad}
-use Rattle.mx_con.specs.declared.judgement.Bad.TheVariants.{UnknownCommand}
+use Rattle.mx_con.proofs.QuietTraces.{run-ends}
+use Rattle.mx_run.proofs.RunCases.{OnOr, AnyWay, run-ends-so}
+use Rattle.mx_con.proofs.WalkedPlans.{is_call_told, is_host_told, is_turn_told, is_run_told, SessionTold, session-gives}
 
--- ---- CALLS
+-- ---- calls of a host
 
--- whether an answer of the host is another than that of no memory
-abbrev is_call_told : {A : Type 0} → Result A HostFault → Bool
-is_call_told (Ok x) = true
-is_call_told (Err fault.Failed) = true
-is_call_told (Err fault.Misused) = true
-is_call_told (Err fault.OutOfMemory) = false
+abbrev CallTold : {A : Type 0} → Result A HostFault → Type 0
+CallTold r = is_call_told r ≡ true
 
-abbrev CallTold : {A : Type 0} → Then (Result A HostFault) → Type 0
-CallTold a = is_call_told a.0 ≡ true
+either : {A : Type 0} (Such : A → Type 0) (b : Bool) (x y : Then A) → Such x.0 → Such y.0 → Such (cond b x y).0
+either Such true x y h k = h
+either Such false x y h k = k
 
-either-call : {A : Type 0} (b : Bool) (x y : Then (Result A HostFault)) → CallTold x → CallTold y → CallTold (cond b x y)
-either-call true x y h k = h
-either-call false x y h k = k
-
-lead-written : (m : HostModel) (slot : ℕ) (from : List ℕ) (l : Lead) (mode : Mode) (place : ℕ) → CallTold (write_lead m slot from l mode place)
+lead-written : (m : HostModel) (slot : ℕ) (from : List ℕ) (l : Lead) (mode : Mode) (place : ℕ) → CallTold (write_lead m slot from l mode place).0
 lead-written m slot from Input mode place = refl
 lead-written m slot from Output mode place = refl
 lead-written m slot from Errors mode place = refl
 lead-written m slot from (File at) mode place = refl
 
-slot-written : (m : HostModel) (slot : ℕ) (from : List ℕ) (s : Slot) → CallTold (write_to m slot from s)
+slot-written : (m : HostModel) (slot : ℕ) (from : List ℕ) (s : Slot) → CallTold (write_to m slot from s).0
 slot-written m slot from Closed = refl
-slot-written m slot from (Open l mode place) = either-call (is_read_only mode) _ _ refl (lead-written m slot from l mode place)
+slot-written m slot from (Open l mode place) = either CallTold (is_read_only mode) _ _ refl (lead-written m slot from l mode place)
 
-write-told : (m : HostModel) (slot : ℕ) (from : List ℕ) → CallTold (write_answer m slot from)
+write-told : (m : HostModel) (slot : ℕ) (from : List ℕ) → CallTold (write_answer m slot from).0
 unfolding write_answer
-write-told m slot from = either-call (is_failing m) _ _ refl (slot-written (counted m) slot from (slot_at m slot))
+write-told m slot from = either CallTold (is_failing m) _ _ refl (slot-written (counted m) slot from (slot_at m slot))
 
-lead-read : (m : HostModel) (slot len : ℕ) (l : Lead) (mode : Mode) (place : ℕ) → CallTold (read_lead m slot len l mode place)
-lead-read m slot len Input mode place = refl
-lead-read m slot len Output mode place = refl
-lead-read m slot len Errors mode place = refl
-lead-read m slot len (File at) mode place = refl
+-- at most as many bytes are read as were asked for
+abbrev ReadSo : ℕ → Result (List ℕ) HostFault → Type 0
+ReadSo len r = CanSay (reading 258 len) r × CallTold r
 
-slot-read : (m : HostModel) (slot len : ℕ) (s : Slot) → CallTold (read_from m slot len s)
-slot-read m slot len Closed = refl
-slot-read m slot len (Open l mode place) = either-call (is_write_only mode) _ _ refl (lead-read m slot len l mode place)
+take-most : (n : ℕ) (xs : List ℕ) → length (take n xs) ≤ n
+take-most zero xs = omega arith
+take-most (suc n) [] = omega arith
+take-most (suc n) (x ∷ xs) = let rest = take-most n xs in omega (arith, rest)
 
-read-told : (m : HostModel) (slot len : ℕ) → CallTold (read_answer m slot len)
+lead-read : (m : HostModel) (slot len : ℕ) (l : Lead) (mode : Mode) (place : ℕ) → ReadSo len (read_lead m slot len l mode place).0
+lead-read m slot len Input mode place = (take-most len m.input, refl)
+lead-read m slot len Output mode place = (tt, refl)
+lead-read m slot len Errors mode place = (tt, refl)
+lead-read m slot len (File at) mode place = (take-most len (drop place (bytes_at m.files at)), refl)
+
+slot-read : (m : HostModel) (slot len : ℕ) (s : Slot) → ReadSo len (read_from m slot len s).0
+slot-read m slot len Closed = (tt, refl)
+slot-read m slot len (Open l mode place) = either (ReadSo len) (is_write_only mode) _ _ (tt, refl) (lead-read m slot len l mode place)
+
+read-told : (m : HostModel) (slot len : ℕ) → ReadSo len (read_answer m slot len).0
 unfolding read_answer
-read-told m slot len = either-call (is_failing m) _ _ refl (slot-read (counted m) slot len (slot_at m slot))
+read-told m slot len = either (ReadSo len) (is_failing m) _ _ (tt, refl) (slot-read (counted m) slot len (slot_at m slot))
 
--- ---- LINES
+host-told : (o : HostCall) (m : HostModel) → CanSay o (host.act o m).0 × (is_host_told o (host.act o m).0 ≡ true)
+unfolding host
+host-told (reading slot len) m = read-told m slot len
+host-told (writing slot from) m = (tt, write-told m slot from)
+host-told other m = (tt, refl)
 
-abbrev is_answer_told : {A : Type 0} → Result A SessionEnd → Bool
-is_answer_told (Ok x) = true
-is_answer_told (Err end) = is_end_told end
+-- ---- turns and runs
 
-abbrev AnswerTold : {A : Type 0} → Result A SessionEnd → Type 0
-AnswerTold r = is_answer_told r ≡ true
+abbrev TurnTold : TurnAnswer → Type 0
+TurnTold a = is_turn_told a ≡ true
 
-written-told : (a : Then (Result (Unit {0}) HostFault)) → CallTold a → AnswerTold (written a).0
-written-told (Ok u, m) h = refl
-written-told (Err fault.Failed, m) h = refl
-written-told (Err fault.Misused, m) h = refl
-written-told (Err fault.OutOfMemory, m) h = h
+abbrev RunTold : End → Type 0
+RunTold end = is_run_told end ≡ true
 
-text-told : (m : HostModel) (text : List ℕ) → AnswerTold (text_write m text).0
-unfolding text_write
-text-told m text = written-told (write_answer m output_slot text) (write-told m output_slot text)
+turn-told : (t : Turn) → TurnTold (turn_answer t).0
+turn-told (went_on s m trace) = refl
+turn-told (halts status s m) = refl
+turn-told (stops reason s m) = refl
 
-after-told : (more : HostModel → Written) (w : Written) → ((m : HostModel) → AnswerTold (more m).0) → AnswerTold w.0 → AnswerTold (after_write more w).0
-after-told more (Ok u, m) g h = g m
-after-told more (Err end, m) g h = h
+turning-told : (kind : MachineKind) (w : RunWorld) → Answers TurnTold (run_goes kind turning w)
+unfolding running
+turning-told kind w = by (ends_wild kind w.0)
+  where
+    by : (b : Bool) → Answers TurnTold (cond b (meets_wild w) (carried running turning w))
+    by true = tt
+    by false = turn-told (turn w.0 w.1)
 
-lines-told : (lines : List (List ℕ)) (m : HostModel) → AnswerTold (lines_write lines m).0
-unfolding lines_write
-lines-told [] m = refl
-lines-told (line ∷ lines) m = after-told (lines_write lines) (line_write m line) (λ n. lines-told lines n) (text-told m (line ++ 10 ∷ []))
+abbrev EndsTold : End → RunWorld → Type 0
+EndsTold end w = RunTold end
 
-byte-told : (a : Then (Result (List ℕ) HostFault)) → CallTold a → AnswerTold (byte_of a).0
-byte-told (Ok [], m) h = refl
-byte-told (Ok (b ∷ bs), m) h = refl
-byte-told (Err fault.Failed, m) h = refl
-byte-told (Err fault.Misused, m) h = refl
-byte-told (Err fault.OutOfMemory, m) h = h
+trace-told : (n : ℕ) (traced : Bool) (trace : Trace) (b : Option (BreakKind × ℕ)) (v : RunWorld) → OnOr (AnyWay n) EndsTold (end_of_trace traced trace b) v
+trace-told n traced trace (Some (kind, at)) v = refl
+trace-told n true trace None v = refl
+trace-told n false trace None v = tt
 
-next-told : (m : HostModel) → AnswerTold (byte_read m).0
-unfolding byte_read
-next-told m = byte-told (read_answer m input_slot 1) (read-told m input_slot 1)
+answer-told : (n : ℕ) (f : FlagsOf) (pc : ℕ) (a : TurnAnswer) (v : RunWorld) → TurnTold a → OnOr (AnyWay n) EndsTold (end_of_turn f pc a) v
+answer-told n f pc (answer.Went trace) v h = trace-told n (f (pc / 4)).t trace (break_of f trace) v
+answer-told n f pc (answer.Halted status) v h = refl
+answer-told n f pc (answer.Stopped reason) v h = refl
+answer-told n f pc answer.OutOfMemory v h = h
 
-last-told : (got : List ℕ) → AnswerTold (last_line got)
-last-told [] = refl
-last-told (b ∷ bs) = refl
-
-either-added : (b : Bool) (x y : Result Bool SessionEnd × List ℕ) → AnswerTold x.0 → AnswerTold y.0 → AnswerTold (cond b x y).0
-either-added true x y h k = h
-either-added false x y h k = k
-
-added-told : (got : List ℕ) (b : ℕ) → AnswerTold (byte_added got b).0
-added-told got b = either-added (b == 10) _ _ refl refl
-
-with-told : (got : List ℕ) (left : ℕ) (t : Then (Result (Option ℕ) SessionEnd)) → AnswerTold t.0 → AnswerTold (with_byte got left t).0
-with-told got left (Err end, m) h = h
-with-told got left (Ok None, m) h = last-told got
-with-told got left (Ok (Some b), m) h = added-told got b
-
-grown-told : (more : List ℕ → HostModel → Reading) (g : Growing) → ((got : List ℕ) (m : HostModel) → AnswerTold (more got m).0) → AnswerTold g.0 → AnswerTold (after_byte more g).0
-grown-told more (Ok true, got, left, m) f h = f got m
-grown-told more (Ok false, got, left, m) f h = refl
-grown-told more (Err end, got, left, m) f h = h
-
-line-told : (left : ℕ) (got : List ℕ) (m : HostModel) → AnswerTold (line_read left got m).0
-unfolding line_read
-line-told zero got m = refl
-line-told (suc left) got m = grown-told (line_read left) (grown left got m) (λ g k. line-told left g k) (with-told got left (byte_read m) (next-told m))
-
--- ---- PARTS
-
-abbrev is_part_told : {A : Type 0} → Progress A → Bool
-is_part_told (on x c) = true
-is_part_told (over end c) = is_end_told end
-is_part_told (wild m) = true
-
-abbrev PartTold : {A : Type 0} → Progress A → Type 0
-PartTold p = is_part_told p ≡ true
-
-either-part : {A : Type 0} (b : Bool) (p q : Progress A) → PartTold p → PartTold q → PartTold (cond b p q)
-either-part true p q h k = h
-either-part false p q h k = k
-
-then-told : {A B : Type 0} (more : A → Console → Progress B) (p : Progress A) → ((x : A) (c : Console) → PartTold (more x c)) → PartTold p → PartTold (and_then more p)
-then-told more (on x c) f h = f x c
-then-told more (over end c) f h = h
-then-told more (wild m) f h = refl
-
-done-told : {A : Type 0} (x : A) (c : Console) (w : Written) → AnswerTold w.0 → PartTold (write_done x c w)
-done-told x c (Ok u, m) h = refl
-done-told x c (Err end, m) h = h
-
-line_done-told : (c : Console) (line : List ℕ) → PartTold (line_done c line)
-line_done-told c line = done-told tt c (line_write c.host line) (text-told c.host (line ++ 10 ∷ []))
-
--- ---- STEPS AND RUNS
-
-turn-told : (c : Console) (pc : ℕ) (t : Turn) → PartTold (after_turn c pc (turn_answer t))
-turn-told c pc (went_on s m trace) = line_done-told (with_run c s m) (trace_text trace s)
-turn-told c pc (halts status s m) = refl
-turn-told c pc (stops reason s m) = refl
-
-stepped-told : (kind : MachineKind) (steps : ℕ) (c : Console) → PartTold (stepped kind steps c)
-unfolding stepped
-stepped-told kind steps c =
-    either-part (steps_left steps c.state == 0) _ _ refl
-    (either-part (ends_wild kind c.state) _ _ refl (turn-told c c.state.pc (turn c.state c.host)))
-
-abbrev is_end_of_run_told : End → Bool
-is_end_of_run_told ending.OutOfMemory = false
-is_end_of_run_told end = true
-
-abbrev is_run_told : RunEnd → Bool
-is_run_told (run_ended e) = is_end_of_run_told e.end
-is_run_told (run_wild m) = true
-
-abbrev RunTold : RunEnd → Type 0
-RunTold r = is_run_told r ≡ true
-
-either-run : (b : Bool) (x y : RunEnd) → RunTold x → RunTold y → RunTold (cond b x y)
-either-run true x y h k = h
-either-run false x y h k = k
-
-trace-told : (more : State → HostModel → RunEnd) (traced : Bool) (trace : Trace) (b : Option (BreakKind × ℕ)) (s : State) (m : HostModel) → RunTold (more s m) → RunTold (after_trace run_ended more traced trace b s m)
-trace-told more traced trace (Some (kind, n)) s m h = refl
-trace-told more true trace None s m h = refl
-trace-told more false trace None s m h = h
-
-run-turn-told : (more : State → HostModel → RunEnd) (f : FlagsOf) (pc : ℕ) (t : Turn) → ((s : State) (m : HostModel) → RunTold (more s m)) → RunTold (run_after_turn run_ended more f pc t)
-run-turn-told more f pc (halts status s m) g = refl
-run-turn-told more f pc (stops reason s m) g = refl
-run-turn-told more f pc (went_on s m trace) g = trace-told more (f (pc / 4)).t trace (break_of f trace) s m (g s m)
-
-run-told : (kind : MachineKind) (n : ℕ) (f : FlagsOf) (pass : Bool) (s : State) (m : HostModel) → RunTold (run_by kind n f pass s m)
+run-told : (kind : MachineKind) (n : ℕ) (f : FlagsOf) (pass : Bool) (s : State) (m : HostModel) → EndsSo EndsTold (run_course kind n f pass s m)
 unfolding run_by
-run-told kind zero f pass s m = refl
-run-told kind (suc n) f pass s m =
-    either-run (breaks_before f pass s) _ _ refl
-    (either-run (ends_wild kind s) _ _ refl (run-turn-told (run_by kind n f false) f s.pc (turn s m) (λ t k. run-told kind n f false t k)))
+run-told kind n f pass s m =
+    run-ends EndsTold (run_course kind n f pass s m)
+    (run-ends-so kind f (λ w a v. TurnTold a) AnyWay EndsTold (record { spent = λ w g. refl; broken = λ k w x g. refl; turned = λ k a w v g h. answer-told k f w.0.pc a v h })
+    (λ t k tame. turn-told (turn t k)) n pass s m tt)
 
-goes-told : (going : Bool) (w : Written) → AnswerTold w.0 → AnswerTold (goes going w).0
-goes-told going (Ok u, m) h = refl
-goes-told going (Err end, m) h = h
+-- ---- the calls of a session, and a session
 
-end-told : (s : State) (end : End) (m : HostModel) → is_end_of_run_told end ≡ true → AnswerTold (end_answer s end m).0
-end-told s (ending.Halted status) m h = refl
-end-told s (ending.Stopped pc reason) m h = refl
-end-told s (ending.Broke kind at traced) m h = goes-told false (lines_write (break_lines s kind at traced) m) (lines-told (break_lines s kind at traced) m)
-end-told s (ending.Traced trace) m h = goes-told true (line_write m (trace_text trace s)) (text-told m (trace_text trace s ++ 10 ∷ []))
-end-told s ending.Spent m h = refl
-end-told s ending.OutOfMemory m h = absurd (cc)
+turn-flags : (f : FlagsOf) (c : Course TurnAnswer RunWorld) → Answers TurnTold c → Answers (SessionTold of_turn) (keeping_flags f c)
+turn-flags f (ends a w) h = (tt, h)
+turn-flags f (meets_wild w) h = tt
 
-end_done-told : (c : Console) (w : Then (Result Bool SessionEnd)) → AnswerTold w.0 → PartTold (end_done c w)
-end_done-told c (Ok going, m) h = refl
-end_done-told c (Err end, m) h = h
+run-flags : (n : ℕ) (pass : Bool) (f : FlagsOf) (c : Course End RunWorld) → EndsSo EndsTold c → Answers (SessionTold (of_run n pass)) (keeping_flags f c)
+run-flags n pass f (ends end w) h = (tt, h)
+run-flags n pass f (meets_wild w) h = tt
 
-after_run-told : (c : Console) (r : RunEnd) → RunTold r → PartTold (after_run c r)
-after_run-told c (run_wild m) h = refl
-after_run-told c (run_ended e) h = end_done-told (with_run c e.state e.host) (end_answer e.state e.end e.host) (end-told e.state e.end e.host h)
+call-told : (kind : MachineKind) (o : SessionCall) (w : SessionWorld) → Answers (SessionTold o) (session_goes kind o w)
+unfolding conversing
+call-told kind (of_host o) w = host-told o w.0.1
+call-told kind of_turn w = turn-flags w.1 (run_goes kind turning w.0) (turning-told kind w.0)
+call-told kind (of_run n pass) w = run-flags n pass w.1 (run_course kind n w.1 pass w.0.0 w.0.1) (run-told kind n w.1 pass w.0.0 w.0.1)
+call-told kind (replying shown command) w = by (command_ends_wild kind shown command)
+  where
+    by : (b : Bool) → Answers (SessionTold (replying shown command)) (cond b (meets_wild w) (carried conversing (replying shown command) w))
+    by true = tt
+    by false = (tt, refl)
+call-told kind other w = (tt, refl)
 
-one_run-told : (kind : MachineKind) (steps : ℕ) (pass : Bool) (c : Console) → PartTold (one_run kind steps pass c)
-unfolding one_run
-one_run-told kind steps pass c =
-    after_run-told c (run_by kind (steps_left steps c.state) c.flags pass c.state c.host)
-    (run-told kind (steps_left steps c.state) c.flags pass c.state c.host)
-
-run_on-told : (more : Console → Done) (going : Bool) (c : Console) → PartTold (more c) → PartTold (run_on more going c)
-run_on-told more true c h = h
-run_on-told more false c h = refl
-
-runs-told : (kind : MachineKind) (n steps : ℕ) (pass : Bool) (c : Console) → PartTold (runs kind n steps pass c)
-unfolding runs
-runs-told kind zero steps pass c = refl
-runs-told kind (suc n) steps pass c =
-    then-told (run_on (runs kind n steps false)) (one_run kind steps pass c)
-    (λ going d. run_on-told (runs kind n steps false) going d (runs-told kind n steps false d)) (one_run-told kind steps pass c)
-
--- ---- COMMANDS
-
-carried-told : (c : Console) (command : Command) → PartTold (carried_out c command)
-unfolding carried_out
-carried-told c command =
-    let r : Reply = reply_to c.state c.flags c.shown command in done-told tt (with_reply c r) (lines_write r.lines c.host) (lines-told r.lines c.host)
-
-judged-told : (kind : MachineKind) (c : Console) (command : Command) (bad : Option Bad) → PartTold (judged kind c command bad)
-judged-told kind c command (Some bad) = line_done-told c (bad_text bad)
-judged-told kind c command None = either-part (line_ends_wild kind c.shown command) _ _ refl (carried-told c command)
-
-answered-told : (kind : MachineKind) (c : Console) (command : Command) → PartTold (answered kind c command)
-unfolding answered
-answered-told kind c command = judged-told kind c command (command_bad c.state c.shown command)
-
-command-told : (kind : MachineKind) (steps : ℕ) (c : Console) (line : Option Command) → PartTold (command_done kind steps c line)
-unfolding command_done
-command-told kind steps c None = line_done-told c (bad_text UnknownCommand)
-command-told kind steps c (Some command.Step) = stepped-told kind steps c
-command-told kind steps c (Some command.Continue) = runs-told kind (steps_left steps c.state) steps true c
-command-told kind steps c (Some command.Quit) = refl
-command-told kind steps c (Some command.State) = answered-told kind c command.State
-command-told kind steps c (Some (command.Show subject form)) = answered-told kind c (command.Show subject form)
-command-told kind steps c (Some (command.Change subject value)) = answered-told kind c (command.Change subject value)
-command-told kind steps c (Some (command.ShowMore n form)) = answered-told kind c (command.ShowMore n form)
-command-told kind steps c (Some (command.GoTo a)) = answered-told kind c (command.GoTo a)
-command-told kind steps c (Some (command.Break breaks a)) = answered-told kind c (command.Break breaks a)
-command-told kind steps c (Some (command.Trace a)) = answered-told kind c (command.Trace a)
-command-told kind steps c (Some (command.Untrace a)) = answered-told kind c (command.Untrace a)
-command-told kind steps c (Some command.Flags) = answered-told kind c command.Flags
-
--- ---- SESSIONS
-
-reading-told : (c : Console) (t : Reading) → AnswerTold t.0 → PartTold (reading_done c t)
-reading-told c (Ok text, left, m) h = refl
-reading-told c (Err end, left, m) h = h
-
-asked-told : (c : Console) → PartTold (asked c)
-unfolding asked
-asked-told c =
-    then-told line_of (prompted c) (λ u d. reading-told d (line_read d.left [] d.host) (line-told d.left [] d.host))
-    (done-told tt c (text_write c.host prompt) (text-told c.host prompt))
-
-one-told : (kind : MachineKind) (steps : ℕ) (c : Console) → PartTold (one_line kind steps c)
-unfolding one_line
-one-told kind steps c =
-    then-told (λ text d. command_done kind steps d (command_of (without_return text))) (asked c)
-    (λ text d. command-told kind steps d (command_of (without_return text))) (asked-told c)
-
-all-told : (n : ℕ) (kind : MachineKind) (steps : ℕ) (c : Console) → PartTold (session_lines n kind steps c)
-unfolding session_lines
-all-told zero kind steps c = refl
-all-told (suc n) kind steps c =
-    then-told (λ u d. session_lines n kind steps d) (one_line kind steps c) (λ u d. all-told n kind steps d) (one-told kind steps c)
-
-run-of-told : (p : Done) → PartTold p → is_told (run_of p) ≡ true
-run-of-told (on u c) h = refl
-run-of-told (over end c) h = h
-run-of-told (wild m) h = refl
+of-told : (c : Course SessionEnd SessionWorld) → Answers (λ end. is_end_told end ≡ true) c → is_told (of_course c) ≡ true
+of-told (ends end w) h = h
+of-told (meets_wild w) h = refl
 
 pub sessions-told : (kind : MachineKind) (steps : ℕ) (s : State) (f : FlagsOf) (m : HostModel) → is_told (session kind steps s f m) ≡ true
-unfolding session
+unfolding session session_course
 sessions-told kind steps s f m =
-    run-of-told (session_lines (most_input + 1) kind steps (at_start s f m)) (all-told (most_input + 1) kind steps (at_start s f m))
+    of-told (course (session_goes kind) (session_plan steps) ((s, m), f))
+    (course_gives (session_goes kind) SessionTold (λ end. is_end_told end ≡ true) (call-told kind) (session_plan steps) ((s, m), f) (session-gives steps))
 
 pub ruleset telling = (sessions-told)

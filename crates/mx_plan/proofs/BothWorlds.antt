@@ -2,7 +2,7 @@
 use Rattle.std.proofs.Common.{◌≡◌, ◌≢◌, refl, sym, ◌∙◌, ap, subst}
 use Rattle.mx_plan.specs.Plan.{Plan, returns, bind, Acts, StopsAfter, end_of, end_after}
 use Rattle.mx_plan.specs.Wild.{Course, ends, meets_wild, then_on, course, GoesAs, ComesBoth, GoesOn, alike, was_wild, IsRestBoth}
-use Rattle.mx_plan.proofs.Plans.{end_bind, stops_after, rest_after}
+use Rattle.mx_plan.proofs.Plans.{end_bind, stops_after, rest_after, rest_done}
 use Rattle.mx_plan.proofs.WildLaws.{course_bind}
 
 -- what the other world comes to after a plan that went so
@@ -67,7 +67,7 @@ whole-both {O} {R} {V} {W} {A} d goes seen Alike Passed rest whole none result n
     by ne (was_wild v e k) = subst (λ (c : Course A V). GoesAs seen Alike Passed c result new) (sym e) (through v k)
 
 -- the last part of what is left is done: at its answer the rest is over
-pub list-done : {O : Type 0} {R : O → Type 0} {V W A B : Type 0} (goes : (o : O) → V → Course (R o) V) (seen : W → V) (Alike : W → Type 0) (Passed : V → W → Type 0)
+list-done : {O : Type 0} {R : O → Type 0} {V W A B : Type 0} (goes : (o : O) → V → Course (R o) V) (seen : W → V) (Alike : W → Type 0) (Passed : V → W → Type 0)
     (f : A → Plan O R B) (p : Plan O R A) (x : A) (result : B) (at now : W) (whole : Course B V) → f x ≡ returns result → ((v : V) → Passed v at → Passed v now) →
     (Alike at → GoesAs seen Alike Passed (course goes p (seen at)) x now) → GoesOn seen Alike Passed whole (course goes (bind f p) (seen at)) at → GoesAs seen Alike Passed whole result now
 unfolding course
@@ -77,3 +77,28 @@ list-done {O} {R} {V} {W} {A} {B} goes seen Alike Passed f p x result at now who
     (λ b. subst (λ (q : Plan O R B). GoesAs seen Alike Passed (course goes q (seen now)) result now) (sym over) (refl, (refl, b))))
 list-done {O} {R} {V} {W} {A} {B} goes seen Alike Passed f p x result at now whole over through h (was_wild v e k) =
     subst (λ (c : Course B V). GoesAs seen Alike Passed c result now) (sym e) (through v k)
+
+pub done-both : {O : Type 0} {R : O → Type 0} {V W A B : Type 0} (d : Acts O R W) (goes : (o : O) → V → Course (R o) V) (seen : W → V) (Alike : W → Type 0) (Passed : V → W → Type 0)
+    (f : A → Plan O R B) (p : Plan O R A) (x none : A) (last result : B) (at now start : W) (whole : Plan O R B) → f x ≡ returns result → (result ≢ last → x ≢ none) → (result ≡ last → x ≡ none) →
+    (x ≢ none → (v : V) → Passed v at → Passed v now) → ComesBoth d goes seen Alike Passed at now none x p → IsRestBoth d goes seen Alike Passed (bind f p) at whole start →
+    ComesBoth d goes seen Alike Passed start now last result whole
+done-both d goes seen Alike Passed f p x none last result at now start whole over some lacks through h r = record {
+  window = rest_done d f p x none last result at now start whole over some lacks h.window r.window;
+  list = λ a ne. list-done goes seen Alike Passed f p x result at now _ over (through (some ne)) (λ b. h.list b (some ne)) (r.list a);
+}
+
+-- at its start all is left
+pub begun-both : {O : Type 0} {R : O → Type 0} {V W A : Type 0} (d : Acts O R W) (goes : (o : O) → V → Course (R o) V) (seen : W → V) (Alike : W → Type 0) (Passed : V → W → Type 0) (p : Plan O R A) (w : W) → IsRestBoth d goes seen Alike Passed p w p w
+begun-both d goes seen Alike Passed p w = record { window = record { ending = refl; stopping = λ v h. h }; list = λ a. alike a refl }
+
+-- a plan whose answer is taken for another
+pub mapped-both : {O : Type 0} {R : O → Type 0} {V W A B : Type 0} (d : Acts O R W) (goes : (o : O) → V → Course (R o) V) (seen : W → V) (Alike : W → Type 0) (Passed : V → W → Type 0)
+    (g : A → B) (p : Plan O R A) (x none : A) (last : B) (old new : W) → (g x ≢ last → x ≢ none) → (g x ≡ last → x ≡ none) →
+    ComesBoth d goes seen Alike Passed old new none x p → ComesBoth d goes seen Alike Passed old new last (g x) (bind (λ a. returns (g a)) p)
+unfolding end_of course
+mapped-both {O} {R} {V} {W} {A} {B} d goes seen Alike Passed g p x none last old new some lacks h = record {
+  window = rest_done d (λ a. returns (g a)) p x none last (g x) old new old (bind (λ a. returns (g a)) p) refl some lacks h.window (record { ending = refl; stopping = λ v k. k });
+  list = λ a ne.
+      subst (λ (c : Course B V). GoesAs seen Alike Passed c (g x) new) (sym (course_bind goes (λ b. returns (g b)) p (seen old)))
+      (goes-then goes seen Alike Passed (λ b. returns (g b)) x new new (g x) (course goes p (seen old)) (h.list a (some ne)) (λ v k. k) (λ b. (refl, (refl, b))));
+}

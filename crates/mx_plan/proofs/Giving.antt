@@ -24,6 +24,12 @@ unfolding Gives end_of
 gives-end d May Such may (returns a) w h = h
 gives-end d May Such may (calls o k) w h = gives-end d May Such may (k (d.act o w).0) (d.act o w).1 (h (d.act o w).0 (may o w))
 
+-- ---- the same of its answer and the world that it leaves, by what is known of each call and the worlds before and after it
+
+unfoldable pub Knows : {O : Type 0} {R : O → Type 0} {W A : Type 0} → ((o : O) → W → R o → W → Type 0) → (A → W → Type 0) → Plan O R A → W → Type 0
+Knows May Such (returns a) w = Such a w
+Knows {O} {R} {W} May Such (calls o k) w = (r : R o) (v : W) → May o w r v → Knows May Such (k r) v
+
 -- ---- over a space, no call that is carried out answers that there was no memory
 
 abbrev pub HostMay : (o : HostCall) → HostSays o → Type 0

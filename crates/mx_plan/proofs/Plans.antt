@@ -1,8 +1,8 @@
 -- The ends of plans, and where memory runs out in them.
-use Rattle.std.proofs.Common.{◌≡◌, ◌⊎◌, inl, inr, refl, sym, ap, subst, ◌∙◌, length-take-le}
+use Rattle.std.proofs.Common.{◌≡◌, ◌≢◌, ◌⊎◌, inl, inr, refl, sym, ap, subst, ◌∙◌, length-take-le}
 use Rattle.mx_mem.specs.Space.{Contents}
 use Rattle.mx_host.specs.HostModel.{HostModel}
-use Rattle.mx_plan.specs.Plan.{Plan, returns, calls, bind, Acts, end_of, Stops, IsRest, end_after, StopsAfter}
+use Rattle.mx_plan.specs.Plan.{Plan, returns, calls, bind, Acts, end_of, Stops, Comes, IsRest, end_after, StopsAfter}
 use Rattle.mx_plan.specs.Calls.{host, HostPlan, SpacePlan, space, Both, both, on_host, on_space, look, need, beside_space, beside_host}
 
 pub end_bind : {O : Type 0} {R : O → Type 0} {W A B : Type 0} (d : Acts O R W) (f : A → Plan O R B) (p : Plan O R A) (w : W) → end_of d (bind f p) w ≡ end_after d f (end_of d p w)
@@ -76,4 +76,13 @@ pub rest_after : {O : Type 0} {R : O → Type 0} {W A B : Type 0} (d : Acts O R 
 rest_after d f p a now v start whole e r = record {
   ending = r.ending ∙ end_bind d f p v ∙ ap (end_after d f) (sym e);
   stopping = λ w h. r.stopping w (stops_after d f p w v (subst (StopsAfter d w f) e h));
+}
+
+-- the last part of what is left is done: at its answer the rest is over
+pub rest_done : {O : Type 0} {R : O → Type 0} {W A B : Type 0} (d : Acts O R W) (f : A → Plan O R B) (p : Plan O R A) (x none : A) (last result : B) (at now start : W) (whole : Plan O R B) →
+    f x ≡ returns result → (result ≢ last → x ≢ none) → (result ≡ last → x ≡ none) → Comes d at now none x p → IsRest d (bind f p) at whole start → Comes d start now last result whole
+unfolding end_of
+rest_done {O} {R} {W} {A} {B} d f p x none last result at now start whole over some lacks c r = record {
+  ending = λ ne. sym (r.ending ∙ end_bind d f p at ∙ ap (end_after d f) (sym (c.ending (some ne))) ∙ ap (λ (q : Plan O R B). end_of d q now) over);
+  stopping = λ e. r.stopping now (stops_first d f p now at (c.stopping (lacks e)));
 }

@@ -1,11 +1,11 @@
 -- What a plan comes to where calls may go wild: of plans one after another, where none does, in two worlds up to where the one
 -- would, and whatever number of calls was made before.
-use Rattle.std.proofs.Common.{◌≡◌, refl, subst, sym}
+use Rattle.std.proofs.Common.{◌≡◌, Bool, true, false, cond, refl, subst, sym}
 use Rattle.mx_host.specs.HostModel.{HostModel}
-use Rattle.mx_plan.specs.Held.{Makes}
+use Rattle.mx_plan.specs.Held.{Held, Makes}
 use Rattle.mx_plan.specs.Plan.{Plan, returns, calls, bind, Acts, end_of}
-use Rattle.mx_plan.specs.Wild.{Course, ends, meets_wild, then_on, world_of, course, carried, GoesBeside}
-use Rattle.mx_plan.proofs.Giving.{Gives}
+use Rattle.mx_plan.specs.Wild.{Course, ends, meets_wild, then_on, world_of, course, carried, unless_wild, GoesBeside}
+use Rattle.mx_plan.proofs.Giving.{Gives, Knows}
 use Rattle.mx_plan.proofs.Spared.{Spares, uncalled, after}
 
 pub course_bind : {O : Type 0} {R : O → Type 0} {W A B : Type 0} (goes : (o : O) → W → Course (R o) W) (f : A → Plan O R B) (p : Plan O R A) (w : W) →
@@ -84,6 +84,14 @@ course_held {O} {R} {W} {A} goes Rel self through h (calls o k) w = by (λ r v. 
     by more (ends r v) l = through w v _ l (more r v)
     by more (meets_wild v) l = l
 
+-- what every call of a world keeps, a plan keeps that goes no further at a call that is wild
+pub wild_held : {O : Type 0} {R : O → Type 0} {W A : Type 0} (d : Acts O R W) (is_wild : O → W → Bool) (Rel : W → W → Type 0) → Held d Rel → (p : Plan O R A) (w : W) → Rel w (world_of (course (unless_wild is_wild d) p w))
+wild_held {O} {R} {W} d is_wild Rel h p w = course_held (unless_wild is_wild d) Rel h.self h.through (λ o v. by o v (is_wild o v)) p w
+  where
+    by : (o : O) (v : W) (b : Bool) → Rel v (world_of (cond b (meets_wild v) (ends (d.act o v).0 (d.act o v).1)))
+    by o v true = h.self v
+    by o v false = h.acting o v
+
 abbrev pub Answers : {A W : Type 0} → (A → Type 0) → Course A W → Type 0
 Answers Such (ends a w) = Such a
 Answers Such (meets_wild w) = Unit {0}
@@ -96,4 +104,19 @@ course_gives {O} {R} {W} {A} goes May Such h (calls o k) w g = by (λ r m v. cou
   where
     by : ((r : R o) → May o r → (v : W) → Answers Such (course goes (k r) v)) → (c : Course (R o) W) → Answers (May o) c → Answers Such (then_on (λ r v. course goes (k r) v) c)
     by more (ends r v) m = more r m v
+    by more (meets_wild v) m = tt
+
+-- the same of its answer and the world that it leaves
+abbrev pub EndsSo : {A W : Type 0} → (A → W → Type 0) → Course A W → Type 0
+EndsSo Such (ends a w) = Such a w
+EndsSo Such (meets_wild w) = Unit {0}
+
+pub course_knows : {O : Type 0} {R : O → Type 0} {W A : Type 0} (goes : (o : O) → W → Course (R o) W) (May : (o : O) → W → R o → W → Type 0) (Such : A → W → Type 0) →
+    ((o : O) (w : W) → EndsSo (May o w) (goes o w)) → (p : Plan O R A) (w : W) → Knows May Such p w → EndsSo Such (course goes p w)
+unfolding course Knows
+course_knows goes May Such h (returns a) w g = g
+course_knows {O} {R} {W} {A} goes May Such h (calls o k) w g = by (λ r v m. course_knows goes May Such h (k r) v (g r v m)) (goes o w) (h o w)
+  where
+    by : ((r : R o) (v : W) → May o w r v → EndsSo Such (course goes (k r) v)) → (c : Course (R o) W) → EndsSo (May o w) c → EndsSo Such (then_on (λ r v. course goes (k r) v) c)
+    by more (ends r v) m = more r v m
     by more (meets_wild v) m = tt

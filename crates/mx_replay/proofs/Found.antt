@@ -11,14 +11,13 @@ use Rattle.mx_run.specs.Runs.{Ended, no_flags, run}
 use Rattle.mx_run.specs.Turns.{Turn, went_on, halts, stops, turn}
 use Rattle.mx_run.specs.declared.end.End.{End}
 use Rattle.mx_run.specs.declared.end.End.TheVariants.{Halted, Stopped, Broke, Traced, Spent, OutOfMemory}
-use Rattle.mx_run.proofs.FreeRuns.{run-went}
+use Rattle.mx_run.proofs.FreeTurns.{none-made, run-went, run-halts, run-stops}
 use Rattle.mx_replay.specs.Marks.{Mark, is_marked, marks_after, marks_from, marks_start}
 use Rattle.mx_replay.specs.Programs.{IsReached, is_over, step_of}
 use Rattle.mx_replay.specs.Searches.{FindsNext, IsLast, IsLastAfter, IsLastBefore, NoneMarked, has_more}
 use Rattle.mx_replay.specs.Visits.{ComesTo, IsStart, IsStep, MakesTurn, came_by, came_to, trace_after, trace_of, turn_from}
 use Rattle.mx_replay.specs.declared.program.Program.{Program}
 use Rattle.mx_replay.specs.declared.visit.Visit.{Visit}
-use Rattle.mx_replay.proofs.RunEnds.{none-made, run-halts, run-stops}
 use Rattle.mx_replay.proofs.Steps.{is-spent, on-step, over-reached, step-over}
 
 -- ONE TURN MORE

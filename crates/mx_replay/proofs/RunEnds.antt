@@ -1,72 +1,18 @@
 -- Runs without flags by their last turn.
-use Rattle.std.proofs.Common.{IsTrue, Some, ◌≡◌, ◌≢◌, ◌<◌, ◌≤◌, ◌+◌, ◌-◌, ◌%◌, ◌^◌, ℕ, zero, suc, Bool, true, false, arith, refl, sym, subst, ◌∙◌, ap}
+use Rattle.std.proofs.Common.{IsTrue, Some, ◌≡◌, ◌≢◌, ◌<◌, ◌≤◌, ◌+◌, ◌-◌, ◌%◌, ◌^◌, ℕ, zero, suc, true, false, arith, refl, sym, subst, ◌∙◌, ap}
 use Rattle.mx_host.specs.HostModel.{HostModel, tells, contents}
-use Rattle.mx_mem.specs.Space.{Contents}
-use Rattle.mx_trip.specs.declared.call.TrapCall.{TrapCall}
-use Rattle.mx_trap.specs.FileTraps.{trap_answer}
-use Rattle.mx_trap.specs.Moves.{Leaves}
-use Rattle.mx_trap.specs.Touches.{touches}
-use Rattle.mx_trap.specs.declared.answer.TrapAnswer.{TrapAnswer}
-use Rattle.mx_trap.specs.declared.answer.TrapAnswer.TheVariants as trap
-use Rattle.mx_trap.proofs.KeptTraps.{rest-kept}
-use Rattle.mx_core.specs.MachineSpace.{machine_contents, state_in}
 use Rattle.mx_core.specs.State.{State}
-use Rattle.mx_core.specs.Step.{Stepped, went, calls, stopped, step}
-use Rattle.mx_core.proofs.StepCounts.{CountsOne, step-count}
-use Rattle.mx_run.specs.Runs.{Ended, ended, no_flags, as_ended, after_turn, run}
-use Rattle.mx_run.specs.Turns.{Turn, went_on, halts, stops, area_size, turn_with, turn_of, turn}
+use Rattle.mx_run.specs.Runs.{Ended, ended, no_flags, run}
+use Rattle.mx_run.specs.Turns.{Turn, went_on, halts, stops, turn}
 use Rattle.mx_run.specs.declared.end.End.{End}
 use Rattle.mx_run.specs.declared.end.End.TheVariants.{Halted, Stopped, Broke, Traced, Spent, OutOfMemory}
-use Rattle.mx_run.proofs.FreeRuns.{run-went}
-use Rattle.mx_run.proofs.Later.{trapped-count}
+use Rattle.mx_run.proofs.FreeTurns.{none-made, run-went, run-halts, run-stops}
+use Rattle.mx_run.proofs.StepCounts.{CountsTurn, turn-count}
 use Rattle.mx_replay.specs.Programs.{is_over}
 use Rattle.mx_replay.specs.Visits.{ComesTo, uncounted, turns_told}
 
--- COUNTS OF STEPS
-
--- what a turn counts: one step, but none where it stops the machine
-abbrev CountsTurn : State → Turn → Type 0
-CountsTurn s (went_on t m trace) = t.steps ≡ (s.steps + 1) % 2 ^ 64
-CountsTurn s (halts status t m) = t.steps ≡ (s.steps + 1) % 2 ^ 64
-CountsTurn s (stops reason t m) = t.steps ≡ s.steps
-
-left-count : (c : Contents State) (n : ℕ) → (state_in c n).steps ≡ c.rest.steps
-unfolding state_in
-left-count c n = refl
-
-answered-count : (touching : Bool) (call : TrapCall) (s t : State) (m : HostModel) (answer : TrapAnswer) → t.steps ≡ s.steps → CountsTurn s (turn_with touching call t m answer)
-answered-count touching call s t m (trap.Value value) h = trapped-count t call value ∙ ap (λ n. (n + 1) % 2 ^ 64) h
-answered-count touching call s t m trap.Halt h = ap (λ n. (n + 1) % 2 ^ 64) h
-answered-count touching call s t m (trap.Stopped why) h = h
-answered-count touching call s t m trap.OutOfMemory h = h
-
-stepped-count : (s : State) (m : HostModel) (x : Stepped) → CountsOne s x → CountsTurn s (turn_of s m x)
-stepped-count s m (went t trace) h = h
-stepped-count s m (calls call) h =
-    let t : Leaves TrapAnswer State = trap_answer (machine_contents s) m call in
-    answered-count (touches (machine_contents s).bytes call) call s (state_in t.1 area_size) t.2 t.0 (left-count t.1 area_size ∙ ap (λ (r : State). r.steps) (rest-kept (machine_contents s) m call))
-stepped-count s m (stopped reason) h = refl
-
-turn-count : (s : State) (m : HostModel) (x : Turn) → turn s m ≡ x → CountsTurn s x
-unfolding turn
-turn-count s m x e = subst (CountsTurn s) e (stepped-count s m (step s) (step-count s))
-
--- RUNS BY THEIR FIRST TURN
-
 abbrev free : ℕ → State → HostModel → Ended
 free n s m = run n no_flags false s m
-
-pub none-made : (s : State) (m : HostModel) → free 0 s m ≡ ended Spent s m
-unfolding run
-none-made s m = refl
-
-pub run-halts : (i : ℕ) (s t : State) (m n : HostModel) (status : ℕ) → turn s m ≡ halts status t n → free (suc i) s m ≡ ended (Halted status) t n
-unfolding run
-run-halts i s t m n status e = ap (after_turn as_ended (free i) no_flags s.pc) e
-
-pub run-stops : (i : ℕ) (s t : State) (m n : HostModel) (reason : ℕ) → turn s m ≡ stops reason t n → free (suc i) s m ≡ ended (Stopped s.pc reason) t n
-unfolding run
-run-stops i s t m n reason e = ap (after_turn as_ended (free i) no_flags s.pc) e
 
 next-sum : (i j : ℕ) → suc i + j ≡ suc (i + j)
 next-sum i j = omega arith
@@ -115,7 +61,7 @@ record LastTurn (n : ℕ) (s : State) (m : HostModel) (e : Ended) : Type 0 where
 last-by : (n : ℕ) (s : State) (m : HostModel) (e : Ended) (x : Turn) → turn s m ≡ x → ((u : State) (k : HostModel) → free n u k ≡ e → LastTurn n u k e) → is_over e.end ≡ true → free (suc n) s m ≡ e → LastTurn (suc n) s m e
 last-by n s m e (went_on u k trace) t more h r =
     let rest = more u k (sym (run-went n s u m k trace t) ∙ r) in
-    let steps : u.steps ≡ (s.steps + 1) % 2 ^ 64 = turn-count s m (went_on u k trace) t in
+    let steps : u.steps ≡ (s.steps + 1) % 2 ^ 64 = subst (CountsTurn s) t (turn-count s m) in
     record {
       before = suc rest.before;
       few = omega (arith, rest.few);
@@ -125,7 +71,7 @@ last-by n s m e (went_on u k trace) t more h r =
     }
 last-by n s m e (halts status u k) t more h r =
     let is : ended (Halted status) u k ≡ e = sym (run-halts n s u m k status t) ∙ r in
-    let steps : u.steps ≡ (s.steps + 1) % 2 ^ 64 = turn-count s m (halts status u k) t in
+    let steps : u.steps ≡ (s.steps + 1) % 2 ^ 64 = subst (CountsTurn s) t (turn-count s m) in
     record {
       before = 0;
       few = omega arith;
@@ -135,7 +81,7 @@ last-by n s m e (halts status u k) t more h r =
     }
 last-by n s m e (stops reason u k) t more h r =
     let is : ended (Stopped s.pc reason) u k ≡ e = sym (run-stops n s u m k reason t) ∙ r in
-    let steps : u.steps ≡ s.steps = turn-count s m (stops reason u k) t in
+    let steps : u.steps ≡ s.steps = subst (CountsTurn s) t (turn-count s m) in
     record {
       before = 0;
       few = omega arith;

@@ -15,12 +15,12 @@ use Rattle.mx_run.specs.WildRuns.{window_machine}
 use Rattle.mx_run.specs.Runs.{Ended, ended, no_flags, run}
 use Rattle.mx_run.specs.declared.end.End.{End}
 use Rattle.mx_run.specs.declared.end.End.TheVariants.{Halted, Stopped, Broke, Traced, Spent, OutOfMemory}
-use Rattle.mx_run.proofs.FreeRuns.{run-from}
+use Rattle.mx_run.proofs.FreeTurns.{none-made, run-from}
 use Rattle.mx_replay.specs.Programs.{GoesOn, HasEnded, IsReached, host_of, is_over, run_from, start_of, step_of}
 use Rattle.mx_replay.specs.Visits.{ComesTo, IsStart, IsStep, came_to}
 use Rattle.mx_replay.specs.declared.program.Program.{Program}
 use Rattle.mx_replay.specs.declared.visit.Visit.{Visit}
-use Rattle.mx_replay.proofs.RunEnds.{none-made, run-below, run-stays}
+use Rattle.mx_replay.proofs.RunEnds.{run-below, run-stays}
 
 -- THE START
 

@@ -1,26 +1,27 @@
 -- A run that something goes along with, after some of its steps and as a whole.
 use Rattle.std.proofs.Common.{◌≡◌, ◌≢◌, ◌<◌, ◌≤◌, ◌+◌, ◌-◌, ℕ, false, IsTrue, Ok, Err, inl, inr, arith, refl, sym, subst, ◌∙◌, ap}
-use Rattle.std.specs.Prelude.{Option, ◌⊎◌}
+use Rattle.std.specs.Prelude.{Option, Result, ◌⊎◌}
 use Rattle.mx_word.specs.Lists.{IsFront}
 use Rattle.mx_host.specs.HostModel.{HostModel, tells, contents}
 use Rattle.mx_plan.specs.Clauses.{Stands}
 use Rattle.mx_plan.specs.Held.{KeepsStreams}
-use Rattle.mx_plan.specs.Plan.{Comes, Stops, end_of}
+use Rattle.mx_plan.specs.Plan.{Comes, Stops, end_of, end_after}
+use Rattle.mx_plan.proofs.Plans.{end_bind}
 use Rattle.mx_core.specs.Bounds.{as_list_state}
 use Rattle.mx_core.specs.State.{State}
 use Rattle.mx_run.specs.AccompaniedRuns.{AfterSteps, ComesAccompanied}
 use Rattle.mx_run.specs.Clauses.{EndsAsList, GoesAsList, IsRun}
 use Rattle.mx_run.specs.RunCourses.{RunsBoth, RestsBoth}
-use Rattle.mx_run.specs.RunPlans.{RunWorld, running, ended_world, run_plan, step_plan}
-use Rattle.mx_run.specs.Runs.{Ended, IsLater, ended, no_flags, run}
+use Rattle.mx_run.specs.RunPlans.{RunPlan, RunWorld, running, ended_world, run_next, run_plan, step_plan}
+use Rattle.mx_run.specs.Runs.{Ended, IsLater, ended, ended_by, no_flags, run}
 use Rattle.mx_run.specs.WildRuns.{HasWindow, list_machine, run_by}
 use Rattle.mx_run.specs.declared.end.End.{End}
 use Rattle.mx_run.specs.declared.end.End.TheVariants.{Halted, Stopped, Broke, Traced, Spent, OutOfMemory}
-use Rattle.mx_run.proofs.FreeRuns.{run-from}
+use Rattle.mx_run.proofs.FreeTurns.{run-from}
 use Rattle.mx_run.proofs.HeldRuns.{streams-end, streams-stop}
 use Rattle.mx_run.proofs.ListSteps.{list-window}
 use Rattle.mx_run.proofs.Outputs.{run-front}
-use Rattle.mx_run.proofs.PlanEnds.{run-end, rest-begun, rest-went, rest-spent}
+use Rattle.mx_run.proofs.PlanEnds.{run-end}
 use Rattle.mx_run.proofs.RunBoth.{rest-went-both, rest-ended-both, rest-spent-both, run-listed}
 use Rattle.mx_run.proofs.Runners.{run-told, run-begun, run-streams, keeps-by}
 
@@ -32,10 +33,6 @@ Rest n left now start = RestsBoth (run_plan left no_flags false) now (run_plan n
 abbrev pub Made : ℕ → RunWorld → RunWorld → Type 0
 Made i now start = run i no_flags false start.0 start.1 ≡ ended Spent now.0 now.1
 
-pub begun-made : (s : State) (m : HostModel) → run 0 no_flags false s m ≡ ended Spent s m
-unfolding run
-begun-made s m = refl
-
 -- a step that goes on
 abbrev pub GoesOn : Unit {0} → RunWorld → RunWorld → Type 0
 GoesOn u v w = (Ok u, w) ≡ end_of running (step_plan no_flags false) v
@@ -45,9 +42,10 @@ went-rest n i u s t m k start l w e r =
     rest-went-both n i no_flags false u s t m k start (run_plan n no_flags false) l (list-window s w) (record { ending = λ ne. e; stopping = λ o. absurd (cc) }) r
 
 one-made : (u : Unit {0}) (v w : RunWorld) → GoesOn u v w → Made 1 w v
+unfolding run run_plan end_of
 one-made u v w e =
-    let whole = rest-spent 1 1 no_flags false w v (run_plan 1 no_flags false) (omega arith) (rest-went 1 0 no_flags false u v w v (run_plan 1 no_flags false) (omega arith) (rest-begun 1 no_flags false v) e) in
-    sym (run-told 1 no_flags false v.0 w.0 v.1 w.1 Spent whole (λ e. absurd (cc)))
+    let more : Result (Unit {0}) End → RunPlan End = run_next (run_plan 0 no_flags false) in
+    ap ended_by (end_bind running more (step_plan no_flags false) v ∙ ap (end_after running more) (sym e))
 
 pub went-made : (i : ℕ) (u : Unit {0}) (v w start : RunWorld) → GoesOn u v w → Made i v start → Made (i + 1) w start
 went-made i u v w start e h = run-from i 1 start.0 v.0 start.1 v.1 h ∙ one-made u v w e

@@ -1,5 +1,5 @@
--- Runs without flags, of a machine that is lent: as wholes, and turn by turn.
-use Rattle.std.proofs.Common.{◌≡◌, ℕ, zero, suc, ◌+◌, true, false, List, [], Ok, Err, inr, arith, refl, sym, subst, ◌∙◌, ap}
+-- Runs without flags, of a machine that is lent: as wholes, and by their turns.
+use Rattle.std.proofs.Common.{◌≡◌, ℕ, true, false, List, [], Ok, Err, inr, refl, sym, subst, ◌∙◌, ap}
 use Rattle.std.specs.Prelude.{Result}
 use Rattle.mx_host.specs.HostModel.{HostModel}
 use Rattle.mx_plan.specs.Plan.{Comes, Stops, bind}
@@ -7,15 +7,15 @@ use Rattle.mx_core.specs.State.{State}
 use Rattle.mx_code.specs.declared.trace.Trace.{Trace}
 use Rattle.mx_run.specs.FlagMaps.{flags_at}
 use Rattle.mx_run.specs.RunCourses.{RunsBoth}
-use Rattle.mx_run.specs.RunPlans.{RunWorld, running, beside_world, turn_plan, look, ended_turn, step_plan, run_plan, end_of_trace, end_of_turn}
-use Rattle.mx_run.specs.Runs.{Ended, ended, no_flags, break_of, as_ended, after_trace, after_turn, run}
+use Rattle.mx_run.specs.RunPlans.{RunWorld, running, beside_world, turn_plan, look, ended_turn, step_plan, run_plan, end_of_turn}
+use Rattle.mx_run.specs.Runs.{no_flags}
 use Rattle.mx_run.specs.Turns.{Answered, turn_answer, Turn, went_on, halts, stops, turn}
 use Rattle.mx_run.specs.declared.end.End.{End}
-use Rattle.mx_run.specs.declared.end.End.TheVariants.{Halted, Stopped, Spent, OutOfMemory}
+use Rattle.mx_run.specs.declared.end.End.TheVariants.{Halted, Stopped, OutOfMemory}
 use Rattle.mx_run.specs.declared.flags.Flags.{Flags}
 use Rattle.mx_run.specs.declared.turn_answer.TurnAnswer.{TurnAnswer}
 use Rattle.mx_run.specs.declared.turn_answer.TurnAnswer.TheVariants as answer
-use Rattle.mx_run.proofs.FreeSteps.{no-break}
+use Rattle.mx_run.proofs.FreeTurns.{trace-free}
 use Rattle.mx_run.proofs.PlanEnds.{turn_ended, run_step, step-end}
 use Rattle.mx_run.proofs.RunBoth.{free-both}
 use Rattle.mx_run.proofs.Runners.{turn-told}
@@ -31,9 +31,6 @@ free-run n entries v w end h c =
     subst (λ f. RunsBoth v w OutOfMemory end (run_plan n f false)) (unflagged entries h) (free-both n entries false v w end h c)
 
 -- ---- a step, by the answer of its turn
-
-pub trace-free : (trace : Trace) → end_of_trace false trace (break_of no_flags trace) ≡ Ok tt
-trace-free trace = ap (end_of_trace false trace) (no-break trace)
 
 turned-free : (s t : State) (m n : HostModel) (r : TurnAnswer) → (r, t, n) ≡ turn_answer (turn s m) → (end_of_turn no_flags s.pc r, t, n) ≡ run_step no_flags false s m
 unfolding run_step
@@ -79,41 +76,3 @@ pub lacking-step : (s t : State) (m n : HostModel) → Comes running (s, m) (t, 
 lacking-step s t m n c = step-comes s t m n answer.OutOfMemory (Err OutOfMemory) refl (λ e. refl) (λ e. refl) c
 
 pub ruleset turned = (went-turn, halted-step, stopped-step, lacking-step)
-
--- ---- runs turn by turn
-
-pub run-went : (i : ℕ) (s t : State) (m n : HostModel) (trace : Trace) → turn s m ≡ went_on t n trace → run (suc i) no_flags false s m ≡ run i no_flags false t n
-unfolding run
-run-went i s t m n trace e =
-    let more = run i no_flags false in
-    ap (after_turn as_ended more no_flags s.pc) e ∙ ap (λ b. after_trace as_ended more false trace b t n) (no-break trace)
-
-run-halts : (i : ℕ) (s t : State) (m n : HostModel) (status : ℕ) → turn s m ≡ halts status t n → run (suc i) no_flags false s m ≡ ended (Halted status) t n
-unfolding run
-run-halts i s t m n status e = ap (after_turn as_ended (run i no_flags false) no_flags s.pc) e
-
-run-stops : (i : ℕ) (s t : State) (m n : HostModel) (reason : ℕ) → turn s m ≡ stops reason t n → run (suc i) no_flags false s m ≡ ended (Stopped s.pc reason) t n
-unfolding run
-run-stops i s t m n reason e = ap (after_turn as_ended (run i no_flags false) no_flags s.pc) e
-
--- a run that spends its steps goes on as the run of the rest
-abbrev GoesFrom : ℕ → ℕ → State → HostModel → State → HostModel → Type 0
-GoesFrom i j t n s m = run i no_flags false s m ≡ ended Spent t n → run (i + j) no_flags false s m ≡ run j no_flags false t n
-
-from-turn : (i j : ℕ) (s t : State) (m n : HostModel) (x : Turn) → turn s m ≡ x → ((u : State) (k : HostModel) → GoesFrom i j t n u k) → GoesFrom (suc i) j t n s m
-from-turn i j s t m n (went_on u k trace) e more h =
-    let next : suc i + j ≡ suc (i + j) = omega arith in
-    ap (λ a. run a no_flags false s m) next ∙ run-went (i + j) s u m k trace e ∙ more u k (sym (run-went i s u m k trace e) ∙ h)
-from-turn i j s t m n (halts status u k) e more h = let wrong : Halted status ≡ Spent = ap (λ (x : Ended). x.end) (sym (run-halts i s u m k status e) ∙ h) in absurd (cc)
-from-turn i j s t m n (stops reason u k) e more h = let wrong : Stopped s.pc reason ≡ Spent = ap (λ (x : Ended). x.end) (sym (run-stops i s u m k reason e) ∙ h) in absurd (cc)
-
-none-made : (s t : State) (m n : HostModel) → run 0 no_flags false s m ≡ ended Spent t n → ended Spent s m ≡ ended Spent t n
-unfolding run
-none-made s t m n h = h
-
-pub run-from : (i j : ℕ) (s t : State) (m n : HostModel) → GoesFrom i j t n s m
-run-from zero j s t m n h =
-    let all : 0 + j ≡ j = omega arith in
-    let same = none-made s t m n h in
-    ap (λ a. run a no_flags false s m) all ∙ ap (λ (x : Ended). run j no_flags false x.state x.host) same
-run-from (suc i) j s t m n h = from-turn i j s t m n (turn s m) refl (λ u k. run-from i j u t k n) h

@@ -14,7 +14,7 @@ use Rattle.mx_code.specs.declared.trace.Trace.{Trace}
 use Rattle.mx_run.specs.FlagMaps.{flags_at}
 use Rattle.mx_run.specs.RunPlans.{RunWorld, running, beside_world, look, turn_plan, ended_turn, step_plan, SparesOn, SparesMemory, SparesAfter, SparesStep}
 use Rattle.mx_run.specs.RunPlans.{end_of_trace, end_of_turn}
-use Rattle.mx_run.specs.Runs.{FlagsOf, flagged_in, break_of}
+use Rattle.mx_run.specs.Ends.{FlagsOf, flagged_in, break_of}
 use Rattle.mx_run.specs.Turns.{turn_answer, turn_of, turn}
 use Rattle.mx_run.specs.declared.end.BreakKind.{BreakKind}
 use Rattle.mx_run.specs.declared.end.End.{End}

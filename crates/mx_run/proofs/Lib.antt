@@ -9,13 +9,14 @@ pub mod RefusedTraps
 pub mod PlanEnds
 pub mod HeldRuns
 pub mod FreeSteps
+pub mod FreeTurns
 pub mod Runners
 pub mod FreeRuns
 pub mod AccompaniedRuns
 pub mod Walked
 pub mod ListSteps
 pub mod Later
+pub mod RunCases
 pub mod StepCounts
 pub mod SteadyRuns
-pub mod RunCourses
 pub mod RunBoth

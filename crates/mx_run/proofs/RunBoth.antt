@@ -1,22 +1,22 @@
 -- Steps of a run one after another, of the machine over a window and of that over the list that it represents.
-use Rattle.std.proofs.Common.{◌≡◌, ◌≢◌, ℕ, suc, ◌+◌, ◌-◌, ◌<◌, ◌≤◌, Bool, true, false, cond, List, [], None, Ok, Err, arith, refl, sym, subst, ◌∙◌, ap}
-use Rattle.std.specs.Prelude.{Result}
+use Rattle.std.proofs.Common.{◌≡◌, ◌≢◌, ℕ, suc, ◌+◌, ◌-◌, ◌/◌, ◌<◌, ◌≤◌, Bool, true, false, cond, List, [], None, Ok, Err, arith, refl, sym, subst, ◌∙◌, ap}
+use Rattle.std.specs.Prelude.{Result, ◌&&◌, not}
 use Rattle.mx_word.specs.Lists.{IsFront}
 use Rattle.mx_word.proofs.Fronts.{front-through}
 use Rattle.mx_host.specs.HostModel.{HostModel}
-use Rattle.mx_plan.specs.Plan.{Comes, IsRest, returns, bind, end_of}
+use Rattle.mx_plan.specs.Plan.{Comes, returns, bind, end_of}
 use Rattle.mx_plan.specs.Wild.{Course, ends, meets_wild, then_on, course, GoesAs, GoesOn, alike}
 use Rattle.mx_plan.specs.Wild as wild
-use Rattle.mx_plan.proofs.BothWorlds.{rest-both, whole-both, list-done}
+use Rattle.mx_plan.proofs.BothWorlds.{begun-both, rest-both, done-both, whole-both}
 use Rattle.mx_core.specs.Bounds.{as_list_state}
 use Rattle.mx_core.specs.State.{State}
 use Rattle.mx_run.specs.Clauses.{GoesAsList, TurnGoesAsList}
 use Rattle.mx_run.specs.FlagMaps.{flags_at}
-use Rattle.mx_run.specs.RunCourses.{run_goes, as_list_world, IsUntouched, WritesOn, RunsBoth, RestsBoth, of_course, run_course}
+use Rattle.mx_run.specs.RunCourses.{as_list_world, IsUntouched, WritesOn, RunsBoth, RestsBoth}
 use Rattle.mx_run.specs.RunPlans.{RunWorld, RunPlan, running, look, turn_plan, ended_turn, step_plan, run_next, run_plan, end_of_turn}
-use Rattle.mx_run.specs.Runs.{FlagsOf, Ended, ended, no_flags, after_turn, breaks_before}
+use Rattle.mx_run.specs.Runs.{FlagsOf, Ended, ended, no_flags}
 use Rattle.mx_run.specs.Turns.{Answered, turn, turn_answer}
-use Rattle.mx_run.specs.WildRuns.{list_machine, turn_is_wild, RunEnd, run_ended, run_wild, run_by}
+use Rattle.mx_run.specs.WildRuns.{list_machine, turn_is_wild, RunEnd, run_wild, run_goes, of_course, run_course, run_by}
 use Rattle.mx_run.specs.declared.end.BreakKind.TheVariants.{Execute}
 use Rattle.mx_run.specs.declared.end.End.{End}
 use Rattle.mx_run.specs.declared.end.End.TheVariants.{Broke, Spent, OutOfMemory}
@@ -25,8 +25,8 @@ use Rattle.mx_run.specs.declared.turn_answer.TurnAnswer.{TurnAnswer}
 use Rattle.mx_run.proofs.ListTurns.{TurnWindow, wild-listed}
 use Rattle.mx_run.proofs.ListSteps.{turn-listed-so}
 use Rattle.mx_run.proofs.Outputs.{step-front}
-use Rattle.mx_run.proofs.PlanEnds.{turn_ended, step_by_break, run_step, step-answer, left-after, rest-ended, free-plan}
-use Rattle.mx_run.proofs.RunCourses.{run-is-course}
+use Rattle.mx_run.proofs.FreeTurns.{by-wild}
+use Rattle.mx_run.proofs.PlanEnds.{turn_ended, step_by_break, run_step, step-answer, left-after, free-plan}
 
 -- ---- one step
 
@@ -50,7 +50,7 @@ by-break f s m false w u = turned f s.pc s m (turn_is_wild (as_list_state s)) (t
 step-listed : (f : FlagsOf) (pass : Bool) (s : State) (m : HostModel) → TurnWindow s → s.touched ≡ false →
     AsList (course (run_goes list_machine) (step_plan f pass) (as_list_world (s, m))) (run_step f pass s m)
 unfolding course step_plan look bind running run_step
-step-listed f pass s m w u = by-break f s m (breaks_before f pass s) w u
+step-listed f pass s m w u = by-break f s m ((f (s.pc / 4)).x && not pass) w u
 
 -- what the code knows of a step, of a machine over a window, is what is asked of it over both
 pub step-both : (f : FlagsOf) (pass : Bool) (s t : State) (m k : HostModel) (r : Result (Unit {0}) End) → TurnWindow s → Comes running (s, m) (t, k) (Err OutOfMemory) r (step_plan f pass) →
@@ -70,9 +70,6 @@ step-writes f pass s t m k r ne c v h =
 
 -- ---- a run
 
-pub begun-both : {A : Type 0} (p : RunPlan A) (w : RunWorld) → RestsBoth p w p w
-begun-both p w = record { window = record { ending = refl; stopping = λ v h. h }; list = λ u. alike u refl }
-
 pub went-both : (n : ℕ) (f : FlagsOf) (pass : Bool) (u : Unit {0}) (s t : State) (m k : HostModel) (start : RunWorld) (whole : RunPlan End) → TurnWindow s →
     Comes running (s, m) (t, k) (Err OutOfMemory) (Ok u) (step_plan f pass) → RestsBoth (run_plan (suc n) f pass) (s, m) whole start → RestsBoth (run_plan n f false) (t, k) whole start
 unfolding run_plan
@@ -80,18 +77,12 @@ went-both n f pass u s t m k start whole w c r =
     rest-both running (run_goes list_machine) as_list_world IsUntouched WritesOn (run_next (run_plan n f false)) (step_plan f pass) (Ok u) (Err OutOfMemory) (s, m) (t, k) start whole (λ e. absurd (cc))
     (step-writes f pass s t m k (Ok u) (λ e. absurd (cc)) c) (step-both f pass s t m k (Ok u) w c) r
 
-all-left : (n : ℕ) → suc n ≡ suc n - 0
-all-left n = omega arith
-
 pub ended-both : (n : ℕ) (f : FlagsOf) (pass : Bool) (end : End) (s t : State) (m k : HostModel) (start : RunWorld) (whole : RunPlan End) → TurnWindow s →
     Comes running (s, m) (t, k) (Err OutOfMemory) (Err end) (step_plan f pass) → RestsBoth (run_plan (suc n) f pass) (s, m) whole start → RunsBoth start (t, k) OutOfMemory end whole
 unfolding run_plan
-ended-both n f pass end s t m k start whole w c r = record {
-  window = rest-ended (suc n) 0 f pass end (s, m) (t, k) start whole (omega arith) (subst (λ j. IsRest running (run_plan j f pass) (s, m) whole start) (all-left n) r.window) c;
-  list = λ u ne.
-      list-done (run_goes list_machine) as_list_world IsUntouched WritesOn (run_next (run_plan n f false)) (step_plan f pass) (Err end) end (s, m) (t, k) _ refl
-      (step-writes f pass s t m k (Err end) (λ e. ne (cc)) c) (λ a. (step-both f pass s t m k (Err end) w c).list a (λ e. ne (cc))) (r.list u);
-}
+ended-both n f pass end s t m k start whole w c r =
+    done-both running (run_goes list_machine) as_list_world IsUntouched WritesOn (run_next (run_plan n f false)) (step_plan f pass) (Err end) (Err OutOfMemory) OutOfMemory end (s, m) (t, k) start whole refl
+    (λ ne e. ne (cc)) (ap Err) (λ some. step-writes f pass s t m k (Err end) some c) (step-both f pass s t m k (Err end) w c) r
 
 none-done : (w : RunWorld) → RunsBoth w w OutOfMemory Spent (returns Spent)
 unfolding course end_of
@@ -105,7 +96,7 @@ spent-both f pass w start whole r =
 -- ---- after so many of n steps
 
 pub rest-begun-both : (n : ℕ) (f : FlagsOf) (pass : Bool) (w : RunWorld) → RestsBoth (run_plan (n - 0) f pass) w (run_plan n f pass) w
-rest-begun-both n f pass w = let all : n - 0 ≡ n = omega arith in rw all (begun-both (run_plan n f pass) w)
+rest-begun-both n f pass w = let all : n - 0 ≡ n = omega arith in rw all (begun-both running (run_goes list_machine) as_list_world IsUntouched WritesOn (run_plan n f pass) w)
 
 pub rest-went-both : (n i : ℕ) (f : FlagsOf) (pass : Bool) (u : Unit {0}) (s t : State) (m k : HostModel) (start : RunWorld) (whole : RunPlan End) → i < n → TurnWindow s →
     Comes running (s, m) (t, k) (Err OutOfMemory) (Ok u) (step_plan f pass) → RestsBoth (run_plan (n - i) f pass) (s, m) whole start → RestsBoth (run_plan (n - (i + 1)) f false) (t, k) whole start
@@ -133,21 +124,15 @@ rest-freely-both n entries pass v start whole h r = subst (λ p. RestsBoth p v w
 
 -- ---- as a whole
 
-as-by : (n : ℕ) (f : FlagsOf) (pass : Bool) (s : State) (m : HostModel) → of_course (course (run_goes list_machine) (run_plan n f pass) (as_list_state s, m)) ≡ run_by list_machine n f pass (as_list_state s) m
-unfolding run_course
-as-by n f pass s m = run-is-course list_machine n f pass (as_list_state s) m
-
-goes-by : (c : Course End RunWorld) (e : RunEnd) (r : Ended) → of_course c ≡ e → GoesAs as_list_world IsUntouched WritesOn c r.end (r.state, r.host) → GoesAsList e r
-goes-by (ends end w) e r is g = subst (λ x. GoesAsList x r) is (by end w r g)
-  where
-    by : (end : End) (w : RunWorld) (r : Ended) → GoesAs as_list_world IsUntouched WritesOn (ends end w) r.end (r.state, r.host) → GoesAsList (run_ended (ended end w.0 w.1)) r
-    by end w r g = (ap (λ (x : End). ended x (as_list_state r.state) r.host) (sym g.0) ∙ ap (λ (x : RunWorld). ended end x.0 x.1) (sym g.1.0), g.1.1)
-goes-by (meets_wild w) e r is g = subst (λ x. GoesAsList x r) is g
+goes-by : (c : Course End RunWorld) (r : Ended) → GoesAs as_list_world IsUntouched WritesOn c r.end (r.state, r.host) → GoesAsList (of_course c) r
+goes-by (ends end w) r g = (ap (λ (x : End). ended x (as_list_state r.state) r.host) (sym g.0) ∙ ap (λ (x : RunWorld). ended end x.0 x.1) (sym g.1.0), g.1.1)
+goes-by (meets_wild w) r g = g
 
 -- a run beside that of the list machine
 pub run-listed : (n : ℕ) (f : FlagsOf) (pass : Bool) (s t : State) (m k : HostModel) (r : End) → RunsBoth (s, m) (t, k) OutOfMemory r (run_plan n f pass) → r ≢ OutOfMemory → s.touched ≡ false →
     GoesAsList (run_by list_machine n f pass (as_list_state s) m) (ended r t k)
-run-listed n f pass s t m k r c ne u = goes-by _ _ (ended r t k) (as-by n f pass s m) (c.list u ne)
+unfolding run_by run_course
+run-listed n f pass s t m k r c ne u = goes-by _ (ended r t k) (c.list u ne)
 
 -- ---- where it meets something wild
 
@@ -159,15 +144,14 @@ pub data Beside (whole rest : RunEnd) (s : State) : Type 0 where
 
 pub rest-listed : (n left : ℕ) (f : FlagsOf) (pass first : Bool) (s t : State) (m k : HostModel) → RestsBoth (run_plan left f first) (t, k) (run_plan n f pass) (s, m) → s.touched ≡ false →
     Beside (run_by list_machine n f pass (as_list_state s) m) (run_by list_machine left f first (as_list_state t) k) t
+unfolding run_by run_course
 rest-listed n left f pass first s t m k r u = by (r.list u)
   where
     by : GoesOn as_list_world IsUntouched WritesOn (course (run_goes list_machine) (run_plan n f pass) (as_list_world (s, m))) (course (run_goes list_machine) (run_plan left f first) (as_list_world (t, k))) (t, k) →
-        Beside (run_by list_machine n f pass (as_list_state s) m) (run_by list_machine left f first (as_list_state t) k) t
-    by (alike a e) = as_list a (sym (as-by n f pass s m) ∙ ap of_course e ∙ as-by left f first t k)
-    by (wild.was_wild v e h) = was_wild v.1 (sym (as-by n f pass s m) ∙ ap of_course e)
+        Beside (of_course (course (run_goes list_machine) (run_plan n f pass) (as_list_world (s, m)))) (of_course (course (run_goes list_machine) (run_plan left f first) (as_list_world (t, k)))) t
+    by (alike a e) = as_list a (ap of_course e)
+    by (wild.was_wild v e h) = was_wild v.1 (ap of_course e)
 
 pub meets-wild : (n i : ℕ) (s : State) (m : HostModel) → i < n → TurnWindow s → s.touched ≡ false → turn_is_wild s ≡ true → run_by list_machine (n - i) no_flags false (as_list_state s) m ≡ run_wild m
-unfolding run_by
 meets-wild n i s m l h u e =
-    let more = run_by list_machine (n - (i + 1)) no_flags false in
-    rw (left-after n i l) (ap (λ c. cond c (run_wild m) (after_turn run_ended more no_flags s.pc (turn (as_list_state s) m))) (wild-listed s h.window h.machine u ∙ e))
+    ap (λ j. run_by list_machine j no_flags false (as_list_state s) m) (left-after n i l) ∙ by-wild list_machine (n - (i + 1)) (as_list_state s) m (wild-listed s h.window h.machine u ∙ e)

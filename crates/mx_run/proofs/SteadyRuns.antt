@@ -1,29 +1,29 @@
 -- Where no call that is made fails, turns and runs come to the same whatever the count of calls, and whatever the list of
 -- those that fail.
-use Rattle.std.proofs.Common.{◌≡◌, ℕ, zero, suc, ◌/◌, Bool, true, false, cond, refl, sym, ◌∙◌, ap, Option, None, Some}
+use Rattle.std.proofs.Common.{◌≡◌, ℕ, Bool, true, false, cond, refl, sym, ◌∙◌, ap}
 use Rattle.mx_host.specs.HostModel.{HostModel}
 use Rattle.mx_host.proofs.Still.{still}
 use Rattle.mx_trip.specs.declared.call.TrapCall.{TrapCall}
 use Rattle.mx_plan.specs.Counts.{NoneFailed, unscheduled}
+use Rattle.mx_plan.specs.Wild.{Course, ends, meets_wild, world_of, course}
+use Rattle.mx_plan.proofs.Spared.{Spares, uncalled, after, still-same}
+use Rattle.mx_plan.proofs.WildLaws.{course_still, SparedCourse, course_spared}
 use Rattle.mx_trap.specs.FileTraps.{trap_answer}
 use Rattle.mx_trap.specs.Moves.{Leaves}
 use Rattle.mx_trap.specs.Touches.{touches}
 use Rattle.mx_trap.specs.declared.answer.TrapAnswer.{TrapAnswer}
 use Rattle.mx_trap.specs.declared.answer.TrapAnswer.TheVariants as trap
-use Rattle.mx_plan.proofs.Spared.{Spares, uncalled, after}
-use Rattle.mx_plan.proofs.Spared.{still-same}
 use Rattle.mx_trap.proofs.KeptTraps.{SparedLeaves, trap-steady}
 use Rattle.mx_core.specs.MachineSpace.{machine_contents, state_in}
 use Rattle.mx_core.specs.State.{State}
 use Rattle.mx_core.specs.Step.{Stepped, went, calls, stopped, step}
-use Rattle.mx_code.specs.declared.trace.Trace.{Trace}
 use Rattle.mx_run.specs.Counts.{turn_unscheduled, end_unscheduled, end_host}
-use Rattle.mx_run.specs.Runs.{FlagsOf, ended, break_of, after_trace, after_turn, breaks_before}
-use Rattle.mx_run.specs.Turns.{Turn, went_on, halts, stops, area_size, turn_with, trap_turn, turn_of, turn}
-use Rattle.mx_run.specs.WildRuns.{MachineKind, RunEnd, run_ended, run_wild, ends_wild, turn_by, step_by, run_by, host_after}
-use Rattle.mx_run.specs.declared.end.BreakKind.{BreakKind}
-use Rattle.mx_run.specs.declared.end.BreakKind.TheVariants.{Execute}
-use Rattle.mx_run.specs.declared.end.End.TheVariants.{Broke}
+use Rattle.mx_run.specs.RunPlans.{RunCall, turning, looking, RunWorld, running, run_plan}
+use Rattle.mx_run.specs.Runs.{FlagsOf, ended}
+use Rattle.mx_run.specs.Turns.{Turn, went_on, halts, stops, area_size, turn_with, trap_turn, turn_of, turn, turn_answer}
+use Rattle.mx_run.specs.WildRuns.{MachineKind, RunEnd, run_ended, run_wild, ends_wild, run_goes, run_course, of_course, run_by, host_after}
+use Rattle.mx_run.specs.declared.end.End.{End}
+use Rattle.mx_run.specs.declared.turn_answer.TurnAnswer.{TurnAnswer}
 
 -- ---- turns
 
@@ -65,41 +65,38 @@ end_still (run_wild m) = run_wild (still m)
 abbrev pub SparedEnds : HostModel → RunEnd → RunEnd → Type 0
 SparedEnds m t u = Spares m (end_host t) (end_still t) u
 
-abbrev IsSteady : (State → HostModel → RunEnd) → Type 0
-IsSteady more = (s : State) (m : HostModel) → SparedEnds m (more s m) (more s (still m))
+abbrev still-world : RunWorld → RunWorld
+still-world w = (w.0, still w.1)
 
-one-of : {m : HostModel} (b : Bool) (x y v w : RunEnd) → SparedEnds m x v → SparedEnds m y w → SparedEnds m (cond b x y) (cond b v w)
-one-of true x y v w h k = h
-one-of false x y v w h k = k
+abbrev run-host : RunWorld → HostModel
+run-host w = w.1
 
-trace-steady : (more : State → HostModel → RunEnd) (traced : Bool) (trace : Trace) (b : Option (BreakKind × ℕ)) (s : State) (m : HostModel) → IsSteady more →
-    SparedEnds m (after_trace run_ended more traced trace b s m) (after_trace run_ended more traced trace b s (still m))
-trace-steady more traced trace (Some (kind, n)) s m g = uncalled
-trace-steady more true trace None s m g = uncalled
-trace-steady more false trace None s m g = g s m
+-- a turn that is made
+abbrev made-by : Turn → Course TurnAnswer RunWorld
+made-by t = ends (turn_answer t).0 ((turn_answer t).1, (turn_answer t).2)
 
-after-still : (more : State → HostModel → RunEnd) (f : FlagsOf) (pc : ℕ) (t : Turn) → IsSteady more → SparedEnds (host_after t) (after_turn run_ended more f pc t) (after_turn run_ended more f pc (turn_still t))
-after-still more f pc (halts status s m) g = uncalled
-after-still more f pc (stops reason s m) g = uncalled
-after-still more f pc (went_on s m trace) g = trace-steady more (f (pc / 4)).t trace (break_of f trace) s m g
+turned-case : (t : Turn) → Spares (host_after t) (run-host (world_of (made-by t))) (course_still still-world (made-by t)) (made-by (turn_still t))
+turned-case (went_on s m trace) = uncalled
+turned-case (halts status s m) = uncalled
+turned-case (stops reason s m) = uncalled
 
-after-steady : {m : HostModel} (more : State → HostModel → RunEnd) (f : FlagsOf) (pc : ℕ) (t u : Turn) → IsSteady more → SparedTurns m t u → SparedEnds m (after_turn run_ended more f pc t) (after_turn run_ended more f pc u)
-after-steady more f pc t u g h = after (after_turn run_ended more f pc) h (after-still more f pc t g)
+call-steady : (kind : MachineKind) (o : RunCall) (w : RunWorld) → SparedCourse run-host still-world w (run_goes kind o w) (run_goes kind o (still-world w))
+unfolding running
+call-steady kind turning w = by (ends_wild kind w.0)
+  where
+    by : (b : Bool) → SparedCourse run-host still-world w (cond b (meets_wild w) (made-by (turn w.0 w.1))) (cond b (meets_wild (still-world w)) (made-by (turn w.0 (still w.1))))
+    by true = uncalled
+    by false = after made-by (turn-steady w.0 w.1) (turned-case (turn w.0 w.1))
+call-steady kind looking w = uncalled
 
-turn_by-steady : (kind : MachineKind) (more : State → HostModel → RunEnd) (f : FlagsOf) (s : State) (m : HostModel) → IsSteady more → SparedEnds m (turn_by kind more f s m) (turn_by kind more f s (still m))
-turn_by-steady kind more f s m g =
-    one-of (ends_wild kind s) (run_wild m) (after_turn run_ended more f s.pc (turn s m)) (run_wild (still m)) (after_turn run_ended more f s.pc (turn s (still m)))
-    uncalled (after-steady more f s.pc (turn s m) (turn s (still m)) g (turn-steady s m))
-
-step_by-steady : (kind : MachineKind) (more : State → HostModel → RunEnd) (f : FlagsOf) (pass : Bool) (s : State) (m : HostModel) → IsSteady more → SparedEnds m (step_by kind more f pass s m) (step_by kind more f pass s (still m))
-step_by-steady kind more f pass s m g =
-    one-of (breaks_before f pass s) (run_ended (ended (Broke Execute s.pc None) s m)) (turn_by kind more f s m) (run_ended (ended (Broke Execute s.pc None) s (still m))) (turn_by kind more f s (still m))
-    uncalled (turn_by-steady kind more f s m g)
+end-case : (c : Course End RunWorld) → Spares (run-host (world_of c)) (end_host (of_course c)) (end_still (of_course c)) (of_course (course_still still-world c))
+end-case (ends end w) = uncalled
+end-case (meets_wild w) = uncalled
 
 pub run-steady : (kind : MachineKind) (n : ℕ) (f : FlagsOf) (pass : Bool) (s : State) (m : HostModel) → SparedEnds m (run_by kind n f pass s m) (run_by kind n f pass s (still m))
-unfolding run_by
-run-steady kind zero f pass s m = uncalled
-run-steady kind (suc n) f pass s m = step_by-steady kind (run_by kind n f false) f pass s m (λ t u. run-steady kind n f false t u)
+unfolding run_by run_course
+run-steady kind n f pass s m =
+    after of_course (course_spared run-host still-world (run_goes kind) (call-steady kind) (run_plan n f pass) (s, m)) (end-case (course (run_goes kind) (run_plan n f pass) (s, m)))
 
 -- ---- two models that differ in the number of calls and the list of those that fail
 

@@ -4,7 +4,7 @@ use Rattle.std.specs.Map.{lookup}
 use Rattle.std.specs.Ordering.{nat_cmp}
 use Rattle.std.specs.BTreeMap as tree
 use Rattle.std.specs.BTreeMap.{BTreeMap}
-use Rattle.mx_run.specs.Runs.{FlagsOf}
+use Rattle.mx_run.specs.Ends.{FlagsOf}
 use Rattle.mx_run.specs.declared.end.BreakKind.{BreakKind}
 use Rattle.mx_run.specs.declared.end.BreakKind.TheVariants.{Read, Write, Execute}
 use Rattle.mx_run.specs.declared.flags.Flags.{Flags}

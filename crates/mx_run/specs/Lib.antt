@@ -1,4 +1,5 @@
 pub mod Turns
+pub mod Ends
 pub mod Runs
 pub mod WildRuns
 pub mod Clauses

@@ -1,33 +1,13 @@
--- What a run comes to by the kind of its machine: over a window of registers, and over the list that it represents, which goes no
--- further at a turn that is wild.
-use Rattle.std.specs.Prelude.{ℕ, ◌≡◌, Bool, false, IsTrue, Option}
+-- What comes of a plan of a run over both machines: over a window of registers, and over the list that it represents, which goes no further
+-- at a turn that is wild.
+use Rattle.std.specs.Prelude.{◌≡◌, false, IsTrue, Option}
 use Rattle.mx_word.specs.Lists.{IsFront}
 use Rattle.mx_host.specs.HostModel.{HostModel, tells, contents}
-use Rattle.mx_plan.specs.Wild.{Course, ends, meets_wild, course, unless_wild, ComesBoth, IsRestBoth}
+use Rattle.mx_plan.specs.Wild.{ComesBoth, IsRestBoth}
 use Rattle.mx_core.specs.Bounds.{as_list_state}
 use Rattle.mx_core.specs.State.{State}
-use Rattle.mx_run.specs.RunPlans.{RunCall, turning, looking, RunSays, RunWorld, RunPlan, running, run_plan}
-use Rattle.mx_run.specs.Runs.{FlagsOf, ended}
-use Rattle.mx_run.specs.WildRuns.{MachineKind, list_machine, ends_wild, RunEnd, run_ended, run_wild}
-use Rattle.mx_run.specs.declared.end.End.{End}
-
--- whether a call would be wild: a turn may be, to the list machine; a look never is
-abbrev pub call_is_wild : MachineKind → RunCall → RunWorld → Bool
-call_is_wild kind turning w = ends_wild kind w.0
-call_is_wild kind looking w = false
-
-abbrev pub run_goes : MachineKind → (o : RunCall) → RunWorld → Course (RunSays o) RunWorld
-run_goes kind o w = unless_wild (call_is_wild kind) running o w
-
--- at most n steps, with these flags
-unfoldable pub run_course : MachineKind → ℕ → FlagsOf → Bool → State → HostModel → Course End RunWorld
-run_course kind n f pass s m = course (run_goes kind) (run_plan n f pass) (s, m)
-
-abbrev pub of_course : Course End RunWorld → RunEnd
-of_course (ends end w) = run_ended (ended end w.0 w.1)
-of_course (meets_wild w) = run_wild w.1
-
--- ---- both machines
+use Rattle.mx_run.specs.RunPlans.{RunWorld, RunPlan, running}
+use Rattle.mx_run.specs.WildRuns.{list_machine, run_goes}
 
 -- the world of the list machine; where both go alike; and where something wild was passed: standard output still begins with what
 -- was written then

@@ -14,7 +14,7 @@ use Rattle.mx_core.specs.State.{State}
 use Rattle.mx_core.specs.Step.{Stepped, went, calls, stopped, step}
 use Rattle.mx_core.specs.Way.Stepping.{step_needs_page}
 use Rattle.mx_code.specs.declared.trace.Trace.{Trace}
-use Rattle.mx_run.specs.Runs.{FlagsOf, Ended, break_of, trace_if}
+use Rattle.mx_run.specs.Ends.{FlagsOf, Ended, break_of, trace_if}
 use Rattle.mx_run.specs.Turns.{Answered, area_size, with_touch_if, turn, turn_answer}
 use Rattle.mx_run.specs.declared.end.BreakKind.{BreakKind}
 use Rattle.mx_run.specs.declared.end.BreakKind.TheVariants.{Execute}

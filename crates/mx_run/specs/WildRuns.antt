@@ -1,7 +1,8 @@
 -- Turns that look at rS or at the memory of the register stack; runs of the machine over a window, and of the machine
 -- over the list that it stands for.
-use Rattle.std.specs.Prelude.{ℕ, zero, suc, ◌||◌, Bool, false, if◌then◌else◌, None}
+use Rattle.std.specs.Prelude.{ℕ, ◌||◌, Bool, false}
 use Rattle.mx_host.specs.HostModel.{HostModel}
+use Rattle.mx_plan.specs.Wild.{Course, ends, meets_wild, course, unless_wild}
 use Rattle.mx_ring.specs.Window.{Window}
 use Rattle.mx_word.specs.Ranges.{AreOctas}
 use Rattle.mx_trap.specs.Touches.{touches}
@@ -10,10 +11,10 @@ use Rattle.mx_core.specs.MachineSpace.{machine_contents}
 use Rattle.mx_core.specs.State.{State}
 use Rattle.mx_core.specs.Step.{Stepped, went, calls, stopped, step}
 use Rattle.mx_core.specs.Wild.{is_wild}
-use Rattle.mx_run.specs.Runs.{FlagsOf, Ended, ended, after_turn, breaks_before}
-use Rattle.mx_run.specs.Turns.{Turn, went_on, halts, stops, turn}
-use Rattle.mx_run.specs.declared.end.BreakKind.TheVariants.{Execute}
-use Rattle.mx_run.specs.declared.end.End.TheVariants.{Broke, Spent}
+use Rattle.mx_run.specs.Ends.{FlagsOf, Ended, ended}
+use Rattle.mx_run.specs.RunPlans.{RunCall, turning, looking, RunSays, RunWorld, running, run_plan}
+use Rattle.mx_run.specs.Turns.{Turn, went_on, halts, stops}
+use Rattle.mx_run.specs.declared.end.End.{End}
 
 -- WILD TURNS
 
@@ -34,27 +35,34 @@ pub data MachineKind : Type 0 where
   window_machine : MachineKind
   list_machine : MachineKind
 
--- what a run comes to: it ends, or the list machine meets a wild turn, which it does not make; the host then stands so
-pub data RunEnd : Type 0 where
-  run_ended : Ended → RunEnd
-  run_wild : HostModel → RunEnd
-
 -- whether the machine of a kind goes no further at a state: only the list machine, where the next turn is wild
 abbrev pub ends_wild : MachineKind → State → Bool
 ends_wild window_machine s = false
 ends_wild list_machine s = turn_is_wild s
 
-abbrev pub turn_by : MachineKind → (State → HostModel → RunEnd) → FlagsOf → State → HostModel → RunEnd
-turn_by kind more f s m = if ends_wild kind s then run_wild m else after_turn run_ended more f s.pc (turn s m)
+-- whether a call would be wild: a turn may be; a look never is
+abbrev pub call_is_wild : MachineKind → RunCall → RunWorld → Bool
+call_is_wild kind turning w = ends_wild kind w.0
+call_is_wild kind looking w = false
 
-abbrev pub step_by : MachineKind → (State → HostModel → RunEnd) → FlagsOf → Bool → State → HostModel → RunEnd
-step_by kind more f pass s m =
-    if breaks_before f pass s then run_ended (ended (Broke Execute s.pc None) s m) else turn_by kind more f s m
+abbrev pub run_goes : MachineKind → (o : RunCall) → RunWorld → Course (RunSays o) RunWorld
+run_goes kind o w = unless_wild (call_is_wild kind) running o w
 
--- a run of the machine of a kind, as `run`
+-- at most n steps of the machine of a kind, with these flags, as `run`
+unfoldable pub run_course : MachineKind → ℕ → FlagsOf → Bool → State → HostModel → Course End RunWorld
+run_course kind n f pass s m = course (run_goes kind) (run_plan n f pass) (s, m)
+
+-- what such a run comes to: it ends, or the list machine meets a wild turn, which it does not make; the host then stands so
+pub data RunEnd : Type 0 where
+  run_ended : Ended → RunEnd
+  run_wild : HostModel → RunEnd
+
+abbrev pub of_course : Course End RunWorld → RunEnd
+of_course (ends end w) = run_ended (ended end w.0 w.1)
+of_course (meets_wild w) = run_wild w.1
+
 unfoldable pub run_by : MachineKind → ℕ → FlagsOf → Bool → State → HostModel → RunEnd
-run_by kind zero f pass s m = run_ended (ended Spent s m)
-run_by kind (suc n) f pass s m = step_by kind (run_by kind n f false) f pass s m
+run_by kind n f pass s m = of_course (run_course kind n f pass s m)
 
 -- WINDOWS
 

@@ -3,7 +3,7 @@
 ghost use Rattle.std.specs.Prelude.{◌≡◌, ◌≢◌, ◌<◌, ◌/◌, ◌^◌, Err, IfSome};
 ghost use Rattle.mx_run.specs.FlagMaps.{break_flag, flags_at};
 ghost use Rattle.mx_run.specs.RunPlans.{end_of_trace, end_of_turn};
-ghost use Rattle.mx_run.specs.Runs as runs;
+ghost use Rattle.mx_run.specs.Ends as ends;
 
 use crate::{BreakKind, End, FlagMap, Flags, TurnAnswer};
 use mx_core::{Touch, Trace};
@@ -24,7 +24,7 @@ pub fn end_of_turn(flags: &FlagMap, pc: u64, answer: TurnAnswer) -> Result<(), E
 /// Whether a run ends with a step from an address, by its trace.
 fn end_of_trace(flags: &FlagMap, pc: u64, trace: Trace) -> Result<(), End>
     ensures value { result ≡ end_of_trace (flags_at flags.now (pc / 4)).t trace
-        (runs.break_of (flags_at flags.now) trace) }
+        (ends.break_of (flags_at flags.now) trace) }
     ensures memory { result ≢ Err End.OutOfMemory }
 {
     let traced = flags.flags(pc).t;
@@ -46,14 +46,14 @@ fn end_of_trace(flags: &FlagMap, pc: u64, trace: Trace) -> Result<(), End>
 
 /// The trace of a step, where the step is to be traced.
 fn trace_if(traced: bool, trace: Trace) -> Option<Trace>
-    ensures { result ≡ runs.trace_if traced trace }
+    ensures { result ≡ ends.trace_if traced trace }
 {
     if traced { Some(trace) } else { None }
 }
 
 /// The kind and the tetra of the break that a step comes to.
 fn break_of(flags: &FlagMap, trace: &Trace) -> Option<(BreakKind, u64)>
-    ensures value { result ≡ runs.break_of (flags_at flags.now) trace.now }
+    ensures value { result ≡ ends.break_of (flags_at flags.now) trace.now }
     ensures below { IfSome result (λ b. b.1 < 2 ^ 62) }
 {
     match flagged_in(flags, BreakKind::Read, trace.reads) {
@@ -67,7 +67,7 @@ fn break_of(flags: &FlagMap, trace: &Trace) -> Option<(BreakKind, u64)>
 
 /// The lowest tetra of what is touched that has the flag of a kind.
 fn flagged_in(flags: &FlagMap, kind: BreakKind, touch: Option<Touch>) -> Option<u64>
-    ensures value { result ≡ runs.flagged_in (λ n. break_flag kind (flags_at flags.now n)) touch }
+    ensures value { result ≡ ends.flagged_in (λ n. break_flag kind (flags_at flags.now n)) touch }
     ensures below { IfSome result (λ n. n < 2 ^ 62) }
 {
     match touch {
@@ -79,7 +79,7 @@ fn flagged_in(flags: &FlagMap, kind: BreakKind, touch: Option<Touch>) -> Option<
 /// The lowest tetra of a touch that has the flag of a kind.
 #[tactic(auto, using(crate::proofs::FlaggedTetras::breaking))]
 fn first_flagged(flags: &FlagMap, kind: BreakKind, touch: Touch) -> Option<u64>
-    ensures value { result ≡ runs.first_flagged (λ n. break_flag kind (flags_at flags.now n)) touch }
+    ensures value { result ≡ ends.first_flagged (λ n. break_flag kind (flags_at flags.now n)) touch }
     ensures below { IfSome result (λ n. n < 2 ^ 62) }
 {
     let n = touch.at / 4;

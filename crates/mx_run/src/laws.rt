@@ -2,7 +2,7 @@
 //! that its register stack stands for go the same way, as long as nothing looks at rS or at the
 //! memory of the register stack.
 
-ghost use Rattle.std.specs.Prelude.{◌≡◌, ℕ, Bool, false};
+ghost use Rattle.std.specs.Prelude.{◌≡◌, ℕ, suc, Bool, true, false};
 ghost use Rattle.mx_host.specs.HostModel.{HostModel};
 ghost use Rattle.mx_plan.specs.Held.{KeepsStreams, OnlyAdds};
 ghost use Rattle.mx_plan.specs.Plan.{Stops, end_of};
@@ -12,10 +12,13 @@ ghost use Rattle.mx_word.specs.Ranges.{AreOctas};
 ghost use Rattle.mx_core.specs.Bounds.{IsMachine, as_list_state};
 ghost use Rattle.mx_core.specs.State.{State};
 ghost use Rattle.mx_run.specs.RunPlans.{RunPlan, RunWorld, ended_world, run_plan, running};
-ghost use Rattle.mx_run.specs.Runs.{FlagsOf, run, IsLater};
-ghost use Rattle.mx_run.specs.Turns.{turn};
+ghost use Rattle.mx_run.specs.Runs.{FlagsOf, no_flags, ended, run, IsLater};
+ghost use Rattle.mx_run.specs.Turns.{went_on, halts, stops, turn};
 ghost use Rattle.mx_run.specs.declared.end.End.{End};
-ghost use Rattle.mx_run.specs.WildRuns.{turn_is_wild, as_list_turn, state_after, run_by, run_ended, window_machine};
+ghost use Rattle.mx_run.specs.declared.end.End.TheVariants.{Halted, Spent, Stopped};
+ghost use Rattle.mx_code.specs.declared.trace.Trace.{Trace};
+ghost use Rattle.mx_run.specs.WildRuns.{MachineKind, window_machine, ends_wild, run_by, run_ended, run_wild};
+ghost use Rattle.mx_run.specs.WildRuns.{turn_is_wild, as_list_turn, state_after};
 
 /// A turn that is not wild, where nothing was touched, comes to the same with the same trace and the
 /// same host model, and leaves the list that the next state stands for, and nothing touched. It is wild
@@ -42,6 +45,24 @@ pub fn windows_are_never_wild()
 pub fn runs_add_to_output()
     ensures { (n : ℕ) (f : FlagsOf) (pass : Bool) (s : State) (m : HostModel)
         → IsFront m.output (run n f pass s m).host.output }
+{}
+
+/// A run without flags of either machine goes turn by turn. It meets something wild where the next turn is wild, and ends
+/// where the program halts, where the machine stops, or after its last step.
+#[tactic(auto, using(crate::proofs::FreeTurns::by_turns))]
+pub fn runs_go_turn_by_turn()
+    ensures spent { (kind : MachineKind) (s : State) (m : HostModel)
+        → run_by kind 0 no_flags false s m ≡ run_ended (ended Spent s m) }
+    ensures wild { (kind : MachineKind) (n : ℕ) (s : State) (m : HostModel) → ends_wild kind s ≡ true
+        → run_by kind (suc n) no_flags false s m ≡ run_wild m }
+    ensures went { (kind : MachineKind) (n : ℕ) (s t : State) (m k : HostModel) (trace : Trace) → ends_wild kind s ≡ false
+        → turn s m ≡ went_on t k trace → run_by kind (suc n) no_flags false s m ≡ run_by kind n no_flags false t k }
+    ensures halted { (kind : MachineKind) (n status : ℕ) (s t : State) (m k : HostModel) → ends_wild kind s ≡ false
+        → turn s m ≡ halts status t k
+        → run_by kind (suc n) no_flags false s m ≡ run_ended (ended (Halted status) t k) }
+    ensures stopped { (kind : MachineKind) (n reason : ℕ) (s t : State) (m k : HostModel) → ends_wild kind s ≡ false
+        → turn s m ≡ stops reason t k
+        → run_by kind (suc n) no_flags false s m ≡ run_ended (ended (Stopped s.pc reason) t k) }
 {}
 
 /// A run is what its plan comes to. Where a plan over turns stops for want of memory, it only added to

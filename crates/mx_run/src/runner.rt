@@ -8,7 +8,7 @@ ghost use Rattle.mx_run.specs.FlagMaps as maps;
 ghost use Rattle.mx_run.specs.FlagMaps.{flags_at};
 ghost use Rattle.mx_run.specs.Lending.{LendsMachine};
 ghost use Rattle.mx_run.specs.RunPlans.{SparesMemory, run_plan};
-ghost use Rattle.mx_run.specs.Runs as spec;
+ghost use Rattle.mx_run.specs.Runs.{no_flags};
 
 use crate::go::{go_by_flags, go_freely};
 use crate::turning::turn;
@@ -39,7 +39,7 @@ impl Runner {
     /// A runner of this machine, without flags. It takes no memory.
     pub fn new(alloc: Global, machine: Machine) -> Runner
         ensures machine { result.machine ≡ machine }
-        ensures flags { flags_at result.flags ≡ spec.no_flags }
+        ensures flags { flags_at result.flags ≡ no_flags }
     {
         Runner {
             alloc,

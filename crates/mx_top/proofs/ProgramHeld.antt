@@ -10,7 +10,7 @@ use Rattle.mx_core.specs.State.{State}
 use Rattle.mx_run.specs.RunPlans.{RunWorld, running, ended_world, run_plan}
 use Rattle.mx_run.specs.Runs.{no_flags, run}
 use Rattle.mx_run.specs.declared.end.End.{End}
-use Rattle.mx_run.proofs.FreeRuns.{run-from}
+use Rattle.mx_run.proofs.FreeTurns.{run-from}
 use Rattle.mx_run.proofs.HeldRuns.{run-held, streams-end}
 use Rattle.mx_run.proofs.PlanEnds.{run-end}
 use Rattle.mx_run.specs.AccompaniedRuns.{AfterSteps}

@@ -12,7 +12,7 @@ use Rattle.mx_run.specs.Turns.{Answered, turn_answer, Turn, went_on, halts, stop
 use Rattle.mx_run.specs.WildRuns.{RunEnd, run_ended, run_wild, HasWindow, list_machine, run_by, turn_is_wild, as_list_turn}
 use Rattle.mx_run.specs.declared.end.End.{End}
 use Rattle.mx_run.specs.declared.end.End.TheVariants.{OutOfMemory}
-use Rattle.mx_run.proofs.FreeRuns.{trace-free}
+use Rattle.mx_run.proofs.FreeTurns.{trace-free}
 use Rattle.mx_run.proofs.ListSteps.{list-window}
 use Rattle.mx_run.proofs.ListTurns.{TurnWindow, turn-listed-on, wild-listed}
 use Rattle.mx_run.proofs.PlanEnds.{left-after, run_step, step-answer}

@@ -13,7 +13,8 @@ use Rattle.mx_run.specs.WildRuns.{window_machine}
 use Rattle.mx_run.specs.declared.end.End.{End}
 use Rattle.mx_run.specs.declared.end.End.TheVariants.{OutOfMemory}
 use Rattle.mx_run.proofs.AccompaniedRuns.{GoesOn}
-use Rattle.mx_run.proofs.FreeRuns.{trace-free, went-free}
+use Rattle.mx_run.proofs.FreeRuns.{went-free}
+use Rattle.mx_run.proofs.FreeTurns.{trace-free}
 use Rattle.mx_run.proofs.PlanEnds.{left-after, run_step, step-end, step-answer}
 use Rattle.mx_watch.specs.Listening.{Listening, listening, told, watched}
 use Rattle.mx_watch.specs.Traces.{traces, traces_after}

@@ -3,7 +3,8 @@ use Rattle.mx_host.specs.HostModel.{contents}
 use Rattle.mx_core.specs.Kept.{state_of}
 use Rattle.mx_plan.proofs.Standing.{stands-all, stands-kept, stands-then}
 use Rattle.mx_run.specs.Runs.{no_flags}
-use Rattle.mx_run.proofs.AccompaniedRuns.{begun-made, went-rest, went-made, ended-listed, spent-so, of-run, accompanied-is}
+use Rattle.mx_run.proofs.AccompaniedRuns.{went-rest, went-made, ended-listed, spent-so, of-run, accompanied-is}
+use Rattle.mx_run.proofs.FreeTurns.{none-made}
 use Rattle.mx_run.proofs.Later.{begun-later, few-later, turned-later, last-later}
 use Rattle.mx_run.proofs.RunBoth.{rest-begun-both, rest-listed}
 use Rattle.mx_run.proofs.Runners.{run-is}
@@ -14,7 +15,7 @@ use Rattle.mx_back.proofs.running.run_kept.Goals as goal
 pub loop-made-init : goal.loop-made-init
 loop-made-init g c = record {
   plan = λ t. rest-begun-both c.args.n no_flags false (state_of c.args.machine.now, contents (g.H.Host.told c.args.host.now));
-  made = λ t. begun-made (state_of c.args.machine.now) (contents (g.H.Host.told c.args.host.now));
+  made = λ t. none-made (state_of c.args.machine.now) (contents (g.H.Host.told c.args.host.now));
   bound = begun-later (state_of c.args.machine.now);
   stands = stands-all (g.H.Host.told c.args.host.now) (g.H.Host.faults c.args.host.now);
   fits = c.requires;

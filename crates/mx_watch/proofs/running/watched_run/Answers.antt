@@ -1,7 +1,8 @@
 use Rattle.std.proofs.Common.{arith, eqb-true, ◌∙◌, sym, refl}
 use Rattle.std.proofs.lemmas.List.{nil_from_length}
 use Rattle.mx_plan.proofs.Standing.{stands-all}
-use Rattle.mx_run.proofs.AccompaniedRuns.{begun-made, of-run, lacking-so, accompanied-is}
+use Rattle.mx_run.proofs.AccompaniedRuns.{of-run, lacking-so, accompanied-is}
+use Rattle.mx_run.proofs.FreeTurns.{none-made}
 use Rattle.mx_run.proofs.Later.{none-later}
 use Rattle.mx_watch.proofs.Heard.{place_count}
 use Rattle.mx_watch.proofs.Watched.{hears-placed, hears-nobody, either-way, unless-by}
@@ -36,7 +37,7 @@ returns-in-Ok-clause-list_heard g c = λ t ne u.
 -- ---- where their places lack memory
 
 pub returns-in-Err-clause-plan : goal.returns-in-Err-clause-plan
-returns-in-Err-clause-plan g c = λ t. lacking-so _ 0 _ _ (omega arith) (begun-made _ _)
+returns-in-Err-clause-plan g c = λ t. lacking-so _ 0 _ _ (omega arith) (none-made _ _)
 
 pub returns-in-Err-clause-run : goal.returns-in-Err-clause-run
 returns-in-Err-clause-run g c = accompanied-is _ _ _ _ _ _ _ _ (returns-in-Err-clause-plan g c) (λ t ne. absurd (ne refl)) (none-later _ _ _ refl) (stands-all _ _)
