@@ -13,7 +13,6 @@ pub mod QuietFiles
 pub mod ReadPieces
 pub mod SourceImages
 pub mod TakenLines
-pub mod WrittenObjects
 pub mod FileClauses
 pub mod ReadSchedules
 pub mod Serving

@@ -8,7 +8,6 @@ use Rattle.mx_plan.specs.Plan.{returns, bind}
 use Rattle.mx_plan.specs.Calls.{HostPlan, open_plan, close_plan, read_plan, write_plan, need}
 use Rattle.mx_files.specs.Lines.{output_slot}
 use Rattle.mx_files.specs.Pieces.{piece_size}
-use Rattle.mx_files.specs.Source.{input_slot}
 use Rattle.mx_outcome.specs.declared.outcome.Outcome.{Outcome}
 use Rattle.mx_outcome.specs.declared.outcome.Outcome.TheVariants.{NoFile, HostFault as Broken, OutOfMemory}
 
@@ -30,6 +29,10 @@ unfoldable pub close_file : ℕ → Part (Unit {0})
 close_file slot = bind (λ r. returns (carried r)) (close_plan slot)
 
 -- ---- A FILE that is read
+
+-- the slot of the tool's input file
+abbrev pub input_slot : ℕ
+input_slot = 256
 
 abbrev pub input_opened : Result (Unit {0}) OpenFault → Result (Unit {0}) Outcome
 input_opened (Ok u) = Ok tt
