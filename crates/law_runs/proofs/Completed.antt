@@ -26,7 +26,7 @@ use Rattle.law_gen.specs.Generator.{generated}
 use Rattle.law_gen.specs.Program.{generated_image}
 use Rattle.law_gen.proofs.Meaning.{not-refused-run, statements-of}
 use Rattle.mx_words.proofs.OrderedBlocks.{order-few}
-use Rattle.mx_files.specs.Lines.{lines_put}
+use Rattle.mx_files.specs.Writing.{lines_put}
 use Rattle.mx_files.specs.Objects.{source_object}
 use Rattle.mx_files.specs.Objects as assembling
 use Rattle.mx_files.specs.Assembling.{refused_with, assembled_outcome}

@@ -25,11 +25,14 @@ use Rattle.mx_begin.specs.Arguments.{Word, word_at, arguments}
 use Rattle.law_runs.specs.Complete.{IsOrdered, IsThere, SourceIsThere, ObjectIsThere, IsHalted, IsGenerated, with_output}
 use Rattle.law_runs.specs.Detour.{answer_uncounted}
 use Rattle.mx_dump.specs.Dump.{dump_lines}
-use Rattle.mx_files.specs.Lines.{lines_put}
+use Rattle.mx_files.specs.Writing.{was_put, lines_put}
+use Rattle.mx_host.specs.declared.faults.HostFault.{HostFault}
+use Rattle.mx_files.proofs.FileEnds.{then_carried, no-lines, line-by}
+use Rattle.mx_plan.specs.Calls.{host}
+use Rattle.mx_plan.specs.Plan.{end_of, end_after}
 use Rattle.mx_files.specs.Objects.{source_object}
-use Rattle.mx_files.specs.Pieces.{piece_put, pieces_after}
 use Rattle.mx_files.specs.Assembling.{assembled_outcome}
-use Rattle.mx_files.specs.FilePlans.{file_plan}
+use Rattle.mx_files.specs.FilePlans.{on_ok, file_plan, lines_plan}
 use Rattle.mx_top.specs.Product.{generator_steps, with_message, product}
 use Rattle.mx_top.specs.Runs.{ran, ran_to, machine_ran, dumped, image_run}
 use Rattle.mx_files.specs.Source.{file_bytes}
@@ -76,13 +79,17 @@ write-shown : (m : HostModel) (text : List ℕ) → Shows m → write_answer (st
 unfolding write_answer
 write-shown m text h = ap (write_to (still m) 259 text) h
 
+lines-ended : (lines : List (List ℕ)) (m : HostModel) → Shows m → end_of host (lines_plan lines) (still m) ≡ (Ok tt, still (with_output m (concat lines)))
+lines-ended [] m h = no-lines (still m) ∙ ap (λ xs. (Ok tt, still (record m { output = xs }))) (sym (append-nil m.output))
+lines-ended (line ∷ lines) m h =
+    line-by line lines (still m)
+    ∙ ap (λ (t : Then (Result (Unit {0}) HostFault)). end_after host (on_ok (λ u. lines_plan lines)) (then_carried t)) (write-shown m line h)
+    ∙ lines-ended lines (with_output m line) h
+    ∙ ap (λ xs. (Ok tt, still (record m { output = xs }))) (append_assoc m.output line (concat lines))
+
 pub lines-still : (lines : List (List ℕ)) (m : HostModel) → Shows m → lines_put lines (still m) ≡ (true, still (with_output m (concat lines)))
 unfolding lines_put
-lines-still [] m h = ap (λ xs. (true, still (record m { output = xs }))) (sym (append-nil m.output))
-lines-still (line ∷ lines) m h =
-    ap (λ t. pieces_after (lines_put lines) (piece_put t)) (write-shown m line h)
-    ∙ lines-still lines (with_output m line) h
-    ∙ ap (λ xs. (true, still (record m { output = xs }))) (append_assoc m.output line (concat lines))
+lines-still lines m h = ap was_put (lines-ended lines m h)
 
 -- no call fails, and standard output leads where it does at the start
 abbrev pub IsReady : HostModel → Type 0

@@ -32,7 +32,7 @@ use Rattle.mx_words.specs.declared.order.Order.{Order}
 use Rattle.mx_words.specs.declared.order.WordsFault.{WordsFault}
 use Rattle.mx_files.specs.Answers.{Answer, answered, wild, plainly, after_lines}
 use Rattle.mx_outcome.specs.Kinds.{leaves_machine}
-use Rattle.mx_files.specs.Lines.{lines_put}
+use Rattle.mx_files.specs.Writing.{lines_put}
 use Rattle.mx_begin.specs.Arguments.{Word, word_at, arguments, program_name}
 use Rattle.law_runs.specs.Detour.{host_of, answer_uncounted, HasOutcome, asm_words, run_words, sim_words, AreOrdered, IsAssembled}
 use Rattle.law_runs.proofs.DetourImages.{source-loads, source-short, accepted-run, assembled-none, pages-refused}

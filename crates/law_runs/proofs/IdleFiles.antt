@@ -21,12 +21,12 @@ use Rattle.mx_plan.specs.Calls.{host}
 use Rattle.mx_plan.specs.Plan.{returns, end_of, end_after}
 use Rattle.mx_plan.proofs.Plans.{end_returns}
 use Rattle.mx_files.specs.Assembling.{assembled_outcome}
-use Rattle.mx_files.specs.FilePlans.{on_ok, piece_added, read_next, read_pieces, then_closed, read_open}
+use Rattle.mx_files.specs.FilePlans.{on_ok, piece_added, read_next, read_pieces, then_closed, read_open, write_pieces, text_plan}
 use Rattle.mx_files.specs.ObjectPlans.{assemble_plan}
 use Rattle.mx_files.specs.Objects.{source_object}
-use Rattle.mx_files.specs.Pieces.{piece_put, pieces_after, put_pieces}
+use Rattle.mx_files.specs.Writing.{was_put, put_text}
 use Rattle.mx_files.specs.Source.{file_bytes}
-use Rattle.mx_files.proofs.FileEnds.{then_carried, added-by, pieces-by, then-by, open-by, input_after, file-by, assembled-by}
+use Rattle.mx_files.proofs.FileEnds.{then_carried, added-by, pieces-by, then-by, open-by, input_after, file-by, write-by, none-by, more-by, assembled-by}
 use Rattle.mx_outcome.specs.declared.outcome.Outcome.{Outcome}
 use Rattle.mx_outcome.specs.declared.outcome.Outcome.TheVariants.{NoFile}
 use Rattle.mx_host.proofs.NamedFiles.{home, Lies, lies, at-home, put-put, overwritten-end}
@@ -174,15 +174,21 @@ write-idle files slots m name p bytes from h l =
     ∙ ap (λ ss. (Ok tt, idle (put_at files name (bytes ++ from) p) ss m)) moved
 
 pieces_put-idle : (k : ℕ) (files : List StoredFile) (slots : List Slot) (m : HostModel) (name : List ℕ) (p : Option ℕ) (bytes text : List ℕ) → 257 < length slots → Lies files p →
-    put_pieces k 257 text (writing files slots m name p bytes) ≡ (true, writing files slots m name p (bytes ++ text))
-unfolding put_pieces
-pieces_put-idle zero files slots m name p bytes text h l = ap piece_put (write-idle files slots m name p bytes text h l)
+    end_of host (write_pieces k 257 text) (writing files slots m name p bytes) ≡ (Ok tt, writing files slots m name p (bytes ++ text))
+pieces_put-idle zero files slots m name p bytes text h l =
+    none-by 257 text (writing files slots m name p bytes) ∙ write-by 257 text (writing files slots m name p bytes) ∙ ap then_carried (write-idle files slots m name p bytes text h l)
 pieces_put-idle (suc k) files slots m name p bytes text h l =
     let first : List ℕ = take 4096 text in
     let others : List ℕ = drop 4096 text in
-    ap (λ t. pieces_after (put_pieces k 257 others) (piece_put t)) (write-idle files slots m name p bytes first h l)
+    more-by k 257 text (writing files slots m name p bytes)
+    ∙ ap (λ (t : Then (Result (Unit {0}) SlotFault)). end_after host (on_ok (λ u. write_pieces k 257 others)) (then_carried t)) (write-idle files slots m name p bytes first h l)
     ∙ pieces_put-idle k files slots m name p (bytes ++ first) others h l
-    ∙ ap (λ xs. (true, writing files slots m name p xs)) (append_assoc bytes first others ∙ ap (λ xs. bytes ++ xs) (take-append-drop 4096 text))
+    ∙ ap (λ xs. (Ok tt, writing files slots m name p xs)) (append_assoc bytes first others ∙ ap (λ xs. bytes ++ xs) (take-append-drop 4096 text))
+
+text-idle : (files : List StoredFile) (slots : List Slot) (m : HostModel) (name : List ℕ) (p : Option ℕ) (text : List ℕ) → 257 < length slots → Lies files p →
+    put_text 257 text (writing files slots m name p []) ≡ (true, writing files slots m name p text)
+unfolding put_text text_plan
+text-idle files slots m name p text h l = ap was_put (pieces_put-idle ((length text - 1) / 4096) files slots m name p [] text h l)
 
 -- what there is of an object is written and closed: a source that is read is assembled
 pub assembled-idle : (files : List StoredFile) (slots : List Slot) (m k : HostModel) (source object text : List ℕ) → 257 < length slots → file_bytes 1025 source k ≡ (Ok text, idle files slots m) →
@@ -192,5 +198,5 @@ assembled-idle files slots m k source object text h read =
     let bytes : List ℕ = (source_object text).0 in
     let p : Option ℕ = place_of files object in
     assembled-by source object text k (idle files slots m) (writing files slots m object p []) (writing files slots m object p bytes) (idle (put_at files object bytes p) (slice_set slots 257 Closed) m) read
-    (open-object files slots m object) (pieces_put-idle ((length bytes - 1) / 4096) files slots m object p [] bytes h (lies files object))
+    (open-object files slots m object) (text-idle files slots m object p bytes h (lies files object))
     (close-idle (put_at files object bytes p) slots m 257 (length bytes) (File (home files p)) BinaryWrite h)

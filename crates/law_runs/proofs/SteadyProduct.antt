@@ -9,7 +9,7 @@ use Rattle.mx_mmo.specs.Image.{Image}
 use Rattle.mx_core.specs.State.{State}
 use Rattle.mx_ring.specs.Stack.{register}
 use Rattle.mx_plan.specs.Counts.{NoneFailed, unscheduled, without_count}
-use Rattle.mx_plan.specs.Calls.{host}
+use Rattle.mx_plan.specs.Calls.{host, HostPlan}
 use Rattle.mx_plan.specs.Plan.{end_of}
 use Rattle.mx_plan.proofs.Spared.{Spares, Spared, uncalled, after, write-spared, plan-spared}
 use Rattle.mx_plan.proofs.Spared.{uncounted-of, still-same}
@@ -38,12 +38,10 @@ use Rattle.mx_begin.specs.Arguments.{Word, word_at, arguments}
 use Rattle.law_runs.specs.Detour.{host_of, answer_uncounted, answer_unscheduled}
 use Rattle.mx_dump.specs.Dump.{dump_lines}
 use Rattle.law_gen.specs.Generator.{generated, summary}
-use Rattle.mx_files.specs.Lines.{lines_put}
-use Rattle.mx_files.specs.Typed.{typed, after_typing}
+use Rattle.mx_files.specs.Writing.{lines_put}
 use Rattle.mx_files.specs.Sources.{source_meaning}
 use Rattle.mx_outcome.specs.Messages.{message_of}
-use Rattle.mx_files.specs.FilePlans.{file_plan}
-use Rattle.mx_files.specs.ObjectPlans.{assemble_plan}
+use Rattle.mx_files.specs.ObjectPlans.{assemble_plan, list_plan}
 use Rattle.mx_top.specs.Product.{begun_run, generator_steps, summed, summed_from, generated_run, image_turned, after_schedule, multi_ordered, ordered, carried_out, message_told, with_message, product}
 use Rattle.mx_top.specs.Runs.{ran, ran_to, outcome_of, takes_back, state_lines, reached, lines_told, taken_back, run_back, played, session_outcome, session_ran, dumped, run_from, image_run}
 use Rattle.mx_begin.specs.BeginPlans.{begin_plan, image_file_plan}
@@ -56,7 +54,6 @@ use Rattle.mx_multi.specs.Joint.{Joint}
 use Rattle.mx_multi.specs.Joint as joint
 use Rattle.mx_multi.specs.Turns.{TurnsEnd, turns_ended, turns_wild, turns}
 use Rattle.law_runs.proofs.SteadyTurns.{turns_host, turns_still, turns-steady}
-use Rattle.mx_files.specs.Source.{file_bytes, object_pieces}
 use Rattle.mx_files.specs.declared.refusal.Refusal.{Refusal}
 use Rattle.mx_outcome.specs.declared.outcome.Outcome.{Outcome}
 use Rattle.mx_outcome.specs.declared.outcome.Outcome.TheVariants.{Done, Usage, NoFile, HostFault, Refused, BadObject, BadSchedule, Stopped, StepsSpent, Quit, ConsoleLimit, OutOfMemory}
@@ -183,11 +180,10 @@ begun-steady : (kind : MachineKind) (words : List Word) (o : Order) (form : Form
 begun-steady kind words o form m =
     behind (begun_run kind o) (end_of host (begin_plan kind words o form) m) (end_of host (begin_plan kind words o form) (still m)) (from-steady kind o) (plan-spared (begin_plan kind words o form) m)
 
--- ---- `asm`
+-- ---- `asm` and `type`
 
-asm-order : (source object : Word) (m : HostModel) → SparedAnswers m (plainly (end_of host (assemble_plan source object) m)) (plainly (end_of host (assemble_plan source object) (still m)))
-asm-order source object m =
-    behind plainly (end_of host (assemble_plan source object) m) (end_of host (assemble_plan source object) (still m)) (λ outcome n. uncalled) (plan-spared (assemble_plan source object) m)
+plan-order : (p : HostPlan Outcome) (m : HostModel) → SparedAnswers m (plainly (end_of host p m)) (plainly (end_of host p (still m)))
+plan-order p m = behind plainly (end_of host p m) (end_of host p (still m)) (λ outcome n. uncalled) (plan-spared p m)
 
 -- ---- `gen`
 
@@ -219,15 +215,6 @@ generated-steady : (kind : MachineKind) (o : Order) (size : ℕ) (r : Result Ima
 generated-steady kind o size (Err refusal) m = uncalled
 generated-steady kind o size (Ok image) m = summed-steady kind o.number size (started kind o.ring image (codes "gen" ∷ [])) m
 
--- ---- `type`
-
-typed-case : (r : Result (List ℕ) Outcome) (m : HostModel) → SparedAnswers m (after_typing (r, m)) (after_typing (r, still m))
-typed-case (Err outcome) m = uncalled
-typed-case (Ok object) m = told-steady (typed object).1 (typed object).0 m
-
-show-order : (object : Word) (m : HostModel) → SparedAnswers m (after_typing (file_bytes object_pieces object m)) (after_typing (file_bytes object_pieces object (still m)))
-show-order object m = behind after_typing (file_bytes object_pieces object m) (file_bytes object_pieces object (still m)) typed-case (plan-spared (file_plan object_pieces object) m)
-
 -- ---- `multi`
 
 turns-case : (dump : Bool) (steps : ℕ) (r : TurnsEnd) → SparedAnswers (turns_host r) (turns_told dump steps r) (turns_told dump steps (turns_still r))
@@ -257,9 +244,9 @@ multi-order kind words o m =
 ordered-steady : (kind : MachineKind) (words : List Word) (o : Order) (c : Command) (m : HostModel) → SparedAnswers m (ordered kind words o c m) (ordered kind words o c (still m))
 ordered-steady kind words o Run m = begun-steady kind words o Source m
 ordered-steady kind words o Sim m = begun-steady kind words o Object m
-ordered-steady kind words o Asm m = asm-order (word_at words o.file) (word_at words o.rest) m
+ordered-steady kind words o Asm m = plan-order (assemble_plan (word_at words o.file) (word_at words o.rest)) m
 ordered-steady kind words o Gen m = generated-steady kind o (length (generated o.number)) (source_meaning (generated o.number)) m
-ordered-steady kind words o Show m = show-order (word_at words o.file) m
+ordered-steady kind words o Show m = plan-order (list_plan (word_at words o.file)) m
 ordered-steady kind words o Multi m = multi-order kind words o m
 
 words-steady : (kind : MachineKind) (words : List Word) (r : Result Order WordsFault) (m : HostModel) → SparedAnswers m (carried_out kind words r m) (carried_out kind words r (still m))

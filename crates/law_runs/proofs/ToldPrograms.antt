@@ -40,12 +40,12 @@ use Rattle.mx_outcome.specs.Kinds.{leaves_machine}
 use Rattle.mx_begin.specs.Arguments.{Word, word_at, arguments}
 use Rattle.mx_dump.specs.Dump.{dump_lines}
 use Rattle.law_gen.specs.Generator.{generated, summary}
-use Rattle.mx_files.specs.Lines.{lines_put}
-use Rattle.mx_files.specs.Typed.{Typed, trie_typed, tail_typed, end_typed, typed, after_typing}
+use Rattle.mx_files.specs.Writing.{lines_put}
+use Rattle.mx_files.specs.Typed.{Typed, trie_typed, tail_typed, end_typed, typed}
 use Rattle.mx_outcome.specs.Messages.{message_of}
 use Rattle.mx_files.specs.Objects.{Assembled, source_object}
-use Rattle.mx_files.specs.FilePlans.{Part, on_ok, carried, close_file, input_opened, open_input, piece_added, read_piece, read_next, read_pieces, then_closed, read_open, file_plan, write_piece, write_pieces, text_plan}
-use Rattle.mx_files.specs.ObjectPlans.{outcome_of, object_opened, open_object, assembled as assembled_answer, close_object, put_object, put_source, put_into, assemble_part, assemble_plan}
+use Rattle.mx_files.specs.FilePlans.{Part, on_ok, carried, close_file, input_opened, open_input, piece_added, read_piece, read_next, read_pieces, then_closed, read_open, file_plan, write_piece, write_pieces, text_plan, made_plan, lines_plan}
+use Rattle.mx_files.specs.ObjectPlans.{outcome_of, object_opened, open_object, assembled as assembled_answer, close_object, put_object, put_source, put_into, assemble_part, assemble_plan, whole_plan, typed_end, typed_plan, list_part, list_plan}
 use Rattle.mx_files.proofs.FileEnds.{whole-by}
 use Rattle.mx_top.specs.Product.{begun_run, image_turned, after_schedule, generator_steps, summed, summed_from, generated_run, ordered, carried_out, message_told, with_message, product}
 use Rattle.mx_top.specs.Runs.{Ran, ran, ran_wild, machine_ran, session_outcome, played, takes_back, states_back, state_lines, reached, lines_told, taken_back, order_ran, dumped, run_from}
@@ -53,7 +53,6 @@ use Rattle.mx_begin.specs.BeginPlans.{image_plan, image_file_plan, start_plan, b
 use Rattle.mx_begin.specs.Begun.{assembled, loaded, image_in, most_pieces, main_address, begun_at, stack_at_start, started}
 use Rattle.mx_begin.specs.declared.images.Form.{Form}
 use Rattle.mx_begin.specs.declared.images.Form.TheVariants.{Source, Object}
-use Rattle.mx_files.specs.Source.{file_bytes}
 use Rattle.mx_files.specs.Sources.{source_meaning}
 use Rattle.mx_top.specs.Processors.{processors_named, multi_lines, multi_outcome, turns_told, image_turns}
 use Rattle.mx_files.specs.Schedules.{judged, schedule_in, schedule_fault, schedule_bytes, schedule_plan}
@@ -185,9 +184,6 @@ input-told name = by
 read-told : (most : ℕ) (name : List ℕ) → IsTold (file_plan most name)
 unfolding file_plan
 read-told most name = then-told (λ u. read_open most) (open_input name) (input-told name) (λ u. bytes-told most)
-
-file-told : (most : ℕ) (name : List ℕ) (m : HostModel) → ReadTold (file_bytes most name m).0
-file-told most name m = part-end (file_plan most name) m (read-told most name)
 
 -- ---- runs, sessions and dumps
 
@@ -324,10 +320,8 @@ whole-told : (r : Result (Unit {0}) Outcome) → ReadTold r → OutcomeTold (out
 whole-told (Ok u) h = refl
 whole-told (Err outcome) h = h
 
-asm-told : (source object : List ℕ) (m : HostModel) → OutcomeTold (end_of host (assemble_plan source object) m).0
-asm-told source object m =
-    subst (λ (t : Then Outcome). OutcomeTold t.0) (sym (whole-by (assemble_part source object) m))
-    (whole-told (end_of host (assemble_part source object) m).0 (part-end (assemble_part source object) m (assemble-told source object)))
+work-told : (p : Part (Unit {0})) (m : HostModel) → IsTold p → OutcomeTold (end_of host (whole_plan p) m).0
+work-told p m h = subst (λ (t : Then Outcome). OutcomeTold t.0) (sym (whole-by p m)) (whole-told (end_of host p m).0 (part-end p m h))
 
 plainly-told : (t : Then Outcome) → OutcomeTold t.0 → AnswerTold (plainly t)
 plainly-told (outcome, m) h = h
@@ -377,9 +371,22 @@ typed-told : (object : List ℕ) → OutcomeTold (typed object).1
 unfolding typed
 typed-told object = either-typed (nat_lt limit (length object)) _ _ refl (end_typed-told (items_of Start 0 object).1)
 
-typing-told : (t : Then (Result (List ℕ) Outcome)) → ReadTold t.0 → AnswerTold (after_typing t)
-typing-told (Ok object, m) h = lines-told (typed object).1 (lines_put (typed object).0 m) (typed-told object)
-typing-told (Err outcome, m) h = h
+lines_plan-told : (lines : List (List ℕ)) → IsTold (lines_plan lines)
+unfolding lines_plan made_plan
+lines_plan-told [] = returns-told (Ok tt) tt
+lines_plan-told (line ∷ lines) = then-told (λ u. lines_plan lines) _ (need-told (write_piece 259 line) (write-told 259 line)) (λ u. lines_plan-told lines)
+
+typed_end-told : (outcome : Outcome) → OutcomeTold outcome → IsTold (typed_end outcome)
+typed_end-told (Done status) h = returns-told (Ok tt) tt
+typed_end-told outcome h = need-told (returns (Err outcome)) (returns-told (Err outcome) h)
+
+typed_plan-told : (t : Typed) → OutcomeTold t.1 → IsTold (typed_plan t)
+unfolding typed_plan
+typed_plan-told t h = then-told (λ u. typed_end t.1) (lines_plan t.0) (lines_plan-told t.0) (λ u. typed_end-told t.1 h)
+
+list-told : (name : List ℕ) → IsTold (list_part name)
+unfolding list_part
+list-told name = then-told (λ object. typed_plan (typed object)) (file_plan 16385 name) (read-told 16385 name) (λ object. typed_plan-told (typed object) (typed-told object))
 
 multi-told : (dump : Bool) (steps : ℕ) (t : TurnsEnd) → Told t → AnswerTold (turns_told dump steps t)
 multi-told dump steps (turns_ended end j m) h = lines-told (multi_outcome steps end) (lines_put (multi_lines dump end j) m) (h steps)
@@ -411,9 +418,10 @@ ordered-told : (kind : MachineKind) (words : List Word) (o : Order) (c : Command
 ordered-told kind words o Run m = begun_run-told kind o (end_of host (begin_plan kind words o Source) m) (part-end (begin_plan kind words o Source) m (begin-told kind words o Source))
 ordered-told kind words o Sim m = begun_run-told kind o (end_of host (begin_plan kind words o Object) m) (part-end (begin_plan kind words o Object) m (begin-told kind words o Object))
 ordered-told kind words o Asm m =
-    plainly-told (end_of host (assemble_plan (word_at words o.file) (word_at words o.rest)) m) (asm-told (word_at words o.file) (word_at words o.rest) m)
+    plainly-told (end_of host (assemble_plan (word_at words o.file) (word_at words o.rest)) m)
+    (work-told (assemble_part (word_at words o.file) (word_at words o.rest)) m (assemble-told (word_at words o.file) (word_at words o.rest)))
 ordered-told kind words o Gen m = generated-told kind o (length (generated o.number)) (source_meaning (generated o.number)) m
-ordered-told kind words o Show m = typing-told (file_bytes 16385 (word_at words o.file) m) (file-told 16385 (word_at words o.file) m)
+ordered-told kind words o Show m = plainly-told (end_of host (list_plan (word_at words o.file)) m) (work-told (list_part (word_at words o.file)) m (list-told (word_at words o.file)))
 ordered-told kind words o Multi m =
     after_schedule-told kind o (word_at words o.file) (schedule_bytes (word_at words o.schedule) m) (part-end (schedule_plan (word_at words o.schedule)) m (schedule-told (word_at words o.schedule)))
 

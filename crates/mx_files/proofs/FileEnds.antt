@@ -1,4 +1,4 @@
--- The ends of plans on files, by the answers of their calls; and what is written, by its definition over a model, is such an end.
+-- The ends of plans on files, by the answers of their calls.
 use Rattle.std.proofs.Common.{◌≡◌, ◌≤◌, ℕ, zero, suc, ◌-◌, ◌/◌, ◌++◌, List, [], ◌∷◌, take, drop, length, Bool, true, false, cond, nat_lt, Ok, Err, refl, sym, ◌∙◌, ap}
 use Rattle.std.specs.Prelude.{Result, ◌==◌}
 use Rattle.mx_host.specs.HostAnswer.{Then, open_answer, read_answer, write_answer, close_answer}
@@ -17,18 +17,16 @@ use Rattle.mx_stab.specs.declared.faults.StabFault.{StabFault}
 use Rattle.mx_word.specs.declared.symbols.Symbol.{Symbol}
 use Rattle.mx_plan.specs.Calls.{host, need, open_plan, close_plan, read_plan, write_plan}
 use Rattle.mx_plan.specs.Plan.{returns, bind, end_of, end_after}
+use Rattle.mx_plan.proofs.Giving.{Gives, HostMay, gives-bind, gives-end}
 use Rattle.mx_plan.proofs.Plans.{end_bind, end_returns}
 use Rattle.mx_plan.proofs.Spared.{plan-spared}
-use Rattle.mx_files.specs.Answers.{answered, plainly, after_lines}
 use Rattle.mx_files.specs.Assembling.{assembled_outcome}
 use Rattle.mx_files.specs.Clauses.{part_of}
 use Rattle.mx_files.specs.FilePlans.{Part, on_ok, carried, close_file, piece_added, read_piece, read_next, read_pieces, then_closed, read_open, input_opened, open_input, file_plan, write_piece, write_pieces, text_plan, made_plan, lines_plan}
-use Rattle.mx_files.specs.Lines.{output_slot, lines_put}
+use Rattle.mx_files.specs.Writing.{was_put, put_text, lines_put}
 use Rattle.mx_files.specs.ObjectPlans.{outcome_of, whole_plan, object_opened, open_object, assembled, close_object, put_object, put_source, put_into, assemble_part, assemble_plan, typed_end, typed_plan, list_part, list_plan}
 use Rattle.mx_files.specs.Objects.{Assembled, source_object}
-use Rattle.mx_files.specs.Pieces.{piece_put, put_piece, pieces_after, put_pieces, put_text}
-use Rattle.mx_files.specs.Source.{file_bytes}
-use Rattle.mx_files.specs.Typed.{Typed, trie_typed, tail_typed, end_typed, typed, typed_put, after_typing}
+use Rattle.mx_files.specs.Typed.{Typed, trie_typed, tail_typed, end_typed, typed}
 use Rattle.mx_outcome.specs.declared.outcome.Outcome.{Outcome}
 use Rattle.mx_outcome.specs.declared.outcome.Outcome.TheVariants.{Done, Usage, NoFile, HostFault as Broken, Refused, BadObject, BadSchedule, Stopped, StepsSpent, Quit, ConsoleLimit, OutOfMemory}
 use Rattle.mx_files.specs.declared.refusal.Refusal.{Refusal}
@@ -73,43 +71,85 @@ pub file-by : (most : ℕ) (name : List ℕ) (m : HostModel) → end_of host (fi
 unfolding file_plan
 file-by most name m = end_bind host (on_ok (λ u. read_open most)) (open_input name) m ∙ ap (end_after host (on_ok (λ u. read_open most))) (input-by name m)
 
--- ---- writing
+-- ---- writing, by the answers of its calls
 
-put-same : (t : Then (Result (Unit {0}) HostFault)) → then_carried t ≡ part_of (piece_put t)
-put-same (Ok u, m) = refl
-put-same (Err why, m) = refl
-
-pub piece-put-end : (slot : ℕ) (piece : List ℕ) (m : HostModel) → end_of host (write_piece slot piece) m ≡ part_of (put_piece slot piece m)
+pub write-by : (slot : ℕ) (piece : List ℕ) (m : HostModel) → end_of host (write_piece slot piece) m ≡ then_carried (write_answer m slot piece)
 unfolding write_piece write_plan bind end_of host
-piece-put-end slot piece m = put-same (write_answer m slot piece)
+write-by slot piece m = refl
 
-more-same : (more : Part (Unit {0})) (f : HostModel → Then Bool) → ((n : HostModel) → end_of host more n ≡ part_of (f n)) → (t : Then Bool) → end_after host (on_ok (λ u. more)) (part_of t) ≡ part_of (pieces_after f t)
-unfolding end_of
-more-same more f h (true, m) = h m
-more-same more f h (false, m) = refl
+pub none-by : (slot : ℕ) (text : List ℕ) (m : HostModel) → end_of host (write_pieces 0 slot text) m ≡ end_of host (write_piece slot text) m
+unfolding write_pieces
+none-by slot text m = refl
 
-put-pieces-end : (more slot : ℕ) (text : List ℕ) (m : HostModel) → end_of host (write_pieces more slot text) m ≡ part_of (put_pieces more slot text m)
-unfolding write_pieces put_pieces
-put-pieces-end zero slot text m = piece-put-end slot text m
-put-pieces-end (suc more) slot text m =
+pub more-by : (more slot : ℕ) (text : List ℕ) (m : HostModel) →
+    end_of host (write_pieces (suc more) slot text) m ≡ end_after host (on_ok (λ u. write_pieces more slot (drop 4096 text))) (then_carried (write_answer m slot (take 4096 text)))
+unfolding write_pieces
+more-by more slot text m =
     end_bind host (on_ok (λ u. write_pieces more slot (drop 4096 text))) (write_piece slot (take 4096 text)) m
-    ∙ ap (end_after host (on_ok (λ u. write_pieces more slot (drop 4096 text)))) (piece-put-end slot (take 4096 text) m)
-    ∙ more-same (write_pieces more slot (drop 4096 text)) (put_pieces more slot (drop 4096 text)) (λ n. put-pieces-end more slot (drop 4096 text) n) (put_piece slot (take 4096 text) m)
+    ∙ ap (end_after host (on_ok (λ u. write_pieces more slot (drop 4096 text)))) (write-by slot (take 4096 text) m)
+
+made-by : (line : List ℕ) (m : HostModel) → end_of host (made_plan line) m ≡ end_of host (write_piece 259 line) m
+unfolding made_plan need bind end_of host
+made-by line m = refl
+
+pub no-lines : (m : HostModel) → end_of host (lines_plan []) m ≡ (Ok tt, m)
+unfolding lines_plan end_of
+no-lines m = refl
+
+pub line-by : (line : List ℕ) (lines : List (List ℕ)) (m : HostModel) → end_of host (lines_plan (line ∷ lines)) m ≡ end_after host (on_ok (λ u. lines_plan lines)) (then_carried (write_answer m 259 line))
+unfolding lines_plan
+line-by line lines m =
+    end_bind host (on_ok (λ u. lines_plan lines)) (made_plan line) m ∙ ap (end_after host (on_ok (λ u. lines_plan lines))) (made-by line m ∙ write-by 259 line m)
+
+-- ---- all is written, or it is a fault of the host
+
+abbrev IsPut : Result (Unit {0}) Outcome → Type 0
+IsPut (Ok u) = Unit {0}
+IsPut (Err outcome) = outcome ≡ Broken
+
+carried-put : (r : Result (Unit {0}) HostFault) → IsPut (carried r)
+carried-put (Ok u) = tt
+carried-put (Err why) = refl
+
+piece-put : (slot : ℕ) (piece : List ℕ) → Gives HostMay IsPut (write_piece slot piece)
+unfolding Gives write_piece write_plan bind
+piece-put slot piece = λ r t. carried-put r
+
+on-put : (more : Part (Unit {0})) → Gives HostMay IsPut more → (r : Result (Unit {0}) Outcome) → IsPut r → Gives HostMay IsPut (on_ok (λ u. more) r)
+unfolding Gives
+on-put more h (Ok u) t = h
+on-put more h (Err outcome) t = t
+
+pieces-put : (more slot : ℕ) (text : List ℕ) → Gives HostMay IsPut (write_pieces more slot text)
+unfolding write_pieces
+pieces-put zero slot text = piece-put slot text
+pieces-put (suc more) slot text =
+    gives-bind HostMay IsPut IsPut (on_ok (λ u. write_pieces more slot (drop 4096 text))) (write_piece slot (take 4096 text)) (piece-put slot (take 4096 text))
+    (on-put (write_pieces more slot (drop 4096 text)) (pieces-put more slot (drop 4096 text)))
+
+made-put : (line : List ℕ) → Gives HostMay IsPut (made_plan line)
+unfolding Gives made_plan need bind
+made-put line = λ u t. piece-put 259 line
+
+lines-put : (lines : List (List ℕ)) → Gives HostMay IsPut (lines_plan lines)
+unfolding Gives lines_plan
+lines-put [] = tt
+lines-put (line ∷ lines) = gives-bind HostMay IsPut IsPut (on_ok (λ u. lines_plan lines)) (made_plan line) (made-put line) (on-put (lines_plan lines) (lines-put lines))
+
+was-part : (t : Then (Result (Unit {0}) Outcome)) → IsPut t.0 → t ≡ part_of (was_put t)
+was-part (Ok u, m) h = refl
+was-part (Err outcome, m) h = ap (λ o. (Err o, m)) h
+
+put-end : (p : Part (Unit {0})) (m : HostModel) → Gives HostMay IsPut p → end_of host p m ≡ part_of (was_put (end_of host p m))
+put-end p m h = was-part (end_of host p m) (gives-end host HostMay IsPut (λ o w. tt) p m h)
 
 pub text-end : (slot : ℕ) (text : List ℕ) (m : HostModel) → end_of host (text_plan slot text) m ≡ part_of (put_text slot text m)
-unfolding text_plan
-text-end slot text m = put-pieces-end ((length text - 1) / 4096) slot text m
-
-made-end : (line : List ℕ) (m : HostModel) → end_of host (made_plan line) m ≡ part_of (put_piece output_slot line m)
-unfolding made_plan need bind end_of host
-made-end line m = piece-put-end output_slot line m
+unfolding text_plan put_text
+text-end slot text m = put-end (write_pieces ((length text - 1) / 4096) slot text) m (pieces-put ((length text - 1) / 4096) slot text)
 
 pub lines-end : (lines : List (List ℕ)) (m : HostModel) → end_of host (lines_plan lines) m ≡ part_of (lines_put lines m)
-unfolding lines_plan lines_put end_of
-lines-end [] m = refl
-lines-end (line ∷ lines) m =
-    end_bind host (on_ok (λ u. lines_plan lines)) (made_plan line) m ∙ ap (end_after host (on_ok (λ u. lines_plan lines))) (made-end line m)
-    ∙ more-same (lines_plan lines) (lines_put lines) (λ n. lines-end lines n) (put_piece output_slot line m)
+unfolding lines_put
+lines-end lines m = put-end (lines_plan lines) m (lines-put lines)
 
 -- ---- a source that is assembled, by the answers of its calls
 
@@ -181,28 +221,11 @@ IsTyped (Done status) = Done status ≡ Done 0
 IsTyped (BadObject place fault) = Unit {0}
 IsTyped outcome = ⊥
 
-typed-same : (t : Typed) (w : Then Bool) → IsTyped t.1 → plainly (whole_of (end_after host (on_ok (λ u. typed_end t.1)) (part_of w))) ≡ after_lines t.1 w
+typed-by : (outcome : Outcome) (m : HostModel) → IsTyped outcome → whole_of (end_of host (typed_end outcome) m) ≡ (outcome, m)
 unfolding bind need end_of host
-typed-same (lines, Done status) (true, m) h = ap (λ o. answered o m) (sym h)
-typed-same (lines, Done status) (false, m) h = refl
-typed-same (lines, BadObject place fault) (true, m) h = refl
-typed-same (lines, BadObject place fault) (false, m) h = refl
-typed-same (lines, Usage fault) w h = absurd h
-typed-same (lines, NoFile) w h = absurd h
-typed-same (lines, Broken) w h = absurd h
-typed-same (lines, Refused line fault from_line) w h = absurd h
-typed-same (lines, BadSchedule place) w h = absurd h
-typed-same (lines, Stopped pc reason) w h = absurd h
-typed-same (lines, StepsSpent steps) w h = absurd h
-typed-same (lines, Quit) w h = absurd h
-typed-same (lines, ConsoleLimit) w h = absurd h
-typed-same (lines, OutOfMemory) w h = absurd h
-
-typed-end : (t : Typed) (m : HostModel) → IsTyped t.1 → plainly (whole_of (end_of host (typed_plan t) m)) ≡ typed_put t m
-unfolding typed_plan
-typed-end t m h =
-    ap (λ e. plainly (whole_of e)) (end_bind host (on_ok (λ u. typed_end t.1)) (lines_plan t.0) m ∙ ap (end_after host (on_ok (λ u. typed_end t.1))) (lines-end t.0 m))
-    ∙ typed-same t (lines_put t.0 m) h
+typed-by (Done status) m h = ap (λ o. (o, m)) (sym h)
+typed-by (BadObject place fault) m h = refl
+typed-by outcome m h = absurd h
 
 trie-typed : (place : ℕ) (trie : List ℕ) (r : Result (List Symbol) StabFault) → IsTyped (trie_typed place trie r).1
 trie-typed place trie (Ok symbols) = refl
@@ -224,16 +247,14 @@ object-typed : (object : List ℕ) → IsTyped (typed object).1
 unfolding typed
 object-typed object = either-typed (nat_lt limit (length object)) _ _ tt (end-typed (items_of Start 0 object).1)
 
-listing-same : (t : Then (Result (List ℕ) Outcome)) → plainly (whole_of (end_after host (on_ok (λ object. typed_plan (typed object))) t)) ≡ after_typing t
-unfolding end_of
-listing-same (Ok object, m) = typed-end (typed object) m (object-typed object)
-listing-same (Err outcome, m) = refl
+-- an object is read, and its lines are written
+pub listed-by : (name bytes : List ℕ) (m n k : HostModel) → end_of host (file_plan 16385 name) m ≡ (Ok bytes, n) → lines_put (typed bytes).0 n ≡ (true, k) → end_of host (list_plan name) m ≡ ((typed bytes).1, k)
+unfolding list_part typed_plan
+listed-by name bytes m n k read written =
+    let t : Typed = typed bytes in
+    whole-by (list_part name) m
+    ∙ ap whole_of (end_bind host (on_ok (λ object. typed_plan (typed object))) (file_plan 16385 name) m ∙ ap (end_after host (on_ok (λ object. typed_plan (typed object)))) read
+    ∙ end_bind host (on_ok (λ u. typed_end t.1)) (lines_plan t.0) n ∙ ap (end_after host (on_ok (λ u. typed_end t.1))) (lines-end t.0 n ∙ ap part_of written))
+    ∙ typed-by t.1 k (object-typed bytes)
 
-pub list-end : (name : List ℕ) (m : HostModel) → plainly (end_of host (list_plan name) m) ≡ after_typing (file_bytes 16385 name m)
-unfolding list_part
-list-end name m =
-    ap plainly (whole-by (list_part name) m
-    ∙ ap whole_of (end_bind host (on_ok (λ object. typed_plan (typed object))) (file_plan 16385 name) m))
-    ∙ listing-same (file_bytes 16385 name m)
-
-pub ruleset ends = (text-end, lines-end, list-end)
+pub ruleset ends = (text-end, lines-end)

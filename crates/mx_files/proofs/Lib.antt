@@ -8,7 +8,6 @@ pub mod FileParts
 pub mod WrittenLines
 pub mod FileEnds
 pub mod PutPieces
-pub mod PutLines
 pub mod QuietFiles
 pub mod ReadPieces
 pub mod SourceImages

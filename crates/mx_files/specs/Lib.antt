@@ -1,9 +1,8 @@
 pub use Rattle.mx_word.specs.Results
 pub mod Answers
 pub mod Failing
-pub mod Pieces
-pub mod Lines
 pub mod FilePlans
+pub mod Writing
 pub mod Source
 pub mod Loading
 pub mod Objects

@@ -41,7 +41,7 @@ use Rattle.mx_files.specs.Answers.{Answer, answered, wild, plainly, after_lines}
 use Rattle.mx_outcome.specs.Kinds.{leaves_machine}
 use Rattle.mx_files.specs.Clauses.{part_of}
 use Rattle.mx_files.specs.FilePlans.{Part, lines_plan}
-use Rattle.mx_files.specs.Lines.{lines_put}
+use Rattle.mx_files.specs.Writing.{lines_put}
 use Rattle.mx_outcome.specs.Messages.{message_of}
 use Rattle.mx_files.specs.ObjectPlans.{assemble_plan, list_plan}
 use Rattle.mx_files.specs.Schedules.{schedule_bytes, schedule_plan}
@@ -49,7 +49,7 @@ use Rattle.mx_files.specs.Sources.{source_meaning}
 use Rattle.mx_files.specs.declared.refusal.Refusal.{Refusal}
 use Rattle.mx_outcome.specs.declared.outcome.Outcome.{Outcome}
 use Rattle.mx_outcome.specs.declared.outcome.Outcome.TheVariants.{Done, Usage, NoFile, HostFault, Refused, BadObject, BadSchedule, Stopped, StepsSpent, Quit, ConsoleLimit, OutOfMemory}
-use Rattle.mx_files.proofs.FileEnds.{lines-end, list-end}
+use Rattle.mx_files.proofs.FileEnds.{lines-end}
 use Rattle.mx_begin.specs.Arguments.{Word, word_at}
 use Rattle.mx_begin.specs.BeginPlans.{begin_plan, image_file_plan}
 use Rattle.mx_begin.specs.declared.images.Form.{Form}
@@ -288,7 +288,7 @@ ordered-end words o Run m = begun-end words o Source m
 ordered-end words o Sim m = begun-end words o Object m
 ordered-end words o Asm m = host-by window_machine (assemble_plan (word_at words o.file) (word_at words o.rest)) m
 ordered-end words o Gen m = taking-by window_machine (plans.generated_plan o (generated o.number)) m ∙ generated-end window_machine o (generated o.number) m
-ordered-end words o Show m = host-by window_machine (list_plan (word_at words o.file)) m ∙ list-end (word_at words o.file) m
+ordered-end words o Show m = host-by window_machine (list_plan (word_at words o.file)) m
 ordered-end words o Multi m = multi-end window_machine o (word_at words o.schedule) (word_at words o.file) m
 
 pub work-end : (words : List Word) (r : Result Order WordsFault) (m : HostModel) → plainly (end_of program (plans.work_plan words r) m) ≡ carried_out window_machine words r m
