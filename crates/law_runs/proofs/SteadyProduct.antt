@@ -1,6 +1,6 @@
 -- Where no call that is made fails, the program does and answers the same whatever the count of calls, and whatever the
 -- list of those that fail.
-use Rattle.std.proofs.Common.{◌≡◌, ◌≤◌, ℕ, zero, suc, List, [], ◌∷◌, Bool, true, false, cond, length, take, refl, sym, subst, ◌∙◌, ap, Ok, Err}
+use Rattle.std.proofs.Common.{◌≡◌, ◌≤◌, ℕ, zero, suc, List, [], ◌∷◌, Bool, true, false, cond, length, take, refl, sym, ◌∙◌, ap, Ok, Err}
 use Rattle.std.specs.Prelude.{Result, ◌&&◌, codes}
 use Rattle.mx_host.specs.HostModel.{HostModel}
 use Rattle.mx_host.specs.HostAnswer.{Then}
@@ -17,7 +17,6 @@ use Rattle.mx_run.specs.Counts.{end_host}
 use Rattle.mx_back.specs.History.{kept_turn, states_kept}
 use Rattle.mx_back.specs.KeptRuns.{turn_kind, turns_after, turns_of}
 use Rattle.mx_core.specs.Step.{step}
-use Rattle.mx_code.specs.declared.trace.Trace.{Trace}
 use Rattle.mx_run.specs.Runs.{Ended, ended, no_flags}
 use Rattle.mx_run.specs.Turns.{Turn, went_on, halts, stops, turn, turn_answer}
 use Rattle.mx_run.specs.declared.end.End.TheVariants.{Halted, Stopped as Stop, Spent}

@@ -1,17 +1,19 @@
 -- Where no call that is made fails, turns of several processors come to the same whatever the count of calls, and whatever the
 -- list of those that fail.
-use Rattle.std.proofs.Common.{◌≡◌, ℕ, zero, suc, List, Bool, true, false, cond, Option, None, Some, Ok, Err}
-use Rattle.std.specs.Prelude.{Result}
+use Rattle.std.proofs.Common.{ℕ, ◌&&◌, not, List, Bool, true, false, cond}
 use Rattle.mx_host.specs.HostModel.{HostModel}
 use Rattle.mx_host.proofs.Still.{still}
+use Rattle.mx_plan.specs.Wild.{Course, ends, meets_wild, world_of, course}
 use Rattle.mx_plan.proofs.Spared.{Spares, uncalled, after}
+use Rattle.mx_plan.proofs.WildLaws.{course_still, SparedCourse, course_spared}
 use Rattle.mx_run.specs.Turns.{went_on, halts, stops, turn_answer, turn}
 use Rattle.mx_run.specs.Turns as run
 use Rattle.mx_run.specs.WildRuns.{MachineKind, ends_wild, host_after}
 use Rattle.mx_run.proofs.SteadyRuns.{turn_still, turn-steady}
 use Rattle.mx_multi.specs.Joint.{Joint, has_halted, state_at}
 use Rattle.mx_multi.specs.JointTurns.{JointWorld, joined, turn_of}
-use Rattle.mx_multi.specs.Turns.{TurnsEnd, turns_ended, turns_wild, next_turn, end_of_turn, after_turn, made_turn, turn_by, turns}
+use Rattle.mx_multi.specs.MultiPlans.{MultiCall, starting, turning, looking, multi, turns_plan}
+use Rattle.mx_multi.specs.Turns.{multi_goes, TurnsEnd, turns_ended, turns_wild, of_course, turns}
 use Rattle.mx_multi.specs.declared.turn.Turn.{Turn}
 use Rattle.mx_multi.specs.declared.turn.Turn.TheVariants.{Idle}
 use Rattle.mx_multi.specs.declared.end.MultiEnd.{MultiEnd}
@@ -51,31 +53,33 @@ turns_still (turns_wild m) = turns_wild (still m)
 abbrev pub SparedTurns : HostModel → TurnsEnd → TurnsEnd → Type 0
 SparedTurns m t u = Spares m (turns_host t) (turns_still t) u
 
-abbrev More : Type 0
-More = List ℕ → Joint → HostModel → TurnsEnd
+-- ---- by their plan
 
-abbrev IsSteady : More → Type 0
-IsSteady more = (rest : List ℕ) (j : Joint) (m : HostModel) → SparedTurns m (more rest j m) (more rest j (still m))
+abbrev still-joint : JointWorld → JointWorld
+still-joint w = (w.0, still w.1)
 
-one-of : {m : HostModel} (b : Bool) (x y v w : TurnsEnd) → SparedTurns m x v → SparedTurns m y w → SparedTurns m (cond b x y) (cond b v w)
-one-of true x y v w h k = h
-one-of false x y v w h k = k
+abbrev joint-host : JointWorld → HostModel
+joint-host w = w.1
 
-after-case : (more : More) (e : Result (List ℕ) MultiEnd) (j : Joint) (m : HostModel) → IsSteady more → SparedTurns m (after_turn more e (j, m)) (after_turn more e (j, still m))
-after-case more (Ok rest) j m g = g rest j m
-after-case more (Err end) j m g = uncalled
+abbrev made : Turn × JointWorld → Course Turn JointWorld
+made t = ends t.0 t.1
 
-made-case : (more : More) (who : ℕ) (rest : List ℕ) (t : Turn × JointWorld) → IsSteady more → SparedTurns t.1.1 (made_turn more who rest t) (made_turn more who rest (joint_still t))
-made-case more who rest t g = after-case more (end_of_turn who rest t.0) t.1.0 t.1.1 g
+call-steady : (kind : MachineKind) (o : MultiCall) (w : JointWorld) → SparedCourse joint-host still-joint w (multi_goes kind o w) (multi_goes kind o (still-joint w))
+unfolding multi
+call-steady kind starting w = uncalled
+call-steady kind (turning who) w = by (not (has_halted w.0.halted who) && ends_wild kind (state_at w.0 who))
+  where
+    by : (b : Bool) → SparedCourse joint-host still-joint w (cond b (meets_wild w) (made (turn_of who w))) (cond b (meets_wild (still-joint w)) (made (turn_of who (still-joint w))))
+    by true = uncalled
+    by false = after made (turn_of-steady who w.0 w.1) uncalled
+call-steady kind looking w = uncalled
 
-turn_by-steady : (kind : MachineKind) (more : More) (j : Joint) (m : HostModel) (next : Option (ℕ × List ℕ)) → IsSteady more → SparedTurns m (turn_by kind more j m next) (turn_by kind more j (still m) next)
-turn_by-steady kind more j m None g = uncalled
-turn_by-steady kind more j m (Some (who, rest)) g =
-    one-of (ends_wild kind (state_at j who)) (turns_wild m) (made_turn more who rest (turn_of who (j, m))) (turns_wild (still m)) (made_turn more who rest (turn_of who (j, still m)))
-    uncalled (after (made_turn more who rest) (turn_of-steady who j m) (made-case more who rest (turn_of who (j, m)) g))
+end-case : (c : Course MultiEnd JointWorld) → Spares (joint-host (world_of c)) (turns_host (of_course c)) (turns_still (of_course c)) (of_course (course_still still-joint c))
+end-case (ends end w) = uncalled
+end-case (meets_wild w) = uncalled
 
 pub turns-steady : (kind : MachineKind) (schedule : List ℕ) (n : ℕ) (rest : List ℕ) (j : Joint) (m : HostModel) →
     SparedTurns m (turns kind schedule n rest j m) (turns kind schedule n rest j (still m))
 unfolding turns
-turns-steady kind schedule zero rest j m = uncalled
-turns-steady kind schedule (suc n) rest j m = turn_by-steady kind (turns kind schedule n) j m (next_turn j.halted schedule rest) (λ r k h. turns-steady kind schedule n r k h)
+turns-steady kind schedule n rest j m =
+    after of_course (course_spared joint-host still-joint (multi_goes kind) (call-steady kind) (turns_plan schedule n rest) (j, m)) (end-case (course (multi_goes kind) (turns_plan schedule n rest) (j, m)))

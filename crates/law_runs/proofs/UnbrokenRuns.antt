@@ -1,5 +1,5 @@
 -- A run without flags does not break, is not traced, and by its definition does not lack memory.
-use Rattle.std.proofs.Common.{◌≡◌, ◌≢◌, ℕ, false, true, Ok, Err, refl, subst, sym}
+use Rattle.std.proofs.Common.{◌≡◌, ◌≢◌, ℕ, false, true, refl, subst, sym}
 use Rattle.std.specs.Prelude.{Result}
 use Rattle.mx_host.specs.HostModel.{HostModel}
 use Rattle.mx_core.specs.State.{State}

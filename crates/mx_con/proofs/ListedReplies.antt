@@ -1,4 +1,4 @@
--- Commands that make no step, beside the list machine.
+-- Commands that make no step go alike over the list machine, where they are not wild.
 use Rattle.std.proofs.Common.{◌≡◌, ℕ, zero, suc, ◌+◌, ◌-◌, ◌*◌, ◌^◌, ◌≤◌, ◌==◌, [], ◌∷◌, Bool, true, false, cond, nat_lt, Option, None, Some, Result, Ok, Err, refl, sym, ◌∙◌, ap, subst, arith, map}
 use Rattle.std.specs.Prelude.{◌||◌, is_none, is_err, unwrap_or}
 use Rattle.std.specs.List.{range_with_len}
@@ -22,24 +22,28 @@ use Rattle.mx_core.specs.declared.changes.SetFault.{SetFault}
 use Rattle.mx_core.proofs.Kept.Changed.{register-listed, special-listed, octa-changed-listed}
 use Rattle.mx_core.proofs.Same.Seen.{same-visible}
 use Rattle.mx_run.specs.Runs.{FlagsOf}
-use Rattle.mx_run.specs.WildRuns.{window_machine, list_machine}
-use Rattle.mx_word.specs.Lists.{IsFront}
-use Rattle.mx_con.specs.Clauses.{output_of, as_list_console, PartGoesAsList}
-use Rattle.mx_con.specs.HostLines.{lines_write}
-use Rattle.mx_con.specs.Judgement.{bad_text, bad_if, first_bad, is_outside, subject_bad, past_memory, command_bad, command_wild}
-use Rattle.mx_con.specs.Replies.{Reply, reply, reply_in, reply_to, with_note, with_subject, changed_reply, octas_after, shown_after}
-use Rattle.mx_con.specs.Session.{Console, Done, wild, with_reply, replied, carried_out, judged, answered}
+use Rattle.mx_run.specs.WildRuns.{list_machine}
+use Rattle.mx_host.specs.HostModel.{HostModel}
+use Rattle.mx_plan.specs.Plan.{returns, bind, end_of}
+use Rattle.mx_plan.specs.Wild.{Course, meets_wild, then_on, course, carried}
 use Rattle.mx_show.specs.Subjects.{subject_changed, subject_wild, shown_line}
 use Rattle.mx_cmd.specs.declared.command.Command.{Command}
 use Rattle.mx_cmd.specs.declared.command.Command.TheVariants as command
 use Rattle.mx_cmd.specs.declared.command.Subject.{Subject}
 use Rattle.mx_cmd.specs.declared.command.Subject.TheVariants.{Register, Global, Special, Memory}
+use Rattle.mx_con.specs.Clauses.{IsUntouched, GoesAsList}
+use Rattle.mx_con.specs.Judgement.{bad_text, bad_if, first_bad, is_outside, subject_bad, past_memory, command_bad, command_wild}
+use Rattle.mx_con.specs.LinePlans.{line_plan, lines_plan}
+use Rattle.mx_con.specs.Replies.{Reply, reply, reply_in, reply_to, with_note, with_subject, changed_reply, octas_after, shown_after}
+use Rattle.mx_con.specs.Session.{session_goes}
+use Rattle.mx_con.specs.SessionPlans.{replying, SessionWorld, Part, conversing, on_host, reply_plan, judge_plan, showing, refused, answered_plan}
+use Rattle.mx_con.specs.SessionPlans as plans
+use Rattle.mx_con.specs.declared.end.SessionEnd.{SessionEnd}
 use Rattle.mx_con.specs.declared.judgement.Bad.{Bad}
 use Rattle.mx_con.specs.declared.judgement.Bad.TheVariants.{BadNumber, NoSuchRegister, NoMemoryShown, CannotChange}
-use Rattle.mx_con.proofs.Besides.{goes-listed, write-listed, write-untouched, line-beside}
-use Rattle.mx_con.specs.SessionPlans as plans
-use Rattle.mx_con.proofs.SessionJoins.{shown_of, LeftAs, part-front, replied-joins}
+use Rattle.mx_con.proofs.HeldSessions.{streams-end}
 use Rattle.mx_con.proofs.SameTexts.{outside-area, same-state, same-line}
+use Rattle.mx_con.proofs.SessionBoth.{Listed, listed-returns, listed-host, listed-then}
 
 -- ---- CHANGES
 
@@ -202,45 +206,54 @@ unnoted : (s : State) (f : FlagsOf) (shown : Option ℕ) (line : Command) → co
 unfolding reply_to
 unnoted s f shown line e = ap (λ b. with_note b (reply_in s f shown line)) e
 
-replied-beside : (c : Console) (r : Reply) → r.state.touched ≡ false → PartGoesAsList (replied (as_list_console c) (as_list_reply r)) (replied c r)
-replied-beside c r u =
-    goes-listed (replied (as_list_console c) (as_list_reply r)) (replied c r)
-    (write-listed tt (with_reply c r) (lines_write r.lines c.host)) (write-untouched tt (with_reply c r) (lines_write r.lines c.host) u)
-
-carried-beside : (c : Console) (w : Window) (line : Command) → IsMachine c.state w → c.state.touched ≡ false → command_bad c.state c.shown line ≡ None →
-    command_wild c.shown line ≡ false → PartGoesAsList (carried_out (as_list_console c) line) (carried_out c line)
-unfolding carried_out
-carried-beside c w line m u b e =
-    let own : reply_to c.state c.flags c.shown line ≡ reply_in c.state c.flags c.shown line = unnoted c.state c.flags c.shown line e in
-    let same : reply_to (as_list_state c.state) c.flags c.shown line ≡ as_list_reply (reply_to c.state c.flags c.shown line) =
-    unnoted (as_list_state c.state) c.flags c.shown line e ∙ same-reply c.state w c.flags c.shown line m b e ∙ ap (λ r. as_list_reply r) (sym own) in
-    subst (λ r. PartGoesAsList (replied (as_list_console c) r) (replied c (reply_to c.state c.flags c.shown line))) (sym same)
-    (replied-beside c (reply_to c.state c.flags c.shown line) (ap (λ (r : Reply). r.state.touched) own ∙ reply-touched c.state c.flags c.shown line ∙ u))
-
 -- ---- COMMANDS
 
-abbrev good-by : Bool → Console → Command → Done
-good-by b c line = cond b (wild c.host) (carried_out c line)
+pub listed-showing : (shown : Option ℕ) (p : Part (Unit {0})) (w : SessionWorld) → Listed p w → Listed (showing shown p) w
+listed-showing shown p w h = listed-then (λ (u : Unit {0}). returns (Ok shown)) p w h (λ x v u. listed-returns (Ok shown) v u)
 
-carried-front : (c : Console) (line : Command) → IsFront c.host.output (output_of (carried_out c line))
-unfolding carried_out
-carried-front c line =
-    let r = reply_to c.state c.flags c.shown line in
-    part-front shown_of (LeftAs c) (plans.replied (r.shown, r.lines)) (with_reply c r) (replied c r) (replied-joins c r)
+pub listed-refused : (shown : Option ℕ) (bad : Bad) (s : State) (m : HostModel) (f : FlagsOf) → IsUntouched ((s, m), f) → Listed (refused shown bad) ((s, m), f)
+listed-refused shown bad s m f u = listed-showing shown (on_host (line_plan (bad_text bad))) ((s, m), f) (listed-host (line_plan (bad_text bad)) s m f u)
 
-by-wild : (b : Bool) (c : Console) (w : Window) (line : Command) → command_wild c.shown line ≡ b → IsMachine c.state w → c.state.touched ≡ false →
-    command_bad c.state c.shown line ≡ None → PartGoesAsList (good-by b (as_list_console c) line) (carried_out c line)
-by-wild true c w line e m u n = carried-front c line
-by-wild false c w line e m u n = carried-beside c w line m u n e
+-- the lines of a reply, beside those of another
+abbrev lines-of : Reply → HostModel → Course (Result (Option ℕ) SessionEnd) SessionWorld
+lines-of r m = course (session_goes list_machine) (plans.replied (r.shown, r.lines)) ((r.state, m), r.flags)
 
-by-bad : (bad : Option Bad) (c : Console) (w : Window) (line : Command) → command_bad c.state c.shown line ≡ bad → IsMachine c.state w → c.state.touched ≡ false →
-    PartGoesAsList (judged list_machine (as_list_console c) line bad) (judged window_machine c line bad)
-by-bad (Some bad) c w line e m u = line-beside c (bad_text bad) u
-by-bad None c w line e m u = by-wild (command_wild c.shown line) c w line refl m u e
+listed-replied : (r : Reply) (m : HostModel) → r.state.touched ≡ false → Listed (plans.replied (r.shown, r.lines)) ((r.state, m), r.flags)
+listed-replied r m u = listed-showing r.shown (on_host (lines_plan r.lines)) ((r.state, m), r.flags) (listed-host (lines_plan r.lines) r.state m r.flags u)
 
-pub answered-beside : (c : Console) (w : Window) (line : Command) → IsMachine c.state w → c.state.touched ≡ false →
-    PartGoesAsList (answered list_machine (as_list_console c) line) (answered window_machine c line)
-unfolding answered
-answered-beside c w line m u =
-    subst (λ b. PartGoesAsList (judged list_machine (as_list_console c) line b) (judged window_machine c line (command_bad c.state c.shown line)))
-    (sym (same-bad c.state w c.shown line m)) (by-bad (command_bad c.state c.shown line) c w line refl m u)
+carried-listed : (shown : Option ℕ) (command : Command) (s : State) (w : Window) (m : HostModel) (f : FlagsOf) → IsMachine s w → s.touched ≡ false → command_bad s shown command ≡ None → command_wild shown command ≡ false →
+    GoesAsList (lines-of (reply_to (as_list_state s) f shown command) m)
+    (end_of conversing (plans.replied ((reply_to s f shown command).shown, (reply_to s f shown command).lines)) (((reply_to s f shown command).state, m), (reply_to s f shown command).flags)).0
+    (end_of conversing (plans.replied ((reply_to s f shown command).shown, (reply_to s f shown command).lines)) (((reply_to s f shown command).state, m), (reply_to s f shown command).flags)).1
+carried-listed shown command s w m f k u b e =
+    let r = reply_to s f shown command in
+    let own : r ≡ reply_in s f shown command = unnoted s f shown command e in
+    let same : reply_to (as_list_state s) f shown command ≡ as_list_reply r =
+    unnoted (as_list_state s) f shown command e ∙ same-reply s w f shown command k b e ∙ ap (λ x. as_list_reply x) (sym own) in
+    let last = end_of conversing (plans.replied (r.shown, r.lines)) ((r.state, m), r.flags) in
+    subst (λ (x : Reply). GoesAsList (lines-of x m) last.0 last.1) (sym same)
+    (listed-replied r m (ap (λ (x : Reply). x.state.touched) own ∙ reply-touched s f shown command ∙ u))
+
+-- a good command, and one that is judged
+listed-good : (shown : Option ℕ) (command : Command) (s : State) (w : Window) (m : HostModel) (f : FlagsOf) → IsMachine s w → s.touched ≡ false → command_bad s shown command ≡ None →
+    Listed (bind plans.replied (reply_plan shown command)) ((s, m), f)
+unfolding reply_plan bind end_of course conversing
+listed-good shown command s w m f k u b = by (command_wild shown command) refl
+  where
+    by : (c : Bool) → command_wild shown command ≡ c →
+        GoesAsList (then_on (λ r v. course (session_goes list_machine) (plans.replied r) v) (cond c (meets_wild ((as_list_state s, m), f)) (carried conversing (replying shown command) ((as_list_state s, m), f))))
+        (end_of conversing (bind plans.replied (reply_plan shown command)) ((s, m), f)).0 (end_of conversing (bind plans.replied (reply_plan shown command)) ((s, m), f)).1
+    by true e = (streams-end (bind plans.replied (reply_plan shown command)) ((s, m), f)).growing
+    by false e = carried-listed shown command s w m f k u b e
+
+listed-judged : (shown : Option ℕ) (command : Command) (s : State) (w : Window) (m : HostModel) (f : FlagsOf) (bad : Option Bad) → command_bad s shown command ≡ bad → IsMachine s w → s.touched ≡ false →
+    Listed (plans.judged shown command bad) ((s, m), f)
+listed-judged shown command s w m f (Some bad) e k u = listed-refused shown bad s m f u
+listed-judged shown command s w m f None e k u = listed-good shown command s w m f k u e
+
+pub listed-answered : (shown : Option ℕ) (command : Command) (s : State) (w : Window) (m : HostModel) (f : FlagsOf) → IsMachine s w → s.touched ≡ false → Listed (answered_plan shown command) ((s, m), f)
+unfolding answered_plan judge_plan bind end_of course conversing
+listed-answered shown command s w m f k u =
+    let last = end_of conversing (plans.judged shown command (command_bad s shown command)) ((s, m), f) in
+    subst (λ (b : Option Bad). GoesAsList (course (session_goes list_machine) (plans.judged shown command b) ((as_list_state s, m), f)) last.0 last.1) (sym (same-bad s w shown command k))
+    (listed-judged shown command s w m f (command_bad s shown command) refl k u)

@@ -1,222 +1,156 @@
--- Lines and sessions beside the list machine.
-use Rattle.std.proofs.Common.{◌≡◌, ℕ, suc, ◌+◌, ◌-◌, ◌<◌, ◌≤◌, List, [], true, false, Option, None, Some, Result, Ok, Err, refl, sym, ◌∙◌, ap, subst, arith}
+-- Lines and sessions over both machines.
+use Rattle.std.proofs.Common.{◌≡◌, ◌≢◌, ℕ, suc, ◌+◌, ◌-◌, ◌<◌, ◌≤◌, List, Option, None, Some, Result, Ok, Err, refl, sym, ◌∙◌, ap, subst, false, arith}
 use Rattle.mx_host.specs.HostModel.{HostModel}
+use Rattle.mx_word.specs.Results.{map_ok}
+use Rattle.mx_plan.specs.Plan.{returns, bind, Comes}
+use Rattle.mx_plan.specs.Calls.{host}
+use Rattle.mx_plan.specs.Wild.{Course, ends, meets_wild, course}
+use Rattle.mx_plan.proofs.WildLaws.{course_bind}
 use Rattle.mx_core.specs.Bounds.{as_list_state}
 use Rattle.mx_core.specs.State.{State}
 use Rattle.mx_run.specs.Runs.{FlagsOf}
-use Rattle.mx_run.specs.WildRuns.{window_machine, list_machine, HasWindow}
+use Rattle.mx_run.specs.WildRuns.{list_machine, HasWindow}
 use Rattle.mx_run.proofs.Areas.{has-window}
-use Rattle.mx_con.specs.Clauses.{as_list_console, as_list_progress, IsUntouched, PartGoesAsList, SessionGoesAsList}
 use Rattle.mx_cmd.specs.Commands.{command_of}
-use Rattle.mx_con.specs.HostLines.{Written, text_write, Reading, line_read, without_return}
-use Rattle.mx_con.specs.Judgement.{bad_text}
-use Rattle.mx_con.specs.Session.{Console, Progress, Done, on, over, wild, and_then, with_host, write_done, steps_left, runs, command_done, with_reading, reading_done, line_of, prompt, asked, one_line, session_lines, most_input, at_start, SessionEnded, session_ended, ended_in, run_of, session}
 use Rattle.mx_cmd.specs.declared.command.Command.{Command}
 use Rattle.mx_cmd.specs.declared.command.Command.TheVariants as command
-use Rattle.mx_con.specs.declared.end.SessionEnd.{SessionEnd}
-use Rattle.mx_con.specs.declared.end.SessionEnd.TheVariants.{Limit, Quit}
-use Rattle.mx_con.specs.declared.judgement.Bad.TheVariants.{UnknownCommand}
-use Rattle.mx_plan.specs.Plan.{end_of}
-use Rattle.mx_plan.specs.Calls.{host}
-use Rattle.mx_con.specs.LinePlans.{asking_plan}
-use Rattle.mx_con.specs.SessionPlans.{SessionWorld, conversing, with_left, one_line_plan}
+use Rattle.mx_con.specs.Clauses.{IsPart, as_list_world, IsUntouched, GoesAsList, SitsBoth, RestsBoth, SessionGoesAsList}
+use Rattle.mx_con.specs.LinePlans.{on_ok, LineRead, asking_plan, without_return}
+use Rattle.mx_con.specs.Session.{session_goes, ended_session, of_course, session_course, session}
+use Rattle.mx_con.specs.SessionPlans.{SessionWorld, SessionPlan, Part, conversing, on_host, showing, continued_plan, stepped_plan, command_plan, with_left, line_done, one_line_plan, lines_of_session, most_input, end_of_session, session_plan}
 use Rattle.mx_con.specs.declared.dialog.Dialog.{Dialog}
-use Rattle.mx_con.proofs.SessionJoins.{IsOver, Any, dialog_at, world_at, console_in, part-front, joined-in, joined-over, asked-on, asked-over, one-line-joins}
-use Rattle.mx_con.proofs.Besides.{Beside, as_list, Follows, follows, line-beside, beside-over, over-listed}
-use Rattle.mx_con.proofs.ListedReplies.{answered-beside}
-use Rattle.mx_con.proofs.ListedRuns.{stepped-beside}
+use Rattle.mx_con.specs.declared.end.SessionEnd.{SessionEnd}
+use Rattle.mx_con.specs.declared.end.SessionEnd.TheVariants.{Quit, Limit, OutOfMemory}
+use Rattle.mx_con.specs.declared.judgement.Bad.TheVariants.{UnknownCommand}
+use Rattle.mx_con.proofs.ListedReplies.{listed-showing, listed-refused, listed-answered}
+use Rattle.mx_con.proofs.ListedRuns.{listed-stepped}
+use Rattle.mx_con.proofs.Parts.{IsLeft, part-so, all-left, next-left, over-left, answer-left}
+use Rattle.mx_con.proofs.SessionBoth.{Listed, listed-returns, listed-host, listed-both, goes-on, done-both, then-both, over-both, all-both, rest-next, rest-over, rest-answer}
+use Rattle.mx_con.proofs.StepPlans.{host-comes}
 
 pub ruleset windows = (has-window)
 
--- ---- ASKING
+-- ---- commands
 
-reading-listed : (c : Console) (t : Reading) → reading_done (as_list_console c) t ≡ as_list_progress (reading_done c t)
-reading-listed c (Ok text, left, m) = refl
-reading-listed c (Err end, left, m) = refl
+-- all but the one that goes on
+abbrev pub Pauses : Option Command → Type 0
+Pauses (Some command.Continue) = ⊥
+Pauses other = Unit {0}
 
-then-read : (c : Console) (w : Written) → and_then line_of (write_done tt (as_list_console c) w) ≡ as_list_progress (and_then line_of (write_done tt c w))
-then-read c (Ok u, m) = reading-listed (with_host c m) (line_read c.left [] m)
-then-read c (Err end, m) = refl
+listed-command : (steps : ℕ) (shown : Option ℕ) (line : Option Command) (s : State) (m : HostModel) (f : FlagsOf) → Pauses line → HasWindow s → IsUntouched ((s, m), f) → Listed (command_plan steps shown line) ((s, m), f)
+unfolding command_plan
+listed-command steps shown None s m f p h u = listed-refused shown UnknownCommand s m f u
+listed-command steps shown (Some command.Step) s m f p h u = listed-showing shown (stepped_plan steps) ((s, m), f) (listed-stepped steps s m f h u)
+listed-command steps shown (Some command.Continue) s m f p h u = absurd p
+listed-command steps shown (Some command.Quit) s m f p h u = listed-returns (Err Quit) ((s, m), f) u
+listed-command steps shown (Some line) s m f p h u = listed-answered shown line s h.window m f h.machine u
 
-asked-listed : (c : Console) → asked (as_list_console c) ≡ as_list_progress (asked c)
-unfolding asked
-asked-listed c = then-read c (text_write c.host prompt)
+-- what the code knows of such a command over the window is what is asked of it over both
+pub command-part : {Host : Type 0} {says : Host → Option HostModel} {faults : Host → ℕ} {a b : Host} {s : State} {m : HostModel} {f : FlagsOf} {w : SessionWorld} {r : Result (Option ℕ) SessionEnd}
+    (steps : ℕ) (shown : Option ℕ) (line : Option Command) → Pauses line → HasWindow s → IsPart says faults a b r (Comes conversing ((s, m), f) w (Err OutOfMemory) r (command_plan steps shown line)) →
+    IsPart says faults a b r (SitsBoth ((s, m), f) w (Err OutOfMemory) r (command_plan steps shown line))
+command-part {s = s} {m = m} {f = f} {w = w} {r = r} steps shown line p h k =
+    part-so k (λ c. listed-both (command_plan steps shown line) (Err OutOfMemory) r ((s, m), f) w (listed-command steps shown line s m f p h) c)
 
--- ---- ONE LINE
+-- a part, with what is shown where it is done
+pub shows-both : (shown : Option ℕ) (p : Part (Unit {0})) (v w : SessionWorld) (r : Result (Unit {0}) SessionEnd) → SitsBoth v w (Err OutOfMemory) r p →
+    SitsBoth v w (Err OutOfMemory) (map_ok (λ u. shown) r) (showing shown p)
+shows-both shown p v w (Ok u) c = then-both (λ (x : Unit {0}). returns (Ok shown)) p u v w w (Ok shown) c (done-both (Ok shown) w (λ e. absurd (cc)))
+shows-both shown p v w (Err end) c = over-both (λ (x : Unit {0}). returns (Ok shown)) p end v w c
 
--- what holds of a command that makes no run, beside what the window machine answers, and of a run where that is known
-by-answer : (q p r : Done) → p ≡ r → PartGoesAsList q r → PartGoesAsList q p
-by-answer q p r e h = subst (λ (x : Done). PartGoesAsList q x) (sym e) h
+pub continue-both : (steps : ℕ) (shown : Option ℕ) (v w : SessionWorld) (r : Result (Unit {0}) SessionEnd) → SitsBoth v w (Err OutOfMemory) r (continued_plan steps) →
+    SitsBoth v w (Err OutOfMemory) (map_ok (λ u. shown) r) (command_plan steps shown (Some command.Continue))
+unfolding command_plan
+continue-both steps shown v w r c = shows-both shown (continued_plan steps) v w r c
 
-command-goes : (steps : ℕ) (c : Console) (line : Option Command) (p : Done) → HasWindow c.state → c.state.touched ≡ false →
-    (line ≡ Some command.Continue → PartGoesAsList (command_done list_machine steps (as_list_console c) line) p) → p ≡ command_done window_machine steps c line →
-    PartGoesAsList (command_done list_machine steps (as_list_console c) line) p
-unfolding command_done
-command-goes steps c None p h u g e = by-answer _ p _ e (line-beside c (bad_text UnknownCommand) u)
-command-goes steps c (Some command.Step) p h u g e = by-answer _ p _ e (stepped-beside steps c h u)
-command-goes steps c (Some command.Continue) p h u g e = g refl
-command-goes steps c (Some command.Quit) p h u g e =
-    let over-listed : PartGoesAsList {A = Unit {0}} (over Quit (as_list_console c)) (over Quit c) = (refl, u) in by-answer (over Quit (as_list_console c)) p (over Quit c) e over-listed
-command-goes steps c (Some command.State) p h u g e = by-answer _ p _ e (answered-beside c h.window command.State h.machine u)
-command-goes steps c (Some (command.Show subject form)) p h u g e = by-answer _ p _ e (answered-beside c h.window (command.Show subject form) h.machine u)
-command-goes steps c (Some (command.Change subject value)) p h u g e = by-answer _ p _ e (answered-beside c h.window (command.Change subject value) h.machine u)
-command-goes steps c (Some (command.ShowMore n form)) p h u g e = by-answer _ p _ e (answered-beside c h.window (command.ShowMore n form) h.machine u)
-command-goes steps c (Some (command.GoTo a)) p h u g e = by-answer _ p _ e (answered-beside c h.window (command.GoTo a) h.machine u)
-command-goes steps c (Some (command.Break breaks a)) p h u g e = by-answer _ p _ e (answered-beside c h.window (command.Break breaks a) h.machine u)
-command-goes steps c (Some (command.Trace a)) p h u g e = by-answer _ p _ e (answered-beside c h.window (command.Trace a) h.machine u)
-command-goes steps c (Some (command.Untrace a)) p h u g e = by-answer _ p _ e (answered-beside c h.window (command.Untrace a) h.machine u)
-command-goes steps c (Some command.Flags) p h u g e = by-answer _ p _ e (answered-beside c h.window command.Flags h.machine u)
+-- ---- one line
 
--- the command that goes on is its runs
-pub continue-goes : (steps : ℕ) (c : Console) (line : Option Command) → line ≡ Some command.Continue →
-    PartGoesAsList (runs list_machine (steps_left steps (as_list_state c.state)) steps true (as_list_console c)) (runs window_machine (steps_left steps c.state) steps true c) →
-    PartGoesAsList (command_done list_machine steps (as_list_console c) line) (command_done window_machine steps c line)
-unfolding command_done
-continue-goes steps c line e h = rw e h
+with-left : (left : ℕ) (shown : Option ℕ) (v w : SessionWorld) (r : Result (Unit {0}) SessionEnd) (p : Part (Option ℕ)) → SitsBoth v w (Err OutOfMemory) (map_ok (λ u. shown) r) p →
+    SitsBoth v w (Err OutOfMemory) (map_ok (λ u. with_left left shown) r) (bind (on_ok (λ s. returns (Ok (with_left left s)))) p)
+with-left left shown v w (Ok u) p c = then-both (λ (s : Option ℕ). returns (Ok (with_left left s))) p shown v w w (Ok (with_left left shown)) c (done-both (Ok (with_left left shown)) w (λ e. absurd (cc)))
+with-left left shown v w (Err end) p c = over-both (λ (s : Option ℕ). returns (Ok (with_left left s))) p end v w c
 
-abbrev on_text : ℕ → List ℕ → Console → Done
-on_text steps text c = command_done list_machine steps c (command_of (without_return text))
+asked-both : (left : ℕ) (s : State) (m n : HostModel) (f : FlagsOf) (r : LineRead) → Comes host m n (Err OutOfMemory) r (asking_plan left) → SitsBoth ((s, m), f) ((s, n), f) (Err OutOfMemory) r (on_host (asking_plan left))
+asked-both left s m n f r c = listed-both (on_host (asking_plan left)) (Err OutOfMemory) r ((s, m), f) ((s, n), f) (listed-host (asking_plan left) s m f) (host-comes (asking_plan left) s m n f (Err OutOfMemory) r c)
 
-abbrev own_text : ℕ → List ℕ → Console → Done
-own_text steps text c = command_done window_machine steps c (command_of (without_return text))
+pub line-carried : (steps left after : ℕ) (shown next : Option ℕ) (text : List ℕ) (line : Option Command) (s : State) (m k : HostModel) (f : FlagsOf) (w : SessionWorld) (r : Result (Unit {0}) SessionEnd) →
+    Comes host m k (Err OutOfMemory) (Ok (text, after)) (asking_plan left) → line ≡ command_of (without_return text) →
+    SitsBoth ((s, k), f) w (Err OutOfMemory) (map_ok (λ u. next) r) (command_plan steps shown line) →
+    SitsBoth ((s, m), f) w (Err OutOfMemory) (map_ok (λ u. with_left after next) r) (one_line_plan steps (with_left left shown))
+unfolding one_line_plan
+line-carried steps left after shown next text line s m k f w r h e c =
+    then-both (line_done steps shown) (on_host (asking_plan left)) (text, after) ((s, m), f) ((s, k), f) w (map_ok (λ u. with_left after next) r) (asked-both left s m k f (Ok (text, after)) h)
+    (with-left after next ((s, k), f) w r (command_plan steps shown (command_of (without_return text)))
+    (subst (λ x. SitsBoth ((s, k), f) w (Err OutOfMemory) (map_ok (λ u. next) r) (command_plan steps shown x)) e c))
 
-line-asked : (steps : ℕ) (c : Console) (p : Progress (List ℕ)) → p ≡ asked c → one_line list_machine steps (as_list_console c) ≡ and_then (on_text steps) (as_list_progress p)
-unfolding one_line
-line-asked steps c p h = ap (λ q. and_then (on_text steps) q) (asked-listed c ∙ ap (λ q. as_list_progress q) (sym h))
+pub line-over : (steps left : ℕ) (shown : Option ℕ) (end : SessionEnd) (s : State) (m n : HostModel) (f : FlagsOf) → Comes host m n (Err OutOfMemory) (Err end) (asking_plan left) →
+    SitsBoth ((s, m), f) ((s, n), f) (Err OutOfMemory) (Err end) (one_line_plan steps (with_left left shown))
+unfolding one_line_plan
+line-over steps left shown end s m n f c = over-both (line_done steps shown) (on_host (asking_plan left)) end ((s, m), f) ((s, n), f) (asked-both left s m n f (Err end) c)
 
-own-asked : (steps : ℕ) (c : Console) (p : Progress (List ℕ)) → p ≡ asked c → one_line window_machine steps c ≡ and_then (own_text steps) p
-unfolding one_line
-own-asked steps c p h = ap (λ q. and_then (own_text steps) q) (sym h)
-
-read-untouched : (c : Console) (t : Reading) → c.state.touched ≡ false → IsUntouched (reading_done c t)
-read-untouched c (Ok text, left, m) u = u
-read-untouched c (Err end, left, m) u = u
-
-prompted-untouched : (c : Console) (w : Written) → c.state.touched ≡ false → IsUntouched (and_then line_of (write_done tt c w))
-prompted-untouched c (Ok v, m) u = read-untouched (with_host c m) (line_read c.left [] m) u
-prompted-untouched c (Err end, m) u = u
-
-asked-untouched : (c : Console) → c.state.touched ≡ false → IsUntouched (asked c)
-unfolding asked
-asked-untouched c u = prompted-untouched c (text_write c.host prompt) u
-
--- a line that is read is carried out
-pub line-goes : (steps left : ℕ) (c : Console) (text : List ℕ) (line : Option Command) (n : HostModel) → (Ok (text, left), n) ≡ end_of host (asking_plan c.left) c.host →
-    line ≡ command_of (without_return text) → HasWindow c.state → c.state.touched ≡ false →
-    (line ≡ Some command.Continue → PartGoesAsList (command_done list_machine steps (as_list_console (with_reading c left n)) line) (command_done window_machine steps (with_reading c left n) line)) →
-    PartGoesAsList (one_line list_machine steps (as_list_console c)) (one_line window_machine steps c)
-line-goes steps left c text line n h k w u g =
-    let d = with_reading c left n in
-    let at = asked-on c text left n h in
-    subst (λ (p : Done). PartGoesAsList (one_line list_machine steps (as_list_console c)) p) (sym (own-asked steps c (on text d) (sym at) ∙ ap (λ x. command_done window_machine steps d x) (sym k)))
-    (subst (λ (q : Done). PartGoesAsList q (command_done window_machine steps d line)) (sym (line-asked steps c (on text d) (sym at) ∙ ap (λ x. command_done list_machine steps (as_list_console d) x) (sym k)))
-    (command-goes steps d line (command_done window_machine steps d line) w u g refl))
-
--- a line that is not read ends the session
-ends-by : (steps : ℕ) (c : Console) (p : Progress (List ℕ)) → p ≡ asked c → IsOver p → IsUntouched p → PartGoesAsList (one_line list_machine steps (as_list_console c)) (one_line window_machine steps c)
-ends-by steps c (on text d) h i u = absurd i
-ends-by steps c (over end d) h i u =
-    subst (λ (p : Done). PartGoesAsList (one_line list_machine steps (as_list_console c)) p) (sym (own-asked steps c (over end d) h))
-    (subst (λ (q : Done). PartGoesAsList q (over end d)) (sym (line-asked steps c (over end d) h)) (refl, u))
-ends-by steps c (wild m) h i u = absurd i
-
-pub line-ends : (steps : ℕ) (c : Console) (end : SessionEnd) (n : HostModel) → (Err end, n) ≡ end_of host (asking_plan c.left) c.host → c.state.touched ≡ false →
-    PartGoesAsList (one_line list_machine steps (as_list_console c)) (one_line window_machine steps c)
-line-ends steps c end n h u = ends-by steps c (asked c) refl (asked-over c end n h) (asked-untouched c u)
-
--- ---- ALL LINES
+-- ---- all lines
 
 left-after : (k i : ℕ) → i < k → k - i ≡ suc (k - (i + 1))
 left-after k i l = omega arith
 
-abbrev next-lines : ℕ → ℕ → ℕ → Unit {0} → Console → Done
-next-lines k i steps u d = session_lines (k - (i + 1)) list_machine steps d
+-- lines from this one on are left
+abbrev pub LinesLeft : {Host : Type 0} → (Host → Option HostModel) → (Host → ℕ) → Host → Host → SessionWorld → SessionWorld → ℕ → ℕ → ℕ → Dialog → Part Dialog → Type 0
+LinesLeft says faults a b start now k i steps d whole = IsLeft says faults a b (RestsBoth (lines_of_session (k - i) steps d) now whole start)
 
-lines-next : (k i steps : ℕ) (c : Console) → i < k → session_lines (k - i) list_machine steps c ≡ and_then (next-lines k i steps) (one_line list_machine steps c)
-unfolding session_lines
-lines-next k i steps c l = rw (left-after k i l) refl
+pub lines-begun : {Host : Type 0} (says : Host → Option HostModel) (faults : Host → ℕ) (a : Host) (w : SessionWorld) (k steps : ℕ) (d : Dialog) → LinesLeft says faults a a w w k 0 steps d (lines_of_session k steps d)
+lines-begun says faults a w k steps d = let all : k - 0 ≡ k = omega arith in rw all (all-left a (λ t. all-both (lines_of_session k steps d) w))
 
-lines-none : (k i steps : ℕ) (c : Console) → k ≤ i → session_lines (k - i) list_machine steps c ≡ over Limit c
-unfolding session_lines
-lines-none k i steps c l = let e : k - i ≡ 0 = omega arith in rw e refl
+lines-more : (k i steps : ℕ) (d : Dialog) → i < k → lines_of_session (k - i) steps d ≡ bind (on_ok (lines_of_session (k - (i + 1)) steps)) (one_line_plan steps d)
+unfolding lines_of_session
+lines-more k i steps d l = rw (left-after k i l) refl
 
-abbrev pub LinesFrom : Done → ℕ → ℕ → ℕ → Console → Type 0
-LinesFrom whole k i steps c = Beside whole (session_lines (k - i) list_machine steps (as_list_console c)) c
+one-and-more : (start v : SessionWorld) (k i steps : ℕ) (d : Dialog) (whole : Part Dialog) → i < k → RestsBoth (lines_of_session (k - i) steps d) v whole start →
+    RestsBoth (bind (on_ok (lines_of_session (k - (i + 1)) steps)) (one_line_plan steps d)) v whole start
+one-and-more start v k i steps d whole l h = subst (λ p. RestsBoth p v whole start) (lines-more k i steps d l) h
 
-none-left : (k i steps : ℕ) (c : Console) → k ≤ i → session_lines (k - i) window_machine steps c ≡ over Limit c
-unfolding session_lines
-none-left k i steps c l = let e : k - i ≡ 0 = omega arith in rw e refl
+abbrev OneLine : {Host : Type 0} → (Host → Option HostModel) → (Host → ℕ) → Host → Host → SessionWorld → SessionWorld → ℕ → Dialog → Result Dialog SessionEnd → Type 0
+OneLine says faults b c v w steps d r = IsPart says faults b c r (SitsBoth v w (Err OutOfMemory) r (one_line_plan steps d))
 
-abbrev own_lines : ℕ → ℕ → ℕ → Unit {0} → Console → Done
-own_lines k i steps u d = session_lines (k - (i + 1)) window_machine steps d
+pub lines-went : {Host : Type 0} (says : Host → Option HostModel) (faults : Host → ℕ) (a b c : Host) (start v w : SessionWorld) (k i steps : ℕ) (d e : Dialog) (whole : Part Dialog) → i < k →
+    LinesLeft says faults a b start v k i steps d whole → OneLine says faults b c v w steps d (Ok e) → LinesLeft says faults a c start w k (i + 1) steps e whole
+lines-went says faults a b c start v w k i steps d e whole l h n =
+    next-left h n (λ r o. rest-next (lines_of_session (k - (i + 1)) steps) (one_line_plan steps d) e v w start whole (one-and-more start v k i steps d whole l r) o)
 
-own-next : (k i steps : ℕ) (c : Console) → i < k → session_lines (k - i) window_machine steps c ≡ and_then (own_lines k i steps) (one_line window_machine steps c)
-unfolding session_lines
-own-next k i steps c l = rw (left-after k i l) refl
+pub lines-over : {Host : Type 0} (says : Host → Option HostModel) (faults : Host → ℕ) (a b c : Host) (start v w : SessionWorld) (k i steps : ℕ) (d : Dialog) (end : SessionEnd) (whole : Part Dialog) → i < k →
+    LinesLeft says faults a b start v k i steps d whole → OneLine says faults b c v w steps d (Err end) → IsPart {A = Dialog} says faults a c (Err end) (SitsBoth start w (Err OutOfMemory) (Err end) whole)
+lines-over says faults a b c start v w k i steps d end whole l h n =
+    over-left end h n (λ r o. rest-over (lines_of_session (k - (i + 1)) steps) (one_line_plan steps d) end v w start whole (one-and-more start v k i steps d whole l r) o)
 
--- the line that is read next goes as that of the list machine
-abbrev pub LineListed : ℕ → Console → Type 0
-LineListed steps c = c.state.touched ≡ false → PartGoesAsList (one_line list_machine steps (as_list_console c)) (one_line window_machine steps c)
+pub lines-limit : {Host : Type 0} (says : Host → Option HostModel) (faults : Host → ℕ) (a b : Host) (start w : SessionWorld) (k i steps : ℕ) (d : Dialog) (whole : Part Dialog) → k ≤ i →
+    LinesLeft says faults a b start w k i steps d whole → IsPart {A = Dialog} says faults a b (Err Limit) (SitsBoth start w (Err OutOfMemory) (Err Limit) whole)
+unfolding lines_of_session
+lines-limit says faults a b start w k i steps d whole l h =
+    let none : k - i ≡ 0 = omega arith in
+    answer-left (λ o. absurd (cc)) h (λ r. rest-answer (Err Limit) w start whole (λ o. absurd (cc)) (subst (λ n. RestsBoth (lines_of_session n steps d) w whole start) none r))
 
-abbrev pub LineAnswers : ℕ → Console → Result Dialog SessionEnd → SessionWorld → Type 0
-LineAnswers steps c r w = (r, w) ≡ end_of conversing (one_line_plan steps (with_left c.left c.shown)) (world_at c)
+-- ---- a session
 
-lines-follow : (whole : Done) (k i steps : ℕ) (c : Console) → i < k → LineListed steps c → LinesFrom whole k i steps c → Follows whole (next-lines k i steps) (one_line window_machine steps c)
-lines-follow whole k i steps c l g b =
-    follows whole _ (next-lines k i steps) (one_line list_machine steps (as_list_console c)) (one_line window_machine steps c) c (lines-next k i steps (as_list_console c) l) g
-    (part-front dialog_at Any (one_line_plan steps (with_left c.left c.shown)) c (one_line window_machine steps c) (one-line-joins steps c)) b
+abbrev all : ℕ → Part Dialog
+all steps = lines_of_session (most_input + 1) steps (with_left most_input None)
 
-pub lines-went : (whole : Done) (k i steps : ℕ) (c : Console) (d : Dialog) (w : SessionWorld) → i < k → LineListed steps c → LineAnswers steps c (Ok d) w →
-    LinesFrom whole k i steps c → LinesFrom whole k (i + 1) steps (console_in d w)
-lines-went whole k i steps c d w l g e b =
-    subst (λ (p : Done). Follows whole (next-lines k i steps) p) (joined-in d w _ (one_line window_machine steps c) (one-line-joins steps c) e) (lines-follow whole k i steps c l g b)
+session-by : (end : SessionEnd) (w : SessionWorld) (c : Course SessionEnd SessionWorld) → GoesAsList c end w → SessionGoesAsList (of_course c) (ended_session (end, w))
+session-by end w (ends e v) h =
+    (ap (λ (x : SessionWorld). ended_session (end, x)) (sym h.1.0) ∙ ap (λ (x : SessionEnd). ended_session (x, v)) (sym h.0), h.1.1)
+session-by end w (meets_wild v) h = h
 
-pub lines-same : (k i steps : ℕ) (c : Console) (d : Dialog) (w : SessionWorld) → i < k → LineAnswers steps c (Ok d) w →
-    session_lines (k - i) window_machine steps c ≡ session_lines (k - (i + 1)) window_machine steps (console_in d w)
-lines-same k i steps c d w l e =
-    own-next k i steps c l ∙ ap (λ (p : Done). and_then (own_lines k i steps) p) (joined-in d w _ (one_line window_machine steps c) (one-line-joins steps c) e)
+session-listed : (steps : ℕ) (r : Result Dialog SessionEnd) (end : SessionEnd) (s : State) (f : FlagsOf) (m : HostModel) (w : SessionWorld) → end_of_session r ≡ returns end → r ≢ Err OutOfMemory →
+    SitsBoth ((s, m), f) w (Err OutOfMemory) r (all steps) → s.touched ≡ false → SessionGoesAsList (session list_machine steps (as_list_state s) f m) (ended_session (end, w))
+unfolding session session_course session_plan course
+session-listed steps r end s f m w e ne c u =
+    session-by end w (course (session_goes list_machine) (session_plan steps) ((as_list_state s, m), f))
+    (subst (λ (x : Course SessionEnd SessionWorld). GoesAsList x end w) (sym (course_bind (session_goes list_machine) end_of_session (all steps) ((as_list_state s, m), f)))
+    (goes-on end_of_session r w w end (course (session_goes list_machine) (all steps) ((as_list_state s, m), f)) (c.list u ne) (λ v h. h)
+    (λ b. subst (λ (q : SessionPlan SessionEnd). GoesAsList (course (session_goes list_machine) q (as_list_world w)) end w) (sym e) (refl, (refl, b)))))
 
-pub lines-ended : (whole : Done) (k i steps : ℕ) (end : SessionEnd) (c : Console) (w : SessionWorld) → i < k → LineListed steps c → LineAnswers steps c (Err end) w →
-    LinesFrom whole k i steps c → PartGoesAsList whole (session_lines (k - i) window_machine steps c)
-lines-ended whole k i steps end c w l g e b =
-    subst (λ (p : Done). PartGoesAsList whole p) (sym (own-next k i steps c l))
-    (over-listed whole (next-lines k i steps) (own_lines k i steps) (one_line window_machine steps c)
-    (joined-over dialog_at Any end w _ (one_line window_machine steps c) (one-line-joins steps c) e) (lines-follow whole k i steps c l g b))
+pub session-over-listed : (steps : ℕ) (end : SessionEnd) (s : State) (f : FlagsOf) (m : HostModel) (w : SessionWorld) → end ≢ OutOfMemory → SitsBoth ((s, m), f) w (Err OutOfMemory) (Err end) (all steps) → s.touched ≡ false →
+    SessionGoesAsList (session list_machine steps (as_list_state s) f m) (ended_session (end, w))
+session-over-listed steps end s f m w ne c u = session-listed steps (Err end) end s f m w refl (λ e. ne (cc)) c u
 
-pub lines-limited : (whole : Done) (k i steps : ℕ) (c : Console) → k ≤ i → LinesFrom whole k i steps c → PartGoesAsList whole (session_lines (k - i) window_machine steps c)
-lines-limited whole k i steps c l b =
-    subst (λ (p : Done). PartGoesAsList whole p) (sym (none-left k i steps c l)) (beside-over whole _ Limit c (lines-none k i steps (as_list_console c) l) b)
-
--- where the first line begins
-pub lines-start : (k steps : ℕ) (c : Console) → session_lines k window_machine steps c ≡ session_lines (k - 0) window_machine steps c
-lines-start k steps c = let all : k - 0 ≡ k = omega arith in rw all refl
-
-pub lines-begun : (k steps : ℕ) (c : Console) → c.state.touched ≡ false → LinesFrom (session_lines k list_machine steps (as_list_console c)) k 0 steps c
-lines-begun k steps c u = let all : k - 0 ≡ k = omega arith in rw all (as_list u refl)
-
--- ---- SESSIONS
-
-part-over : (q : Done) (end : SessionEnd) (d : Console) → PartGoesAsList q (over end d) → SessionGoesAsList (run_of q) (ended_in end d)
-part-over (on u c) end d h = subst (λ (x : Done). SessionGoesAsList (run_of x) (ended_in end d)) h.0 (refl, h.1)
-part-over (over e c) end d h = subst (λ (x : Done). SessionGoesAsList (run_of x) (ended_in end d)) h.0 (refl, h.1)
-part-over (wild m) end d h = h
-
-part-on : (q : Done) (d : Console) → PartGoesAsList q (on tt d) → SessionGoesAsList (run_of q) (ended_in Limit d)
-part-on (on u c) d h = subst (λ (x : Done). SessionGoesAsList (run_of x) (ended_in Limit d)) h.0 (refl, h.1)
-part-on (over e c) d h = subst (λ (x : Done). SessionGoesAsList (run_of x) (ended_in Limit d)) h.0 (refl, h.1)
-part-on (wild m) d h = h
-
-same-ended : (e f : SessionEnded) → session_ended e ≡ session_ended f → f ≡ e
-same-ended e f h = cc
-
-part-ended : (q p : Done) (e : SessionEnded) → PartGoesAsList q p → session_ended e ≡ run_of p → SessionGoesAsList (run_of q) e
-part-ended q (on u c) e h k = subst (λ (x : SessionEnded). SessionGoesAsList (run_of q) x) (same-ended e (ended_in Limit c) k) (part-on q c h)
-part-ended q (over end c) e h k = subst (λ (x : SessionEnded). SessionGoesAsList (run_of q) x) (same-ended e (ended_in end c) k) (part-over q end c h)
-part-ended q (wild m) e h k = absurd (cc)
-
-pub session-listed : (steps : ℕ) (s : State) (f : FlagsOf) (m : HostModel) (e : SessionEnded) →
-    PartGoesAsList (session_lines (most_input + 1) list_machine steps (as_list_console (at_start s f m))) (session_lines (most_input + 1) window_machine steps (at_start s f m)) →
-    session_ended e ≡ session window_machine steps s f m → SessionGoesAsList (session list_machine steps (as_list_state s) f m) e
-unfolding session
-session-listed steps s f m e h k =
-    part-ended (session_lines (most_input + 1) list_machine steps (as_list_console (at_start s f m))) (session_lines (most_input + 1) window_machine steps (at_start s f m)) e h k
+pub session-limit-listed : (steps : ℕ) (d : Dialog) (s : State) (f : FlagsOf) (m : HostModel) (w : SessionWorld) → SitsBoth ((s, m), f) w (Err OutOfMemory) (Ok d) (all steps) → s.touched ≡ false →
+    SessionGoesAsList (session list_machine steps (as_list_state s) f m) (ended_session (Limit, w))
+session-limit-listed steps d s f m w c u = session-listed steps (Ok d) Limit s f m w refl (λ e. absurd (cc)) c u

@@ -1,11 +1,13 @@
 -- A step that does not look at Stack_Segment writes outside the stack area: the touches of its trace.
-use Rattle.std.proofs.Common.{◌≡◌, ℕ, zero, suc, ◌/◌, ◌^◌, ◌<◌, ◌≤◌, Bool, true, false, cond, Option, None, Some, arith, refl, sym, ◌∙◌, ap, subst}
+use Rattle.std.proofs.Common.{◌≡◌, ℕ, ◌/◌, ◌^◌, ◌<◌, ◌≤◌, Bool, true, false, cond, Option, None, Some, arith, refl, sym, ◌∙◌, ap, subst}
 use Rattle.std.specs.Prelude.{◌||◌, ◌&&◌, ◌==◌, not}
 use Rattle.std.specs.Option.{option_map}
 use Rattle.std.proofs.lemmas.Bool.Decides.{nat_tests}
 use Rattle.mx_host.specs.HostModel.{HostModel}
 use Rattle.mx_mem.specs.declared.part.Part.{Part}
 use Rattle.mx_mem.specs.declared.part.Part.TheVariants as part
+use Rattle.mx_plan.specs.Wild.{meets_wild, carried}
+use Rattle.mx_plan.proofs.WildLaws.{Answers, course_gives}
 use Rattle.mx_ring.specs.Stack.{in_stack_area}
 use Rattle.mx_spec.specs.SpecialRegisters.{rW, rX}
 use Rattle.mx_trip.specs.declared.call.TrapCall.{TrapCall}
@@ -35,16 +37,17 @@ use Rattle.mx_code.specs.declared.trace.Touch.{Touch}
 use Rattle.mx_code.specs.declared.trace.Trace.{Trace}
 use Rattle.mx_core.proofs.Same.Quiet.{free}
 use Rattle.mx_core.proofs.Steps.{other_deed, step_went, step_stopped, step_traps, step_negative}
-use Rattle.mx_run.specs.RunPlans.{RunWorld, end_of_trace, end_of_turn}
+use Rattle.mx_run.specs.WildRuns.{run_goes, run_course}
+use Rattle.mx_run.specs.RunPlans.{RunCall, turning, looking, RunWorld, running, end_of_trace, end_of_turn, run_plan}
 use Rattle.mx_run.specs.Runs.{FlagsOf, break_of}
-use Rattle.mx_run.specs.Turns.{Turn, went_on, halts, stops, area_size, turn_with, trap_turn, turn_of, turn, turn_answer}
-use Rattle.mx_run.specs.WildRuns.{list_machine, RunEnd, run_ended, run_wild, trap_touches, turn_is_wild, run_by}
+use Rattle.mx_run.specs.Turns.{Turn, area_size, turn_with, trap_turn, turn_of, turn, turn_answer}
+use Rattle.mx_run.specs.WildRuns.{list_machine, trap_touches, turn_is_wild}
 use Rattle.mx_run.specs.declared.end.BreakKind.{BreakKind}
 use Rattle.mx_run.specs.declared.end.End.{End}
 use Rattle.mx_run.specs.declared.end.End.TheVariants as ending
 use Rattle.mx_run.specs.declared.turn_answer.TurnAnswer.{TurnAnswer}
-use Rattle.mx_run.specs.declared.turn_answer.TurnAnswer.TheVariants as answers
-use Rattle.mx_run.proofs.RunCases.{OnOr, LeadsTo, AnyWay, RunEndsSo, run-ends-so}
+use Rattle.mx_run.specs.declared.turn_answer.TurnAnswer.TheVariants as answer
+use Rattle.mx_con.proofs.RunAnswers.{TurnsMay, EndsSo, run-gives}
 
 -- what is touched lies outside the stack area
 abbrev pub Outside : Option Touch → Type 0
@@ -177,10 +180,12 @@ step-outside s w = stepped-outside (step s) (by-sign s (is_negative s.pc) refl w
 
 -- ---- A TURN
 
+abbrev pub AnswerOutside : TurnAnswer → Type 0
+AnswerOutside (answer.Went trace) = Outside trace.writes
+AnswerOutside other = Unit {0}
+
 abbrev pub TurnOutside : Turn → Type 0
-TurnOutside (went_on s m trace) = Outside trace.writes
-TurnOutside (halts status s m) = Unit {0}
-TurnOutside (stops reason s m) = Unit {0}
+TurnOutside t = AnswerOutside (turn_answer t).0
 
 with-outside : (b : Bool) (call : TrapCall) (s : State) (m : HostModel) (a : TrapAnswer) → TurnOutside (turn_with b call s m a)
 with-outside b call s m (trap.Value value) = tt
@@ -215,45 +220,28 @@ EndOutside (ending.Traced trace) = Outside trace.writes
 EndOutside ending.Spent = Unit {0}
 EndOutside ending.OutOfMemory = Unit {0}
 
-abbrev pub RunOutside : RunEnd → Type 0
-RunOutside (run_ended e) = EndOutside e.end
-RunOutside (run_wild m) = Unit {0}
+trace-outside : (traced : Bool) (trace : Trace) (b : Option (BreakKind × ℕ)) → Outside trace.writes → EndsSo EndOutside (end_of_trace traced trace b)
+trace-outside true trace (Some (kind, n)) h = h
+trace-outside false trace (Some (kind, n)) h = tt
+trace-outside true trace None h = h
+trace-outside false trace None h = tt
 
--- what is known of a turn that is not wild
-abbrev AnswersOutside : RunWorld → TurnAnswer → RunWorld → Type 0
-AnswersOutside w (answers.Went trace) v = Outside trace.writes
-AnswersOutside w (answers.Halted status) v = Unit {0}
-AnswersOutside w (answers.Stopped reason) v = Unit {0}
-AnswersOutside w answers.OutOfMemory v = Unit {0}
+answer-outside : (f : FlagsOf) (pc : ℕ) (a : TurnAnswer) → AnswerOutside a → EndsSo EndOutside (end_of_turn f pc a)
+answer-outside f pc (answer.Went trace) h = trace-outside (f (pc / 4)).t trace (break_of f trace) h
+answer-outside f pc (answer.Halted status) h = tt
+answer-outside f pc (answer.Stopped reason) h = tt
+answer-outside f pc answer.OutOfMemory h = tt
 
-abbrev EndsOutside : End → RunWorld → Type 0
-EndsOutside end w = EndOutside end
+call-outside : (o : RunCall) (w : RunWorld) → Answers (TurnsMay AnswerOutside o) (run_goes list_machine o w)
+unfolding running
+call-outside turning w = by (turn_is_wild w.0) refl
+  where
+    by : (b : Bool) → turn_is_wild w.0 ≡ b → Answers AnswerOutside (cond b (meets_wild w) (carried running turning w))
+    by true e = tt
+    by false e = turn-outside w.0 w.1 e
+call-outside looking w = tt
 
-trace-outside : (n : ℕ) (traced : Bool) (trace : Trace) (b : Option (BreakKind × ℕ)) (v : RunWorld) → Outside trace.writes → OnOr (AnyWay n) EndsOutside (end_of_trace traced trace b) v
-trace-outside n true trace (Some (kind, at)) v h = h
-trace-outside n false trace (Some (kind, at)) v h = tt
-trace-outside n true trace None v h = h
-trace-outside n false trace None v h = tt
-
-turned-outside : (n : ℕ) (f : FlagsOf) (pc : ℕ) (a : TurnAnswer) (w v : RunWorld) → AnswersOutside w a v → OnOr (AnyWay n) EndsOutside (end_of_turn f pc a) v
-turned-outside n f pc (answers.Went trace) w v h = trace-outside n (f (pc / 4)).t trace (break_of f trace) v h
-turned-outside n f pc (answers.Halted status) w v h = tt
-turned-outside n f pc (answers.Stopped reason) w v h = tt
-turned-outside n f pc answers.OutOfMemory w v h = tt
-
-leads-outside : (f : FlagsOf) → LeadsTo f AnswersOutside AnyWay EndsOutside
-leads-outside f = record { spent = λ w g. tt; broken = λ n w x g. tt; turned = λ n a w v g h. turned-outside n f w.0.pc a w v h }
-
-answer-outside : (w v : RunWorld) (t : Turn) → TurnOutside t → AnswersOutside w (turn_answer t).0 v
-answer-outside w v (went_on s m trace) h = h
-answer-outside w v (halts status s m) h = tt
-answer-outside w v (stops reason s m) h = tt
-
-as-outside : (r : RunEnd) → RunEndsSo EndsOutside r → RunOutside r
-as-outside (run_ended e) h = h
-as-outside (run_wild m) h = tt
-
-pub run-outside : (n : ℕ) (f : FlagsOf) (pass : Bool) (s : State) (m : HostModel) → RunOutside (run_by list_machine n f pass s m)
+pub run-outside : (n : ℕ) (f : FlagsOf) (pass : Bool) (s : State) (m : HostModel) → Answers EndOutside (run_course list_machine n f pass s m)
+unfolding run_course
 run-outside n f pass s m =
-    as-outside (run_by list_machine n f pass s m)
-    (run-ends-so list_machine f AnswersOutside AnyWay EndsOutside (leads-outside f) (λ t k tame. answer-outside (t, k) _ (turn t k) (turn-outside t k tame)) n pass s m tt)
+    course_gives (run_goes list_machine) (TurnsMay AnswerOutside) EndOutside call-outside (run_plan n f pass) (s, m) (run-gives AnswerOutside EndOutside answer-outside (λ pc. tt) tt n f pass)

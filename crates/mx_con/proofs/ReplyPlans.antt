@@ -30,7 +30,7 @@ use Rattle.mx_con.specs.declared.judgement.Bad.{Bad}
 use Rattle.mx_con.specs.declared.judgement.Bad.TheVariants.{BadNumber, CannotChange}
 use Rattle.mx_plan.proofs.Plans.{stops_first}
 use Rattle.mx_con.proofs.LineEnds.{line-lacks, one-line-comes, no-lines-come}
-use Rattle.mx_con.proofs.SessionEnds.{stops_on_host}
+use Rattle.mx_con.proofs.SessionCourses.{stops_on_host}
 use Rattle.mx_con.proofs.Rests.{then-comes, part-ends, returned}
 use Rattle.mx_con.proofs.StepPlans.{host-comes}
 

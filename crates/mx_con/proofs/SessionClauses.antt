@@ -9,12 +9,12 @@ use Rattle.mx_core.specs.State.{State}
 use Rattle.mx_run.specs.Runs.{FlagsOf}
 use Rattle.mx_run.specs.WildRuns.{window_machine}
 use Rattle.mx_con.specs.Clauses.{session_output}
-use Rattle.mx_con.specs.Session.{session_ended, session}
-use Rattle.mx_con.specs.SessionPlans.{SessionWorld, conversing, session_plan, ended_session}
+use Rattle.mx_con.specs.Session.{ended_session, session_ended, session}
+use Rattle.mx_con.specs.SessionPlans.{SessionWorld, conversing, session_plan}
 use Rattle.mx_con.specs.declared.end.SessionEnd.{SessionEnd}
 use Rattle.mx_con.specs.declared.end.SessionEnd.TheVariants.{OutOfMemory}
 use Rattle.mx_con.proofs.HeldSessions.{session-streams, keeps-by, output-front}
-use Rattle.mx_con.proofs.SessionJoins.{session-end}
+use Rattle.mx_con.proofs.SessionCourses.{session-end}
 
 pub session-told : (steps : ℕ) (s t : State) (f g : FlagsOf) (m n : HostModel) (end : SessionEnd) → Comes conversing ((s, m), f) ((t, n), g) OutOfMemory end (session_plan steps) → end ≢ OutOfMemory →
     session_ended (record { end = end; state = t; flags = g; host = n }) ≡ session window_machine steps s f m

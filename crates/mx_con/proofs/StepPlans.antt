@@ -2,15 +2,20 @@
 use Rattle.std.proofs.Common.{◌≡◌, ◌≢◌, ◌⊎◌, inl, inr, ℕ, suc, ◌+◌, ◌-◌, ◌<◌, ◌≤◌, ◌==◌, Bool, true, false, cond, Option, None, Some, Result, Ok, Err, arith, refl, sym, ◌∙◌, ap, subst, IsTrue}
 use Rattle.std.proofs.lemmas.Bool.Decides.{nat_tests}
 use Rattle.mx_host.specs.HostModel.{HostModel, tells, contents}
-use Rattle.mx_plan.specs.Plan.{returns, bind, end_of, Stops, Comes, IsRest}
+use Rattle.mx_plan.specs.Plan.{returns, bind, end_of, Stops, Comes}
 use Rattle.mx_plan.specs.Calls.{host, HostPlan}
+use Rattle.mx_plan.specs.Wild.{Course, ends, meets_wild, then_on, course, GoesAs, alike}
 use Rattle.mx_plan.proofs.Plans.{stops_first}
-use Rattle.mx_plan.proofs.Standing.{stands-all}
+use Rattle.mx_plan.proofs.WildLaws.{Answers}
 use Rattle.mx_plan.specs.Clauses.{Stands}
+use Rattle.mx_core.specs.Bounds.{as_list_state}
 use Rattle.mx_core.specs.State.{State}
 use Rattle.mx_code.specs.declared.trace.Trace.{Trace}
-use Rattle.mx_run.specs.RunPlans.{RunWorld, running, look, turn_plan, run_plan}
+use Rattle.mx_run.specs.RunCourses as runs
+use Rattle.mx_run.specs.WildRuns.{run_goes, run_course}
+use Rattle.mx_run.specs.RunPlans.{turning, RunWorld, running, turn_plan, run_plan}
 use Rattle.mx_run.specs.Runs.{FlagsOf}
+use Rattle.mx_run.specs.WildRuns.{list_machine}
 use Rattle.mx_run.specs.declared.end.BreakKind.{BreakKind}
 use Rattle.mx_run.specs.declared.end.End.{End}
 use Rattle.mx_run.specs.declared.end.End.TheVariants as ending
@@ -19,13 +24,17 @@ use Rattle.mx_run.specs.declared.turn_answer.TurnAnswer.TheVariants as answer
 use Rattle.mx_con.specs.ConsoleTexts.{break_text}
 use Rattle.mx_show.specs.Texts.{trace_text}
 use Rattle.mx_con.specs.LinePlans.{on_ok, line_plan}
-use Rattle.mx_con.specs.SessionPlans.{SessionWorld, Part, conversing, beside_machine, beside_flags, on_host, on_run, trace_plan, count_plan, flags_plan, traced_plan, after_turn, turn_at, turned_plan, stepped_plan, broke_plan, break_plan, after_end, one_run_plan, runs_plan, run_on, continued_plan}
+use Rattle.mx_con.specs.Session.{keeping_flags, session_goes}
+use Rattle.mx_con.specs.SessionPlans.{SessionWorld, Part, conversing, beside_machine, beside_flags, on_host, turn_made, run_made, count_plan, place_plan, trace_plan, traced_plan, after_turn, turn_at, turned_plan, stepped_plan, going, broke_plan, break_plan, after_end, one_run_plan, run_on, runs_plan, continued_plan}
 use Rattle.mx_con.specs.declared.end.SessionEnd.{SessionEnd}
 use Rattle.mx_con.specs.declared.end.SessionEnd.TheVariants.{Halted, Stopped, Spent, OutOfMemory}
-use Rattle.mx_con.specs.Clauses.{Proceeds, Talks}
-use Rattle.mx_con.proofs.Parts.{Leaves, part-then, part-over, part-done, part-so, part-alone, part-behind, left-next, left-over, left-answer}
+use Rattle.mx_con.specs.Clauses.{IsPart, Proceeds, Talks, GoesAsList, SitsBoth, RestsBoth}
+use Rattle.mx_con.proofs.ListedRuns.{listed-end}
+use Rattle.mx_con.proofs.Parts.{IsLeft, part-behind, part-with, part-over, part-alone, all-left, next-left, over-left, answer-left}
+use Rattle.mx_con.proofs.QuietTraces.{EndOutside, run-outside}
 use Rattle.mx_con.proofs.Rests.{bind-comes, then-comes, part-ends, returned}
-use Rattle.mx_con.proofs.SessionEnds.{end_on_host, stops_on_host, end_on_run, stops_on_run}
+use Rattle.mx_con.proofs.SessionBoth.{writes, listed-both, rest-next, rest-over, rest-answer}
+use Rattle.mx_con.proofs.SessionCourses.{end_on_host, stops_on_host}
 
 -- ---- over the host alone
 
@@ -63,30 +72,25 @@ untraced-broke kind at trace s m n f end c =
 
 -- ---- the end of a run
 
+goes-on-so : (more : Bool) (p : Part (Unit {0})) (v w : SessionWorld) → Comes conversing v w (Err OutOfMemory) (Ok tt) p → Comes conversing v w (Err OutOfMemory) (Ok more) (going more p)
+goes-on-so more p v w c =
+    then-comes conversing (λ (u : Unit {0}). returns (Ok more)) p tt v w w (Ok more) (c.ending (λ e. absurd (cc))) (returned conversing (Ok more) w (λ e. absurd (cc)))
+
 pub broke-ended : {Host : Type 0} {says : Host → Option HostModel} {faults : Host → ℕ} {a b : Host} (kind : BreakKind) (at : ℕ) (traced : Option Trace) (v w : SessionWorld) →
     Proceeds conversing says faults a b v w (Ok tt) (break_plan kind at traced) → Proceeds conversing says faults a b v w (Ok false) (after_end (ending.Broke kind at traced))
-broke-ended {says = says} {faults = faults} {a = a} {b = b} kind at traced v w h =
-    part-then conversing says faults a b b v w w tt (Ok false) (λ u. returns (Ok false)) (break_plan kind at traced) h (part-done conversing says faults b w (Ok false) (λ e. absurd (cc)) (λ e. absurd (cc)))
+broke-ended kind at traced v w h = part-with (λ (u : Unit {0}). false) (Ok tt) h (λ c. goes-on-so false (break_plan kind at traced) v w c)
 
 pub broke-over : {Host : Type 0} {says : Host → Option HostModel} {faults : Host → ℕ} {a b : Host} (kind : BreakKind) (at : ℕ) (traced : Option Trace) (v w : SessionWorld) (end : SessionEnd) →
     Proceeds conversing says faults a b v w (Err end) (break_plan kind at traced) → Proceeds conversing says faults a b v w (Err end) (after_end (ending.Broke kind at traced))
-broke-over {says = says} {faults = faults} {a = a} {b = b} kind at traced v w end h = part-over conversing says faults a b v w end (λ u. returns (Ok false)) (break_plan kind at traced) h
-
--- the line of a step, as a part of a session
-traced-part : {Host : Type 0} (says : Host → Option HostModel) (faults : Host → ℕ) (a b : Host) (trace : Trace) (s : State) (f : FlagsOf) (r : Result (Unit {0}) SessionEnd) →
-    Talks says faults a b r (line_plan (trace_text trace s)) → Proceeds conversing says faults a b ((s, contents (says a)), f) ((s, contents (says b)), f) r (traced_plan trace)
-traced-part says faults a b trace s f r h = part-so h (λ c. traced-comes trace s (contents (says a)) (contents (says b)) f r c)
+broke-over kind at traced v w end h = part-over end h (λ c. part-ends conversing (λ (u : Unit {0}). returns (Ok false)) (break_plan kind at traced) end v w c)
 
 pub traced-ended : {Host : Type 0} {says : Host → Option HostModel} {faults : Host → ℕ} {a b : Host} (trace : Trace) (s : State) (f : FlagsOf) → Talks says faults a b (Ok tt) (line_plan (trace_text trace s)) →
     Proceeds conversing says faults a b ((s, contents (says a)), f) ((s, contents (says b)), f) (Ok true) (after_end (ending.Traced trace))
-traced-ended {says = says} {faults = faults} {a = a} {b = b} trace s f h =
-    part-then conversing says faults a b b _ _ _ tt (Ok true) (λ u. returns (Ok true)) (traced_plan trace) (traced-part says faults a b trace s f (Ok tt) h)
-    (part-done conversing says faults b _ (Ok true) (λ e. absurd (cc)) (λ e. absurd (cc)))
+traced-ended trace s f h = part-with (λ (u : Unit {0}). true) (Ok tt) h (λ c. goes-on-so true (traced_plan trace) _ _ (traced-comes trace s _ _ f (Ok tt) c))
 
 pub traced-over : {Host : Type 0} {says : Host → Option HostModel} {faults : Host → ℕ} {a b : Host} (trace : Trace) (s : State) (f : FlagsOf) (end : SessionEnd) → Talks says faults a b (Err end) (line_plan (trace_text trace s)) →
     Proceeds conversing says faults a b ((s, contents (says a)), f) ((s, contents (says b)), f) (Err end) (after_end (ending.Traced trace))
-traced-over {says = says} {faults = faults} {a = a} {b = b} trace s f end h =
-    part-over conversing says faults a b _ _ end (λ u. returns (Ok true)) (traced_plan trace) (traced-part says faults a b trace s f (Err end) h)
+traced-over trace s f end h = part-over end h (λ c. part-ends conversing (λ (u : Unit {0}). returns (Ok true)) (traced_plan trace) end _ _ (traced-comes trace s _ _ f (Err end) c))
 
 pub halted-ended : (status : ℕ) (w : SessionWorld) → Comes conversing w w (Err OutOfMemory) (Err (Halted status)) (after_end (ending.Halted status))
 halted-ended status w = returned conversing (Err (Halted status)) w (λ e. absurd (cc))
@@ -109,48 +113,76 @@ wanting (ending.Broke kind at traced) = inr (λ e. absurd (cc))
 wanting (ending.Traced trace) = inr (λ e. absurd (cc))
 wanting ending.Spent = inr (λ e. absurd (cc))
 
+-- a run, as a call
+run-comes : (n : ℕ) (pass : Bool) (f : FlagsOf) (end : End) (s t : State) (m k : HostModel) → Comes running (s, m) (t, k) ending.OutOfMemory end (run_plan n f pass) →
+    Comes conversing ((s, m), f) ((t, k), f) ending.OutOfMemory end (run_made n pass)
+unfolding run_made end_of Stops conversing
+run-comes n pass f end s t m k c = record { ending = λ ne. ap (λ (x : End × RunWorld). beside_flags f x) (c.ending ne); stopping = λ e. inl (c.stopping e, refl) }
+
+-- and the lines on its end; where it lacked memory, no call of the host follows
 abbrev Finishes : End → State → HostModel → HostModel → FlagsOf → Result Bool SessionEnd → Type 0
 Finishes end t k u f r = end ≢ ending.OutOfMemory → Comes conversing ((t, k), f) ((t, u), f) (Err OutOfMemory) r (after_end end)
 
-ran-from : (n : ℕ) (pass : Bool) (f : FlagsOf) (end : End) (s t : State) (m k u : HostModel) (r : Result Bool SessionEnd) → Comes running (s, m) (t, k) ending.OutOfMemory end (run_plan n f pass) →
+run-from : (n : ℕ) (pass : Bool) (f : FlagsOf) (end : End) (s t : State) (m k u : HostModel) (r : Result Bool SessionEnd) → Comes conversing ((s, m), f) ((t, k), f) ending.OutOfMemory end (run_made n pass) →
     Finishes end t k u f r → (end ≡ ending.OutOfMemory → r ≡ Err OutOfMemory) → (end ≡ ending.OutOfMemory → u ≡ k) → (end ≡ ending.OutOfMemory) ⊎ (end ≢ ending.OutOfMemory) →
-    Comes conversing ((s, m), f) ((t, u), f) (Err OutOfMemory) r (bind after_end (on_run (run_plan n f pass)))
-ran-from n pass f end s t m k u r h c lacked same (inl e) = record {
+    Comes conversing ((s, m), f) ((t, u), f) (Err OutOfMemory) r (bind after_end (run_made n pass))
+run-from n pass f end s t m k u r h c lacked same (inl e) = record {
   ending = λ ne. absurd (ne (lacked e));
-  stopping = λ o. stops_first conversing after_end (on_run (run_plan n f pass)) ((t, u), f) ((s, m), f)
-      (stops_on_run (run_plan n f pass) (s, m) (t, u) f (subst (λ x. Stops running (t, x) (run_plan n f pass) (s, m)) (sym (same e)) (h.stopping e)));
+  stopping = λ o. stops_first conversing after_end (run_made n pass) ((t, u), f) ((s, m), f)
+      (subst (λ (x : HostModel). Stops conversing ((t, x), f) (run_made n pass) ((s, m), f)) (sym (same e)) (h.stopping e));
 }
-ran-from n pass f end s t m k u r h c lacked same (inr ne) =
-    bind-comes conversing after_end (on_run (run_plan n f pass)) end ((s, m), f) ((t, k), f) ((t, u), f) (Err OutOfMemory) r
-    (ap (λ (x : End × RunWorld). beside_flags f x) (h.ending ne) ∙ sym (end_on_run (run_plan n f pass) (s, m) f)) (c ne)
+run-from n pass f end s t m k u r h c lacked same (inr ne) =
+    bind-comes conversing after_end (run_made n pass) end ((s, m), f) ((t, k), f) ((t, u), f) (Err OutOfMemory) r (h.ending ne) (c ne)
 
 one-run-comes : (steps n : ℕ) (pass : Bool) (f : FlagsOf) (end : End) (s t : State) (m k u : HostModel) (r : Result Bool SessionEnd) → n ≡ steps - s.steps →
     Comes running (s, m) (t, k) ending.OutOfMemory end (run_plan n f pass) → Finishes end t k u f r → (end ≡ ending.OutOfMemory → r ≡ Err OutOfMemory) → (end ≡ ending.OutOfMemory → u ≡ k) →
     Comes conversing ((s, m), f) ((t, u), f) (Err OutOfMemory) r (one_run_plan steps pass)
-unfolding one_run_plan flags_plan count_plan bind end_of Stops conversing
+unfolding one_run_plan count_plan bind end_of Stops conversing
 one-run-comes steps n pass f end s t m k u r e h c lacked same =
-    let from = ran-from (steps - s.steps) pass f end s t m k u r (subst (λ i. Comes running (s, m) (t, k) ending.OutOfMemory end (run_plan i f pass)) e h) c lacked same (wanting end) in
-    record { ending = λ ne. from.ending ne; stopping = λ o. inr (inr (from.stopping o)) }
+    let run = run-comes (steps - s.steps) pass f end s t m k (subst (λ i. Comes running (s, m) (t, k) ending.OutOfMemory end (run_plan i f pass)) e h) in
+    let from = run-from (steps - s.steps) pass f end s t m k u r run c lacked same (wanting end) in
+    record { ending = λ ne. from.ending ne; stopping = λ o. inr (from.stopping o) }
 
-pub one-run-made : (steps n : ℕ) (pass : Bool) (f g : FlagsOf) (end : End) (s t : State) (m k u : HostModel) (r : Result Bool SessionEnd) → n ≡ steps - s.steps → g ≡ f →
-    Comes running (s, m) (t, k) ending.OutOfMemory end (run_plan n f pass) → Finishes end t k u g r → (end ≡ ending.OutOfMemory → r ≡ Err OutOfMemory) → (end ≡ ending.OutOfMemory → u ≡ k) →
-    Comes conversing ((s, m), f) ((t, u), g) (Err OutOfMemory) r (one_run_plan steps pass)
-one-run-made steps n pass f g end s t m k u r e fl h c lacked same = rw fl (one-run-comes steps n pass f end s t m k u r e h (subst (λ x. Finishes end t k u x r) fl c) lacked same)
+-- over the list machine: its course of the run, and the lines on its end
+run-listed : (c : Course End RunWorld) (end : End) (t : State) (k u : HostModel) (f : FlagsOf) (r : Result Bool SessionEnd) → Answers EndOutside c → GoesAs runs.as_list_world runs.IsUntouched runs.WritesOn c end (t, k) →
+    Comes conversing ((t, k), f) ((t, u), f) (Err OutOfMemory) r (after_end end) → r ≢ Err OutOfMemory →
+    GoesAsList (then_on (λ e v. course (session_goes list_machine) (after_end e) v) (keeping_flags f c)) r ((t, u), f)
+run-listed (ends e v) end t k u f r o h c ne =
+    let goes = (listed-both (after_end end) (Err OutOfMemory) r ((t, k), f) ((t, u), f) (listed-end end t k f (subst EndOutside h.0 o)) c).list h.1.1 ne in
+    subst (λ (x : End). GoesAsList (course (session_goes list_machine) (after_end x) (v, f)) r ((t, u), f)) (sym h.0)
+    (subst (λ (x : RunWorld). GoesAsList (course (session_goes list_machine) (after_end end) (x, f)) r ((t, u), f)) (sym h.1.0) goes)
+run-listed (meets_wild v) end t k u f r o h c ne = writes (after_end end) ((t, k), f) ((t, u), f) r c (v, f) h
 
--- where a run lacked memory, no call of the host follows it
+one-run-both : (steps n : ℕ) (pass : Bool) (f : FlagsOf) (end : End) (s t : State) (m k u : HostModel) (r : Result Bool SessionEnd) → n ≡ steps - s.steps →
+    runs.RunsBoth (s, m) (t, k) ending.OutOfMemory end (run_plan n f pass) → Finishes end t k u f r → (end ≡ ending.OutOfMemory → r ≡ Err OutOfMemory) → (end ≡ ending.OutOfMemory → u ≡ k) →
+    SitsBoth ((s, m), f) ((t, u), f) (Err OutOfMemory) r (one_run_plan steps pass)
+unfolding one_run_plan count_plan run_made bind course run_course conversing
+one-run-both steps n pass f end s t m k u r e h c lacked same = record {
+  window = one-run-comes steps n pass f end s t m k u r e h.window c lacked same;
+  list = λ un ne.
+      let well : end ≢ ending.OutOfMemory = λ o. ne (lacked o) in
+      run-listed (course (run_goes list_machine) (run_plan (steps - s.steps) f pass) (as_list_state s, m)) end t k u f r (run-outside (steps - s.steps) f pass (as_list_state s) m)
+      (subst (λ (i : ℕ). GoesAs runs.as_list_world runs.IsUntouched runs.WritesOn (course (run_goes list_machine) (run_plan i f pass) (as_list_state s, m)) end (t, k)) e (h.list un well)) (c well) ne;
+}
+
+one-run-made : (steps n : ℕ) (pass : Bool) (f g : FlagsOf) (end : End) (s t : State) (m k u : HostModel) (r : Result Bool SessionEnd) → n ≡ steps - s.steps → g ≡ f →
+    runs.RunsBoth (s, m) (t, k) ending.OutOfMemory end (run_plan n f pass) → Finishes end t k u g r → (end ≡ ending.OutOfMemory → r ≡ Err OutOfMemory) → (end ≡ ending.OutOfMemory → u ≡ k) →
+    SitsBoth ((s, m), f) ((t, u), g) (Err OutOfMemory) r (one_run_plan steps pass)
+one-run-made steps n pass f g end s t m k u r e fl h c lacked same = rw fl (one-run-both steps n pass f end s t m k u r e h (subst (λ x. Finishes end t k u x r) fl c) lacked same)
+
 pub one-run-part : {Host : Type 0} (says : Host → Option HostModel) (faults : Host → ℕ) (a b c : Host) (steps n : ℕ) (pass : Bool) (f g : FlagsOf) (end : End) (s t : State) (r : Result Bool SessionEnd) → n ≡ steps - s.steps →
-    g ≡ f → Stands (says a) (says b) (faults a) (faults b) → (IsTrue (tells (says a)) → Comes running (s, contents (says a)) (t, contents (says b)) ending.OutOfMemory end (run_plan n f pass)) →
+    g ≡ f → Stands (says a) (says b) (faults a) (faults b) → (IsTrue (tells (says a)) → runs.RunsBoth (s, contents (says a)) (t, contents (says b)) ending.OutOfMemory end (run_plan n f pass)) →
     (end ≢ ending.OutOfMemory → Proceeds conversing says faults b c ((t, contents (says b)), g) ((t, contents (says c)), g) r (after_end end)) →
     (end ≡ ending.OutOfMemory → r ≡ Err OutOfMemory) → (end ≡ ending.OutOfMemory → c ≡ b) →
-    Proceeds conversing says faults a c ((s, contents (says a)), f) ((t, contents (says c)), g) r (one_run_plan steps pass)
+    IsPart says faults a c r (SitsBoth ((s, contents (says a)), f) ((t, contents (says c)), g) (Err OutOfMemory) r (one_run_plan steps pass))
 one-run-part {Host} says faults a b c steps n pass f g end s t r e fl h run k lacked same = by (wanting end)
   where
-    made : IsTrue (tells (says a)) → Comes conversing ((s, contents (says a)), f) ((t, contents (says c)), g) (Err OutOfMemory) r (one_run_plan steps pass)
+    made : IsTrue (tells (says a)) → SitsBoth ((s, contents (says a)), f) ((t, contents (says c)), g) (Err OutOfMemory) r (one_run_plan steps pass)
     made v =
         one-run-made steps n pass f g end s t (contents (says a)) (contents (says b)) (contents (says c)) r e fl (run v)
         (λ ne. (k ne).told (subst IsTrue (sym h.0) v)) lacked (λ o. ap (λ (x : Host). contents (says x)) (same o))
 
-    by : (end ≡ ending.OutOfMemory) ⊎ (end ≢ ending.OutOfMemory) → Proceeds conversing says faults a c ((s, contents (says a)), f) ((t, contents (says c)), g) r (one_run_plan steps pass)
+    by : (end ≡ ending.OutOfMemory) ⊎ (end ≢ ending.OutOfMemory) → IsPart says faults a c r (SitsBoth ((s, contents (says a)), f) ((t, contents (says c)), g) (Err OutOfMemory) r (one_run_plan steps pass))
     by (inl o) = part-alone (subst (λ (x : Host). Stands (says a) (says x) (faults a) (faults x)) (sym (same o)) h) (λ x. let lost = lacked o in absurd (cc)) made
     by (inr ne) = part-behind h (k ne) (λ x. x) (λ v x. made v)
 
@@ -168,7 +200,7 @@ step-spent steps w e = record {
 
 step-from : (steps : ℕ) (s : State) (m : HostModel) (f : FlagsOf) (u : SessionWorld) (r : Result (Unit {0}) SessionEnd) → steps - s.steps ≢ 0 →
     Comes conversing ((s, m), f) u (Err OutOfMemory) r (turn_at s.pc) → Comes conversing ((s, m), f) u (Err OutOfMemory) r (stepped_plan steps)
-unfolding stepped_plan turned_plan count_plan on_run look bind end_of Stops conversing running
+unfolding stepped_plan turned_plan count_plan place_plan bind end_of Stops conversing
 step-from steps s m f u r ne c =
     let e = no-steps (steps - s.steps) ne in
     record {
@@ -176,11 +208,20 @@ step-from steps s m f u r ne c =
       stopping = λ h. inr (subst (λ (b : Bool). Stops conversing u (cond b (returns (Err Spent)) turned_plan) ((s, m), f)) (sym e) (inr (c.stopping h)));
     }
 
+-- a turn, as a call
+turn-comes : (f : FlagsOf) (a : TurnAnswer) (s t : State) (m k : HostModel) → Comes running (s, m) (t, k) answer.OutOfMemory a turn_plan → Comes conversing ((s, m), f) ((t, k), f) answer.OutOfMemory a turn_made
+unfolding turn_made turn_plan end_of Stops conversing
+turn-comes f a s t m k c = record { ending = λ ne. ap (λ (x : TurnAnswer × RunWorld). beside_flags f x) (c.ending ne); stopping = λ e. by (c.stopping e) }
+  where
+    by : running.Lacks turning (s, m) (t, k) ⊎ ⊥ → (running.Lacks turning (s, m) (t, k) × (f ≡ f)) ⊎ ⊥
+    by (inl l) = inl (l, refl)
+    by (inr x) = absurd x
+
 turned : (pc : ℕ) (a : TurnAnswer) (s t : State) (m k : HostModel) (f : FlagsOf) (u : SessionWorld) (r : Result (Unit {0}) SessionEnd) → a ≢ answer.OutOfMemory →
     Comes running (s, m) (t, k) answer.OutOfMemory a turn_plan → Comes conversing ((t, k), f) u (Err OutOfMemory) r (after_turn pc a) → Comes conversing ((s, m), f) u (Err OutOfMemory) r (turn_at pc)
 unfolding turn_at
 turned pc a s t m k f u r ne h c =
-    bind-comes conversing (after_turn pc) (on_run turn_plan) a ((s, m), f) ((t, k), f) u (Err OutOfMemory) r (ap (λ (x : TurnAnswer × RunWorld). beside_flags f x) (h.ending ne) ∙ sym (end_on_run turn_plan (s, m) f)) c
+    bind-comes conversing (after_turn pc) turn_made a ((s, m), f) ((t, k), f) u (Err OutOfMemory) r ((turn-comes f a s t m k h).ending ne) c
 
 pub step-went : (steps : ℕ) (trace : Trace) (s t : State) (m k n : HostModel) (f : FlagsOf) (r : Result (Unit {0}) SessionEnd) → steps - s.steps ≢ 0 →
     Comes running (s, m) (t, k) answer.OutOfMemory (answer.Went trace) turn_plan → Comes host k n (Err OutOfMemory) r (line_plan (trace_text trace t)) →
@@ -207,7 +248,7 @@ turn-lacked : (pc : ℕ) (s t : State) (m k : HostModel) (f : FlagsOf) → Comes
 unfolding turn_at
 turn-lacked pc s t m k f h = record {
   ending = λ no. absurd (no refl);
-  stopping = λ e. stops_first conversing (after_turn pc) (on_run turn_plan) ((t, k), f) ((s, m), f) (stops_on_run turn_plan (s, m) (t, k) f (h.stopping refl));
+  stopping = λ e. stops_first conversing (after_turn pc) turn_made ((t, k), f) ((s, m), f) ((turn-comes f answer.OutOfMemory s t m k h).stopping refl);
 }
 
 pub step-lacked : (steps : ℕ) (s t : State) (m k : HostModel) (f : FlagsOf) → steps - s.steps ≢ 0 → Comes running (s, m) (t, k) answer.OutOfMemory answer.OutOfMemory turn_plan →
@@ -242,47 +283,52 @@ left-after k i l = omega arith
 
 -- runs from this one on are left
 abbrev pub RunsLeft : {Host : Type 0} → (Host → Option HostModel) → (Host → ℕ) → Host → Host → SessionWorld → SessionWorld → ℕ → ℕ → ℕ → Bool → Part (Unit {0}) → Type 0
-RunsLeft says faults a b start now n i steps pass whole = Leaves conversing says faults a b start now (runs_plan (n - i) steps pass) whole
+RunsLeft says faults a b start now n i steps pass whole = IsLeft says faults a b (RestsBoth (runs_plan (n - i) steps pass) now whole start)
 
-begun : (steps most : ℕ) (s : State) (m : HostModel) (f : FlagsOf) → most ≡ steps - s.steps →
-    IsRest conversing (runs_plan (most - 0) steps true) ((s, m), f) (continued_plan steps) ((s, m), f)
-unfolding continued_plan count_plan bind end_of Stops conversing
+begun : (steps most : ℕ) (s : State) (m : HostModel) (f : FlagsOf) → most ≡ steps - s.steps → RestsBoth (runs_plan (most - 0) steps true) ((s, m), f) (continued_plan steps) ((s, m), f)
+unfolding continued_plan count_plan bind end_of Stops course conversing
 begun steps most s m f e =
     let all : most - 0 ≡ steps - s.steps = omega (arith, e) in
-    rw all (record { ending = refl; stopping = λ v h. inr h })
+    rw all (record { window = record { ending = refl; stopping = λ v h. inr h }; list = λ u. alike u refl })
 
 pub runs-begun : {Host : Type 0} (says : Host → Option HostModel) (faults : Host → ℕ) (a : Host) (steps most : ℕ) (s : State) (f : FlagsOf) → most ≡ steps - s.steps →
     RunsLeft says faults a a ((s, contents (says a)), f) ((s, contents (says a)), f) most 0 steps true (continued_plan steps)
-runs-begun says faults a steps most s f e = record { told = λ t. begun steps most s (contents (says a)) f e; stands = stands-all (says a) (faults a) }
+runs-begun says faults a steps most s f e = all-left a (λ t. begun steps most s (contents (says a)) f e)
 
 runs-more : (n i steps : ℕ) (pass : Bool) → i < n → runs_plan (n - i) steps pass ≡ bind (on_ok (run_on (runs_plan (n - (i + 1)) steps false))) (one_run_plan steps pass)
 unfolding runs_plan
 runs-more n i steps pass l = rw (left-after n i l) refl
 
-one-and-more : {Host : Type 0} (says : Host → Option HostModel) (faults : Host → ℕ) (a b : Host) (start v : SessionWorld) (n i steps : ℕ) (pass : Bool) (whole : Part (Unit {0})) → i < n →
-    RunsLeft says faults a b start v n i steps pass whole →
-    Leaves conversing says faults a b start v (bind (on_ok (run_on (runs_plan (n - (i + 1)) steps false))) (one_run_plan steps pass)) whole
-one-and-more says faults a b start v n i steps pass whole l h = subst (λ p. Leaves conversing says faults a b start v p whole) (runs-more n i steps pass l) h
+one-and-more : (start v : SessionWorld) (n i steps : ℕ) (pass : Bool) (whole : Part (Unit {0})) → i < n → RestsBoth (runs_plan (n - i) steps pass) v whole start →
+    RestsBoth (bind (on_ok (run_on (runs_plan (n - (i + 1)) steps false))) (one_run_plan steps pass)) v whole start
+one-and-more start v n i steps pass whole l h = subst (λ p. RestsBoth p v whole start) (runs-more n i steps pass l) h
+
+-- the next run is made, and they go on; or pause; or end the session
+abbrev OneRun : {Host : Type 0} → (Host → Option HostModel) → (Host → ℕ) → Host → Host → SessionWorld → SessionWorld → ℕ → Bool → Result Bool SessionEnd → Type 0
+OneRun says faults b c v w steps pass r = IsPart says faults b c r (SitsBoth v w (Err OutOfMemory) r (one_run_plan steps pass))
 
 pub runs-went : {Host : Type 0} (says : Host → Option HostModel) (faults : Host → ℕ) (a b c : Host) (start v w : SessionWorld) (n i steps : ℕ) (pass : Bool) (whole : Part (Unit {0})) → i < n →
-    RunsLeft says faults a b start v n i steps pass whole → Proceeds conversing says faults b c v w (Ok true) (one_run_plan steps pass) → RunsLeft says faults a c start w n (i + 1) steps false whole
+    RunsLeft says faults a b start v n i steps pass whole → OneRun says faults b c v w steps pass (Ok true) → RunsLeft says faults a c start w n (i + 1) steps false whole
 runs-went says faults a b c start v w n i steps pass whole l h k =
-    left-next conversing says faults a b c start v w true (run_on (runs_plan (n - (i + 1)) steps false)) (one_run_plan steps pass) whole (one-and-more says faults a b start v n i steps pass whole l h) k
+    next-left h k (λ r o. rest-next (run_on (runs_plan (n - (i + 1)) steps false)) (one_run_plan steps pass) true v w start whole (one-and-more start v n i steps pass whole l r) o)
 
 pub runs-paused : {Host : Type 0} (says : Host → Option HostModel) (faults : Host → ℕ) (a b c : Host) (start v w : SessionWorld) (n i steps : ℕ) (pass : Bool) (whole : Part (Unit {0})) → i < n →
-    RunsLeft says faults a b start v n i steps pass whole → Proceeds conversing says faults b c v w (Ok false) (one_run_plan steps pass) → Proceeds conversing says faults a c start w (Ok tt) whole
+    RunsLeft says faults a b start v n i steps pass whole → OneRun says faults b c v w steps pass (Ok false) →
+    IsPart {A = Unit {0}} says faults a c (Ok tt) (SitsBoth start w (Err OutOfMemory) (Ok tt) whole)
 runs-paused says faults a b c start v w n i steps pass whole l h k =
-    left-answer conversing says faults a c start w (Ok tt) whole (λ o. absurd (cc)) (λ o. absurd (cc))
-    (left-next conversing says faults a b c start v w false (run_on (runs_plan (n - (i + 1)) steps false)) (one_run_plan steps pass) whole (one-and-more says faults a b start v n i steps pass whole l h) k)
+    answer-left (λ o. absurd (cc))
+    (next-left h k (λ r o. rest-next (run_on (runs_plan (n - (i + 1)) steps false)) (one_run_plan steps pass) false v w start whole (one-and-more start v n i steps pass whole l r) o))
+    (λ r. rest-answer {A = Unit {0}} (Ok tt) w start whole (λ o. absurd (cc)) r)
 
 pub runs-over : {Host : Type 0} (says : Host → Option HostModel) (faults : Host → ℕ) (a b c : Host) (start v w : SessionWorld) (n i steps : ℕ) (pass : Bool) (end : SessionEnd) (whole : Part (Unit {0})) → i < n →
-    RunsLeft says faults a b start v n i steps pass whole → Proceeds conversing says faults b c v w (Err end) (one_run_plan steps pass) → Proceeds conversing says faults a c start w (Err end) whole
+    RunsLeft says faults a b start v n i steps pass whole → OneRun says faults b c v w steps pass (Err end) →
+    IsPart {A = Unit {0}} says faults a c (Err end) (SitsBoth start w (Err OutOfMemory) (Err end) whole)
 runs-over says faults a b c start v w n i steps pass end whole l h k =
-    left-over conversing says faults a b c start v w end (run_on (runs_plan (n - (i + 1)) steps false)) (one_run_plan steps pass) whole (one-and-more says faults a b start v n i steps pass whole l h) k
+    over-left end h k (λ r o. rest-over (run_on (runs_plan (n - (i + 1)) steps false)) (one_run_plan steps pass) end v w start whole (one-and-more start v n i steps pass whole l r) o)
 
 pub runs-spent : {Host : Type 0} (says : Host → Option HostModel) (faults : Host → ℕ) (a b : Host) (start w : SessionWorld) (n i steps : ℕ) (pass : Bool) (whole : Part (Unit {0})) → n ≤ i →
-    RunsLeft says faults a b start w n i steps pass whole → Proceeds conversing says faults a b start w (Err Spent) whole
+    RunsLeft says faults a b start w n i steps pass whole → IsPart {A = Unit {0}} says faults a b (Err Spent) (SitsBoth start w (Err OutOfMemory) (Err Spent) whole)
 unfolding runs_plan
 runs-spent says faults a b start w n i steps pass whole l h =
     let none : n - i ≡ 0 = omega arith in
-    left-answer conversing says faults a b start w (Err Spent) whole (λ o. absurd (cc)) (λ o. absurd (cc)) (subst (λ k. Leaves conversing says faults a b start w (runs_plan k steps pass) whole) none h)
+    answer-left (λ o. absurd (cc)) h (λ r. rest-answer (Err Spent) w start whole (λ o. absurd (cc)) (subst (λ k. RestsBoth (runs_plan k steps pass) w whole start) none r))

@@ -3,11 +3,11 @@ use Rattle.std.proofs.Common.{ℕ, zero, suc, ◌≤◌, ◌+◌, ◌-◌, ◌==
 use Rattle.std.specs.Prelude.{Option, Result}
 use Rattle.mx_plan.specs.Plan.{returns, calls, bind}
 use Rattle.mx_host.specs.declared.faults.HostFault.{HostFault}
+use Rattle.mx_word.specs.Results.{map_ok}
 use Rattle.mx_plan.specs.Calls.{HostPlan, reading, read_plan, write_plan, need}
 use Rattle.mx_plan.specs.Taking.{CanSay, taken, Spares}
 use Rattle.mx_plan.proofs.Taking.{spares-bind, spares-returns, need-spares, write-spares}
 use Rattle.mx_code.specs.declared.trace.Trace.{Trace}
-use Rattle.mx_run.specs.RunPlans.{RunPlan, turn_plan, look, run_plan}
 use Rattle.mx_run.specs.declared.end.BreakKind.{BreakKind}
 use Rattle.mx_run.specs.declared.end.End.{End}
 use Rattle.mx_run.specs.declared.end.End.TheVariants as ending
@@ -18,11 +18,9 @@ use Rattle.mx_cmd.specs.declared.command.Command.{Command}
 use Rattle.mx_cmd.specs.declared.command.Command.TheVariants.{Step, Continue, Quit as QuitCommand}
 use Rattle.mx_con.specs.ConsoleTexts.{break_text}
 use Rattle.mx_show.specs.Texts.{ended}
-use Rattle.mx_con.specs.HostLines.{without_return}
 use Rattle.mx_con.specs.Judgement.{bad_text}
-use Rattle.mx_con.specs.LinePlans.{on_ok, written, text_plan, line_plan, lines_plan, byte_of, byte_plan, Growing, last_line, after_byte, grown_plan, LineRead, after_growing, reading_plan, asking_plan}
-use Rattle.mx_con.specs.Session.{most_input, prompt}
-use Rattle.mx_con.specs.SessionPlans.{SessionPlan, of_host, of_run, replying, counting, flagging, tracing, judging, Part, on_host, on_run, reply_plan, count_plan, flags_plan, trace_plan, judge_plan, traced_plan, after_turn, turn_at, turned_plan, step_if, stepped_plan, going, broke_plan, break_plan, after_end, run_from, one_run_plan, run_on, runs_plan, continued_plan, showing, replied, judged, answered_plan, command_plan, with_left, line_done, one_line_plan, lines_of_session, end_of_session, session_plan}
+use Rattle.mx_con.specs.LinePlans.{on_ok, written, text_plan, line_plan, lines_plan, byte_of, byte_plan, Growing, last_line, after_byte, grown_plan, LineRead, after_growing, reading_plan, prompt, asking_plan, without_return}
+use Rattle.mx_con.specs.SessionPlans.{SessionPlan, of_host, Part, on_host, turn_made, run_made, reply_plan, count_plan, place_plan, trace_plan, judge_plan, traced_plan, after_turn, turn_at, turned_plan, step_if, stepped_plan, going, broke_plan, break_plan, after_end, run_from, one_run_plan, run_on, runs_plan, continued_plan, showing, replied, judged, answered_plan, command_plan, with_left, line_done, one_line_plan, lines_of_session, most_input, end_of_session, session_plan}
 use Rattle.mx_con.specs.Taking.{Takes, TakesAtMost}
 use Rattle.mx_con.specs.declared.dialog.Dialog.{Dialog}
 use Rattle.mx_con.specs.declared.end.SessionEnd.{SessionEnd}
@@ -76,7 +74,10 @@ spare_grown left (Ok (true, got, more)) = left
 spare_grown left (Ok (false, got, more)) = more
 spare_grown left (Err end) = 0
 
-last-spared : (got : List ℕ) (left m : ℕ) → suc left ≤ m → spare_grown left (last_line got (left + 1)) ≤ m
+abbrev last_grown : List ℕ → ℕ → Growing
+last_grown got left = map_ok (λ more. (more, got, left)) (last_line got)
+
+last-spared : (got : List ℕ) (left m : ℕ) → suc left ≤ m → spare_grown left (last_grown got (left + 1)) ≤ m
 last-spared [] left m l = omega arith
 last-spared (b ∷ bs) left m l = omega (arith, l)
 
@@ -87,7 +88,7 @@ added-takes false got left m b l =
     spares-bind 258 (λ u. left) (spare_grown left) (λ u. returns (Ok (true, got ++ b ∷ [], left))) need m (need-spares 258 left m l) (λ u n g. spares-returns 258 (spare_grown left) (Ok (true, got ++ b ∷ [], left)) n g)
 
 behind-byte : (left m : ℕ) (got : List ℕ) (r : Result (Option ℕ) SessionEnd) → spare_byte left r ≤ m → Spares 258 (spare_grown left) m (after_byte left got r)
-behind-byte left m got (Ok None) l = spares-returns 258 (spare_grown left) (last_line got (left + 1)) m (last-spared got left m l)
+behind-byte left m got (Ok None) l = spares-returns 258 (spare_grown left) (last_grown got (left + 1)) m (last-spared got left m l)
 behind-byte left m got (Ok (Some b)) l = added-takes (b == 10) got left m b l
 behind-byte left m got (Err end) l = spares-returns 258 (spare_grown left) (Err end) m (omega arith)
 
@@ -124,12 +125,7 @@ takes-bind : {A B : Type 0} (s : A → ℕ) (t : B → ℕ) (f : A → SessionPl
 unfolding Takes bind
 takes-bind s t f (returns a) n h k = k a n h
 takes-bind s t f (calls (of_host o) g) n h k = λ r c. ((h r c).0, takes-bind s t f (g r) (n - taken 258 o r) (h r c).1 k)
-takes-bind s t f (calls (of_run o) g) n h k = λ r. takes-bind s t f (g r) n (h r) k
-takes-bind s t f (calls (replying shown command) g) n h k = λ r. takes-bind s t f (g r) n (h r) k
-takes-bind s t f (calls counting g) n h k = λ r. takes-bind s t f (g r) n (h r) k
-takes-bind s t f (calls flagging g) n h k = λ r. takes-bind s t f (g r) n (h r) k
-takes-bind s t f (calls (tracing trace) g) n h k = λ r. takes-bind s t f (g r) n (h r) k
-takes-bind s t f (calls (judging shown command) g) n h k = λ r. takes-bind s t f (g r) n (h r) k
+takes-bind s t f (calls other g) n h k = λ r. takes-bind s t f (g r) n (h r) k
 
 takes-returns : {A : Type 0} (s : A → ℕ) (a : A) (n : ℕ) → s a ≤ n → Takes s n (returns a)
 unfolding Takes
@@ -139,11 +135,6 @@ on-host-takes : {A : Type 0} (s : A → ℕ) (p : HostPlan A) (n : ℕ) → Spar
 unfolding Spares Takes on_host
 on-host-takes s (returns a) n h = h
 on-host-takes s (calls o k) n h = λ r c. ((h r c).0, on-host-takes s (k r) (n - taken 258 o r) (h r c).1)
-
-on-run-takes : {A : Type 0} (p : RunPlan A) (k n : ℕ) → k ≤ n → Takes (λ a. k) n (on_run p)
-unfolding Takes on_run
-on-run-takes (returns a) k n l = l
-on-run-takes (calls o g) k n l = λ r. on-run-takes (g r) k n l
 
 takes-ok : {A B : Type 0} (t : Result B SessionEnd → ℕ) (f : A → Part B) (r : Result A SessionEnd) (m : ℕ) →
     ((end : SessionEnd) → t (Err end) ≤ m) → ((a : A) → Takes t m (f a)) → Takes t m (on_ok f r)
@@ -171,9 +162,17 @@ free-count : Free count_plan
 unfolding count_plan Takes
 free-count k n l = λ r. l
 
-free-flags : Free flags_plan
-unfolding flags_plan Takes
-free-flags k n l = λ r. l
+free-place : Free place_plan
+unfolding place_plan Takes
+free-place k n l = λ r. l
+
+free-made : Free turn_made
+unfolding turn_made Takes
+free-made k n l = λ r. l
+
+free-run : (most : ℕ) (pass : Bool) → Free (run_made most pass)
+unfolding run_made Takes
+free-run most pass k n l = λ r. l
 
 free-trace : (trace : Trace) → Free (trace_plan trace)
 unfolding trace_plan Takes
@@ -201,11 +200,11 @@ free-after-turn pc answer.OutOfMemory = free-returns _
 
 free-turn-at : (pc : ℕ) → Free (turn_at pc)
 unfolding turn_at
-free-turn-at pc = free-bind (after_turn pc) (on_run turn_plan) (on-run-takes turn_plan) (free-after-turn pc)
+free-turn-at pc = free-bind (after_turn pc) turn_made free-made (free-after-turn pc)
 
 free-turned : Free turned_plan
 unfolding turned_plan
-free-turned = free-bind turn_at (on_run look) (on-run-takes look) free-turn-at
+free-turned = free-bind turn_at place_plan free-place free-turn-at
 
 free-choice : {A : Type 0} (b : Bool) (p q : SessionPlan A) → Free p → Free q → Free (cond b p q)
 free-choice true p q h g = h
@@ -233,9 +232,7 @@ free-after-end ending.OutOfMemory = free-returns _
 
 free-one-run : (steps : ℕ) (pass : Bool) → Free (one_run_plan steps pass)
 unfolding one_run_plan
-free-one-run steps pass =
-    free-bind (λ f. bind (run_from steps pass f) count_plan) flags_plan free-flags
-    (λ f. free-bind (run_from steps pass f) count_plan free-count (λ made. free-bind after_end (on_run (run_plan (steps - made) f pass)) (on-run-takes (run_plan (steps - made) f pass)) free-after-end))
+free-one-run steps pass = free-bind (run_from steps pass) count_plan free-count (λ made. free-bind after_end (run_made (steps - made) pass) (free-run (steps - made) pass) free-after-end)
 
 free-runs : (n steps : ℕ) (pass : Bool) → Free (runs_plan n steps pass)
 unfolding runs_plan

@@ -1,5 +1,6 @@
--- By its definition a session does not lack memory: no call that the host answers does, and no run.
-use Rattle.std.proofs.Common.{◌≡◌, ◌≢◌, ℕ, zero, suc, ◌+◌, ◌/◌, ◌==◌, List, [], ◌∷◌, ◌++◌, Bool, true, false, cond, Option, None, Some, Result, Ok, Err, refl}
+-- A session does not lack memory: no call that the host answers does, no turn and no run.
+use Rattle.std.proofs.Common.{◌≡◌, ℕ, zero, suc, ◌+◌, ◌-◌, ◌/◌, ◌==◌, List, [], ◌∷◌, ◌++◌, Bool, true, false, cond, Option, None, Some, Result, Ok, Err, refl}
+use Rattle.mx_word.specs.Results.{map_ok}
 use Rattle.mx_host.specs.HostAnswer.{Then, read_answer, read_from, read_lead, write_answer, write_to, write_lead}
 use Rattle.mx_host.specs.HostModel.{HostModel, counted, is_failing, slot_at, is_read_only, is_write_only}
 use Rattle.mx_host.specs.declared.faults.HostFault.{HostFault}
@@ -9,38 +10,42 @@ use Rattle.mx_host.specs.declared.slots.Slot.TheVariants.{Closed, Open}
 use Rattle.mx_host.specs.declared.slots.Mode.{Mode}
 use Rattle.mx_host.specs.declared.slots.Lead.{Lead}
 use Rattle.mx_host.specs.declared.slots.Lead.TheVariants.{Input, Output, Errors, File}
+use Rattle.mx_plan.specs.Calls.{HostCall, HostSays, reading, writing, host, HostPlan, need, read_plan, write_plan}
+use Rattle.mx_plan.specs.Plan.{Plan, returns, calls, bind}
+use Rattle.mx_plan.specs.Wild.{Course, ends, meets_wild, course, carried}
+use Rattle.mx_plan.proofs.Giving.{Gives, gives-bind}
+use Rattle.mx_plan.proofs.WildLaws.{Answers, course_gives}
 use Rattle.mx_core.specs.State.{State}
 use Rattle.mx_code.specs.declared.trace.Trace.{Trace}
-use Rattle.mx_run.specs.RunPlans.{RunWorld, end_of_trace, end_of_turn}
+use Rattle.mx_run.specs.WildRuns.{run_goes, run_course}
+use Rattle.mx_run.specs.RunPlans.{RunCall, turning, looking, RunWorld, running, end_of_trace, end_of_turn, run_plan}
 use Rattle.mx_run.specs.Runs.{FlagsOf, break_of}
 use Rattle.mx_run.specs.Turns.{Turn, went_on, halts, stops, turn, turn_answer}
-use Rattle.mx_run.specs.WildRuns.{MachineKind, RunEnd, run_ended, run_wild, ends_wild, run_by}
+use Rattle.mx_run.specs.WildRuns.{MachineKind, ends_wild}
 use Rattle.mx_run.specs.declared.end.BreakKind.{BreakKind}
 use Rattle.mx_run.specs.declared.end.End.{End}
 use Rattle.mx_run.specs.declared.end.End.TheVariants as ending
 use Rattle.mx_run.specs.declared.turn_answer.TurnAnswer.{TurnAnswer}
 use Rattle.mx_run.specs.declared.turn_answer.TurnAnswer.TheVariants as answer
-use Rattle.mx_run.proofs.RunCases.{OnOr, LeadsTo, AnyWay, HasMemory, has-memory, RunEndsSo, run-ends-so}
 use Rattle.mx_cmd.specs.Commands.{command_of}
 use Rattle.mx_cmd.specs.declared.command.Command.{Command}
-use Rattle.mx_cmd.specs.declared.command.Command.TheVariants as command
-use Rattle.mx_show.specs.Texts.{trace_text}
-use Rattle.mx_con.specs.HostLines.{Written, written, text_write, line_write, after_write, lines_write, input_slot, output_slot}
-use Rattle.mx_con.specs.HostLines.{byte_of, byte_read, Growing, last_line, byte_added, with_byte, grown, Reading, after_byte, line_read, without_return}
-use Rattle.mx_con.specs.Judgement.{bad_text, command_bad}
-use Rattle.mx_con.specs.Replies.{Reply, reply_to}
-use Rattle.mx_con.specs.Session.{Console, Progress, Done, on, over, wild, and_then, write_done, line_done, steps_left, with_run, after_turn, stepped}
-use Rattle.mx_con.specs.Session.{goes, break_lines, end_answer, end_done, after_run, one_run, run_on, runs, with_reply, carried_out}
-use Rattle.mx_con.specs.Session.{line_ends_wild, judged, answered, command_done, reading_done, prompt, line_of, prompted, asked, one_line}
-use Rattle.mx_con.specs.Session.{session_lines, most_input, at_start, run_of, session}
+use Rattle.mx_cmd.specs.declared.command.Command.TheVariants.{Step, Continue, Quit as QuitCommand}
+use Rattle.mx_show.specs.Texts.{ended}
+use Rattle.mx_con.specs.ConsoleTexts.{break_text}
+use Rattle.mx_con.specs.Judgement.{bad_text}
+use Rattle.mx_con.specs.LinePlans.{on_ok, written, text_plan, line_plan, lines_plan, byte_of, byte_plan, last_line, after_byte, grown_plan, LineRead, after_growing, reading_plan, prompt, asking_plan, without_return}
+use Rattle.mx_con.specs.Session.{keeping_flags, command_ends_wild, session_goes, of_course, session_course, session}
+use Rattle.mx_con.specs.SessionPlans.{SessionCall, of_host, of_turn, of_run, replying, SessionSays, SessionWorld, conversing, Part, on_host, turn_made, run_made, reply_plan, count_plan, place_plan, trace_plan, judge_plan, traced_plan, after_turn, turn_at, turned_plan, stepped_plan, going, broke_plan, break_plan, after_end, one_run_plan, run_on, runs_plan, continued_plan, showing, judged, answered_plan, command_plan, with_left, line_done, one_line_plan, lines_of_session, most_input, end_of_session, session_plan}
 use Rattle.mx_con.specs.Told.{is_end_told, is_told}
+use Rattle.mx_con.specs.declared.dialog.Dialog.{Dialog}
 use Rattle.mx_con.specs.declared.end.SessionEnd.{SessionEnd}
+use Rattle.mx_con.specs.declared.end.SessionEnd.TheVariants.{Spent}
 use Rattle.mx_con.specs.declared.judgement.Bad.{Bad}
 use Rattle.mx_con.specs.declared.judgement.Bad.TheVariants.{UnknownCommand}
+use Rattle.mx_con.proofs.RunAnswers.{TurnsMay, EndsSo, run-gives}
 
--- ---- CALLS
+-- ---- what a host answers to a read and to a write is another than no memory
 
--- whether an answer of the host is another than that of no memory
 abbrev is_call_told : {A : Type 0} → Result A HostFault → Bool
 is_call_told (Ok x) = true
 is_call_told (Err fault.Failed) = true
@@ -82,7 +87,18 @@ read-told : (m : HostModel) (slot len : ℕ) → CallTold (read_answer m slot le
 unfolding read_answer
 read-told m slot len = either-call (is_failing m) _ _ refl (slot-read (counted m) slot len (slot_at m slot))
 
--- ---- LINES
+abbrev HostTold : (o : HostCall) → HostSays o → Type 0
+HostTold (reading slot len) r = is_call_told r ≡ true
+HostTold (writing slot from) r = is_call_told r ≡ true
+HostTold other r = Unit {0}
+
+host-told : (o : HostCall) (m : HostModel) → HostTold o (host.act o m).0
+unfolding host
+host-told (reading slot len) m = read-told m slot len
+host-told (writing slot from) m = write-told m slot from
+host-told other m = tt
+
+-- ---- plans that answer another end
 
 abbrev is_answer_told : {A : Type 0} → Result A SessionEnd → Bool
 is_answer_told (Ok x) = true
@@ -91,237 +107,277 @@ is_answer_told (Err end) = is_end_told end
 abbrev AnswerTold : {A : Type 0} → Result A SessionEnd → Type 0
 AnswerTold r = is_answer_told r ≡ true
 
-written-told : (a : Then (Result (Unit {0}) HostFault)) → CallTold a → AnswerTold (written a).0
-written-told (Ok u, m) h = refl
-written-told (Err fault.Failed, m) h = refl
-written-told (Err fault.Misused, m) h = refl
-written-told (Err fault.OutOfMemory, m) h = h
+ok-told : {O : Type 0} {R : O → Type 0} {A B : Type 0} (May : (o : O) → R o → Type 0) (f : A → Plan O R (Result B SessionEnd)) (r : Result A SessionEnd) → AnswerTold r →
+    ((x : A) → Gives May AnswerTold (f x)) → Gives May AnswerTold (on_ok f r)
+unfolding Gives
+ok-told May f (Ok x) h g = g x
+ok-told May f (Err end) h g = h
 
-text-told : (m : HostModel) (text : List ℕ) → AnswerTold (text_write m text).0
-unfolding text_write
-text-told m text = written-told (write_answer m output_slot text) (write-told m output_slot text)
+-- a part, and then another
+then-told : {O : Type 0} {R : O → Type 0} {A B : Type 0} (May : (o : O) → R o → Type 0) (f : A → Plan O R (Result B SessionEnd)) (p : Plan O R (Result A SessionEnd)) → Gives May AnswerTold p →
+    ((x : A) → Gives May AnswerTold (f x)) → Gives May AnswerTold (bind (on_ok f) p)
+then-told May f p h g = gives-bind May AnswerTold AnswerTold (on_ok f) p h (λ r k. ok-told May f r k g)
 
-after-told : (more : HostModel → Written) (w : Written) → ((m : HostModel) → AnswerTold (more m).0) → AnswerTold w.0 → AnswerTold (after_write more w).0
-after-told more (Ok u, m) g h = g m
-after-told more (Err end, m) g h = h
+-- ---- lines
 
-lines-told : (lines : List (List ℕ)) (m : HostModel) → AnswerTold (lines_write lines m).0
-unfolding lines_write
-lines-told [] m = refl
-lines-told (line ∷ lines) m = after-told (lines_write lines) (line_write m line) (λ n. lines-told lines n) (text-told m (line ++ 10 ∷ []))
+abbrev LinesTold : {A : Type 0} → HostPlan (Result A SessionEnd) → Type 0
+LinesTold p = Gives HostTold AnswerTold p
 
-byte-told : (a : Then (Result (List ℕ) HostFault)) → CallTold a → AnswerTold (byte_of a).0
-byte-told (Ok [], m) h = refl
-byte-told (Ok (b ∷ bs), m) h = refl
-byte-told (Err fault.Failed, m) h = refl
-byte-told (Err fault.Misused, m) h = refl
-byte-told (Err fault.OutOfMemory, m) h = h
+written-told : (r : Result (Unit {0}) HostFault) → is_call_told r ≡ true → AnswerTold (written r)
+written-told (Ok u) h = refl
+written-told (Err fault.Failed) h = refl
+written-told (Err fault.Misused) h = refl
+written-told (Err fault.OutOfMemory) h = h
 
-next-told : (m : HostModel) → AnswerTold (byte_read m).0
-unfolding byte_read
-next-told m = byte-told (read_answer m input_slot 1) (read-told m input_slot 1)
+text-told : (text : List ℕ) → LinesTold (text_plan text)
+unfolding Gives text_plan write_plan bind
+text-told text = λ r h. written-told r h
 
-last-told : (got : List ℕ) → AnswerTold (last_line got)
-last-told [] = refl
-last-told (b ∷ bs) = refl
+line-told : (line : List ℕ) → LinesTold (line_plan line)
+unfolding Gives line_plan need bind
+line-told line = λ u h. text-told (ended line)
 
-either-added : (b : Bool) (x y : Result Bool SessionEnd × List ℕ) → AnswerTold x.0 → AnswerTold y.0 → AnswerTold (cond b x y).0
-either-added true x y h k = h
-either-added false x y h k = k
+lines-told : (lines : List (List ℕ)) → LinesTold (lines_plan lines)
+unfolding Gives lines_plan
+lines-told [] = refl
+lines-told (line ∷ lines) = then-told HostTold (λ u. lines_plan lines) (line_plan line) (line-told line) (λ u. lines-told lines)
 
-added-told : (got : List ℕ) (b : ℕ) → AnswerTold (byte_added got b).0
-added-told got b = either-added (b == 10) _ _ refl refl
+read-byte : (r : Result (List ℕ) HostFault) → is_call_told r ≡ true → AnswerTold (byte_of r)
+read-byte (Ok []) h = refl
+read-byte (Ok (b ∷ bs)) h = refl
+read-byte (Err fault.Failed) h = refl
+read-byte (Err fault.Misused) h = refl
+read-byte (Err fault.OutOfMemory) h = h
 
-with-told : (got : List ℕ) (left : ℕ) (t : Then (Result (Option ℕ) SessionEnd)) → AnswerTold t.0 → AnswerTold (with_byte got left t).0
-with-told got left (Err end, m) h = h
-with-told got left (Ok None, m) h = last-told got
-with-told got left (Ok (Some b), m) h = added-told got b
+byte-told : LinesTold byte_plan
+unfolding Gives byte_plan read_plan bind
+byte-told = λ r h. read-byte r h
 
-grown-told : (more : List ℕ → HostModel → Reading) (g : Growing) → ((got : List ℕ) (m : HostModel) → AnswerTold (more got m).0) → AnswerTold g.0 → AnswerTold (after_byte more g).0
-grown-told more (Ok true, got, left, m) f h = f got m
-grown-told more (Ok false, got, left, m) f h = refl
-grown-told more (Err end, got, left, m) f h = h
+last-told : (got : List ℕ) (left : ℕ) → AnswerTold {A = Bool × List ℕ × ℕ} (map_ok (λ more. (more, got, left)) (last_line got))
+last-told [] left = refl
+last-told (b ∷ bs) left = refl
 
-line-told : (left : ℕ) (got : List ℕ) (m : HostModel) → AnswerTold (line_read left got m).0
-unfolding line_read
-line-told zero got m = refl
-line-told (suc left) got m = grown-told (line_read left) (grown left got m) (λ g k. line-told left g k) (with-told got left (byte_read m) (next-told m))
+added-told : (newline : Bool) (got : List ℕ) (left b : ℕ) → LinesTold {A = Bool × List ℕ × ℕ} (cond newline (returns (Ok (false, got, left))) (bind (λ u. returns (Ok (true, got ++ b ∷ [], left))) need))
+unfolding Gives need bind
+added-told true got left b = refl
+added-told false got left b = λ u h. refl
 
--- ---- PARTS
+behind-byte : (left : ℕ) (got : List ℕ) (r : Result (Option ℕ) SessionEnd) → AnswerTold r → LinesTold (after_byte left got r)
+unfolding Gives
+behind-byte left got (Err end) h = h
+behind-byte left got (Ok None) h = last-told got (left + 1)
+behind-byte left got (Ok (Some b)) h = added-told (b == 10) got left b
 
-abbrev is_part_told : {A : Type 0} → Progress A → Bool
-is_part_told (on x c) = true
-is_part_told (over end c) = is_end_told end
-is_part_told (wild m) = true
+grown-told : (left : ℕ) (got : List ℕ) → LinesTold (grown_plan left got)
+unfolding grown_plan
+grown-told left got = gives-bind HostTold AnswerTold AnswerTold (after_byte left got) byte_plan byte-told (λ r h. behind-byte left got r h)
 
-abbrev PartTold : {A : Type 0} → Progress A → Type 0
-PartTold p = is_part_told p ≡ true
+growing-told : (more : List ℕ → HostPlan LineRead) → ((got : List ℕ) → LinesTold (more got)) → (x : Bool × List ℕ × ℕ) → LinesTold (after_growing more x)
+unfolding Gives
+growing-told more f (true, got, left) = f got
+growing-told more f (false, got, left) = refl
 
-either-part : {A : Type 0} (b : Bool) (p q : Progress A) → PartTold p → PartTold q → PartTold (cond b p q)
+reading-told : (left : ℕ) (got : List ℕ) → LinesTold (reading_plan left got)
+unfolding Gives reading_plan
+reading-told zero got = refl
+reading-told (suc left) got = then-told HostTold (after_growing (reading_plan left)) (grown_plan left got) (grown-told left got) (growing-told (reading_plan left) (λ g. reading-told left g))
+
+asking-told : (left : ℕ) → LinesTold (asking_plan left)
+unfolding asking_plan
+asking-told left = then-told HostTold (λ u. reading_plan left []) (text_plan prompt) (text-told prompt) (λ u. reading-told left [])
+
+-- ---- turns and runs
+
+abbrev TurnTold : TurnAnswer → Type 0
+TurnTold answer.OutOfMemory = ⊥
+TurnTold other = Unit {0}
+
+abbrev EndTold : End → Type 0
+EndTold ending.OutOfMemory = ⊥
+EndTold other = Unit {0}
+
+turn-told : (t : Turn) → TurnTold (turn_answer t).0
+turn-told (went_on s m trace) = tt
+turn-told (halts status s m) = tt
+turn-told (stops reason s m) = tt
+
+run-call-told : (kind : MachineKind) (o : RunCall) (w : RunWorld) → Answers (TurnsMay TurnTold o) (run_goes kind o w)
+unfolding running
+run-call-told kind turning w = by (ends_wild kind w.0)
+  where
+    by : (b : Bool) → Answers TurnTold (cond b (meets_wild w) (carried running turning w))
+    by true = tt
+    by false = turn-told (turn w.0 w.1)
+run-call-told kind looking w = tt
+
+trace-told : (traced : Bool) (trace : Trace) (b : Option (BreakKind × ℕ)) → EndsSo EndTold (end_of_trace traced trace b)
+trace-told traced trace (Some (kind, n)) = tt
+trace-told true trace None = tt
+trace-told false trace None = tt
+
+answer-told : (f : FlagsOf) (pc : ℕ) (a : TurnAnswer) → TurnTold a → EndsSo EndTold (end_of_turn f pc a)
+answer-told f pc (answer.Went trace) h = trace-told (f (pc / 4)).t trace (break_of f trace)
+answer-told f pc (answer.Halted status) h = tt
+answer-told f pc (answer.Stopped reason) h = tt
+answer-told f pc answer.OutOfMemory h = h
+
+run-told : (kind : MachineKind) (n : ℕ) (f : FlagsOf) (pass : Bool) (w : RunWorld) → Answers EndTold (course (run_goes kind) (run_plan n f pass) w)
+run-told kind n f pass w = course_gives (run_goes kind) (TurnsMay TurnTold) EndTold (run-call-told kind) (run_plan n f pass) w (run-gives TurnTold EndTold answer-told (λ pc. tt) tt n f pass)
+
+-- ---- the calls of a session
+
+abbrev SessionTold : (o : SessionCall) → SessionSays o → Type 0
+SessionTold (of_host o) r = HostTold o r
+SessionTold of_turn r = TurnTold r
+SessionTold (of_run n pass) r = EndTold r
+SessionTold other r = Unit {0}
+
+flags-told : {A : Type 0} (Such : A → Type 0) (f : FlagsOf) (c : Course A RunWorld) → Answers Such c → Answers Such (keeping_flags f c)
+flags-told Such f (ends a w) h = h
+flags-told Such f (meets_wild w) h = tt
+
+call-told : (kind : MachineKind) (o : SessionCall) (w : SessionWorld) → Answers (SessionTold o) (session_goes kind o w)
+unfolding conversing run_course
+call-told kind (of_host o) w = host-told o w.0.1
+call-told kind of_turn w = flags-told TurnTold w.1 (run_goes kind turning w.0) (run-call-told kind turning w.0)
+call-told kind (of_run n pass) w = flags-told EndTold w.1 (course (run_goes kind) (run_plan n w.1 pass) w.0) (run-told kind n w.1 pass w.0)
+call-told kind (replying shown command) w = by (command_ends_wild kind shown command)
+  where
+    by : (b : Bool) → Answers (SessionTold (replying shown command)) (cond b (meets_wild w) (carried conversing (replying shown command) w))
+    by true = tt
+    by false = tt
+call-told kind other w = tt
+
+-- ---- steps and runs
+
+abbrev PartTold : {A : Type 0} → Part A → Type 0
+PartTold p = Gives SessionTold AnswerTold p
+
+on-host-told : {A : Type 0} (p : HostPlan (Result A SessionEnd)) → LinesTold p → PartTold (on_host p)
+unfolding Gives on_host
+on-host-told (returns a) h = h
+on-host-told (calls o k) h = λ r m. on-host-told (k r) (h r m)
+
+either-part : {A : Type 0} (b : Bool) (p q : Part A) → PartTold p → PartTold q → PartTold (cond b p q)
 either-part true p q h k = h
 either-part false p q h k = k
 
-then-told : {A B : Type 0} (more : A → Console → Progress B) (p : Progress A) → ((x : A) (c : Console) → PartTold (more x c)) → PartTold p → PartTold (and_then more p)
-then-told more (on x c) f h = f x c
-then-told more (over end c) f h = h
-then-told more (wild m) f h = refl
+ends-so : {A : Type 0} (a : Result A SessionEnd) → AnswerTold a → PartTold (returns a)
+unfolding Gives
+ends-so a h = h
 
-done-told : {A : Type 0} (x : A) (c : Console) (w : Written) → AnswerTold w.0 → PartTold (write_done x c w)
-done-told x c (Ok u, m) h = refl
-done-told x c (Err end, m) h = h
+traced-told : (trace : Trace) → PartTold (traced_plan trace)
+unfolding Gives traced_plan trace_plan bind
+traced-told trace = λ text h. on-host-told (line_plan text) (line-told text)
 
-line_done-told : (c : Console) (line : List ℕ) → PartTold (line_done c line)
-line_done-told c line = done-told tt c (line_write c.host line) (text-told c.host (line ++ 10 ∷ []))
+after-turn-told : (pc : ℕ) (a : TurnAnswer) → TurnTold a → PartTold (after_turn pc a)
+unfolding Gives
+after-turn-told pc (answer.Went trace) h = traced-told trace
+after-turn-told pc (answer.Halted status) h = refl
+after-turn-told pc (answer.Stopped reason) h = refl
+after-turn-told pc answer.OutOfMemory h = absurd h
 
--- ---- STEPS AND RUNS
+turned-told : PartTold turned_plan
+unfolding Gives turned_plan place_plan turn_at turn_made bind
+turned-told = λ pc h a k. after-turn-told pc a k
 
-turn-told : (c : Console) (pc : ℕ) (t : Turn) → PartTold (after_turn c pc (turn_answer t))
-turn-told c pc (went_on s m trace) = line_done-told (with_run c s m) (trace_text trace s)
-turn-told c pc (halts status s m) = refl
-turn-told c pc (stops reason s m) = refl
+stepped-told : (steps : ℕ) → PartTold (stepped_plan steps)
+unfolding Gives stepped_plan count_plan bind
+stepped-told steps = λ made h. either-part (steps - made == 0) (returns (Err Spent)) turned_plan (ends-so {A = Unit {0}} (Err Spent) refl) turned-told
 
-stepped-told : (kind : MachineKind) (steps : ℕ) (c : Console) → PartTold (stepped kind steps c)
-unfolding stepped
-stepped-told kind steps c =
-    either-part (steps_left steps c.state == 0) _ _ refl
-    (either-part (ends_wild kind c.state) _ _ refl (turn-told c c.state.pc (turn c.state c.host)))
+going-told : (more : Bool) (p : Part (Unit {0})) → PartTold p → PartTold (going more p)
+going-told more p h = then-told SessionTold (λ u. returns (Ok more)) p h (λ u. ends-so (Ok more) refl)
 
-abbrev is_end_of_run_told : End → Bool
-is_end_of_run_told ending.OutOfMemory = false
-is_end_of_run_told end = true
+break-told : (kind : BreakKind) (at : ℕ) (traced : Option Trace) → PartTold (break_plan kind at traced)
+break-told kind at None = on-host-told (line_plan (break_text kind at)) (line-told (break_text kind at))
+break-told kind at (Some trace) =
+    then-told SessionTold (λ u. broke_plan kind at) (traced_plan trace) (traced-told trace) (λ u. on-host-told (line_plan (break_text kind at)) (line-told (break_text kind at)))
 
-abbrev is_run_told : RunEnd → Bool
-is_run_told (run_ended e) = is_end_of_run_told e.end
-is_run_told (run_wild m) = true
+after-end-told : (end : End) → EndTold end → PartTold (after_end end)
+unfolding Gives
+after-end-told (ending.Halted status) h = refl
+after-end-told (ending.Stopped pc reason) h = refl
+after-end-told (ending.Broke kind at traced) h = going-told false (break_plan kind at traced) (break-told kind at traced)
+after-end-told (ending.Traced trace) h = going-told true (traced_plan trace) (traced-told trace)
+after-end-told ending.Spent h = refl
+after-end-told ending.OutOfMemory h = absurd h
 
-abbrev RunTold : RunEnd → Type 0
-RunTold r = is_run_told r ≡ true
+one-run-told : (steps : ℕ) (pass : Bool) → PartTold (one_run_plan steps pass)
+unfolding Gives one_run_plan count_plan run_made bind
+one-run-told steps pass = λ made h end k. after-end-told end k
 
--- what is known of the end of a run
-abbrev EndTold : End → RunWorld → Type 0
-EndTold end w = is_end_of_run_told end ≡ true
+runs-told : (n steps : ℕ) (pass : Bool) → PartTold (runs_plan n steps pass)
+unfolding Gives runs_plan
+runs-told zero steps pass = refl
+runs-told (suc n) steps pass =
+    then-told SessionTold (run_on (runs_plan n steps false)) (one_run_plan steps pass) (one-run-told steps pass)
+    (λ goes. either-part goes (runs_plan n steps false) (returns (Ok tt)) (runs-told n steps false) (ends-so {A = Unit {0}} (Ok tt) refl))
 
-trace-told : (n : ℕ) (traced : Bool) (trace : Trace) (b : Option (BreakKind × ℕ)) (v : RunWorld) → OnOr (AnyWay n) EndTold (end_of_trace traced trace b) v
-trace-told n traced trace (Some (kind, at)) v = refl
-trace-told n true trace None v = refl
-trace-told n false trace None v = tt
+continued-told : (steps : ℕ) → PartTold (continued_plan steps)
+unfolding Gives continued_plan count_plan bind
+continued-told steps = λ made h. runs-told (steps - made) steps true
 
-turned-told : (n : ℕ) (f : FlagsOf) (pc : ℕ) (a : TurnAnswer) (v : RunWorld) → a ≢ answer.OutOfMemory → OnOr (AnyWay n) EndTold (end_of_turn f pc a) v
-turned-told n f pc (answer.Went trace) v h = trace-told n (f (pc / 4)).t trace (break_of f trace) v
-turned-told n f pc (answer.Halted status) v h = refl
-turned-told n f pc (answer.Stopped reason) v h = refl
-turned-told n f pc answer.OutOfMemory v h = absurd (h refl)
+-- ---- commands
 
-leads-told : (f : FlagsOf) → LeadsTo f HasMemory AnyWay EndTold
-leads-told f = record { spent = λ w g. refl; broken = λ n w x g. refl; turned = λ n a w v g h. turned-told n f w.0.pc a v h }
+showing-told : (shown : Option ℕ) (p : Part (Unit {0})) → PartTold p → PartTold (showing shown p)
+showing-told shown p h = then-told SessionTold (λ u. returns (Ok shown)) p h (λ u. ends-so (Ok shown) refl)
 
-as-told : (r : RunEnd) → RunEndsSo EndTold r → RunTold r
-as-told (run_ended e) h = h
-as-told (run_wild m) h = refl
+line-shown : (shown : Option ℕ) (line : List ℕ) → PartTold (showing shown (on_host (line_plan line)))
+line-shown shown line = showing-told shown (on_host (line_plan line)) (on-host-told (line_plan line) (line-told line))
 
-run-told : (kind : MachineKind) (n : ℕ) (f : FlagsOf) (pass : Bool) (s : State) (m : HostModel) → RunTold (run_by kind n f pass s m)
-run-told kind n f pass s m = as-told (run_by kind n f pass s m) (run-ends-so kind f HasMemory AnyWay EndTold (leads-told f) (λ t k tame. has-memory (turn t k)) n pass s m tt)
+judged-told : (shown : Option ℕ) (command : Command) (bad : Option Bad) → PartTold (judged shown command bad)
+unfolding Gives reply_plan bind
+judged-told shown command (Some bad) = line-shown shown (bad_text bad)
+judged-told shown command None = λ r h. showing-told r.0 (on_host (lines_plan r.1)) (on-host-told (lines_plan r.1) (lines-told r.1))
 
-goes-told : (going : Bool) (w : Written) → AnswerTold w.0 → AnswerTold (goes going w).0
-goes-told going (Ok u, m) h = refl
-goes-told going (Err end, m) h = h
+answered-told : (shown : Option ℕ) (command : Command) → PartTold (answered_plan shown command)
+unfolding Gives answered_plan judge_plan bind
+answered-told shown command = λ bad h. judged-told shown command bad
 
-end-told : (s : State) (end : End) (m : HostModel) → is_end_of_run_told end ≡ true → AnswerTold (end_answer s end m).0
-end-told s (ending.Halted status) m h = refl
-end-told s (ending.Stopped pc reason) m h = refl
-end-told s (ending.Broke kind at traced) m h = goes-told false (lines_write (break_lines s kind at traced) m) (lines-told (break_lines s kind at traced) m)
-end-told s (ending.Traced trace) m h = goes-told true (line_write m (trace_text trace s)) (text-told m (trace_text trace s ++ 10 ∷ []))
-end-told s ending.Spent m h = refl
-end-told s ending.OutOfMemory m h = absurd (cc)
+command-told : (steps : ℕ) (shown : Option ℕ) (line : Option Command) → PartTold (command_plan steps shown line)
+unfolding Gives command_plan
+command-told steps shown None = line-shown shown (bad_text UnknownCommand)
+command-told steps shown (Some Step) = showing-told shown (stepped_plan steps) (stepped-told steps)
+command-told steps shown (Some Continue) = showing-told shown (continued_plan steps) (continued-told steps)
+command-told steps shown (Some QuitCommand) = refl
+command-told steps shown (Some command) = answered-told shown command
 
-end_done-told : (c : Console) (w : Then (Result Bool SessionEnd)) → AnswerTold w.0 → PartTold (end_done c w)
-end_done-told c (Ok going, m) h = refl
-end_done-told c (Err end, m) h = h
+-- ---- lines and sessions
 
-after_run-told : (c : Console) (r : RunEnd) → RunTold r → PartTold (after_run c r)
-after_run-told c (run_wild m) h = refl
-after_run-told c (run_ended e) h = end_done-told (with_run c e.state e.host) (end_answer e.state e.end e.host) (end-told e.state e.end e.host h)
+done-told : (steps : ℕ) (shown : Option ℕ) (line : List ℕ × ℕ) → PartTold (line_done steps shown line)
+done-told steps shown line =
+    then-told SessionTold (λ s. returns (Ok (with_left line.1 s))) (command_plan steps shown (command_of (without_return line.0))) (command-told steps shown (command_of (without_return line.0)))
+    (λ s. ends-so (Ok (with_left line.1 s)) refl)
 
-one_run-told : (kind : MachineKind) (steps : ℕ) (pass : Bool) (c : Console) → PartTold (one_run kind steps pass c)
-unfolding one_run
-one_run-told kind steps pass c =
-    after_run-told c (run_by kind (steps_left steps c.state) c.flags pass c.state c.host)
-    (run-told kind (steps_left steps c.state) c.flags pass c.state c.host)
+one-told : (steps : ℕ) (d : Dialog) → PartTold (one_line_plan steps d)
+unfolding one_line_plan
+one-told steps d = then-told SessionTold (line_done steps d.shown) (on_host (asking_plan d.left)) (on-host-told (asking_plan d.left) (asking-told d.left)) (λ line. done-told steps d.shown line)
 
-run_on-told : (more : Console → Done) (going : Bool) (c : Console) → PartTold (more c) → PartTold (run_on more going c)
-run_on-told more true c h = h
-run_on-told more false c h = refl
+all-told : (n steps : ℕ) (d : Dialog) → PartTold (lines_of_session n steps d)
+unfolding Gives lines_of_session
+all-told zero steps d = refl
+all-told (suc n) steps d = then-told SessionTold (lines_of_session n steps) (one_line_plan steps d) (one-told steps d) (λ e. all-told n steps e)
 
-runs-told : (kind : MachineKind) (n steps : ℕ) (pass : Bool) (c : Console) → PartTold (runs kind n steps pass c)
-unfolding runs
-runs-told kind zero steps pass c = refl
-runs-told kind (suc n) steps pass c =
-    then-told (run_on (runs kind n steps false)) (one_run kind steps pass c)
-    (λ going d. run_on-told (runs kind n steps false) going d (runs-told kind n steps false d)) (one_run-told kind steps pass c)
+abbrev SessionEndTold : SessionEnd → Type 0
+SessionEndTold end = is_end_told end ≡ true
 
--- ---- COMMANDS
+ended-told : (r : Result Dialog SessionEnd) → AnswerTold r → Gives SessionTold SessionEndTold (end_of_session r)
+unfolding Gives
+ended-told (Ok d) h = refl
+ended-told (Err end) h = h
 
-carried-told : (c : Console) (command : Command) → PartTold (carried_out c command)
-unfolding carried_out
-carried-told c command =
-    let r : Reply = reply_to c.state c.flags c.shown command in done-told tt (with_reply c r) (lines_write r.lines c.host) (lines-told r.lines c.host)
+session-told : (steps : ℕ) → Gives SessionTold SessionEndTold (session_plan steps)
+unfolding session_plan
+session-told steps =
+    gives-bind SessionTold AnswerTold SessionEndTold end_of_session (lines_of_session (most_input + 1) steps (with_left most_input None)) (all-told (most_input + 1) steps (with_left most_input None)) ended-told
 
-judged-told : (kind : MachineKind) (c : Console) (command : Command) (bad : Option Bad) → PartTold (judged kind c command bad)
-judged-told kind c command (Some bad) = line_done-told c (bad_text bad)
-judged-told kind c command None = either-part (line_ends_wild kind c.shown command) _ _ refl (carried-told c command)
-
-answered-told : (kind : MachineKind) (c : Console) (command : Command) → PartTold (answered kind c command)
-unfolding answered
-answered-told kind c command = judged-told kind c command (command_bad c.state c.shown command)
-
-command-told : (kind : MachineKind) (steps : ℕ) (c : Console) (line : Option Command) → PartTold (command_done kind steps c line)
-unfolding command_done
-command-told kind steps c None = line_done-told c (bad_text UnknownCommand)
-command-told kind steps c (Some command.Step) = stepped-told kind steps c
-command-told kind steps c (Some command.Continue) = runs-told kind (steps_left steps c.state) steps true c
-command-told kind steps c (Some command.Quit) = refl
-command-told kind steps c (Some command.State) = answered-told kind c command.State
-command-told kind steps c (Some (command.Show subject form)) = answered-told kind c (command.Show subject form)
-command-told kind steps c (Some (command.Change subject value)) = answered-told kind c (command.Change subject value)
-command-told kind steps c (Some (command.ShowMore n form)) = answered-told kind c (command.ShowMore n form)
-command-told kind steps c (Some (command.GoTo a)) = answered-told kind c (command.GoTo a)
-command-told kind steps c (Some (command.Break breaks a)) = answered-told kind c (command.Break breaks a)
-command-told kind steps c (Some (command.Trace a)) = answered-told kind c (command.Trace a)
-command-told kind steps c (Some (command.Untrace a)) = answered-told kind c (command.Untrace a)
-command-told kind steps c (Some command.Flags) = answered-told kind c command.Flags
-
--- ---- SESSIONS
-
-reading-told : (c : Console) (t : Reading) → AnswerTold t.0 → PartTold (reading_done c t)
-reading-told c (Ok text, left, m) h = refl
-reading-told c (Err end, left, m) h = h
-
-asked-told : (c : Console) → PartTold (asked c)
-unfolding asked
-asked-told c =
-    then-told line_of (prompted c) (λ u d. reading-told d (line_read d.left [] d.host) (line-told d.left [] d.host))
-    (done-told tt c (text_write c.host prompt) (text-told c.host prompt))
-
-one-told : (kind : MachineKind) (steps : ℕ) (c : Console) → PartTold (one_line kind steps c)
-unfolding one_line
-one-told kind steps c =
-    then-told (λ text d. command_done kind steps d (command_of (without_return text))) (asked c)
-    (λ text d. command-told kind steps d (command_of (without_return text))) (asked-told c)
-
-all-told : (n : ℕ) (kind : MachineKind) (steps : ℕ) (c : Console) → PartTold (session_lines n kind steps c)
-unfolding session_lines
-all-told zero kind steps c = refl
-all-told (suc n) kind steps c =
-    then-told (λ u d. session_lines n kind steps d) (one_line kind steps c) (λ u d. all-told n kind steps d) (one-told kind steps c)
-
-run-of-told : (p : Done) → PartTold p → is_told (run_of p) ≡ true
-run-of-told (on u c) h = refl
-run-of-told (over end c) h = h
-run-of-told (wild m) h = refl
+of-told : (c : Course SessionEnd SessionWorld) → Answers SessionEndTold c → is_told (of_course c) ≡ true
+of-told (ends end w) h = h
+of-told (meets_wild w) h = refl
 
 pub sessions-told : (kind : MachineKind) (steps : ℕ) (s : State) (f : FlagsOf) (m : HostModel) → is_told (session kind steps s f m) ≡ true
-unfolding session
+unfolding session session_course
 sessions-told kind steps s f m =
-    run-of-told (session_lines (most_input + 1) kind steps (at_start s f m)) (all-told (most_input + 1) kind steps (at_start s f m))
+    of-told (course (session_goes kind) (session_plan steps) ((s, m), f)) (course_gives (session_goes kind) SessionTold SessionEndTold (call-told kind) (session_plan steps) ((s, m), f) (session-told steps))
 
 pub ruleset telling = (sessions-told)

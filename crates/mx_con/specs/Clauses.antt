@@ -9,17 +9,18 @@ use Rattle.mx_host.specs.Keeping.{OnlyByFailure}
 use Rattle.mx_plan.specs.Calls.{host, HostPlan}
 use Rattle.mx_plan.specs.Clauses.{Stands}
 use Rattle.mx_plan.specs.Plan.{Plan, Acts, Comes}
+use Rattle.mx_plan.specs.Wild.{Course, GoesAs, ComesBoth, IsRestBoth}
 use Rattle.mx_cmd.specs.declared.command.Command.{Command}
 use Rattle.mx_core.specs.Bounds.{as_list_state}
 use Rattle.mx_core.specs.Kept.{state_of}
 use Rattle.mx_run.specs.FlagMaps.{flags_at}
 use Rattle.mx_run.specs.Running.{Running}
 use Rattle.mx_core.specs.State.{State}
+use Rattle.mx_run.specs.RunCourses as runs
 use Rattle.mx_run.specs.Runs.{FlagsOf}
-use Rattle.mx_run.specs.WildRuns.{MachineKind, window_machine, list_machine}
-use Rattle.mx_con.specs.Session.{Console, Progress, on, over, wild, SessionEnded, SessionRun, session_ended, session_wild}
+use Rattle.mx_run.specs.WildRuns.{list_machine}
+use Rattle.mx_con.specs.Session.{session_goes, SessionEnded, SessionRun, session_ended, session_wild}
 use Rattle.mx_con.specs.SessionPlans.{SessionWorld, SessionPlan, Part, conversing, answered_plan}
-use Rattle.mx_con.specs.declared.dialog.Dialog.{Dialog}
 use Rattle.mx_con.specs.declared.end.SessionEnd.{SessionEnd}
 use Rattle.mx_con.specs.declared.end.SessionEnd.TheVariants.{HostFault, OutOfMemory}
 
@@ -36,14 +37,18 @@ CarriesOutSession old new r s none result plan =
 
 -- ---- PARTS of a session
 
--- A part proceeds. Over a host that tells its contents its plan is carried out, from the world `first` to `last`, as `CarriesOut`
--- says it. Over every host, as long as the slots of the console lead to the streams, it ends the session with a fault of the host
--- only by a call that failed; and what stands of a host stands.
-pub record Proceeds {O : Type 0} {R : O → Type 0} {W Host A : Type 0} (d : Acts O R W) (says : Host → Option HostModel) (faults : Host → ℕ)
-    (old new : Host) (first last : W) (result : Result A SessionEnd) (plan : Plan O R (Result A SessionEnd)) : Type 0 where
-  pub told : IsTrue (tells (says old)) → Comes d first last (Err OutOfMemory) result plan
+-- A part is done, or it ends the session. Over a host that tells its contents this is `Told` of it. Over every host, as long as the
+-- slots of the console lead to the streams, it ends the session with a fault of the host only by a call that failed; and what stands
+-- of a host stands.
+pub record IsPart {Host A : Type 0} (says : Host → Option HostModel) (faults : Host → ℕ) (old new : Host) (result : Result A SessionEnd) (Told : Type 0) : Type 0 where
+  pub told : IsTrue (tells (says old)) → Told
   pub cause : OnlyByFailure (says old) (Err HostFault) result (faults old) (faults new)
   pub stands : Stands (says old) (says new) (faults old) (faults new)
+
+-- its plan is carried out, from the world `first` to `last`, as `CarriesOut` says it
+abbrev pub Proceeds : {O : Type 0} {R : O → Type 0} {W Host A : Type 0} → Acts O R W → (Host → Option HostModel) → (Host → ℕ) → Host → Host → W → W →
+    Result A SessionEnd → Plan O R (Result A SessionEnd) → Type 0
+Proceeds d says faults old new first last result plan = IsPart says faults old new result (Comes d first last (Err OutOfMemory) result plan)
 
 -- over the host alone
 abbrev pub Talks : {Host A : Type 0} → (Host → Option HostModel) → (Host → ℕ) → Host → Host → Result A SessionEnd → HostPlan (Result A SessionEnd) → Type 0
@@ -59,17 +64,6 @@ abbrev pub Responds : {Host : Type 0} → (Host → Option HostModel) → (Host 
     Result (Unit {0}) SessionEnd → Command → Type 0
 Responds says faults old new r s shown after result command =
     Converses says faults old new r s (map_ok (λ u. after) result) (answered_plan shown command)
-
--- what stands between two lines
-abbrev pub console_of : Running → Dialog → Option HostModel → Console
-console_of r d told =
-    record { state = state_of r.machine; flags = flags_at r.flags; shown = d.shown; left = d.left; host = contents told }
-
--- what standard output holds then
-abbrev pub output_of : {A : Type 0} → Progress A → List ℕ
-output_of (on x c) = c.host.output
-output_of (over end c) = c.host.output
-output_of (wild m) = m.output
 
 -- the count of steps is as it was, or has grown and is at most so many; so it is over every host, and out of memory too
 pub record StepsWithin (steps : ℕ) (s t : State) : Type 0 where
@@ -99,36 +93,34 @@ EndsFront old new r result f =
     IsTrue (tells old) → result ≡ OutOfMemory →
     IsFront (contents new).output (session_output (f (state_of r.machine) (flags_at r.flags) (contents old)))
 
--- BESIDE THE LIST MACHINE
+-- ---- BOTH MACHINES
 
--- what stands between two lines, with the list that the register stack stands for
-abbrev pub as_list_console : Console → Console
-as_list_console c = record { state = as_list_state c.state; flags = c.flags; shown = c.shown; left = c.left; host = c.host }
+-- the world of the list machine; where both go alike; and where something wild was passed: standard output still begins with what
+-- was written then
+abbrev pub as_list_world : SessionWorld → SessionWorld
+as_list_world w = (runs.as_list_world w.0, w.1)
 
-abbrev pub as_list_progress : {A : Type 0} → Progress A → Progress A
-as_list_progress (on x c) = on x (as_list_console c)
-as_list_progress (over end c) = over end (as_list_console c)
-as_list_progress (wild m) = wild m
+abbrev pub IsUntouched : SessionWorld → Type 0
+IsUntouched w = runs.IsUntouched w.0
 
--- nothing was touched up to then
-abbrev pub IsUntouched : {A : Type 0} → Progress A → Type 0
-IsUntouched (on x c) = c.state.touched ≡ false
-IsUntouched (over end c) = c.state.touched ≡ false
-IsUntouched (wild m) = Unit {0}
+abbrev pub WritesOn : SessionWorld → SessionWorld → Type 0
+WritesOn v w = runs.WritesOn v.0 w.0
 
--- how a part of a session goes beside that of the list machine: it comes to the same, with the list that its last state
--- stands for and nothing touched; or, where that meets something wild, it begins by writing what that had written
-abbrev pub PartGoesAsList : {A : Type 0} → Progress A → Progress A → Type 0
-PartGoesAsList (on x c) p = (as_list_progress p ≡ on x c) × IsUntouched p
-PartGoesAsList (over end c) p = (as_list_progress p ≡ over end c) × IsUntouched p
-PartGoesAsList (wild m) p = IsFront m.output (output_of p)
+-- how a part came to r and left w, beside what it comes to over the list machine
+abbrev pub GoesAsList : {A : Type 0} → Course A SessionWorld → A → SessionWorld → Type 0
+GoesAsList c r w = GoesAs as_list_world IsUntouched WritesOn c r w
 
--- over a host that tells its contents, from a state where nothing was touched, the part f of the window machine goes as that of
--- the list machine
-abbrev pub PartsAsList : {A B : Type 0} → Option HostModel → Running → Dialog → Result B SessionEnd → (MachineKind → Console → Progress A) → Type 0
-PartsAsList old r d result f =
-    IsTrue (tells old) → result ≢ Err OutOfMemory → (state_of r.machine).touched ≡ false →
-    PartGoesAsList (f list_machine (as_list_console (console_of r d old))) (f window_machine (console_of r d old))
+-- what comes of a plan of a session over both machines, and what is left of one
+abbrev pub SitsBoth : {A : Type 0} → SessionWorld → SessionWorld → A → A → SessionPlan A → Type 0
+SitsBoth old new none result plan = ComesBoth conversing (session_goes list_machine) as_list_world IsUntouched WritesOn old new none result plan
+
+abbrev pub RestsBoth : {A : Type 0} → SessionPlan A → SessionWorld → SessionPlan A → SessionWorld → Type 0
+RestsBoth rest now whole start = IsRestBoth conversing (session_goes list_machine) as_list_world IsUntouched WritesOn rest now whole start
+
+-- a part over both machines, the flags and the host
+abbrev pub Sits : {Host A : Type 0} → (Host → Option HostModel) → (Host → ℕ) → Host → Host → Running → Running → Result A SessionEnd → Part A → Type 0
+Sits says faults old new r s result plan =
+    IsPart says faults old new result (SitsBoth (world_of r (says old)) (world_of s (says new)) (Err OutOfMemory) result plan)
 
 -- the same of a whole session
 abbrev pub as_list_session : SessionEnded → SessionEnded

@@ -1,10 +1,9 @@
 pub mod Judgement
 pub mod ConsoleTexts
 pub mod Replies
-pub mod HostLines
-pub mod Session
 pub mod LinePlans
 pub mod SessionPlans
+pub mod Session
 pub mod Taking
 pub mod Clauses
 pub mod Told

@@ -1,13 +1,27 @@
 -- Lines over the host, as plans: each is written by one call, and read byte by byte.
-use Rattle.std.specs.Prelude.{ℕ, zero, suc, ◌+◌, ◌==◌, Bool, true, false, if◌then◌else◌, List, [], ◌∷◌, ◌++◌, Option, None, Some, Result, Ok, Err}
+use Rattle.std.specs.Prelude.{◌≡◌, ℕ, zero, suc, ◌+◌, ◌-◌, ◌==◌, Bool, true, false, if◌then◌else◌, List, [], ◌∷◌, ◌++◌, codes, length, take, slice_index, Option, None, Some, Result, Ok, Err}
+use Rattle.mx_word.specs.Results.{map_ok}
 use Rattle.mx_host.specs.declared.faults.HostFault.{HostFault}
+use Rattle.mx_host.specs.declared.faults.HostFault.TheVariants.{Failed, Misused}
+use Rattle.mx_host.specs.declared.faults.HostFault.TheVariants as fault
 use Rattle.mx_plan.specs.Plan.{Plan, returns, bind}
 use Rattle.mx_plan.specs.Calls.{HostPlan, read_plan, write_plan, need}
 use Rattle.mx_show.specs.Texts.{ended}
-use Rattle.mx_con.specs.HostLines.{input_slot, output_slot, end_of}
-use Rattle.mx_con.specs.Session.{prompt}
 use Rattle.mx_con.specs.declared.end.SessionEnd.{SessionEnd}
-use Rattle.mx_con.specs.declared.end.SessionEnd.TheVariants.{Quit, Limit}
+use Rattle.mx_con.specs.declared.end.SessionEnd.TheVariants.{Quit, Limit, HostFault as BadHost, OutOfMemory}
+
+-- the slots of the console's input and output
+abbrev pub input_slot : ℕ
+input_slot = 258
+
+abbrev pub output_slot : ℕ
+output_slot = 259
+
+-- how the session ends by a fault of the host
+abbrev pub end_of : HostFault → SessionEnd
+end_of Failed = BadHost
+end_of Misused = BadHost
+end_of fault.OutOfMemory = OutOfMemory
 
 -- what follows where a part of a session was done; where that ended the session, nothing does
 abbrev pub on_ok : {O : Type 0} {R : O → Type 0} {A B : Type 0} → (A → Plan O R (Result B SessionEnd)) → Result A SessionEnd → Plan O R (Result B SessionEnd)
@@ -42,23 +56,30 @@ byte_of (Err why) = Err (end_of why)
 unfoldable pub byte_plan : HostPlan (Result (Option ℕ) SessionEnd)
 byte_plan = bind (λ r. returns (byte_of r)) (read_plan input_slot 1)
 
+-- whether more of a line follows, where the input ends: a line that it ends within counts without a newline
+abbrev pub last_line : List ℕ → Result Bool SessionEnd
+last_line [] = Err Quit
+last_line (b ∷ bs) = Ok false
+
+-- the same behind a byte, and the line with it: a newline ends a line
+abbrev pub byte_added : List ℕ → ℕ → Result Bool SessionEnd × List ℕ
+byte_added got b = if b == 10 then (Ok false, got) else (Ok true, got ++ b ∷ [])
+
+abbrev pub Added : ℕ → List ℕ → List ℕ → Result Bool SessionEnd → Type 0
+Added b old new result = (result, new) ≡ byte_added old b
+
 -- whether more of a line follows; its bytes so far; and how many more bytes of input may be taken
 abbrev pub Growing : Type 0
 Growing = Result (Bool × List ℕ × ℕ) SessionEnd
 
--- the input ends: a line that it ends within counts without a newline
-abbrev pub last_line : List ℕ → ℕ → Growing
-last_line [] left = Err Quit
-last_line (b ∷ bs) left = Ok (false, b ∷ bs, left)
-
--- a newline ends a line; another byte is added to it, which takes memory
+-- a byte that a line goes on with takes memory
 abbrev pub with_byte : List ℕ → ℕ → ℕ → HostPlan Growing
 with_byte got left b = if b == 10 then returns (Ok (false, got, left)) else bind (λ u. returns (Ok (true, got ++ b ∷ [], left))) need
 
 -- what follows the reading of a byte, with which at most `left` more may be taken
 abbrev pub after_byte : ℕ → List ℕ → Result (Option ℕ) SessionEnd → HostPlan Growing
 after_byte left got (Err end) = returns (Err end)
-after_byte left got (Ok None) = returns (last_line got (left + 1))
+after_byte left got (Ok None) = returns (map_ok (λ more. (more, got, left + 1)) (last_line got))
 after_byte left got (Ok (Some b)) = with_byte got left b
 
 -- a byte more of a line
@@ -79,5 +100,12 @@ reading_plan zero got = returns (Err Limit)
 reading_plan (suc left) got = bind (on_ok (after_growing (reading_plan left))) (grown_plan left got)
 
 -- the prompt, and a line
+abbrev pub prompt : List ℕ
+prompt = codes "mmix> "
+
 unfoldable pub asking_plan : ℕ → HostPlan LineRead
 asking_plan left = bind (on_ok (λ u. reading_plan left [])) (text_plan prompt)
+
+-- a last carriage return is dropped
+unfoldable pub without_return : List ℕ → List ℕ
+without_return line = if slice_index line (length line - 1) == 13 then take (length line - 1) line else line

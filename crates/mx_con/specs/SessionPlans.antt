@@ -2,12 +2,12 @@
 -- the part on MMIX-SIM, interactive commands).
 -- What a session remembers from line to line, the octa that was shown last and the bytes that may still be taken, is handed
 -- on from plan to plan; the world holds what stays: the machine, the host and the flags.
-use Rattle.std.specs.Prelude.{ℕ, zero, suc, ◌+◌, ◌-◌, ◌==◌, ◌≡◌, Bool, true, false, if◌then◌else◌, List, Option, None, Some, Result, Ok, Err}
+use Rattle.std.specs.Prelude.{ℕ, zero, suc, ◌+◌, ◌-◌, ◌^◌, ◌==◌, ◌≡◌, Bool, true, false, if◌then◌else◌, List, Option, None, Some, Result, Ok, Err}
 use Rattle.mx_host.specs.HostModel.{HostModel}
-use Rattle.mx_plan.specs.Plan.{Plan, returns, calls, bind, Acts}
+use Rattle.mx_plan.specs.Plan.{Plan, returns, calls, bind, Acts, Stops, end_of}
 use Rattle.mx_plan.specs.Calls.{HostCall, HostSays, HostPlan, host}
 use Rattle.mx_code.specs.declared.trace.Trace.{Trace}
-use Rattle.mx_run.specs.RunPlans.{RunCall, RunSays, RunWorld, RunPlan, running, turn_plan, look, run_plan}
+use Rattle.mx_run.specs.RunPlans.{turning, RunWorld, running, run_plan}
 use Rattle.mx_run.specs.Runs.{FlagsOf}
 use Rattle.mx_run.specs.declared.end.BreakKind.{BreakKind}
 use Rattle.mx_run.specs.declared.end.End.{End}
@@ -19,11 +19,9 @@ use Rattle.mx_cmd.specs.declared.command.Command.{Command}
 use Rattle.mx_cmd.specs.declared.command.Command.TheVariants.{Step, Continue, Quit as QuitCommand}
 use Rattle.mx_con.specs.ConsoleTexts.{break_text}
 use Rattle.mx_show.specs.Texts.{trace_text}
-use Rattle.mx_con.specs.HostLines.{without_return}
 use Rattle.mx_con.specs.Judgement.{bad_text, command_bad}
-use Rattle.mx_con.specs.LinePlans.{on_ok, line_plan, lines_plan, asking_plan}
+use Rattle.mx_con.specs.LinePlans.{on_ok, line_plan, lines_plan, asking_plan, without_return}
 use Rattle.mx_con.specs.Replies.{Reply, reply_to}
-use Rattle.mx_con.specs.Session.{most_input, SessionEnded}
 use Rattle.mx_con.specs.declared.dialog.Dialog.{Dialog}
 use Rattle.mx_con.specs.declared.end.SessionEnd.{SessionEnd}
 use Rattle.mx_con.specs.declared.end.SessionEnd.TheVariants.{Halted, Stopped, Spent, Quit, Limit, OutOfMemory}
@@ -36,24 +34,27 @@ use Rattle.mx_con.specs.declared.judgement.Bad.TheVariants.{UnknownCommand}
 abbrev pub SessionWorld : Type 0
 SessionWorld = RunWorld × FlagsOf
 
--- a call of the host; one of a run; a good command that makes no step, which changes the machine and the flags and answers
--- what is shown; or a look: at the count of steps, at the flags, at the line of a step that was made, at why a command is bad
+-- A call of the host; one turn of the machine; a run of at most so many steps, by the flags, as a whole; a good command that makes no
+-- step, which changes the machine and the flags and answers what is shown; or a look: at the count of steps, at the next address, at
+-- the line of a step that was made, at why a command is bad.
 pub data SessionCall : Type 0 where
   of_host : HostCall → SessionCall
-  of_run : RunCall → SessionCall
+  of_turn : SessionCall
+  of_run : ℕ → Bool → SessionCall
   replying : Option ℕ → Command → SessionCall
   counting : SessionCall
-  flagging : SessionCall
+  locating : SessionCall
   tracing : Trace → SessionCall
   judging : Option ℕ → Command → SessionCall
 
 -- a reply answers the address of the octa that was shown last, and the lines to write
 abbrev pub SessionSays : SessionCall → Type 0
 SessionSays (of_host o) = HostSays o
-SessionSays (of_run o) = RunSays o
+SessionSays of_turn = TurnAnswer
+SessionSays (of_run n pass) = End
 SessionSays (replying shown command) = Option ℕ × List (List ℕ)
 SessionSays counting = ℕ
-SessionSays flagging = FlagsOf
+SessionSays locating = ℕ
 SessionSays (tracing trace) = List ℕ
 SessionSays (judging shown command) = Option Bad
 
@@ -69,20 +70,22 @@ answered_reply m r = ((r.shown, r.lines), ((r.state, m), r.flags))
 
 abbrev pub session_act : (o : SessionCall) → SessionWorld → SessionSays o × SessionWorld
 session_act (of_host o) w = beside_machine w (host.act o w.0.1)
-session_act (of_run o) w = beside_flags w.1 (running.act o w.0)
+session_act of_turn w = beside_flags w.1 (running.act turning w.0)
+session_act (of_run n pass) w = beside_flags w.1 (end_of running (run_plan n w.1 pass) w.0)
 session_act (replying shown command) w = answered_reply w.0.1 (reply_to w.0.0 w.1 shown command)
 session_act counting w = (w.0.0.steps, w)
-session_act flagging w = (w.1, w)
+session_act locating w = (w.0.0.pc, w)
 session_act (tracing trace) w = (trace_text trace w.0.0, w)
 session_act (judging shown command) w = (command_bad w.0.0 shown command, w)
 
--- A command that lacks memory changes nothing; a look takes none.
+-- A run lacks memory where its plan may stop; a command that lacks it changes nothing; a look takes none.
 abbrev pub SessionLacks : SessionCall → SessionWorld → SessionWorld → Type 0
 SessionLacks (of_host o) w v = (v.0.0 ≡ w.0.0) × ((v.1 ≡ w.1) × host.Lacks o w.0.1 v.0.1)
-SessionLacks (of_run o) w v = running.Lacks o w.0 v.0 × (v.1 ≡ w.1)
+SessionLacks of_turn w v = running.Lacks turning w.0 v.0 × (v.1 ≡ w.1)
+SessionLacks (of_run n pass) w v = Stops running v.0 (run_plan n w.1 pass) w.0 × (v.1 ≡ w.1)
 SessionLacks (replying shown command) w v = v ≡ w
 SessionLacks counting w v = ⊥
-SessionLacks flagging w v = ⊥
+SessionLacks locating w v = ⊥
 SessionLacks (tracing trace) w v = ⊥
 SessionLacks (judging shown command) w v = ⊥
 
@@ -96,14 +99,16 @@ SessionPlan A = Plan SessionCall SessionSays A
 abbrev pub Part : Type 0 → Type 0
 Part A = SessionPlan (Result A SessionEnd)
 
--- plans of the host and of a run; and each call as a plan
+-- a plan of the host; and each other call as a plan
 unfoldable pub on_host : {A : Type 0} → HostPlan A → SessionPlan A
 on_host (returns a) = returns a
 on_host (calls o k) = calls (of_host o) (λ r. on_host (k r))
 
-unfoldable pub on_run : {A : Type 0} → RunPlan A → SessionPlan A
-on_run (returns a) = returns a
-on_run (calls o k) = calls (of_run o) (λ r. on_run (k r))
+unfoldable pub turn_made : SessionPlan TurnAnswer
+turn_made = calls of_turn (λ answer. returns answer)
+
+unfoldable pub run_made : ℕ → Bool → SessionPlan End
+run_made n pass = calls (of_run n pass) (λ end. returns end)
 
 unfoldable pub reply_plan : Option ℕ → Command → SessionPlan (Option ℕ × List (List ℕ))
 reply_plan shown command = calls (replying shown command) (λ r. returns r)
@@ -111,8 +116,8 @@ reply_plan shown command = calls (replying shown command) (λ r. returns r)
 unfoldable pub count_plan : SessionPlan ℕ
 count_plan = calls counting (λ n. returns n)
 
-unfoldable pub flags_plan : SessionPlan FlagsOf
-flags_plan = calls flagging (λ f. returns f)
+unfoldable pub place_plan : SessionPlan ℕ
+place_plan = calls locating (λ pc. returns pc)
 
 unfoldable pub trace_plan : Trace → SessionPlan (List ℕ)
 trace_plan trace = calls (tracing trace) (λ text. returns text)
@@ -133,10 +138,10 @@ after_turn pc (answer.Stopped reason) = returns (Err (Stopped pc reason))
 after_turn pc answer.OutOfMemory = returns (Err OutOfMemory)
 
 unfoldable pub turn_at : ℕ → Part (Unit {0})
-turn_at pc = bind (after_turn pc) (on_run turn_plan)
+turn_at pc = bind (after_turn pc) turn_made
 
 unfoldable pub turned_plan : Part (Unit {0})
-turned_plan = bind turn_at (on_run look)
+turned_plan = bind turn_at place_plan
 
 -- one step, whatever the flags, where so many may be made in all and so many were
 abbrev pub step_if : ℕ → ℕ → Part (Unit {0})
@@ -165,11 +170,11 @@ after_end (ending.Traced trace) = going true (traced_plan trace)
 after_end ending.Spent = returns (Err Spent)
 after_end ending.OutOfMemory = returns (Err OutOfMemory)
 
-abbrev pub run_from : ℕ → Bool → FlagsOf → ℕ → Part Bool
-run_from steps pass f made = bind after_end (on_run (run_plan (steps - made) f pass))
+abbrev pub run_from : ℕ → Bool → ℕ → Part Bool
+run_from steps pass made = bind after_end (run_made (steps - made) pass)
 
 unfoldable pub one_run_plan : ℕ → Bool → Part Bool
-one_run_plan steps pass = bind (λ f. bind (run_from steps pass f) count_plan) flags_plan
+one_run_plan steps pass = bind (run_from steps pass) count_plan
 
 abbrev pub run_on : Part (Unit {0}) → Bool → Part (Unit {0})
 run_on more goes = if goes then more else returns (Ok tt)
@@ -227,6 +232,10 @@ unfoldable pub lines_of_session : ℕ → ℕ → Dialog → Part Dialog
 lines_of_session zero steps d = returns (Err Limit)
 lines_of_session (suc n) steps d = bind (on_ok (lines_of_session n steps)) (one_line_plan steps d)
 
+-- the most bytes of input
+abbrev pub most_input : ℕ
+most_input = 2 ^ 32
+
 -- all lines end the session
 abbrev pub end_of_session : Result Dialog SessionEnd → SessionPlan SessionEnd
 end_of_session (Ok d) = returns Limit
@@ -235,7 +244,3 @@ end_of_session (Err end) = returns end
 -- a session, with at most so many steps of the machine in all
 unfoldable pub session_plan : ℕ → SessionPlan SessionEnd
 session_plan steps = bind end_of_session (lines_of_session (most_input + 1) steps (with_left most_input None))
-
--- what a session leaves
-abbrev pub ended_session : SessionEnd × SessionWorld → SessionEnded
-ended_session t = record { end = t.0; state = t.1.0.0; flags = t.1.1; host = t.1.0.1 }

@@ -3,8 +3,7 @@
 ghost use Rattle.std.specs.Prelude.{◌≡◌, ◌≢◌, [], ◌<◌, ◌+◌, ◌-◌, ◌==◌, Err, Ok, true, false};
 ghost use Rattle.mx_word.specs.Results.{map_ok};
 ghost use Rattle.mx_con.specs.Clauses.{Talks};
-ghost use Rattle.mx_con.specs.HostLines as spec;
-ghost use Rattle.mx_con.specs.LinePlans as plans;
+ghost use Rattle.mx_con.specs.LinePlans as spec;
 
 use crate::SessionEnd;
 use mx_host::{Host, HostFault};
@@ -30,7 +29,7 @@ fn end_of(fault: HostFault) -> SessionEnd
 /// Writes a text by one call.
 #[tactic(auto, using(mx_plan::proofs::Plans::plans), unfolding(crate::specs::LinePlans::text_plan))]
 pub(crate) fn write_text<H: Host>(host: &mut H, text: &[u8]) -> Result<(), SessionEnd>
-    ensures { Talks H.told H.faults host.old host.new result (plans.text_plan text.now) }
+    ensures { Talks H.told H.faults host.old host.new result (spec.text_plan text.now) }
 {
     match write(host, OUTPUT, text) {
         Ok(()) => Ok(()),
@@ -41,7 +40,7 @@ pub(crate) fn write_text<H: Host>(host: &mut H, text: &[u8]) -> Result<(), Sessi
 /// Writes a line and its newline by one call.
 #[tactic(auto, using(mx_plan::proofs::Plans::plans, mx_plan::proofs::Plans::needs), unfolding(crate::specs::LinePlans::line_plan))]
 pub(crate) fn write_line<H: Host>(host: &mut H, line: Bytes) -> Result<(), SessionEnd>
-    ensures { Talks H.told H.faults host.old host.new result (plans.line_plan line) }
+    ensures { Talks H.told H.faults host.old host.new result (spec.line_plan line) }
 {
     let mut line = line;
     match line.push(b'\n') {
@@ -53,7 +52,7 @@ pub(crate) fn write_line<H: Host>(host: &mut H, line: Bytes) -> Result<(), Sessi
 /// The next byte of the console's input; None at its end.
 #[tactic(auto, using(crate::proofs::LineReads::bytes, mx_plan::proofs::Plans::plans), unfolding(crate::specs::LinePlans::byte_plan))]
 fn read_byte<H: Host>(host: &mut H) -> Result<Option<u8>, SessionEnd>
-    ensures { Talks H.told H.faults host.old host.new result plans.byte_plan }
+    ensures { Talks H.told H.faults host.old host.new result spec.byte_plan }
 {
     let mut byte = [0u8; 1];
     match read(host, INPUT, &mut byte) {
@@ -68,7 +67,7 @@ fn read_byte<H: Host>(host: &mut H) -> Result<Option<u8>, SessionEnd>
 fn grow<H: Host>(host: &mut H, line: &mut Bytes, left: &mut u64) -> Result<bool, SessionEnd>
     requires { 0 < left.old }
     ensures part { Talks H.told H.faults host.old host.new (map_ok (λ more. (more, line.new, left.new)) result)
-        (plans.grown_plan (left.old - 1) line.old) }
+        (spec.grown_plan (left.old - 1) line.old) }
     ensures fewer { result ≡ Ok true → left.new + 1 ≡ left.old }
 {
     match read_byte(host) {
@@ -115,7 +114,7 @@ pub(crate) fn read_line<H: Host>(
     left: &mut u64,
 ) -> Result<Bytes, SessionEnd>
     ensures { Talks H.told H.faults host.old host.new (map_ok (λ text. (text, left.new)) result)
-        (plans.reading_plan left.old []) }
+        (spec.reading_plan left.old []) }
 {
     let mut line = Bytes::new(alloc);
     while *left > 0 {
@@ -129,7 +128,7 @@ pub(crate) fn read_line<H: Host>(
 }
 
 /// A line without a last carriage return.
-#[tactic(auto, unfolding(crate::specs::HostLines::without_return))]
+#[tactic(auto, unfolding(crate::specs::LinePlans::without_return))]
 pub(crate) fn without_return(line: &[u8]) -> &[u8]
     ensures { result.now ≡ spec.without_return line.now }
 {

@@ -7,8 +7,8 @@ ghost use Rattle.mx_plan.specs.Plan.{Stops, end_of};
 ghost use Rattle.mx_core.specs.State.{State};
 ghost use Rattle.mx_run.specs.Runs.{FlagsOf};
 ghost use Rattle.mx_run.specs.WildRuns.{MachineKind, window_machine};
-ghost use Rattle.mx_con.specs.Session.{most_input, session, session_ended};
-ghost use Rattle.mx_con.specs.SessionPlans.{SessionPlan, SessionWorld, conversing, ended_session, session_plan};
+ghost use Rattle.mx_con.specs.Session.{ended_session, session, session_ended};
+ghost use Rattle.mx_con.specs.SessionPlans.{SessionPlan, SessionWorld, conversing, most_input, session_plan};
 ghost use Rattle.mx_con.specs.declared.end.SessionEnd.{SessionEnd};
 ghost use Rattle.mx_con.specs.Taking.{TakesAtMost};
 ghost use Rattle.mx_con.specs.Told.{is_told};
@@ -25,7 +25,7 @@ pub fn sessions_end_by_themselves()
 /// A session is what its plan comes to. Where a plan over such calls stops for want of memory, it only
 /// added to standard output, and what stands there is a front of what would stand there at its end; the
 /// slots of the tool lead where they led.
-#[tactic(auto, using(crate::proofs::HeldSessions::laws, crate::proofs::SessionJoins::ends))]
+#[tactic(auto, using(crate::proofs::HeldSessions::laws, crate::proofs::SessionCourses::courses))]
 pub fn sessions_are_their_plans()
     ensures ending { (steps : ℕ) (s : State) (f : FlagsOf) (m : HostModel)
         → session_ended (ended_session (end_of conversing (session_plan steps) ((s, m), f)))

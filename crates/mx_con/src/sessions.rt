@@ -1,16 +1,15 @@
 //! Sessions.
 
-ghost use Rattle.std.specs.Prelude.{◌≡◌, ◌+◌, Some, true};
+ghost use Rattle.std.specs.Prelude.{◌+◌};
 ghost use Rattle.mx_host.specs.Keeping.{OnlyByFailure, Keeps};
 ghost use Rattle.mx_word.specs.Results.{map_ok};
 ghost use Rattle.mx_core.specs.Kept.{state_of};
-ghost use Rattle.mx_run.specs.WildRuns.{window_machine, list_machine};
-ghost use Rattle.mx_con.specs.Clauses.{CarriesOutSession, EndsAsListSession, EndsAsSession, EndsFront, PartsAsList};
-ghost use Rattle.mx_con.specs.Clauses.{Converses, StepsWithin, Talks};
+ghost use Rattle.mx_run.specs.WildRuns.{window_machine, list_machine, HasWindow};
+ghost use Rattle.mx_con.specs.Clauses.{CarriesOutSession, EndsAsListSession, EndsAsSession, EndsFront};
+ghost use Rattle.mx_con.specs.Clauses.{Sits, StepsWithin, Talks};
 ghost use Rattle.mx_con.specs.LinePlans.{asking_plan};
 ghost use Rattle.mx_con.specs.Session as spec;
 ghost use Rattle.mx_con.specs.SessionPlans as plans;
-ghost use Rattle.mx_con.specs.declared.dialog.Dialog as remembered;
 
 use crate::SessionEnd;
 use crate::dialog::Dialog;
@@ -72,10 +71,8 @@ fn all_lines<H: Host>(
     dialog: &mut Dialog,
     steps: u64,
 ) -> Result<(), SessionEnd>
-    ensures part { Converses H.told H.faults host.old host.new runner.old runner.new (map_ok (λ u. dialog.new) result)
-        (plans.lines_of_session (spec.most_input + 1) steps dialog.old) }
-    ensures listed { PartsAsList (H.told host.old) runner.old dialog.old result
-        (λ kind c. spec.session_lines (spec.most_input + 1) kind steps c) }
+    ensures part { Sits H.told H.faults host.old host.new runner.old runner.new (map_ok (λ u. dialog.new) result)
+        (plans.lines_of_session (plans.most_input + 1) steps dialog.old) }
     ensures bound { StepsWithin steps (state_of runner.old.machine) (state_of runner.new.machine) }
 {
     for turn in 0..MOST_INPUT + 1 {
@@ -96,10 +93,8 @@ fn one_line<H: Host>(
     dialog: &mut Dialog,
     steps: u64,
 ) -> Result<(), SessionEnd>
-    ensures part { Converses H.told H.faults host.old host.new runner.old runner.new (map_ok (λ u. dialog.new) result)
+    ensures part { Sits H.told H.faults host.old host.new runner.old runner.new (map_ok (λ u. dialog.new) result)
         (plans.one_line_plan steps dialog.old) }
-    ensures listed { PartsAsList (H.told host.old) runner.old dialog.old result
-        (λ kind c. spec.one_line kind steps c) }
     ensures bound { StepsWithin steps (state_of runner.old.machine) (state_of runner.new.machine) }
 {
     match ask(alloc, host, &mut dialog.left) {
@@ -125,7 +120,7 @@ fn ask<H: Host>(alloc: Global, host: &mut H, left: &mut u64) -> Result<Bytes, Se
 }
 
 /// Carries a line out.
-#[tactic(auto, using(crate::proofs::SessionSteps::carrying, crate::proofs::StepBounds::staying))]
+#[tactic(auto, using(crate::proofs::StepBounds::staying))]
 fn carry_out<H: Host>(
     alloc: Global,
     runner: &mut Runner,
@@ -134,11 +129,9 @@ fn carry_out<H: Host>(
     steps: u64,
     command: Option<Command>,
 ) -> Result<(), SessionEnd>
-    ensures part { Converses H.told H.faults host.old host.new runner.old runner.new (map_ok (λ u. shown.new) result)
+    requires { HasWindow (state_of runner.old.machine) }
+    ensures part { Sits H.told H.faults host.old host.new runner.old runner.new (map_ok (λ u. shown.new) result)
         (plans.command_plan steps shown.old command) }
-    ensures runs { command ≡ Some Command.Continue → (d : remembered.Dialog) →
-        PartsAsList (H.told host.old) runner.old d result
-        (λ kind c. spec.runs kind (spec.steps_left steps c.state) steps true c) }
     ensures bound { StepsWithin steps (state_of runner.old.machine) (state_of runner.new.machine) }
 {
     let Some(command) = command else {

@@ -1,14 +1,12 @@
 //! Steps and runs that the console asks for.
 
-ghost use Rattle.std.specs.Prelude.{◌≡◌, ◌≢◌, Err, Some, true};
+ghost use Rattle.std.specs.Prelude.{◌≡◌, ◌≢◌, ◌-◌, Err, Some};
 ghost use Rattle.mx_core.specs.Kept.{state_of};
-ghost use Rattle.mx_con.specs.Clauses.{Converses, PartsAsList, StepsWithin, Talks};
+ghost use Rattle.mx_con.specs.Clauses.{Converses, Sits, StepsWithin, Talks};
 ghost use Rattle.mx_con.specs.ConsoleTexts.{break_text};
 ghost use Rattle.mx_show.specs.Texts.{trace_text};
 ghost use Rattle.mx_con.specs.LinePlans.{line_plan};
-ghost use Rattle.mx_con.specs.Session as spec;
 ghost use Rattle.mx_con.specs.SessionPlans as plans;
-ghost use Rattle.mx_con.specs.declared.dialog.Dialog.{Dialog};
 
 use crate::SessionEnd;
 use crate::host_lines::{write_line, write_text};
@@ -22,7 +20,7 @@ use std::alloc::Global;
 
 /// How many steps may still be made, of so many in all.
 fn steps_left(steps: u64, runner: &Runner) -> u64
-    ensures { result ≡ spec.steps_left steps (state_of runner.now.machine) }
+    ensures { result ≡ steps - (state_of runner.now.machine).steps }
 {
     steps.saturating_sub(runner.machine().steps())
 }
@@ -76,10 +74,8 @@ pub(crate) fn go_on<H: Host>(
     host: &mut H,
     steps: u64,
 ) -> Result<(), SessionEnd>
-    ensures part { Converses H.told H.faults host.old host.new runner.old runner.new result
+    ensures part { Sits H.told H.faults host.old host.new runner.old runner.new result
         (plans.continued_plan steps) }
-    ensures listed { (d : Dialog) → PartsAsList (H.told host.old) runner.old d result
-        (λ kind c. spec.runs kind (spec.steps_left steps c.state) steps true c) }
     ensures bound { StepsWithin steps (state_of runner.old.machine) (state_of runner.new.machine) }
 {
     let most = steps_left(steps, runner);
@@ -103,10 +99,8 @@ fn run_once<H: Host>(
     steps: u64,
     pass: bool,
 ) -> Result<bool, SessionEnd>
-    ensures part { Converses H.told H.faults host.old host.new runner.old runner.new result
+    ensures part { Sits H.told H.faults host.old host.new runner.old runner.new result
         (plans.one_run_plan steps pass) }
-    ensures listed { (d : Dialog) → PartsAsList (H.told host.old) runner.old d result
-        (λ kind c. spec.one_run kind steps pass c) }
     ensures bound { StepsWithin steps (state_of runner.old.machine) (state_of runner.new.machine) }
 {
     know_count(runner);

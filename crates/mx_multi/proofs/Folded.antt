@@ -6,12 +6,14 @@ use Rattle.mx_run.specs.WildRuns.{MachineKind, ends_wild}
 use Rattle.mx_multi.specs.Folds.{AreUnstopped, DoesNotEnd, EndsSo, FoldsFrom, IsNext, after_turns, repeated, steps_in, steps_of}
 use Rattle.mx_multi.specs.Joint.{Joint, has_halted, state_at}
 use Rattle.mx_multi.specs.JointTurns.{JointWorld, turn_of}
-use Rattle.mx_multi.specs.Turns.{TurnsEnd, turns_ended, turns_wild, next_in, or_again, AllHaveHalted, made_turn, turn_by, turns, end_at_last}
+use Rattle.mx_multi.specs.Schedules.{next_in, or_again, AllHaveHalted, end_at_last}
+use Rattle.mx_multi.specs.Turns.{TurnsEnd, turns_ended, turns_wild, turns}
 use Rattle.mx_multi.specs.declared.turn.Turn.{Turn}
 use Rattle.mx_multi.specs.declared.turn.Turn.TheVariants as turned
 use Rattle.mx_multi.specs.declared.end.MultiEnd.TheVariants.{AllHalted, Stopped, Spent, OutOfMemory}
 use Rattle.mx_multi.proofs.Schedules.{all-none, found-in}
 use Rattle.mx_multi.proofs.TurnComes.{turn-idle, turn-made, not-idle-at}
+use Rattle.mx_multi.proofs.TurnPlans.{made_turn, turn_by, no-turns, turns-next}
 
 -- ---- what is found
 
@@ -179,11 +181,11 @@ module _ (kind : MachineKind) (schedule : List ℕ) where
   Folds n = (rest : List ℕ) (w : JointWorld) → Within rest → FoldsFrom kind rest schedule n w (turns kind schedule n rest w.0 w.1)
 
   one-found : (n : ℕ) (part : List ℕ) (who : ℕ) (after : List ℕ) (w : JointWorld) → next_in w.0.halted part ≡ Some (who, after) → Within part → Folds n →
-      FoldsFrom kind part schedule (suc n) w (turn_by kind (turns kind schedule n) w.0 w.1 (Some (who, after)))
+      FoldsFrom kind part schedule (suc n) w (turn_by kind (turns kind schedule n) w (Some (who, after)))
   one-found n part who after w e within more =
       let f = found-at w.0.halted part who after e in
       let runs = found-in w.0.halted part who after e in
-      let end = turn_by kind (turns kind schedule n) w.0 w.1 (Some (who, after)) in
+      let end = turn_by kind (turns kind schedule n) w (Some (who, after)) in
       let due : ¬ AllHaveHalted w.0.halted schedule = λ all. not-all-in w.0.halted f.before who after runs (subst (AllHaveHalted w.0.halted) f.split (within w.0.halted all)) in
       let later : Within after = λ halted all. all-after halted f.before who after (subst (AllHaveHalted halted) f.split (within halted all)) in
       subst (λ p. FoldsFrom kind p schedule (suc n) w end) (sym f.split)
@@ -195,10 +197,10 @@ module _ (kind : MachineKind) (schedule : List ℕ) where
       let f = found-at halted part who after e in not-all-in halted f.before who after (found-in halted part who after e) (subst (AllHaveHalted halted) f.split all)
 
   next-by : (n : ℕ) (rest : List ℕ) (w : JointWorld) (first second : Option (ℕ × List ℕ)) → next_in w.0.halted rest ≡ first → next_in w.0.halted schedule ≡ second → Within rest → Folds n →
-      FoldsFrom kind rest schedule (suc n) w (turn_by kind (turns kind schedule n) w.0 w.1 (or_again first second))
+      FoldsFrom kind rest schedule (suc n) w (turn_by kind (turns kind schedule n) w (or_again first second))
   next-by n rest w (Some (who, after)) second e f within more = one-found n rest who after w e within more
   next-by n rest w None (Some (who, after)) e f within more =
-      let end = turn_by kind (turns kind schedule n) w.0 w.1 (Some (who, after)) in
+      let end = turn_by kind (turns kind schedule n) w (Some (who, after)) in
       one-round (suc n) rest w end
       (behind-idle (suc n) rest schedule w end (not-all-found w.0.halted schedule who after f) (all-none w.0.halted rest e)
       (one-found n schedule who after w f (λ halted all. all) more))
@@ -209,9 +211,9 @@ module _ (kind : MachineKind) (schedule : List ℕ) where
   last-by rest w (Some (who, after)) e = nothing 0 rest w (turns_ended Spent w.0 w.1) (refl, refl, not-all-found w.0.halted schedule who after e)
 
   fold-from : (n : ℕ) → Folds n
-  unfolding turns
-  fold-from zero rest w within = last-by rest w (next_in w.0.halted schedule) refl
-  fold-from (suc n) rest w within = next-by n rest w (next_in w.0.halted rest) (next_in w.0.halted schedule) refl refl within (fold-from n)
+  fold-from zero rest w within = subst (FoldsFrom kind rest schedule 0 w) (sym (no-turns kind schedule rest w)) (last-by rest w (next_in w.0.halted schedule) refl)
+  fold-from (suc n) rest w within =
+      subst (FoldsFrom kind rest schedule (suc n) w) (sym (turns-next kind schedule n rest w)) (next-by n rest w (next_in w.0.halted rest) (next_in w.0.halted schedule) refl refl within (fold-from n))
 
 pub turns-fold : (kind : MachineKind) (schedule : List ℕ) (n : ℕ) (j : Joint) (m : HostModel) → FoldsFrom kind schedule schedule n (j, m) (turns kind schedule n schedule j m)
 turns-fold kind schedule n j m = fold-from kind schedule n schedule (j, m) (λ halted all. all)

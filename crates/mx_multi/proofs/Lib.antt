@@ -6,7 +6,6 @@ pub mod TurnComes
 pub mod Schedules
 pub mod TurnPlans
 pub mod HeldTurns
-pub mod Followed
 pub mod StepSums
 pub mod ListStarts
 pub mod Folded

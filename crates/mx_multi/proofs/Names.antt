@@ -4,7 +4,7 @@ use Rattle.std.proofs.lemmas.List.{at_drop_more}
 use Rattle.std.proofs.lemmas.List.Elements.{filter_passes, All-get_or}
 use Rattle.mx_multi.specs.Joint.{has_halted}
 use Rattle.mx_multi.specs.Stretches.{IsRow, running}
-use Rattle.mx_multi.specs.Turns.{next_in, AllHaveHalted, AreNames}
+use Rattle.mx_multi.specs.Schedules.{next_in, AllHaveHalted, AreNames}
 
 -- ---- the next of them, and that of the schedule
 

@@ -7,7 +7,7 @@ use Rattle.std.proofs.lemmas.List.Elements.{filter-append}
 use Rattle.std.proofs.Math.Seq.{drop-append_seam, take-append_seam}
 use Rattle.mx_multi.specs.Joint.{has_halted}
 use Rattle.mx_multi.specs.Stretches.{running}
-use Rattle.mx_multi.specs.Turns.{AreNames}
+use Rattle.mx_multi.specs.Schedules.{AreNames}
 
 -- of the names of a part, those up to a place were moved, and the others stand where they stood
 pub record Packs (count : ℕ) (halted : List Bool) (old : List ℕ) (from place : ℕ) (at kept : ℕ) (names : List ℕ) : Type 0 where

@@ -1,7 +1,7 @@
 -- The next turn of a schedule.
 use Rattle.std.proofs.Common.{◌≡◌, ◌<◌, ◌↔◌, ℕ, zero, suc, Bool, true, false, cond, IsTrue, List, [], ◌∷◌, length, get_or, Option, None, Some, arith, refl, sym, subst, ap, ◌∙◌}
 use Rattle.mx_multi.specs.Joint.{has_halted}
-use Rattle.mx_multi.specs.Turns.{next_in, next_turn, or_again, AllHaveHalted, AreNames, end_at_last}
+use Rattle.mx_multi.specs.Schedules.{next_in, next_turn, or_again, AllHaveHalted, AreNames, end_at_last}
 use Rattle.mx_multi.specs.declared.end.MultiEnd.{MultiEnd}
 use Rattle.mx_multi.specs.declared.end.MultiEnd.TheVariants.{AllHalted}
 

@@ -1,40 +1,32 @@
 -- Turns by a schedule that are under way: how many steps are left, and what of the schedule.
-use Rattle.std.proofs.Common.{◌≡◌, ◌≢◌, ◌<◌, ◌≤◌, ℕ, zero, suc, ◌+◌, ◌-◌, Bool, IsTrue, true, List, [], ◌∷◌, drop, length, Option, None, Some, Ok, Err, inl, inr, arith, refl, sym, subst, ap, ◌∙◌}
-use Rattle.std.specs.Prelude.{◌⊎◌}
+use Rattle.std.proofs.Common.{◌≡◌, ◌<◌, ◌≤◌, ℕ, zero, suc, ◌+◌, ◌-◌, Bool, IsTrue, true, List, [], ◌∷◌, drop, length, None, Some, Ok, Err, inl, inr, arith, refl, sym, subst, ap, ◌∙◌}
+use Rattle.std.specs.Prelude.{◌⊎◌, ◌↔◌}
 use Rattle.std.proofs.lemmas.Bool.{cases_lt}
 use Rattle.std.proofs.lemmas.List.{drop_all}
-use Rattle.mx_host.specs.HostModel.{HostModel, tells, contents}
+use Rattle.mx_host.specs.HostModel.{tells, contents}
 use Rattle.mx_host.specs.Keeping.{Keeps}
 use Rattle.mx_host.proofs.Keeping.{keeps-then, keeps-all}
-use Rattle.mx_plan.specs.Plan.{Comes, IsRest, Stops, bind, end_of, end_after}
-use Rattle.mx_plan.proofs.Plans.{end_bind}
-use Rattle.mx_run.specs.WildRuns.{list_machine}
-use Rattle.mx_multi.specs.Clauses.{Beside, as_lists, Follows, MakesAtMost, TakesTurns}
-use Rattle.mx_multi.specs.Joint.{Joint, NoneTouched, as_list_joint, has_halted}
+use Rattle.mx_word.proofs.Fronts.{front-through}
+use Rattle.mx_plan.specs.Plan.{Stops}
+use Rattle.mx_multi.specs.Clauses.{MakesAtMost, RestsBoth, TakesTurns, TurnsBoth, WriteOn}
+use Rattle.mx_multi.specs.Joint.{has_halted}
 use Rattle.mx_multi.specs.JointTurns.{JointWorld, halted_by}
-use Rattle.mx_multi.specs.MultiPlans.{MultiPlan, multi, look, step_plan, steps_plan, turn_if, turns_next, turns_plan}
+use Rattle.mx_multi.specs.MultiPlans.{MultiPlan, multi, step_plan, steps_plan, turns_plan}
+use Rattle.mx_multi.specs.Schedules.{AllHaveHalted, end_at_last, end_of_turn, next_in, next_turn, or_again}
 use Rattle.mx_multi.specs.Stretches.{IsRow, IsPlaceFrom, EndsRow, Over, Row, Taken, running}
-use Rattle.mx_multi.specs.Turns.{TurnsEnd, AllHaveHalted, end_at_last, end_of_turn, next_in, next_turn, or_again, turn_by, turns}
 use Rattle.mx_multi.specs.declared.end.MultiEnd.{MultiEnd}
 use Rattle.mx_multi.specs.declared.end.MultiEnd.TheVariants.{AllHalted, OutOfMemory, Spent}
 use Rattle.mx_multi.specs.declared.turn.Turn.{Turn}
 use Rattle.mx_multi.specs.declared.turn.Turn.TheVariants as turned
-use Rattle.mx_multi.proofs.Followed.{lists-follow, lists-spent, next-follows, none-follows, turn-follows}
 use Rattle.mx_multi.proofs.Names.{run-next, run-none, run-again, still-halted, one-runs, row-at, row-first, row-front, row-rest}
-use Rattle.mx_multi.proofs.Schedules.{all-none, found-turn, last-all}
+use Rattle.mx_multi.proofs.Schedules.{all-none, last-all}
 use Rattle.mx_multi.proofs.StepSums.{both-made, few-made, none-made, one-made}
-use Rattle.mx_multi.proofs.TurnPlans.{halted-comes, rest-ended, rest-spent, rest-went, some-comes, turned-comes, turns-told, step-end}
-
-none-less : (n : ℕ) → n - 0 ≡ n
-none-less n = omega arith
+use Rattle.mx_multi.proofs.TurnPlans.{again-both, begun, ended-both, halted-both, spent-both, turn-goes, turned-both, turns-listed, turns-told, went-both}
 
 abbrev pub world : Over → JointWorld
 world v = (v.2, contents v.0)
 
 -- ---- what a turn comes to
-
-goes-not : (who : ℕ) (after : List ℕ) (a : Turn) → end_of_turn who after a ≡ Ok after → a ≢ turned.OutOfMemory
-goes-not who after a ok e = let no : Err OutOfMemory ≡ Ok after = sym (ap (end_of_turn who after) e) ∙ ok in absurd (cc)
 
 ends-not : (who : ℕ) (after : List ℕ) (a : Turn) → end_of_turn who after a ≡ Err AllHalted → ⊥
 ends-not who after turned.Went e = absurd (cc)
@@ -42,9 +34,6 @@ ends-not who after (turned.Halted status) e = absurd (cc)
 ends-not who after turned.Idle e = absurd (cc)
 ends-not who after (turned.Stopped pc reason) e = absurd (cc)
 ends-not who after turned.OutOfMemory e = absurd (cc)
-
-ends-memory : (who : ℕ) (after : List ℕ) (a : Turn) (end : MultiEnd) → end_of_turn who after a ≡ Err end → end ≢ OutOfMemory → a ≢ turned.OutOfMemory
-ends-memory who after a end err ne e = let same : Err OutOfMemory ≡ Err end = sym (ap (end_of_turn who after) e) ∙ err in ne (cc)
 
 ends-marked : (who : ℕ) (after : List ℕ) (a : Turn) (end : MultiEnd) (halted : List Bool) → end_of_turn who after a ≡ Err end → halted_by halted who a ≡ halted
 ends-marked who after turned.Went end halted e = absurd (cc)
@@ -61,41 +50,11 @@ ends-so who after turned.Idle end e = absurd (cc)
 ends-so who after (turned.Stopped pc reason) end e = cc
 ends-so who after turned.OutOfMemory end e = cc
 
--- ---- behind the end of the schedule it begins again
-
-or-self : (x : Option (ℕ × List ℕ)) → or_again x x ≡ x
-or-self None = refl
-or-self (Some p) = refl
-
-again-next : (halted : List Bool) (schedule rest : List ℕ) → next_in halted rest ≡ None → next_turn halted schedule rest ≡ next_turn halted schedule schedule
-again-next halted schedule rest e = ap (λ x. or_again x (next_in halted schedule)) e ∙ sym (or-self (next_in halted schedule))
-
-again-end : (schedule rest : List ℕ) (n : ℕ) (w : JointWorld) → next_in w.0.halted rest ≡ None → end_of multi (steps_plan schedule n rest) w ≡ end_of multi (steps_plan schedule n schedule) w
-unfolding steps_plan
-again-end schedule rest zero w e = refl
-again-end schedule rest (suc n) w e =
-    end_bind multi (turns_next (steps_plan schedule n)) (step_plan schedule rest) w
-    ∙ ap (end_after multi (turns_next (steps_plan schedule n))) (step-end schedule rest w ∙ ap (λ x. end_of multi (turn_if x) w) (again-next w.0.halted schedule rest e) ∙ sym (step-end schedule schedule w))
-    ∙ sym (end_bind multi (turns_next (steps_plan schedule n)) (step_plan schedule schedule) w)
-
-again-stops : (schedule rest : List ℕ) (n : ℕ) (u w : JointWorld) → next_in w.0.halted rest ≡ None → Stops multi u (steps_plan schedule n schedule) w → Stops multi u (steps_plan schedule n rest) w
-unfolding steps_plan step_plan bind look multi Stops
-again-stops schedule rest zero u w e s = s
-again-stops schedule rest (suc n) u w e s =
-    subst (λ x. ⊥ ⊎ Stops multi u (bind (turns_next (steps_plan schedule n)) (turn_if x)) w) (sym (again-next w.0.halted schedule rest e)) s
-
-again-turns : (schedule rest : List ℕ) (n : ℕ) (j : Joint) (m : HostModel) → next_in j.halted rest ≡ None → turns list_machine schedule n rest j m ≡ turns list_machine schedule n schedule j m
-unfolding turns
-again-turns schedule rest zero j m e = refl
-again-turns schedule rest (suc n) j m e = ap (turn_by list_machine (turns list_machine schedule n) j m) (again-next j.halted schedule rest e)
-
 -- ---- under way
 
 -- from a start on, with n steps in all, of which some are left, and with what is left of the schedule
 pub record Underway (schedule : List ℕ) (n : ℕ) (start : Over) (left : ℕ) (rest : List ℕ) (v : Over) : Type 0 where
-  pub told : IsTrue (tells start.0) → IsRest multi (steps_plan schedule left rest) (world v) (turns_plan schedule n schedule) (world start)
-  pub listed : IsTrue (tells start.0) → NoneTouched start.2.processors →
-      Beside (turns list_machine schedule n schedule (as_list_joint start.2) (contents start.0)) (turns list_machine schedule left rest (as_list_joint v.2) (contents v.0)) v.2 (contents v.0)
+  pub both : IsTrue (tells start.0) → RestsBoth (steps_plan schedule left rest) (world v) (turns_plan schedule n schedule) (world start)
   pub few : left ≤ n
   pub bound : MakesAtMost (n - left) start.2 v.2
   pub keeps : Keeps start.0 v.0 start.1 v.1
@@ -104,10 +63,8 @@ abbrev pub Done : List ℕ → ℕ → Over → Over → MultiEnd → Type 0
 Done schedule n start w end = TakesTurns schedule n start.0 w.0 start.1 w.1 start.2 w.2 end
 
 pub begins : (schedule : List ℕ) (n : ℕ) (start : Over) → Underway schedule n start n schedule start
-unfolding turns_plan end_of multi Stops
 begins schedule n start = record {
-  told = λ t. record { ending = refl; stopping = λ w h. inr h };
-  listed = λ t u. as_lists u refl;
+  both = λ t. begun schedule n (world start);
   few = omega arith;
   bound = few-made (n - n) 0 start.2 start.2 (omega arith) (none-made start.2);
   keeps = keeps-all start.0 start.1;
@@ -129,19 +86,19 @@ module _ (schedule : List ℕ) (n : ℕ) (start : Over) where
   abbrev whole : MultiPlan MultiEnd
   whole = turns_plan schedule n schedule
 
-  abbrev whole-listed : TurnsEnd
-  whole-listed = turns list_machine schedule n schedule (as_list_joint start.2) (contents start.0)
-
   begins-again : (left : ℕ) (rest : List ℕ) (v : Over) → next_in v.2.halted rest ≡ None → Underway schedule n start left rest v → Underway schedule n start left schedule v
-  begins-again left rest v e u = record {
-    told = λ t. record {
-      ending = (u.told t).ending ∙ again-end schedule rest left (world v) e;
-      stopping = λ w h. (u.told t).stopping w (again-stops schedule rest left w (world v) e h);
-    };
-    listed = λ t un. subst (λ r. Beside whole-listed r v.2 (contents v.0)) (again-turns schedule rest left (as_list_joint v.2) (contents v.0) e) (u.listed t un);
-    few = u.few;
-    bound = u.bound;
-    keeps = u.keeps;
+  begins-again left rest v e u = record { both = λ t. again-both schedule rest left (world v) (world start) whole e (u.both t); few = u.few; bound = u.bound; keeps = u.keeps }
+
+  -- what holds of the turns as a whole, by their plan over both machines
+  pub done-by : (w : Over) (end : MultiEnd) → (IsTrue (tells start.0) → TurnsBoth (world start) (world w) OutOfMemory end whole) → ((end ≡ AllHalted) ↔ AllHaveHalted w.2.halted schedule) → MakesAtMost n start.2 w.2 →
+      Keeps start.0 w.0 start.1 w.1 → Done schedule n start w end
+  done-by w end c halted bound keeps = record {
+    plan = λ t. (c t).window;
+    told = λ t ne. turns-told schedule schedule n (world start) (world w) end (c t) ne;
+    listed = λ t ne un. turns-listed schedule schedule n (world start) (world w) end (c t) ne un;
+    halted = halted;
+    bound = bound;
+    keeps = keeps;
   }
 
   there : (v : Over) → Keeps start.0 v.0 start.1 v.1 → IsTrue (tells start.0) → IsTrue (tells v.0)
@@ -150,20 +107,22 @@ module _ (schedule : List ℕ) (n : ℕ) (start : Over) where
   -- ---- a turn
 
   module _ (left : ℕ) (rest : List ℕ) (v w : Over) (who : ℕ) (after : List ℕ) (a : Turn) (some : 0 < left) (next : next_turn v.2.halted schedule rest ≡ Some (who, after)) (taken : Taken who a v w) (u : Underway schedule n start left rest v) where
-    steps : IsTrue (tells start.0) → Comes multi (world v) (world w) (Err OutOfMemory) (end_of_turn who after a) (step_plan schedule rest)
+    steps : IsTrue (tells start.0) → TurnsBoth (world v) (world w) (Err OutOfMemory) (end_of_turn who after a) (step_plan schedule rest)
     steps t =
-        some-comes schedule rest after who (world v) (world w) (end_of_turn who after a) (sym next) (turned-comes who after a (world v) (world w) (taken.plan (there v u.keeps t)))
+        turned-both schedule rest after who (world v) (world w) a next (record {
+          window = taken.plan (there v u.keeps t);
+          list = λ un ne. turn-goes who v.2 w.2 (contents v.0) (contents w.0) a (taken.listed (there v u.keeps t) ne un);
+        })
 
-    follows : IsTrue (tells start.0) → NoneTouched start.2.processors → a ≢ turned.OutOfMemory → Follows whole-listed (turns list_machine schedule (left - 1)) (end_of_turn who after a) w.2 (contents w.0)
-    follows t un ne =
-        lists-follow schedule rest left 0 whole-listed v.2 w.2 (contents v.0) (contents w.0) (end_of_turn who after a) some
-        (subst (λ c. Beside whole-listed (turns list_machine schedule c rest (as_list_joint v.2) (contents v.0)) v.2 (contents v.0)) (sym (none-less left)) (u.listed t un))
-        (λ touched. next-follows (turns list_machine schedule (left - 1)) v.2 w.2 (contents v.0) (contents w.0) (end_of_turn who after a) (Some (who, after)) (next_turn v.2.halted schedule rest) (sym next)
-        (turn-follows (turns list_machine schedule (left - 1)) who after v.2 w.2 (contents v.0) (contents w.0) a (found-turn v.2.halted schedule rest who after next) (taken.listed (there v u.keeps t) ne touched)))
-        (taken.keeps.growing (there v u.keeps t))
+    -- what was passed before the turn was passed behind it
+    writes : IsTrue (tells start.0) → (x : JointWorld) → WriteOn x (world v) → WriteOn x (world w)
+    writes t x h = front-through x.1.output (contents v.0).output (contents w.0).output h (taken.keeps.growing (there v u.keeps t))
 
-    rest-now : IsTrue (tells start.0) → IsRest multi (steps_plan schedule (left - 0) rest) (world v) whole (world start)
-    rest-now t = subst (λ b. IsRest multi (steps_plan schedule b rest) (world v) whole (world start)) (sym (none-less left)) (u.told t)
+    one-less : left ≡ suc (left - 1)
+    one-less = omega (arith, some)
+
+    rest-now : IsTrue (tells start.0) → RestsBoth (steps_plan schedule (suc (left - 1)) rest) (world v) whole (world start)
+    rest-now t = subst (λ b. RestsBoth (steps_plan schedule b rest) (world v) whole (world start)) one-less (u.both t)
 
     one-more : MakesAtMost (n - (left - 1)) start.2 w.2
     one-more =
@@ -172,8 +131,9 @@ module _ (schedule : List ℕ) (n : ℕ) (start : Over) where
 
     pub goes-on : end_of_turn who after a ≡ Ok after → Underway schedule n start (left - 1) after w
     goes-on ok = record {
-      told = λ t. rest-went schedule rest after left 0 (world v) (world w) (world start) whole some (rest-now t) (subst (λ x. Comes multi (world v) (world w) (Err OutOfMemory) x (step_plan schedule rest)) ok (steps t));
-      listed = λ t un. subst (λ x. Follows whole-listed (turns list_machine schedule (left - 1)) x w.2 (contents w.0)) ok (follows t un (goes-not who after a ok));
+      both = λ t.
+          went-both schedule rest after (left - 1) (world v) (world w) (world start) whole (writes t)
+          (subst (λ x. TurnsBoth (world v) (world w) (Err OutOfMemory) x (step_plan schedule rest)) ok (steps t)) (rest-now t);
       few = (let f = u.few in omega (arith, f));
       bound = one-more;
       keeps = keeps-then start.0 v.0 w.0 start.1 v.1 w.1 u.keeps taken.keeps;
@@ -181,19 +141,12 @@ module _ (schedule : List ℕ) (n : ℕ) (start : Over) where
 
     pub ends-here : (end : MultiEnd) → end_of_turn who after a ≡ Err end → (AllHaveHalted v.2.halted schedule → ⊥) → Done schedule n start w end
     ends-here end err some-run =
-        let comes : IsTrue (tells start.0) → Comes multi (world start) (world w) OutOfMemory end whole = λ t.
-        rest-ended schedule rest left 0 (world v) (world w) (world start) whole end some (rest-now t) (subst (λ x. Comes multi (world v) (world w) (Err OutOfMemory) x (step_plan schedule rest)) err (steps t)) in
-        record {
-          plan = comes;
-          told = λ t ne. turns-told schedule schedule n start.2 w.2 (contents start.0) (contents w.0) end (comes t) ne;
-          listed = λ t ne un. subst (λ x. Follows whole-listed (turns list_machine schedule (left - 1)) x w.2 (contents w.0)) err (follows t un (ends-memory who after a end err ne));
-          halted = (
-            λ e. absurd (ends-not who after a (err ∙ ap Err e)),
-            λ all. absurd (some-run (subst (λ hs. AllHaveHalted hs schedule) (taken.marked ∙ ends-marked who after a end v.2.halted err) all)),
-          );
-          bound = (let f = u.few in few-made n (n - (left - 1)) start.2 w.2 (omega (arith, f)) one-more);
-          keeps = keeps-then start.0 v.0 w.0 start.1 v.1 w.1 u.keeps taken.keeps;
-        }
+        done-by w end
+        (λ t. ended-both schedule rest (left - 1) end (world v) (world w) (world start) whole (writes t)
+        (subst (λ x. TurnsBoth (world v) (world w) (Err OutOfMemory) x (step_plan schedule rest)) err (steps t)) (rest-now t))
+        (λ e. absurd (ends-not who after a (err ∙ ap Err e)), λ all. absurd (some-run (subst (λ hs. AllHaveHalted hs schedule) (taken.marked ∙ ends-marked who after a end v.2.halted err) all)))
+        (let f = u.few in few-made n (n - (left - 1)) start.2 w.2 (omega (arith, f)) one-more)
+        (keeps-then start.0 v.0 w.0 start.1 v.1 w.1 u.keeps taken.keeps)
 
   -- ---- the end without a turn
 
@@ -204,35 +157,19 @@ module _ (schedule : List ℕ) (n : ℕ) (start : Over) where
     pub none-runs : 0 < left → running v.2.halted rest ≡ [] → running v.2.halted schedule ≡ [] → Done schedule n start v AllHalted
     none-runs some e f =
         let none = ap (λ x. or_again x (next_in v.2.halted schedule)) (run-none v.2.halted rest e) ∙ run-none v.2.halted schedule f in
-        let comes : IsTrue (tells start.0) → Comes multi (world start) (world v) OutOfMemory AllHalted whole = λ t.
-        rest-ended schedule rest left 0 (world v) (world v) (world start) whole AllHalted some (subst (λ b. IsRest multi (steps_plan schedule b rest) (world v) whole (world start)) (sym (none-less left)) (u.told t)) (halted-comes schedule rest (world v) (sym none)) in
-        record {
-          plan = comes;
-          told = λ t ne. turns-told schedule schedule n start.2 v.2 (contents start.0) (contents v.0) AllHalted (comes t) ne;
-          listed = λ t ne un.
-              lists-follow schedule rest left 0 whole-listed v.2 v.2 (contents v.0) (contents v.0) (Err AllHalted) some
-              (subst (λ c. Beside whole-listed (turns list_machine schedule c rest (as_list_joint v.2) (contents v.0)) v.2 (contents v.0)) (sym (none-less left)) (u.listed t un))
-              (λ touched. none-follows (turns list_machine schedule (left - 1)) v.2 (contents v.0) (next_turn v.2.halted schedule rest) (sym none) touched)
-              ((keeps-all v.0 v.1).growing (there v u.keeps t));
-          halted = (λ a. all-none v.2.halted schedule (run-none v.2.halted schedule f), λ all. refl);
-          bound = at-most;
-          keeps = u.keeps;
-        }
+        let one-less : left ≡ suc (left - 1) = omega (arith, some) in
+        done-by v AllHalted
+        (λ t. ended-both schedule rest (left - 1) AllHalted (world v) (world v) (world start) whole (λ x h. h) (halted-both schedule rest (world v) none)
+        (subst (λ b. RestsBoth (steps_plan schedule b rest) (world v) whole (world start)) one-less (u.both t)))
+        (λ a. all-none v.2.halted schedule (run-none v.2.halted schedule f), λ all. refl) at-most u.keeps
 
     pub all-made : (end : MultiEnd) → left ≤ 0 → end ≡ end_at_last (next_in v.2.halted schedule) → Done schedule n start v end
     all-made end none e =
-        let comes : IsTrue (tells start.0) → Comes multi (world start) (world v) OutOfMemory end whole = λ t.
-        rest-spent schedule rest left 0 (world v) (world start) whole end none e (subst (λ b. IsRest multi (steps_plan schedule b rest) (world v) whole (world start)) (sym (none-less left)) (u.told t)) in
-        record {
-          plan = comes;
-          told = λ t ne. turns-told schedule schedule n start.2 v.2 (contents start.0) (contents v.0) end (comes t) ne;
-          listed = λ t ne un.
-              lists-spent schedule rest left 0 whole-listed v.2 (contents v.0) end none e
-              (subst (λ c. Beside whole-listed (turns list_machine schedule c rest (as_list_joint v.2) (contents v.0)) v.2 (contents v.0)) (sym (none-less left)) (u.listed t un));
-          halted = last-all v.2.halted schedule end e;
-          bound = at-most;
-          keeps = u.keeps;
-        }
+        let no-step : left ≡ 0 = omega (arith, none) in
+        done-by v end
+        (λ t. subst (λ x. TurnsBoth (world start) (world v) OutOfMemory x whole) (sym e)
+        (spent-both schedule rest (world v) (world start) whole (subst (λ b. RestsBoth (steps_plan schedule b rest) (world v) whole (world start)) no-step (u.both t))))
+        (last-all v.2.halted schedule end e) at-most u.keeps
 
 -- ---- by the names of those that run
 

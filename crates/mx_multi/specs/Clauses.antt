@@ -1,10 +1,11 @@
 -- The words of clauses over several processors and a host. `old` and `new` are what the host told before and after, `before`
 -- and `after` the processors.
-use Rattle.std.specs.Prelude.{ℕ, zero, suc, ◌≡◌, ◌≢◌, ◌↔◌, ◌≤◌, ◌+◌, ◌%◌, ◌^◌, IsTrue, Bool, true, false, List, length, Option, Result, Ok, Err}
+use Rattle.std.specs.Prelude.{ℕ, zero, suc, ◌≡◌, ◌≢◌, ◌↔◌, ◌≤◌, ◌+◌, ◌%◌, ◌^◌, IsTrue, Bool, true, false, List, length, Option}
 use Rattle.mx_word.specs.Lists.{IsFront}
 use Rattle.mx_host.specs.HostModel.{HostModel, tells, contents}
 use Rattle.mx_host.specs.Keeping.{Keeps}
 use Rattle.mx_plan.specs.Plan.{Comes}
+use Rattle.mx_plan.specs.Wild.{ComesBoth, IsRestBoth}
 use Rattle.mx_core.specs.State.{State}
 use Rattle.mx_run.specs.Clauses.{CarriesOutRun}
 use Rattle.mx_run.specs.RunPlans as run
@@ -13,9 +14,10 @@ use Rattle.mx_run.specs.WildRuns.{HasWindow, list_machine, window_machine}
 use Rattle.mx_run.specs.declared.turn_answer.TurnAnswer.{TurnAnswer}
 use Rattle.mx_run.specs.declared.turn_answer.TurnAnswer.TheVariants as answer
 use Rattle.mx_multi.specs.Joint.{Joint, NoneTouched, as_list_joint, has_halted, processor}
-use Rattle.mx_multi.specs.JointTurns.{MakesOne, halted_by, told_at, turn_of, is_wild_turn}
+use Rattle.mx_multi.specs.JointTurns.{JointWorld, MakesOne, halted_by, told_at, turn_of, is_wild_turn}
 use Rattle.mx_multi.specs.MultiPlans.{MultiPlan, multi, turn_plan, turns_plan}
-use Rattle.mx_multi.specs.Turns.{TurnsEnd, turns_ended, turns_wild, turn_by, turns, AllHaveHalted}
+use Rattle.mx_multi.specs.Schedules.{AllHaveHalted}
+use Rattle.mx_multi.specs.Turns.{multi_goes, TurnsEnd, turns_ended, turns_wild, turns}
 use Rattle.mx_multi.specs.declared.turn.Turn.{Turn}
 use Rattle.mx_multi.specs.declared.turn.Turn.TheVariants as turned
 use Rattle.mx_multi.specs.declared.end.MultiEnd.{MultiEnd}
@@ -119,21 +121,22 @@ pub record TakesTurns (schedule : List ℕ) (n : ℕ) (old new : Option HostMode
   pub bound : MakesAtMost n before after
   pub keeps : Keeps old new earlier later
 
--- ON THE WAY
+-- BOTH MACHINES
 
--- turns of list machines, as a whole and from processors on: nothing was touched, and the rest goes on from the lists that
--- their register stacks stand for; or a wild turn was met, and what was written then still stands
-pub data Beside (whole rest : TurnsEnd) (j : Joint) (m : HostModel) : Type 0 where
-  as_lists : NoneTouched j.processors → whole ≡ rest → Beside whole rest j m
-  was_wild : (h : HostModel) → whole ≡ turns_wild h → IsFront h.output m.output → Beside whole rest j m
+-- the world of list machines; where both go alike; and where something wild was passed: standard output still begins with what was
+-- written then
+abbrev pub as_list_joints : JointWorld → JointWorld
+as_list_joints w = (as_list_joint w.0, w.1)
 
--- the same of what a turn of the schedule comes to
-abbrev pub Follows : TurnsEnd → (List ℕ → Joint → HostModel → TurnsEnd) → Result (List ℕ) MultiEnd → Joint → HostModel → Type 0
-Follows whole more (Ok rest) after n = Beside whole (more rest (as_list_joint after) n) after n
-Follows whole more (Err end) after n = GoAsLists whole end after n
+abbrev pub AreUntouched : JointWorld → Type 0
+AreUntouched w = NoneTouched w.0.processors
 
--- over a host that tells its contents, from processors where nothing was touched, the next turn as that of list machines
-abbrev pub FollowsLists : Option HostModel → Option HostModel → Joint → Joint → Result (List ℕ) MultiEnd → Option (ℕ × List ℕ) → Type 0
-FollowsLists old new before after result next =
-    (more : List ℕ → Joint → HostModel → TurnsEnd) → IsTrue (tells old) → result ≢ Err end.OutOfMemory → NoneTouched before.processors →
-    Follows (turn_by list_machine more (as_list_joint before) (contents old) next) more result after (contents new)
+abbrev pub WriteOn : JointWorld → JointWorld → Type 0
+WriteOn v w = IsFront v.1.output w.1.output
+
+-- what comes of a plan over both, and what is left of it
+abbrev pub TurnsBoth : {A : Type 0} → JointWorld → JointWorld → A → A → MultiPlan A → Type 0
+TurnsBoth old new none result plan = ComesBoth multi (multi_goes list_machine) as_list_joints AreUntouched WriteOn old new none result plan
+
+abbrev pub RestsBoth : {A : Type 0} → MultiPlan A → JointWorld → MultiPlan A → JointWorld → Type 0
+RestsBoth rest now whole start = IsRestBoth multi (multi_goes list_machine) as_list_joints AreUntouched WriteOn rest now whole start

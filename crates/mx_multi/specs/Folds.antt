@@ -4,7 +4,8 @@ use Rattle.mx_word.specs.Lists.{IsFront}
 use Rattle.mx_run.specs.WildRuns.{MachineKind, ends_wild}
 use Rattle.mx_multi.specs.Joint.{has_halted, state_at}
 use Rattle.mx_multi.specs.JointTurns.{JointWorld, turn_of}
-use Rattle.mx_multi.specs.Turns.{AllHaveHalted, TurnsEnd, turns_ended, turns_wild}
+use Rattle.mx_multi.specs.Schedules.{AllHaveHalted}
+use Rattle.mx_multi.specs.Turns.{TurnsEnd, turns_ended, turns_wild}
 use Rattle.mx_multi.specs.declared.turn.Turn.{Turn}
 use Rattle.mx_multi.specs.declared.turn.Turn.TheVariants.{Went, Halted, Idle, Stopped, OutOfMemory}
 use Rattle.mx_multi.specs.declared.end.MultiEnd.TheVariants as end

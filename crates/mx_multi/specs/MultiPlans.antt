@@ -7,7 +7,7 @@ use Rattle.mx_run.specs.RunPlans.{RunLacks}
 use Rattle.mx_run.specs.RunPlans as run
 use Rattle.mx_multi.specs.Joint.{has_halted, state_at, with_processor}
 use Rattle.mx_multi.specs.JointTurns.{JointWorld, turn_of}
-use Rattle.mx_multi.specs.Turns.{next_in, next_turn, end_of_turn, end_at_last}
+use Rattle.mx_multi.specs.Schedules.{next_in, next_turn, end_of_turn, end_at_last}
 use Rattle.mx_multi.specs.declared.turn.Turn.{Turn}
 use Rattle.mx_multi.specs.declared.end.MultiEnd.{MultiEnd}
 use Rattle.mx_multi.specs.declared.end.MultiEnd.TheVariants.{AllHalted}

@@ -7,7 +7,7 @@ use Rattle.mx_multi.specs.Clauses.{TakesTurn, TurnGoesAsLists}
 use Rattle.mx_multi.specs.Joint.{Joint, NoneTouched, as_list_joint, has_halted}
 use Rattle.mx_multi.specs.JointTurns.{MakesOne, is_wild_turn}
 use Rattle.mx_multi.specs.MultiPlans.{multi, turn_plan}
-use Rattle.mx_multi.specs.Turns.{end_of_turn}
+use Rattle.mx_multi.specs.Schedules.{end_of_turn}
 use Rattle.mx_multi.specs.declared.rows.RowEnd.{RowEnd}
 use Rattle.mx_multi.specs.declared.rows.RowEnd.TheVariants.{Went, Halted, Ended}
 use Rattle.mx_multi.specs.declared.turn.Turn.{Turn}

@@ -3,7 +3,7 @@
 ghost use Rattle.std.specs.Prelude.{◌≡◌, ◌≤◌, ◌<◌, ◌++◌, ℕ, List, IfErr, IfOk, IfSome, None, [], drop, false, length, take, true};
 ghost use Rattle.mx_multi.specs.Joint.{has_halted, processor_count};
 ghost use Rattle.mx_multi.specs.Stretches.{IsPlaceFrom, running};
-ghost use Rattle.mx_multi.specs.Turns.{AllHaveHalted, AreNames};
+ghost use Rattle.mx_multi.specs.Schedules.{AllHaveHalted, AreNames};
 
 use crate::Multi;
 use mx_word::NoMemory;

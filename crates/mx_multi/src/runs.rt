@@ -3,7 +3,7 @@
 ghost use Rattle.std.specs.Prelude.{◌≡◌};
 ghost use Rattle.mx_multi.specs.Clauses.{TakesTurns};
 ghost use Rattle.mx_multi.specs.Joint.{joint_of, processor_count};
-ghost use Rattle.mx_multi.specs.Turns.{AreNames};
+ghost use Rattle.mx_multi.specs.Schedules.{AreNames};
 
 use crate::queue::{leave_out_halted, next_place, queue_of};
 use crate::rows::{RowEnd, row_length, run_row};

@@ -16,7 +16,7 @@ use Rattle.mx_run.specs.RunCourses.{as_list_world, IsUntouched, WritesOn, RunsBo
 use Rattle.mx_run.specs.RunPlans.{RunWorld, RunPlan, running, look, turn_plan, ended_turn, step_plan, run_next, run_plan, end_of_turn}
 use Rattle.mx_run.specs.Runs.{FlagsOf, Ended, ended, no_flags}
 use Rattle.mx_run.specs.Turns.{Answered, turn, turn_answer}
-use Rattle.mx_run.specs.WildRuns.{list_machine, turn_is_wild, RunEnd, run_ended, run_wild, run_goes, of_course, run_course, run_by}
+use Rattle.mx_run.specs.WildRuns.{list_machine, turn_is_wild, RunEnd, run_wild, run_goes, of_course, run_course, run_by}
 use Rattle.mx_run.specs.declared.end.BreakKind.TheVariants.{Execute}
 use Rattle.mx_run.specs.declared.end.End.{End}
 use Rattle.mx_run.specs.declared.end.End.TheVariants.{Broke, Spent, OutOfMemory}

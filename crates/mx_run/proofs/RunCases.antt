@@ -1,5 +1,5 @@
 -- What is known of the end of a run, by what is known of its turns.
-use Rattle.std.proofs.Common.{◌≡◌, ◌≢◌, ℕ, zero, suc, ◌/◌, Bool, true, false, cond, None, Ok, Err, refl, sym, subst}
+use Rattle.std.proofs.Common.{◌≡◌, ◌≢◌, ℕ, zero, suc, ◌/◌, Bool, true, false, cond, None, Ok, Err, refl}
 use Rattle.std.specs.Prelude.{Result, ◌&&◌, not}
 use Rattle.std.proofs.lemmas.Bool.{and_parts}
 use Rattle.mx_host.specs.HostModel.{HostModel}

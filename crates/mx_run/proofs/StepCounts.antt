@@ -19,7 +19,6 @@ use Rattle.mx_run.specs.Runs.{FlagsOf, run, IsLater}
 use Rattle.mx_run.specs.Turns.{Turn, went_on, halts, stops, area_size, turn_with, turn_of, turn, turn_answer}
 use Rattle.mx_run.specs.WildRuns.{window_machine}
 use Rattle.mx_run.specs.declared.end.End.{End}
-use Rattle.mx_run.specs.declared.turn_answer.TurnAnswer.{TurnAnswer}
 use Rattle.mx_run.proofs.BothMachines.{window-ends}
 use Rattle.mx_run.proofs.Later.{one-later, none-later, begun-later, both-later, few-later, trapped-count}
 use Rattle.mx_run.proofs.RunCases.{OnOr, LeadsTo, RunEndsSo, run-ends-so}

@@ -2,7 +2,7 @@
 use Rattle.std.proofs.Common.{◌≡◌, ◌≤◌, ◌<◌, ℕ, ◌+◌, Bool, true, false, cond, nat_le, List, [], ◌∷◌, ◌++◌, ap, get_or, length, max, take, arith, refl, ◌∙◌}
 use Rattle.std.proofs.lemmas.Bool.Decides.{nat_tests}
 use Rattle.std.proofs.lemmas.List.{take_more}
-use Rattle.mx_multi.specs.Turns.{AreNames}
+use Rattle.mx_multi.specs.Schedules.{AreNames}
 use Rattle.mx_files.specs.Schedules.{AreEight}
 use Rattle.mx_top.specs.Processors.{with_named, counted_from}
 

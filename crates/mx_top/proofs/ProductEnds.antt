@@ -25,7 +25,7 @@ use Rattle.mx_back.specs.History.{states_kept}
 use Rattle.mx_back.specs.KeptRuns.{turns_of}
 use Rattle.mx_con.specs.Session.{SessionRun, session_ended, session_wild, session}
 use Rattle.mx_con.specs.declared.end.SessionEnd.{SessionEnd}
-use Rattle.mx_con.proofs.SessionJoins.{session-end}
+use Rattle.mx_con.proofs.SessionCourses.{session-end}
 use Rattle.mx_multi.specs.Joint.{Joint}
 use Rattle.mx_multi.specs.Joint as joint
 use Rattle.mx_multi.specs.Turns.{TurnsEnd, turns_ended, turns_wild, turns}

@@ -3,7 +3,7 @@
 ghost use Rattle.std.specs.Prelude.{◌≡◌, ◌≤◌, ◌+◌};
 ghost use Rattle.mx_load.specs.Kept.{image_of};
 ghost use Rattle.mx_multi.specs.Joint.{NoneTouched, joint_of, processor_count};
-ghost use Rattle.mx_multi.specs.Turns.{AreNames};
+ghost use Rattle.mx_multi.specs.Schedules.{AreNames};
 ghost use Rattle.mx_files.specs.Schedules.{AreEight};
 ghost use Rattle.mx_top.specs.Processors as spec;
 ghost use Rattle.mx_top.specs.Causes.{IsOfMachine};

@@ -1,7 +1,7 @@
 //! Turns by schedules: their end, the steps of two processors, and what stands in memory and on standard output. Counts of
 //! steps are worked out by hand.
 
-ghost use Rattle.mx_multi.specs.Turns.{AreNames};
+ghost use Rattle.mx_multi.specs.Schedules.{AreNames};
 
 use crate::multi::programs::{
     CHANGES, COUNTS, DATA, IN_AREA, PRINTS, Program, STOPS, STORES, TELLS_COUNT, WRITES, host,

@@ -1,5 +1,5 @@
 use Rattle.std.proofs.Common.{arith, subst}
-use Rattle.mx_multi.specs.Turns.{AreNames}
+use Rattle.mx_multi.specs.Schedules.{AreNames}
 use Rattle.mx_top.proofs.CountedProcessors.{counted-most, counted-names}
 use Rattle.mx_top.proofs.schedules.processors_named.Goals as goal
 
