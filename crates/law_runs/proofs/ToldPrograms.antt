@@ -118,10 +118,10 @@ may needing m = tt
 
 -- a part ends the work so, whatever its calls answer of what they may
 abbrev IsTold : {A : Type 0} → Part A → Type 0
-IsTold {A} p = Gives May (ReadTold {A}) p
+IsTold {A} p = Gives May (ReadTold {A = A}) p
 
 part-end : {A : Type 0} (p : Part A) (m : HostModel) → IsTold p → ReadTold (end_of host p m).0
-part-end {A} p m h = gives-end host May (ReadTold {A}) may p m h
+part-end {A} p m h = gives-end host May (ReadTold {A = A}) may p m h
 
 on-told : {A B : Type 0} (f : A → Part B) → ((a : A) → IsTold (f a)) → (r : Result A Outcome) → ReadTold r → IsTold (on_ok f r)
 unfolding Gives
@@ -129,7 +129,7 @@ on-told f h (Ok a) t = h a
 on-told f h (Err outcome) t = t
 
 then-told : {A B : Type 0} (f : A → Part B) (p : Part A) → IsTold p → ((a : A) → IsTold (f a)) → IsTold (bind (on_ok f) p)
-then-told {A} {B} f p t h = gives-bind May (ReadTold {A}) (ReadTold {B}) (on_ok f) p t (on-told f h)
+then-told {A} {B} f p t h = gives-bind May (ReadTold {A = A}) (ReadTold {A = B}) (on_ok f) p t (on-told f h)
 
 need-told : {A : Type 0} (p : Part A) → IsTold p → IsTold (bind (λ u. p) need)
 unfolding Gives bind need
@@ -150,14 +150,14 @@ piece-told : (got : List ℕ) → IsTold (read_piece got)
 unfolding Gives read_piece read_plan bind
 piece-told got = λ r t. added-told got r
 
+next-told : (more : List ℕ → Part (List ℕ)) → ((bytes : List ℕ) → IsTold (more bytes)) → (x : List ℕ × Bool) → IsTold (read_next more x)
+next-told more h (bytes, true) = h bytes
+next-told more h (bytes, false) = returns-told (Ok bytes) tt
+
 pieces-told : (left : ℕ) (got : List ℕ) → IsTold (read_pieces left got)
 unfolding read_pieces
 pieces-told zero got = returns-told (Ok got) tt
-pieces-told (suc left) got = then-told (read_next (read_pieces left)) (read_piece got) (piece-told got) next
-  where
-    next : (x : List ℕ × Bool) → IsTold (read_next (read_pieces left) x)
-    next (bytes, true) = pieces-told left bytes
-    next (bytes, false) = returns-told (Ok bytes) tt
+pieces-told (suc left) got = then-told (read_next (read_pieces left)) (read_piece got) (piece-told got) (next-told (read_pieces left) (λ bytes. pieces-told left bytes))
 
 close-told : (slot : ℕ) → IsTold (close_file slot)
 unfolding Gives close_file close_plan bind
