@@ -25,9 +25,11 @@ use Rattle.mx_files.specs.declared.refusal.Refusal.{Refusal}
 use Rattle.mx_outcome.specs.declared.outcome.Outcome.{Outcome}
 use Rattle.mx_outcome.specs.declared.outcome.Outcome.TheVariants.{BadObject}
 use Rattle.mx_begin.specs.Arguments.{Word, word_at, arguments}
-use Rattle.mx_begin.specs.Begun.{assembled, image_after, loaded, started, started_after}
+use Rattle.mx_begin.specs.Begun.{assembled, loaded, started}
+use Rattle.mx_begin.proofs.Beginnings.{begins}
 use Rattle.mx_begin.specs.declared.images.Form.TheVariants.{Object, Source}
-use Rattle.mx_top.specs.Product.{begun_run, carried_out, ordered, product, with_message}
+use Rattle.mx_top.proofs.BegunRuns.{image_ran, file_ran, begun-ran}
+use Rattle.mx_top.specs.Product.{carried_out, ordered, product, with_message}
 use Rattle.mx_top.specs.Reports.{begun_traces, carried_traces, order_traces, ordered_traces, traces_from}
 use Rattle.mx_top.specs.Runs.{dumped, machine_ran, ran_to, run_from}
 use Rattle.mx_top.specs.Runs as top
@@ -83,11 +85,11 @@ module _ {A : Type 0} (outcome_in : A → Outcome) (making : Making A) (has : Ha
     start-same (Ok s) m = machine-same s m
 
     image-same : (image : Image) (m : HostModel) →
-        begun_run kind o (started_after kind o.ring (arguments words o) (Ok image, m)) ≡ answer_by outcome_in (image_counted kind o (arguments words o) making image m)
+        image_ran kind o (arguments words o) (Ok image) m ≡ answer_by outcome_in (image_counted kind o (arguments words o) making image m)
     image-same image m = start-same (started kind o.ring image (arguments words o)) m
 
     meaning-same : (r : Result Image Refusal) (m : HostModel) →
-        begun_run kind o (started_after kind o.ring (arguments words o) (assembled r, m)) ≡ answer_by outcome_in (meaning_counted kind o (arguments words o) making r m)
+        image_ran kind o (arguments words o) (assembled r) m ≡ answer_by outcome_in (meaning_counted kind o (arguments words o) making r m)
     meaning-same (Err refusal) m = ap (λ x. answered x m) (sym (has.without (refused_with refusal)))
     meaning-same (Ok image) m = image-same image m
 
@@ -101,7 +103,7 @@ order-run kind words o command m h =
 
 source-same : {A : Type 0} (outcome_in : A → Outcome) (making : List ℕ → Making A) → ((source : List ℕ) → HasOutcome outcome_in (making source)) →
     (kind : MachineKind) (words : List Word) (o : Order) (t : Then (Result (List ℕ) Outcome)) → RunsPlainly words o Run →
-    begun_run kind o (started_after kind o.ring (arguments words o) (image_after Source t)) ≡ answer_by outcome_in (source_read kind o (arguments words o) making t)
+    file_ran kind o (arguments words o) Source t ≡ answer_by outcome_in (source_read kind o (arguments words o) making t)
 source-same outcome_in making has kind words o (Err outcome, m) h = ap (λ x. answered x m) (sym ((has []).without outcome))
 source-same outcome_in making has kind words o (Ok source, m) h = meaning-same outcome_in (making source) (has source) kind words o Run h (source_meaning source) m
 
@@ -115,13 +117,13 @@ pub answers-text : (kind : MachineKind) (words : List Word) (o : Order) (m : Hos
     product kind words m ≡ with_message (answer_by (λ (c : Counted). c.outcome) (source_file kind words o (in_form Text) m))
 answers-text kind words o m h =
     order-run kind words o Run m h
-    ∙ ap with_message (source-same (λ (c : Counted). c.outcome) (in_form Text) text-has kind words o (file_bytes source_pieces (word_at words o.file) m) h)
+    ∙ ap with_message (begun-ran kind words o Source m ∙ source-same (λ (c : Counted). c.outcome) (in_form Text) text-has kind words o (file_bytes source_pieces (word_at words o.file) m) h)
 
 pub answers-data : (kind : MachineKind) (words : List Word) (o : Order) (m : HostModel) → RunsPlainly words o Run →
     product kind words m ≡ with_message (answer_by (λ (c : CountedLines). c.outcome) (source_file kind words o by_lines m))
 answers-data kind words o m h =
     order-run kind words o Run m h
-    ∙ ap with_message (source-same (λ (c : CountedLines). c.outcome) by_lines lines-have kind words o (file_bytes source_pieces (word_at words o.file) m) h)
+    ∙ ap with_message (begun-ran kind words o Source m ∙ source-same (λ (c : CountedLines). c.outcome) by_lines lines-have kind words o (file_bytes source_pieces (word_at words o.file) m) h)
 
 -- ---- an object
 
@@ -133,7 +135,7 @@ mapped-same tetras (came_to c m) = refl
 mapped-same tetras (went_wild m) = refl
 
 loaded-same : (kind : MachineKind) (words : List Word) (o : Order) (bytes : List ℕ) (r : Result (Image × List Symbol) (ℕ × ℕ)) (m : HostModel) → RunsPlainly words o Sim →
-    begun_run kind o (started_after kind o.ring (arguments words o) (loaded r, m)) ≡ answer_by (λ (c : CountedObject). c.outcome) (loaded_with by_report kind o (arguments words o) bytes r m)
+    image_ran kind o (arguments words o) (loaded r) m ≡ answer_by (λ (c : CountedObject). c.outcome) (loaded_with by_report kind o (arguments words o) bytes r m)
 loaded-same kind words o bytes (Err (place, fault)) m h = refl
 loaded-same kind words o bytes (Ok (image, symbols)) m h =
     let tetras : List ListedTetra = tetras_at image symbols (addresses_of (items_in bytes)) in
@@ -141,13 +143,13 @@ loaded-same kind words o bytes (Ok (image, symbols)) m h =
     ∙ mapped-same tetras (image_counted kind o (arguments words o) (reporting (report_on tetras)) image m)
 
 object-same : (kind : MachineKind) (words : List Word) (o : Order) (t : Then (Result (List ℕ) Outcome)) → RunsPlainly words o Sim →
-    begun_run kind o (started_after kind o.ring (arguments words o) (image_after Object t)) ≡ answer_by (λ (c : CountedObject). c.outcome) (object_read kind o (arguments words o) t)
+    file_ran kind o (arguments words o) Object t ≡ answer_by (λ (c : CountedObject). c.outcome) (object_read kind o (arguments words o) t)
 object-same kind words o (Err outcome, m) h = refl
 object-same kind words o (Ok bytes, m) h = loaded-same kind words o bytes (object_loaded bytes) m h
 
 pub answers-object : (kind : MachineKind) (words : List Word) (o : Order) (m : HostModel) → RunsPlainly words o Sim →
     product kind words m ≡ with_message (answer_by (λ (c : CountedObject). c.outcome) (object_file kind words o m))
-answers-object kind words o m h = order-run kind words o Sim m h ∙ ap with_message (object-same kind words o (file_bytes object_pieces (word_at words o.file) m) h)
+answers-object kind words o m h = order-run kind words o Sim m h ∙ ap with_message (begun-ran kind words o Object m ∙ object-same kind words o (file_bytes object_pieces (word_at words o.file) m) h)
 
 pub ruleset answers = (answers-text, answers-data, answers-object)
 
@@ -164,8 +166,7 @@ module _ (kind : MachineKind) (words : List Word) (o : Order) (source : List ℕ
   -- the traces that watchers are told
   begun-traces-are : ordered_traces kind words o Run m ≡ order_traces kind o s begun
   begun-traces-are =
-      ap (λ t. begun_traces kind o (started_after kind o.ring (arguments words o) (image_after Source t))) starts.read
-      ∙ ap (λ r. begun_traces kind o (started_after kind o.ring (arguments words o) (assembled r, begun))) starts.means
+      ap (begun_traces kind o) (begins kind words o Source source starts.image m begun starts.read (ap assembled starts.means))
       ∙ ap (λ r. traces_from kind o r begun) starts.starts
 
   module _ (plain : RunsPlainly words o Run) (reports : o.report ≡ true) where

@@ -2,7 +2,6 @@
 use Rattle.std.proofs.Common.{◌≡◌, ℕ, List, [], ◌∷◌, Bool, true, false, cond, length, ◌≤◌, refl, sym, ◌∙◌, ap, Ok, Err, Some, None}
 use Rattle.std.specs.Prelude.{Option}
 use Rattle.mx_host.specs.HostModel.{HostModel}
-use Rattle.mx_host.specs.HostAnswer.{close_answer}
 use Rattle.mx_mmo.specs.Image.{Image}
 use Rattle.mx_core.specs.State.{State}
 use Rattle.mx_run.specs.WildRuns.{MachineKind}
@@ -18,7 +17,8 @@ use Rattle.mx_asm.specs.declared.refused.Refused.{Refused}
 use Rattle.mx_asm.proofs.InTurn.{source-accepted}
 use Rattle.mx_files.specs.Answers.{answered, plainly, after_lines}
 use Rattle.mx_begin.specs.Arguments.{Word, word_at, arguments}
-use Rattle.mx_begin.specs.Begun.{assembled, loaded, image_after, started_after}
+use Rattle.mx_begin.specs.Begun.{assembled, loaded}
+use Rattle.mx_begin.proofs.Beginnings.{begins}
 use Rattle.mx_begin.specs.declared.images.Form.TheVariants.{Source, Object}
 use Rattle.law_runs.specs.Complete.{IsOrdered, HasSource, HasObject, IsStarted, IsHalted, IsPlayed, IsWritten, IsGenerated}
 use Rattle.mx_dump.specs.Dump.{dump_lines}
@@ -26,11 +26,11 @@ use Rattle.law_gen.specs.Generator.{generated}
 use Rattle.law_gen.specs.Program.{generated_image}
 use Rattle.law_gen.proofs.Meaning.{not-refused-run, statements-of}
 use Rattle.mx_words.proofs.OrderedBlocks.{order-few}
-use Rattle.mx_files.specs.Lines.{lines_put}
-use Rattle.mx_files.specs.Objects.{Assembled, source_object}
+use Rattle.mx_files.specs.Writing.{lines_put}
+use Rattle.mx_files.specs.Objects.{source_object}
 use Rattle.mx_files.specs.Objects as assembling
-use Rattle.mx_files.specs.Pieces.{put_text}
-use Rattle.mx_files.specs.Assembling.{refused_with, closed_object, written_object, assembled_outcome, object_put, after_opening, after_reading}
+use Rattle.mx_files.specs.Assembling.{refused_with, assembled_outcome}
+use Rattle.mx_files.proofs.FileEnds.{assembled-by}
 use Rattle.mx_top.specs.Product.{begun_run, summed, summed_from, generated_run, ordered, carried_out, with_message, product}
 use Rattle.mx_top.specs.Runs.{ran, machine_ran, session_ran, states_back, taken_back, run_back, order_ran, dumped, run_from, image_run}
 use Rattle.mx_files.specs.Sources.{source_meaning, meaning_unless}
@@ -49,15 +49,13 @@ pub source-run : (kind : MachineKind) (words : List Word) (o : Order) (image : I
     product kind words m ≡ with_message (image_run kind o (arguments words o) image begun)
 source-run kind words o image m begun h =
     order-is kind words o Run m h.ordered
-    ∙ ap (λ t. with_message (begun_run kind o (started_after kind o.ring (arguments words o) (image_after Source t)))) h.read
-    ∙ ap (λ r. with_message (begun_run kind o (started_after kind o.ring (arguments words o) (assembled r, begun)))) h.means
+    ∙ ap (λ t. with_message (begun_run kind o t)) (begins kind words o Source h.text image m begun h.read (ap assembled h.means))
 
 pub object-run : (kind : MachineKind) (words : List Word) (o : Order) (image : Image) (m begun : HostModel) → HasObject words o image m begun →
     product kind words m ≡ with_message (image_run kind o (arguments words o) image begun)
 object-run kind words o image m begun h =
     order-is kind words o Sim m h.ordered
-    ∙ ap (λ t. with_message (begun_run kind o (started_after kind o.ring (arguments words o) (image_after Object t)))) h.read
-    ∙ ap (λ r. with_message (begun_run kind o (started_after kind o.ring (arguments words o) (loaded r, begun)))) h.loads
+    ∙ ap (λ t. with_message (begun_run kind o t)) (begins kind words o Object h.object image m begun h.read (ap loaded h.loads))
 
 -- ---- the machine
 
@@ -164,16 +162,12 @@ pub unrefused-means : (text : List ℕ) → run_refusal text ≡ None → source
 unfolding source_meaning
 unrefused-means text e = ap (λ r. meaning_unless r (imaging.image (statements_in (source_entries text)))) e
 
-put-told : (x : Assembled) (m written after : HostModel) → put_text 257 x.0 m ≡ (true, written) → close_answer written 257 ≡ (Ok tt, after) → object_put x m ≡ (assembled_outcome x.1, after)
-put-told (bytes, answer) m written after e f = ap (written_object (assembled_outcome answer)) e ∙ ap (closed_object (assembled_outcome answer)) f
-
 object-written : (kind : MachineKind) (words : List Word) (text : List ℕ) (m after : HostModel) → IsWritten words text m after →
     product kind words m ≡ with_message (answered (assembled_outcome (source_object text).1) after)
 object-written kind words text m after h =
     order-is kind words h.order Asm m h.ordered
-    ∙ ap (λ t. with_message (plainly (after_reading (word_at words h.order.rest) t))) h.read
-    ∙ ap (λ t. with_message (plainly (after_opening text t))) h.opens
-    ∙ ap (λ t. with_message (plainly t)) (put-told (source_object text) h.opened h.written after h.writes h.closes)
+    ∙ ap (λ t. with_message (plainly t))
+    (assembled-by (word_at words h.order.file) (word_at words h.order.rest) text m h.begun h.opened h.written after h.read h.opens h.writes h.closes)
 
 pub source-written : (kind : MachineKind) (words : List Word) (text : List ℕ) (image : Image) (m after : HostModel) → IsWritten words text m after → source_meaning text ≡ Ok image →
     product kind words m ≡ answered (Done 0) after

@@ -12,7 +12,7 @@ use Rattle.mx_mmo.specs.Image.{Image}
 use Rattle.mx_core.specs.State.{State}
 use Rattle.mx_asm.specs.Refusal.{refusal}
 use Rattle.mx_plan.specs.Counts.{NoneFailed, without_count}
-use Rattle.mx_plan.proofs.Spared.{uncalled, steady-of}
+use Rattle.mx_plan.proofs.Spared.{plan-spared, uncalled, steady-of}
 use Rattle.mx_plan.proofs.Spared.{uncounted-of}
 use Rattle.mx_run.specs.Counts.{end_host}
 use Rattle.mx_run.specs.Runs.{no_flags}
@@ -25,20 +25,23 @@ use Rattle.mx_begin.specs.Arguments.{Word, word_at, arguments}
 use Rattle.law_runs.specs.Complete.{IsOrdered, IsThere, SourceIsThere, ObjectIsThere, IsHalted, IsGenerated, with_output}
 use Rattle.law_runs.specs.Detour.{answer_uncounted}
 use Rattle.mx_dump.specs.Dump.{dump_lines}
-use Rattle.mx_files.specs.Lines.{lines_put}
+use Rattle.mx_files.specs.Writing.{was_put, lines_put}
+use Rattle.mx_host.specs.declared.faults.HostFault.{HostFault}
+use Rattle.mx_files.proofs.FileEnds.{then_carried, no-lines, line-by}
+use Rattle.mx_plan.specs.Calls.{host}
+use Rattle.mx_plan.specs.Plan.{end_of, end_after}
 use Rattle.mx_files.specs.Objects.{source_object}
-use Rattle.mx_files.specs.Pieces.{piece_put, pieces_after}
-use Rattle.mx_files.specs.Assembling.{after_opening, after_reading, assembled_outcome}
+use Rattle.mx_files.specs.Assembling.{assembled_outcome}
+use Rattle.mx_files.specs.FilePlans.{on_ok, file_plan, lines_plan}
 use Rattle.mx_top.specs.Product.{generator_steps, with_message, product}
 use Rattle.mx_top.specs.Runs.{ran, ran_to, machine_ran, dumped, image_run}
 use Rattle.mx_files.specs.Source.{file_bytes}
 use Rattle.mx_outcome.specs.declared.outcome.Outcome.{Outcome}
 use Rattle.mx_outcome.specs.declared.outcome.Outcome.TheVariants.{Done}
 use Rattle.law_runs.proofs.Completed.{order-is, source-run, object-run, halted-run, plain-told, accepted-object, generated-told}
-use Rattle.law_runs.proofs.DetourRuns.{put-of}
-use Rattle.law_runs.proofs.IdleFiles.{idle, file-idle, open-object}
+use Rattle.law_runs.proofs.IdleFiles.{idle, file-idle, assembled-idle}
 use Rattle.law_runs.proofs.KeptSlots.{Shows, end_shows, run-kept}
-use Rattle.law_runs.proofs.SteadyFiles.{file-steady, lines-steady}
+use Rattle.law_runs.proofs.SteadyFiles.{lines-steady}
 use Rattle.law_runs.proofs.SteadyProduct.{SparedAnswers, image-steady, message-steady, product-steady, answers-same}
 
 -- ---- slots
@@ -66,7 +69,7 @@ there-read name most text m h = still-read most name m h.place h.slots h.found �
 pub file-left : (most : ℕ) (name : List ℕ) (m : HostModel) (at : ℕ) → NoneFailed m (file_bytes most name m).1 → HasStartSlots m → place_of m.files name ≡ Some at →
     without_count (file_bytes most name m).1 ≡ without_count m
 file-left most name m at none slots e =
-    let read = file-steady most name m in
+    let read = plan-spared (file_plan most name) m in
     let same : still (file_bytes most name m).1 ≡ still m = ap (λ (t : Then (Result (List ℕ) Outcome)). t.1) (read.same none ∙ still-read most name m at slots e) in
     uncounted-of (file_bytes most name m).1 m same read.list
 
@@ -76,13 +79,17 @@ write-shown : (m : HostModel) (text : List ℕ) → Shows m → write_answer (st
 unfolding write_answer
 write-shown m text h = ap (write_to (still m) 259 text) h
 
+lines-ended : (lines : List (List ℕ)) (m : HostModel) → Shows m → end_of host (lines_plan lines) (still m) ≡ (Ok tt, still (with_output m (concat lines)))
+lines-ended [] m h = no-lines (still m) ∙ ap (λ xs. (Ok tt, still (record m { output = xs }))) (sym (append-nil m.output))
+lines-ended (line ∷ lines) m h =
+    line-by line lines (still m)
+    ∙ ap (λ (t : Then (Result (Unit {0}) HostFault)). end_after host (on_ok (λ u. lines_plan lines)) (then_carried t)) (write-shown m line h)
+    ∙ lines-ended lines (with_output m line) h
+    ∙ ap (λ xs. (Ok tt, still (record m { output = xs }))) (append_assoc m.output line (concat lines))
+
 pub lines-still : (lines : List (List ℕ)) (m : HostModel) → Shows m → lines_put lines (still m) ≡ (true, still (with_output m (concat lines)))
 unfolding lines_put
-lines-still [] m h = ap (λ xs. (true, still (record m { output = xs }))) (sym (append-nil m.output))
-lines-still (line ∷ lines) m h =
-    ap (λ t. pieces_after (lines_put lines) (piece_put t)) (write-shown m line h)
-    ∙ lines-still lines (with_output m line) h
-    ∙ ap (λ xs. (true, still (record m { output = xs }))) (append_assoc m.output line (concat lines))
+lines-still lines m h = ap was_put (lines-ended lines m h)
 
 -- no call fails, and standard output leads where it does at the start
 abbrev pub IsReady : HostModel → Type 0
@@ -177,9 +184,7 @@ still-assembled kind words o text m h there =
     let many : length m.slots ≡ 261 = ap length there.slots ∙ start_slots-length in
     let long : 257 < length m.slots = omega arith in
     order-is kind words o Asm (still m) h
-    ∙ ap (λ t. with_message (plainly (after_reading object t))) (there-read (word_at words o.file) 1025 text m there)
-    ∙ ap (λ t. with_message (plainly (after_opening text t))) (open-object m.files m.slots m object)
-    ∙ ap (λ t. with_message (plainly t)) (put-of (source_object text) m.files m.slots m object long)
+    ∙ ap (λ t. with_message (plainly t)) (assembled-idle m.files m.slots m (still m) (word_at words o.file) object text long (there-read (word_at words o.file) 1025 text m there))
     ∙ ap (λ ss. with_message (answered (assembled_outcome (source_object text).1) (idle (put_at m.files object (source_object text).0 (place_of m.files object)) ss m))) (shut-object m.slots there.slots)
 
 pub object-told : (kind : MachineKind) (words : List Word) (o : Order) (text : List ℕ) (m : HostModel) → m.failing ≡ [] → IsOrdered words o Asm → IsThere (word_at words o.file) 1025 text m →

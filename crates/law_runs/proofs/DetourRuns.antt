@@ -16,8 +16,10 @@ use Rattle.mx_host.proofs.Still.{still}
 use Rattle.mx_host.proofs.NamedFiles.{home, lies, at-home, place-home, place-other, bytes-other}
 use Rattle.mx_mmo.specs.Image.{Image}
 use Rattle.mx_load.specs.Objects.{object_loaded}
+use Rattle.mx_plan.specs.Calls.{host}
 use Rattle.mx_plan.specs.Counts.{NoneFailed}
-use Rattle.mx_plan.proofs.Spared.{sooner}
+use Rattle.mx_plan.specs.Plan.{end_of}
+use Rattle.mx_plan.proofs.Spared.{plan-spared, sooner}
 use Rattle.mx_start.specs.Start.{start}
 use Rattle.mx_core.specs.State.{State}
 use Rattle.mx_run.specs.Runs.{no_flags}
@@ -30,7 +32,7 @@ use Rattle.mx_words.specs.declared.order.Order.{Order}
 use Rattle.mx_words.specs.declared.order.WordsFault.{WordsFault}
 use Rattle.mx_files.specs.Answers.{Answer, answered, wild, plainly, after_lines}
 use Rattle.mx_outcome.specs.Kinds.{leaves_machine}
-use Rattle.mx_files.specs.Lines.{lines_put}
+use Rattle.mx_files.specs.Writing.{lines_put}
 use Rattle.mx_begin.specs.Arguments.{Word, word_at, arguments, program_name}
 use Rattle.law_runs.specs.Detour.{host_of, answer_uncounted, HasOutcome, asm_words, run_words, sim_words, AreOrdered, IsAssembled}
 use Rattle.law_runs.proofs.DetourImages.{source-loads, source-short, accepted-run, assembled-none, pages-refused}
@@ -41,28 +43,22 @@ use Rattle.mx_asm.specs.Pages.{RunRefusal, run_refusal}
 use Rattle.mx_asm.specs.Refusal.{refusal}
 use Rattle.mx_files.specs.Sources.{meaning_unless, source_meaning}
 use Rattle.mx_outcome.specs.Messages.{message_of}
-use Rattle.mx_files.specs.Objects.{Assembled, source_object}
-use Rattle.mx_files.specs.Assembling.{assembled_outcome, object_put, after_opening, after_reading}
-use Rattle.mx_top.specs.Product.{begun_run, carried_out, message_told, with_message, product}
+use Rattle.mx_files.specs.FilePlans.{file_plan}
+use Rattle.mx_files.specs.ObjectPlans.{assemble_plan}
+use Rattle.mx_files.specs.Objects.{source_object}
+use Rattle.mx_files.specs.Assembling.{assembled_outcome}
+use Rattle.mx_files.proofs.FileEnds.{assembled-later}
+use Rattle.mx_top.proofs.BegunRuns.{image_ran, file_ran, begun-ran}
+use Rattle.mx_top.specs.Product.{carried_out, message_told, with_message, product}
 use Rattle.mx_dump.specs.Dump.{dump_lines}
 use Rattle.mx_top.specs.Runs.{Ran, ran, ran_wild, ran_to, machine_ran, takes_back, states_back, state_lines, reached, lines_told, taken_back, played, order_ran, dumped, run_from, image_run}
-use Rattle.mx_begin.specs.Begun.{assembled, loaded, image_after, main_address, begun_at, stack_at_start, started_after}
-use Rattle.mx_begin.specs.declared.images.Form.{Form}
+use Rattle.mx_begin.specs.Begun.{assembled, loaded, main_address, begun_at, stack_at_start}
 use Rattle.mx_begin.specs.declared.images.Form.TheVariants.{Source, Object}
 use Rattle.mx_files.specs.Source.{file_bytes}
 use Rattle.mx_outcome.specs.declared.outcome.Outcome.{Outcome}
 use Rattle.mx_outcome.specs.declared.outcome.Outcome.TheVariants.{Done, Usage, NoFile, Refused, BadObject}
-use Rattle.law_runs.proofs.IdleFiles.{idle, file-idle, file-absent, writing, open-object, put-idle}
-use Rattle.law_runs.proofs.SteadyFiles.{file-steady}
-use Rattle.law_runs.proofs.SteadyProduct.{answer_still, reading-later, product-steady, answers-same}
-
--- ---- a file that was read, or an image of it, is run
-
-abbrev image_ran : MachineKind → Order → List Word → Result Image Outcome → HostModel → Answer
-image_ran kind o args r m = begun_run kind o (started_after kind o.ring args (r, m))
-
-abbrev file_ran : MachineKind → Order → List Word → Form → Then (Result (List ℕ) Outcome) → Answer
-file_ran kind o args form t = begun_run kind o (started_after kind o.ring args (image_after form t))
+use Rattle.law_runs.proofs.IdleFiles.{idle, file-idle, file-absent, assembled-idle}
+use Rattle.law_runs.proofs.SteadyProduct.{answer_still, product-steady, answers-same}
 
 -- ---- words
 
@@ -88,6 +84,7 @@ run-is kind options source rest o m e f r =
     let words : List Word = run_words options source rest in
     let order : Order = record o { command = Run } in
     ap (λ t. with_message (carried_out kind words t m)) e
+    ∙ ap with_message (begun-ran kind words order Source m)
     ∙ ap (λ (w : Word). with_message (file_ran kind order (program_name w ∷ drop o.rest words) Source (file_bytes 1025 w m))) (file-behind (codes "run") options source rest o.file f)
     ∙ ap (λ (ws : List Word). with_message (file_ran kind order (program_name source ∷ ws) Source (file_bytes 1025 source m))) (rest-behind (codes "run") options source rest o.rest r)
 
@@ -98,6 +95,7 @@ sim-is kind options object rest o m e f r =
     let words : List Word = sim_words options object rest in
     let order : Order = record o { command = Sim } in
     ap (λ t. with_message (carried_out kind words t m)) e
+    ∙ ap with_message (begun-ran kind words order Object m)
     ∙ ap (λ (w : Word). with_message (file_ran kind order (program_name w ∷ drop o.rest words) Object (file_bytes 16385 w m))) (file-behind (codes "sim") options object rest o.file f)
     ∙ ap (λ (ws : List Word). with_message (file_ran kind order (program_name object ∷ ws) Object (file_bytes 16385 object m))) (rest-behind (codes "sim") options object rest o.rest r)
 
@@ -122,11 +120,11 @@ done-plain (outcome, n) a e =
 -- an order to assemble that is done names two files
 asm-with : (kind : MachineKind) (source object : Word) (fault : WordsFault) (n a : HostModel) (b : Bool) →
     with_message (carried_out kind (asm_words source object) (cond b (Err fault) (Ok (asm_order defaults 1))) n) ≡ answered (Done 0) a →
-    after_reading object (file_bytes 1025 source n) ≡ (Done 0, a)
+    end_of host (assemble_plan source object) n ≡ (Done 0, a)
 asm-with kind source object fault n a true e = absurd (let no : Usage fault ≡ Done 0 = done-told (Usage fault) (message_of (Usage fault)) n a e in cc)
-asm-with kind source object fault n a false e = done-plain (after_reading object (file_bytes 1025 source n)) a e
+asm-with kind source object fault n a false e = done-plain (end_of host (assemble_plan source object) n) a e
 
-asm-done : (kind : MachineKind) (source object : Word) (n a : HostModel) → product kind (asm_words source object) n ≡ answered (Done 0) a → after_reading object (file_bytes 1025 source n) ≡ (Done 0, a)
+asm-done : (kind : MachineKind) (source object : Word) (n a : HostModel) → product kind (asm_words source object) n ≡ answered (Done 0) a → end_of host (assemble_plan source object) n ≡ (Done 0, a)
 unfolding options_from
 asm-done kind source object n a e = asm-with kind source object (record { kind = 3; word = 1 }) n a (is_option source) e
 
@@ -144,13 +142,9 @@ record Accepted (files : List StoredFile) (slots : List Slot) (m : HostModel) (s
   accepted : assembled_outcome (source_object text).1 ≡ Done 0
   left : a ≡ idle (put_at files object (source_object text).0 (place_of files object)) (slice_set (slice_set slots 256 Closed) 257 Closed) m
 
-pub put-of : (x : Assembled) (files : List StoredFile) (slots : List Slot) (m : HostModel) (name : Word) → 257 < length slots →
-    object_put x (writing files slots m name (place_of files name) []) ≡ (assembled_outcome x.1, idle (put_at files name x.0 (place_of files name)) (slice_set slots 257 Closed) m)
-put-of (bytes, answer) files slots m name h = put-idle bytes answer files slots m name (place_of files name) h (lies files name)
-
 reading-left : (files : List StoredFile) (slots : List Slot) (m : HostModel) (source object : Word) (text : List ℕ) (a : HostModel) (p : Option ℕ) → 257 < length slots → place_of files source ≡ p →
     (file_bytes 1025 source (idle files slots m)).0 ≡ Ok text →
-    after_reading object (file_bytes 1025 source (idle files slots m)) ≡ (Done 0, a) → Accepted files slots m source object text a
+    end_of host (assemble_plan source object) (idle files slots m) ≡ (Done 0, a) → Accepted files slots m source object text a
 reading-left files slots m source object text a None h e read done =
     let absent = ap (λ (t : Then (Result (List ℕ) Outcome)). t.0) (file-absent 1025 files slots m source e) in
     absurd (let no : ◌≡◌ {A = Result (List ℕ) Outcome} (Err NoFile) (Ok text) = sym absent ∙ read in cc)
@@ -161,11 +155,7 @@ reading-left files slots m source object text a (Some at) h e read done =
     let file = file-idle 1025 files slots m source at fewer e in
     let same : ◌≡◌ {A = Result (List ℕ) Outcome} (Ok (text_at files at)) (Ok text) = sym (ap (λ (t : Then (Result (List ℕ) Outcome)). t.0) file) ∙ read in
     let is : text_at files at ≡ text = cc in
-    let put : after_reading object (file_bytes 1025 source (idle files slots m)) ≡ (assembled_outcome (source_object text).1, idle (put_at files object (source_object text).0 (place_of files object)) (slice_set after 257 Closed) m) =
-    ap (after_reading object) file
-    ∙ ap (λ xs. after_reading object (Ok xs, idle files after m)) is
-    ∙ ap (after_opening text) (open-object files after m object)
-    ∙ put-of (source_object text) files after m object long in
+    let put = assembled-idle files after m (idle files slots m) source object text long (file ∙ ap (λ xs. (Ok xs, idle files after m)) is) in
     record { at = at; there = e; read = is; accepted = ap (λ (t : Then Outcome). t.0) (sym put ∙ done); left = ap (λ (t : Then Outcome). t.1) (sym done ∙ put) }
 
 -- ---- running
@@ -223,9 +213,8 @@ module _ (files : List StoredFile) (slots : List Slot) (m : HostModel) (source o
 -- no call that reads the source fails, where none that assembles it does
 read-well : (kind : MachineKind) (source object : Word) (text : List ℕ) (m after : HostModel) → IsAssembled kind source object text m after → NoneFailed m (file_bytes 1025 source m).1
 read-well kind source object text m after a =
-    let all : after_reading object (file_bytes 1025 source m) ≡ (Done 0, after) = asm-done kind source object m after a.done in
     sooner m (file_bytes 1025 source m).1 after
-    (subst (λ (t : Then Outcome). (file_bytes 1025 source m).1.calls ≤ t.1.calls) all (reading-later object (file_bytes 1025 source m))) a.well
+    (subst (λ (t : Then Outcome). (file_bytes 1025 source m).1.calls ≤ t.1.calls) (asm-done kind source object m after a.done) (assembled-later source object m)) a.well
 
 -- the model that is left, with no call that fails, as the still model leaves it
 known-of : (kind : MachineKind) (source object : Word) (text : List ℕ) (m after : HostModel) → IsAssembled kind source object text m after → 257 < length m.slots →
@@ -234,7 +223,7 @@ known-of kind source object text m after a h =
     let well : NoneFailed m (host_of (product kind (asm_words source object) m)) = subst (λ (t : Answer). NoneFailed m (host_of t)) (sym a.done) a.well in
     let asm = (product-steady kind (asm_words source object) m).same well in
     let done : product kind (asm_words source object) (still m) ≡ answered (Done 0) (still after) = sym asm ∙ ap answer_still a.done in
-    let file = (file-steady 1025 source m).same (read-well kind source object text m after a) in
+    let file = (plan-spared (file_plan 1025 source) m).same (read-well kind source object text m after a) in
     let read : (file_bytes 1025 source (still m)).0 ≡ Ok text = ap (λ (t : Then (Result (List ℕ) Outcome)). t.0) (sym file) ∙ a.read in
     reading-left m.files m.slots m source object text (still after) (place_of m.files source) h refl read (asm-done kind source object (still m) (still after) done)
 

@@ -15,13 +15,21 @@ use Rattle.mx_host.specs.declared.slots.Lead.TheVariants.{File}
 use Rattle.mx_host.specs.HostModel.{HostModel, last_call, place_of}
 use Rattle.mx_host.specs.HostAnswer.{Then, open_answer, opened, read_answer, read_from, write_answer, write_to, close_answer, closed, with_bytes, bytes_at, put_at}
 use Rattle.mx_word.specs.Lists.{with_written}
-use Rattle.mx_files.specs.Pieces.{piece_put, pieces_after, put_pieces}
-use Rattle.mx_files.specs.Assembling.{assembled_outcome, closed_object, written_object, object_put}
-use Rattle.mx_files.specs.Source.{pieces, piece_read, next_piece, closed_with, closed_after, read_after, file_bytes}
+use Rattle.mx_host.specs.declared.faults.HostFault.{HostFault as SlotFault}
+use Rattle.mx_host.specs.declared.faults.OpenFault.{OpenFault}
+use Rattle.mx_plan.specs.Calls.{host}
+use Rattle.mx_plan.specs.Plan.{returns, end_of, end_after}
+use Rattle.mx_plan.proofs.Plans.{end_returns}
+use Rattle.mx_files.specs.Assembling.{assembled_outcome}
+use Rattle.mx_files.specs.FilePlans.{on_ok, piece_added, read_next, read_pieces, then_closed, read_open, write_pieces, text_plan}
+use Rattle.mx_files.specs.ObjectPlans.{assemble_plan}
+use Rattle.mx_files.specs.Objects.{source_object}
+use Rattle.mx_files.specs.Writing.{was_put, put_text}
+use Rattle.mx_files.specs.Source.{file_bytes}
+use Rattle.mx_files.proofs.FileEnds.{then_carried, added-by, pieces-by, then-by, open-by, input_after, file-by, write-by, none-by, more-by, assembled-by}
 use Rattle.mx_outcome.specs.declared.outcome.Outcome.{Outcome}
 use Rattle.mx_outcome.specs.declared.outcome.Outcome.TheVariants.{NoFile}
-use Rattle.mx_files.specs.declared.refusal.Refusal.{Refusal}
-use Rattle.mx_host.proofs.NamedFiles.{home, Lies, at-home, put-put, overwritten-end}
+use Rattle.mx_host.proofs.NamedFiles.{home, Lies, lies, at-home, put-put, overwritten-end}
 
 -- the model with no call that fails, and with these files and slots
 abbrev pub idle : List StoredFile → List Slot → HostModel → HostModel
@@ -61,52 +69,77 @@ short-read n total bytes l h =
     let few : length bytes ≤ n = grind (arith, length-take n bytes) in
     take_all n bytes few ∙ sym (take_all total bytes (omega arith))
 
+-- what was read, and the file is closed then
+abbrev shut : Then (Result (List ℕ) Outcome) → Then (Result (List ℕ) Outcome)
+shut t = end_after host (on_ok then_closed) t
+
+shut-idle : (bytes : List ℕ) (files : List StoredFile) (slots : List Slot) (m : HostModel) (at place : ℕ) → 256 < length slots →
+    end_of host (then_closed bytes) (idle files (slice_set slots 256 (Open (File at) BinaryRead place)) m) ≡ (Ok bytes, idle files (slice_set slots 256 Closed) m)
+shut-idle bytes files slots m at place h =
+    then-by bytes (idle files (slice_set slots 256 (Open (File at) BinaryRead place)) m)
+    ∙ ap (λ (t : Then (Result (Unit {0}) SlotFault)). end_after host (on_ok (λ u. returns (Ok bytes))) (then_carried t)) (close-idle files slots m 256 place (File at) BinaryRead h)
+    ∙ end_returns host (Ok bytes) (idle files (slice_set slots 256 Closed) m)
+
 -- what follows a piece, by whether it was a whole one
-piece-next : (more : List ℕ → HostModel → Then (Result (List ℕ) Outcome)) (left : ℕ) (got : List ℕ) (files : List StoredFile) (slots : List Slot) (m : HostModel) (at place : ℕ) → 256 < length slots →
-    ((xs : List ℕ) (q : ℕ) → closed_after (more xs (idle files (slice_set slots 256 (Open (File at) BinaryRead q)) m))
+piece-next : (left : ℕ) (got : List ℕ) (files : List StoredFile) (slots : List Slot) (m : HostModel) (at place : ℕ) → 256 < length slots →
+    ((xs : List ℕ) (q : ℕ) → shut (end_of host (read_pieces left xs) (idle files (slice_set slots 256 (Open (File at) BinaryRead q)) m))
     ≡ (Ok (xs ++ take (4096 * left) (drop q (bytes_at files at))), idle files (slice_set slots 256 Closed) m)) →
     (piece : List ℕ) (b : Bool) → piece ≡ take 4096 (drop place (bytes_at files at)) → (length piece == 4096) ≡ b →
-    closed_after (next_piece more (Ok (got ++ piece, b), idle files (slice_set slots 256 (Open (File at) BinaryRead (place + length piece))) m))
+    shut (end_after host (on_ok (read_next (read_pieces left))) (Ok (got ++ piece, b), idle files (slice_set slots 256 (Open (File at) BinaryRead (place + length piece))) m))
     ≡ (Ok (got ++ take (4096 * suc left) (drop place (bytes_at files at))), idle files (slice_set slots 256 Closed) m)
-piece-next more left got files slots m at place h others piece true is e =
+piece-next left got files slots m at place h others piece true is e =
     let all : length piece ≡ 4096 = grind (arith, nat_tests) in
     let size : length (take 4096 (drop place (bytes_at files at))) ≡ 4096 = ap length (sym is) ∙ all in
     others (got ++ piece) (place + length piece)
     ∙ ap (λ xs. (Ok xs, idle files (slice_set slots 256 Closed) m))
     (ap (λ ys. (got ++ ys) ++ take (4096 * left) (drop (place + length ys) (bytes_at files at))) is
     ∙ more-read 4096 (4096 * left) (4096 * suc left) place got (bytes_at files at) (omega arith) size)
-piece-next more left got files slots m at place h others piece false is e =
+piece-next left got files slots m at place h others piece false is e =
     let fewer : length piece ≢ 4096 = grind (arith, nat_tests) in
-    ap (closed_with (got ++ piece)) (close-idle files slots m 256 (place + length piece) (File at) BinaryRead h)
+    let n : HostModel = idle files (slice_set slots 256 (Open (File at) BinaryRead (place + length piece))) m in
+    ap shut (end_returns host (Ok (got ++ piece)) n) ∙ shut-idle (got ++ piece) files slots m at (place + length piece) h
     ∙ ap (λ xs. (Ok (got ++ xs), idle files (slice_set slots 256 Closed) m))
     (is ∙ short-read 4096 (4096 * suc left) (drop place (bytes_at files at)) (omega arith) (λ same. fewer (ap length is ∙ same)))
 
+none-read : (got : List ℕ) (m : HostModel) → end_of host (read_pieces 0 got) m ≡ (Ok got, m)
+unfolding read_pieces end_of
+none-read got m = refl
+
 -- the bytes from a place on, in pieces; then the file is closed
 pieces-idle : (left : ℕ) (got : List ℕ) (files : List StoredFile) (slots : List Slot) (m : HostModel) (at place : ℕ) → 256 < length slots →
-    closed_after (pieces left got (idle files (slice_set slots 256 (Open (File at) BinaryRead place)) m))
+    shut (end_of host (read_pieces left got) (idle files (slice_set slots 256 (Open (File at) BinaryRead place)) m))
     ≡ (Ok (got ++ take (4096 * left) (drop place (bytes_at files at))), idle files (slice_set slots 256 Closed) m)
-unfolding pieces
 pieces-idle zero got files slots m at place h =
-    ap (closed_with got) (close-idle files slots m 256 place (File at) BinaryRead h) ∙ ap (λ xs. (Ok xs, idle files (slice_set slots 256 Closed) m)) (sym (append-nil got))
+    ap shut (none-read got (idle files (slice_set slots 256 (Open (File at) BinaryRead place)) m)) ∙ shut-idle got files slots m at place h
+    ∙ ap (λ xs. (Ok xs, idle files (slice_set slots 256 Closed) m)) (sym (append-nil got))
 pieces-idle (suc left) got files slots m at place h =
     let piece : List ℕ = take 4096 (drop place (bytes_at files at)) in
-    ap (λ t. closed_after (next_piece (pieces left) (piece_read got t))) (read-idle files slots m 256 4096 at place h)
-    ∙ piece-next (pieces left) left got files slots m at place h (λ xs q. pieces-idle left xs files slots m at q h) piece (length piece == 4096) refl refl
+    let n : HostModel = idle files (slice_set slots 256 (Open (File at) BinaryRead (place + length piece))) m in
+    ap shut (pieces-by left got (idle files (slice_set slots 256 (Open (File at) BinaryRead place)) m))
+    ∙ ap (λ (t : Then (Result (List ℕ) SlotFault)). shut (end_after host (on_ok (read_next (read_pieces left))) (end_after host (piece_added got) t))) (read-idle files slots m 256 4096 at place h)
+    ∙ ap (λ (t : Then (Result (List ℕ × Bool) Outcome)). shut (end_after host (on_ok (read_next (read_pieces left))) t)) (added-by got piece n)
+    ∙ piece-next left got files slots m at place h (λ xs q. pieces-idle left xs files slots m at q h) piece (length piece == 4096) refl refl
 
 open-reading : (files : List StoredFile) (slots : List Slot) (m : HostModel) (name : List ℕ) (p : Option ℕ) → place_of files name ≡ p →
     open_answer (idle files slots m) 256 name BinaryRead ≡ opened true (idle files slots m) 256 name BinaryRead p
 unfolding open_answer
 open-reading files slots m name p e = ap (opened true (idle files slots m) 256 name BinaryRead) e
 
+opened-by : (most : ℕ) (name : List ℕ) (files : List StoredFile) (slots : List Slot) (m : HostModel) (p : Option ℕ) → place_of files name ≡ p →
+    file_bytes most name (idle files slots m) ≡ end_after host (on_ok (λ u. read_open most)) (input_after (opened true (idle files slots m) 256 name BinaryRead p))
+opened-by most name files slots m p e =
+    file-by most name (idle files slots m) ∙ ap (λ (t : Then (Result (Unit {0}) OpenFault)). end_after host (on_ok (λ u. read_open most)) (input_after t)) (open-reading files slots m name p e)
+
 -- the bytes of a file that is there, as far as so many pieces reach; then the slot is closed
 pub file-idle : (most : ℕ) (files : List StoredFile) (slots : List Slot) (m : HostModel) (name : List ℕ) (at : ℕ) → 256 < length slots → place_of files name ≡ Some at →
     file_bytes most name (idle files slots m) ≡ (Ok (take (4096 * most) (bytes_at files at)), idle files (slice_set slots 256 Closed) m)
-file-idle most files slots m name at h e = ap (read_after most) (open-reading files slots m name (Some at) e) ∙ pieces-idle most [] files slots m at 0 h
+file-idle most files slots m name at h e =
+    opened-by most name files slots m (Some at) e ∙ open-by most (idle files (slice_set slots 256 (Open (File at) BinaryRead 0)) m) ∙ pieces-idle most [] files slots m at 0 h
 
 -- a file that is not there
 pub file-absent : (most : ℕ) (files : List StoredFile) (slots : List Slot) (m : HostModel) (name : List ℕ) → place_of files name ≡ None →
     file_bytes most name (idle files slots m) ≡ (Err NoFile, idle files (slice_set slots 256 Closed) m)
-file-absent most files slots m name e = ap (read_after most) (open-reading files slots m name None e)
+file-absent most files slots m name e = opened-by most name files slots m None e ∙ end_returns host (Err NoFile) (idle files (slice_set slots 256 Closed) m)
 
 -- ---- writing
 
@@ -141,19 +174,29 @@ write-idle files slots m name p bytes from h l =
     ∙ ap (λ ss. (Ok tt, idle (put_at files name (bytes ++ from) p) ss m)) moved
 
 pieces_put-idle : (k : ℕ) (files : List StoredFile) (slots : List Slot) (m : HostModel) (name : List ℕ) (p : Option ℕ) (bytes text : List ℕ) → 257 < length slots → Lies files p →
-    put_pieces k 257 text (writing files slots m name p bytes) ≡ (true, writing files slots m name p (bytes ++ text))
-unfolding put_pieces
-pieces_put-idle zero files slots m name p bytes text h l = ap piece_put (write-idle files slots m name p bytes text h l)
+    end_of host (write_pieces k 257 text) (writing files slots m name p bytes) ≡ (Ok tt, writing files slots m name p (bytes ++ text))
+pieces_put-idle zero files slots m name p bytes text h l =
+    none-by 257 text (writing files slots m name p bytes) ∙ write-by 257 text (writing files slots m name p bytes) ∙ ap then_carried (write-idle files slots m name p bytes text h l)
 pieces_put-idle (suc k) files slots m name p bytes text h l =
     let first : List ℕ = take 4096 text in
     let others : List ℕ = drop 4096 text in
-    ap (λ t. pieces_after (put_pieces k 257 others) (piece_put t)) (write-idle files slots m name p bytes first h l)
+    more-by k 257 text (writing files slots m name p bytes)
+    ∙ ap (λ (t : Then (Result (Unit {0}) SlotFault)). end_after host (on_ok (λ u. write_pieces k 257 others)) (then_carried t)) (write-idle files slots m name p bytes first h l)
     ∙ pieces_put-idle k files slots m name p (bytes ++ first) others h l
-    ∙ ap (λ xs. (true, writing files slots m name p xs)) (append_assoc bytes first others ∙ ap (λ xs. bytes ++ xs) (take-append-drop 4096 text))
+    ∙ ap (λ xs. (Ok tt, writing files slots m name p xs)) (append_assoc bytes first others ∙ ap (λ xs. bytes ++ xs) (take-append-drop 4096 text))
 
--- what there is of an object is written and closed
-pub put-idle : (bytes : List ℕ) (answer : Result (Unit {0}) Refusal) (files : List StoredFile) (slots : List Slot) (m : HostModel) (name : List ℕ) (p : Option ℕ) → 257 < length slots → Lies files p →
-    object_put (bytes, answer) (writing files slots m name p []) ≡ (assembled_outcome answer, idle (put_at files name bytes p) (slice_set slots 257 Closed) m)
-put-idle bytes answer files slots m name p h l =
-    ap (written_object (assembled_outcome answer)) (pieces_put-idle ((length bytes - 1) / 4096) files slots m name p [] bytes h l)
-    ∙ ap (closed_object (assembled_outcome answer)) (close-idle (put_at files name bytes p) slots m 257 (length bytes) (File (home files p)) BinaryWrite h)
+text-idle : (files : List StoredFile) (slots : List Slot) (m : HostModel) (name : List ℕ) (p : Option ℕ) (text : List ℕ) → 257 < length slots → Lies files p →
+    put_text 257 text (writing files slots m name p []) ≡ (true, writing files slots m name p text)
+unfolding put_text text_plan
+text-idle files slots m name p text h l = ap was_put (pieces_put-idle ((length text - 1) / 4096) files slots m name p [] text h l)
+
+-- what there is of an object is written and closed: a source that is read is assembled
+pub assembled-idle : (files : List StoredFile) (slots : List Slot) (m k : HostModel) (source object text : List ℕ) → 257 < length slots → file_bytes 1025 source k ≡ (Ok text, idle files slots m) →
+    end_of host (assemble_plan source object) k
+    ≡ (assembled_outcome (source_object text).1, idle (put_at files object (source_object text).0 (place_of files object)) (slice_set slots 257 Closed) m)
+assembled-idle files slots m k source object text h read =
+    let bytes : List ℕ = (source_object text).0 in
+    let p : Option ℕ = place_of files object in
+    assembled-by source object text k (idle files slots m) (writing files slots m object p []) (writing files slots m object p bytes) (idle (put_at files object bytes p) (slice_set slots 257 Closed) m) read
+    (open-object files slots m object) (text-idle files slots m object p bytes h (lies files object))
+    (close-idle (put_at files object bytes p) slots m 257 (length bytes) (File (home files p)) BinaryWrite h)

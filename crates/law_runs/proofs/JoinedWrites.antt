@@ -18,8 +18,15 @@ use Rattle.mx_trap.specs.declared.writes.Written.{Written}
 use Rattle.mx_trap.specs.declared.writes.Written.TheVariants.{Whole, Short, OutOfMemory}
 use Rattle.mx_trap.proofs.JoinedWrites.{written-joined}
 use Rattle.mx_plan.proofs.Spared.{sooner}
-use Rattle.law_runs.proofs.SteadyFiles.{piece-steady, pieces_put-steady, text-steady}
-use Rattle.mx_files.specs.Pieces.{put_piece, piece_put, pieces_after, put_pieces, put_text}
+use Rattle.law_runs.proofs.SteadyFiles.{piece-steady, text-steady}
+use Rattle.mx_plan.specs.Calls.{host}
+use Rattle.mx_plan.specs.Plan.{end_of, end_after}
+use Rattle.mx_plan.proofs.Spared.{plan-spared}
+use Rattle.mx_files.specs.FilePlans.{Part, on_ok}
+use Rattle.mx_files.specs.FilePlans as plans
+use Rattle.mx_files.specs.Writing.{was_put, put_piece, put_text}
+use Rattle.mx_files.proofs.FileEnds.{then_carried, write-by, none-by, more-by}
+use Rattle.mx_outcome.specs.declared.outcome.Outcome.{Outcome}
 
 -- whether all was written, by what a file trap counts
 abbrev is_whole : Written → Bool
@@ -30,21 +37,29 @@ is_whole OutOfMemory = false
 abbrev as_put : Then Written → Then Bool
 as_put t = (is_whole t.0, t.1)
 
-last-put : (gone : ℕ) (t : Then (Result (Unit {0}) HostFault)) → as_put (write_last gone t) ≡ piece_put t
+last-put : (gone : ℕ) (t : Then (Result (Unit {0}) HostFault)) → as_put (write_last gone t) ≡ was_put (then_carried t)
 last-put gone (Ok u, m) = refl
 last-put gone (Err e, m) = refl
 
-next-put : (more : HostModel → Then Written) (others : HostModel → Then Bool) → ((m : HostModel) → as_put (more m) ≡ others m) → (t : Then Written) → as_put (write_next more t) ≡ pieces_after others (as_put t)
-next-put more others h (Whole, m) = h m
-next-put more others h (Short n, m) = refl
-next-put more others h (OutOfMemory, m) = refl
+next-put : (more : HostModel → Then Written) (others : Part (Unit {0})) → ((m : HostModel) → as_put (more m) ≡ was_put (end_of host others m)) → (gone : ℕ) (t : Then (Result (Unit {0}) HostFault)) →
+    as_put (write_next more (write_last gone t)) ≡ was_put (end_after host (on_ok (λ u. others)) (then_carried t))
+unfolding end_of
+next-put more others h gone (Ok u, m) = h m
+next-put more others h gone (Err e, m) = refl
 
-pieces-put : (k slot : ℕ) (text : List ℕ) (gone : ℕ) (m : HostModel) → as_put (write_pieces k slot text gone m) ≡ put_pieces k slot text m
-unfolding write_pieces put_pieces
-pieces-put zero slot text gone m = last-put gone (write_answer m slot text)
+piece-put : (slot : ℕ) (text : List ℕ) (gone : ℕ) (m : HostModel) → as_put (write_piece slot text gone m) ≡ put_piece slot text m
+piece-put slot text gone m = last-put gone (write_answer m slot text) ∙ ap was_put (sym (write-by slot text m))
+
+pieces-put : (k slot : ℕ) (text : List ℕ) (gone : ℕ) (m : HostModel) → as_put (write_pieces k slot text gone m) ≡ was_put (end_of host (plans.write_pieces k slot text) m)
+unfolding write_pieces
+pieces-put zero slot text gone m = piece-put slot text gone m ∙ ap was_put (sym (none-by slot text m))
 pieces-put (suc k) slot text gone m =
-    next-put (write_pieces k slot (drop 4096 text) (gone + 4096)) (put_pieces k slot (drop 4096 text)) (λ n. pieces-put k slot (drop 4096 text) (gone + 4096) n) (write_piece slot (take 4096 text) gone m)
-    ∙ ap (pieces_after (put_pieces k slot (drop 4096 text))) (last-put gone (write_answer m slot (take 4096 text)))
+    next-put (write_pieces k slot (drop 4096 text) (gone + 4096)) (plans.write_pieces k slot (drop 4096 text)) (λ n. pieces-put k slot (drop 4096 text) (gone + 4096) n) gone (write_answer m slot (take 4096 text))
+    ∙ ap was_put (sym (more-by k slot text m))
+
+text-put : (slot : ℕ) (text : List ℕ) (m : HostModel) → as_put (written slot text m) ≡ put_text slot text m
+unfolding put_text plans.text_plan
+text-put slot text m = pieces-put (whole_pieces (length text)) slot text 0 m
 
 as-put : (t u : Then Written) (v w : Then Bool) → as_put t ≡ v → as_put u ≡ w → SameButCalls t u → SameButCalls v w
 as-put t u v w e f h = record {
@@ -56,7 +71,7 @@ as-put t u v w e f h = record {
 still-joined : (slot : ℕ) (text : List ℕ) (m : HostModel) → m.failing ≡ [] → SameButCalls (put_text slot text m) (put_piece slot text m)
 still-joined slot text m h =
     as-put (written slot text m) (write_piece slot text 0 m) (put_text slot text m) (put_piece slot text m)
-    (pieces-put (whole_pieces (length text)) slot text 0 m) (last-put 0 (write_answer m slot text)) (written-joined slot text m h)
+    (text-put slot text m) (piece-put slot text 0 m) (written-joined slot text m h)
 
 -- ---- one write makes no more calls than the pieces do
 
@@ -78,28 +93,30 @@ write-counted : (m : HostModel) (slot : ℕ) (from : List ℕ) → (write_answer
 unfolding write_answer
 write-counted m slot from = one-of (counted m).calls (is_failing m) _ _ refl (to-counted (counted m) slot from (slot_at m slot))
 
-put-counted : (t : Then (Result (Unit {0}) HostFault)) → (piece_put t).1.calls ≡ t.1.calls
-put-counted (Ok u, m) = refl
-put-counted (Err e, m) = refl
+put-world : (t : Then (Result (Unit {0}) Outcome)) → (was_put t).1 ≡ t.1
+put-world (Ok u, m) = refl
+put-world (Err outcome, m) = refl
 
 piece-counted : (slot : ℕ) (piece : List ℕ) (m : HostModel) → (put_piece slot piece m).1.calls ≡ (counted m).calls
-piece-counted slot piece m = put-counted (write_answer m slot piece) ∙ write-counted m slot piece
+piece-counted slot piece m = ap (λ (n : HostModel). n.calls) (put-world (end_of host (plans.write_piece slot piece) m) ∙ ap (λ (t : Then (Result (Unit {0}) Outcome)). t.1) (write-by slot piece m)) ∙ write-counted m slot piece
 
-after-later : (more : HostModel → Then Bool) → ((m : HostModel) → m.calls ≤ (more m).1.calls) → (t : Then Bool) → t.1.calls ≤ (pieces_after more t).1.calls
-after-later more f (true, m) = f m
-after-later more f (false, m) = le_refl m.calls
+after-later : (others : Part (Unit {0})) (t : Then (Result (Unit {0}) Outcome)) → t.1.calls ≤ (end_after host (on_ok (λ u. others)) t).1.calls
+after-later others (r, m) = (plan-spared (on_ok (λ u. others) r) m).later
 
-pieces-later : (k slot : ℕ) (text : List ℕ) (m : HostModel) → (counted m).calls ≤ (put_pieces k slot text m).1.calls
-unfolding put_pieces
-pieces-later zero slot text m = subst (λ n. n ≤ (put_piece slot text m).1.calls) (piece-counted slot text m) (le_refl (put_piece slot text m).1.calls)
+pieces-later : (k slot : ℕ) (text : List ℕ) (m : HostModel) → (counted m).calls ≤ (end_of host (plans.write_pieces k slot text) m).1.calls
+pieces-later zero slot text m =
+    rw (none-by slot text m, write-by slot text m) (subst (λ n. n ≤ (write_answer m slot text).1.calls) (write-counted m slot text) (le_refl (write_answer m slot text).1.calls))
 pieces-later (suc k) slot text m =
-    let others : List ℕ = drop 4096 text in
-    let first : Then Bool = put_piece slot (take 4096 text) m in
-    subst (λ n. n ≤ (pieces_after (put_pieces k slot others) first).1.calls) (piece-counted slot (take 4096 text) m)
-    (after-later (put_pieces k slot others) (λ n. (pieces_put-steady k slot others n).later) first)
+    rw (more-by k slot text m)
+    (subst (λ n. n ≤ (end_after host (on_ok (λ u. plans.write_pieces k slot (drop 4096 text))) (then_carried (write_answer m slot (take 4096 text)))).1.calls) (write-counted m slot (take 4096 text))
+    (after-later (plans.write_pieces k slot (drop 4096 text)) (then_carried (write_answer m slot (take 4096 text)))))
 
 piece-first : (slot : ℕ) (text : List ℕ) (m : HostModel) → (put_piece slot text m).1.calls ≤ (put_text slot text m).1.calls
-piece-first slot text m = subst (λ n. n ≤ (put_text slot text m).1.calls) (sym (piece-counted slot text m)) (pieces-later ((length text - 1) / 4096) slot text m)
+unfolding put_text plans.text_plan
+piece-first slot text m =
+    let whole : Then (Result (Unit {0}) Outcome) = end_of host (plans.write_pieces ((length text - 1) / 4096) slot text) m in
+    subst (λ n. n ≤ (was_put whole).1.calls) (sym (piece-counted slot text m))
+    (subst (λ (n : HostModel). (counted m).calls ≤ n.calls) (sym (put-world whole)) (pieces-later ((length text - 1) / 4096) slot text m))
 
 -- ---- where none of the calls fails
 

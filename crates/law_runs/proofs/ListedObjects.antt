@@ -36,12 +36,13 @@ use Rattle.mx_type.proofs.Listed.{all-listed}
 use Rattle.mx_type.proofs.Once.{items-once, trie-once}
 use Rattle.mx_words.specs.declared.order.Command.TheVariants.{Show}
 use Rattle.mx_words.specs.declared.order.Order.{Order}
-use Rattle.mx_files.specs.Answers.{Answer, answered, after_lines}
+use Rattle.mx_files.specs.Answers.{Answer, answered, plainly}
+use Rattle.mx_files.proofs.FileEnds.{listed-by}
 use Rattle.mx_begin.specs.Arguments.{Word, word_at}
 use Rattle.mx_outcome.specs.Messages.{message_of}
 use Rattle.mx_top.specs.Product.{message_told, with_message, product}
 use Rattle.mx_files.specs.Source.{object_pieces}
-use Rattle.mx_files.specs.Typed.{Typed, shown, item_lines, tail_lines, trie_typed, tail_typed, unread, unread_trie, behind, walk_typed, typed, after_typing}
+use Rattle.mx_files.specs.Typed.{Typed, shown, item_lines, tail_lines, trie_typed, tail_typed, unread, unread_trie, behind, walk_typed, typed}
 use Rattle.mx_outcome.specs.declared.outcome.Outcome.{Outcome}
 use Rattle.mx_outcome.specs.declared.outcome.Outcome.TheVariants.{Done, OutOfMemory}
 use Rattle.law_runs.specs.Called.{IsCalled, NoCallFails}
@@ -218,8 +219,8 @@ still-listed : (kind : MachineKind) (words : List Word) (o : Order) (bytes : Lis
     product kind words (still m) ≡ with_message (still-told bytes m)
 still-listed kind words o bytes m h there =
     order-is kind words o Show (still m) h
-    ∙ ap (λ t. with_message (after_typing t)) (there-read (word_at words o.file) object_pieces bytes m there)
-    ∙ ap (λ t. with_message (after_lines (typed bytes).1 t)) (lines-still (typed bytes).0 m (slot_at-start_output m there.slots))
+    ∙ ap (λ t. with_message (plainly t))
+    (listed-by (word_at words o.file) bytes (still m) (still m) (still (with_output m (concat (typed bytes).0))) (there-read (word_at words o.file) object_pieces bytes m there) (lines-still (typed bytes).0 m (slot_at-start_output m there.slots)))
 
 listed-there : (kind : MachineKind) (words : List Word) (o : Order) (bytes : List ℕ) (m : HostModel) → m.failing ≡ [] → IsOrdered words o Show → IsThere (word_at words o.file) object_pieces bytes m →
     answer_uncounted (product kind words m) ≡ answer_uncounted (with_message (there-told bytes m))

@@ -20,8 +20,14 @@ use Rattle.law_gen.specs.Generator.{generated}
 use Rattle.mx_top.specs.Product.{begun_run, image_turned, after_schedule, generated_run, source_generated, summed_from, ordered, carried_out, with_message, product}
 use Rattle.law_runs.specs.Rings.{DifferInRing, HandsArguments, gen_ring_words, gen_words}
 use Rattle.mx_top.specs.Reports.{traces_from, begun_traces, ordered_traces, carried_traces, due_reports, with_reports, watched_product}
-use Rattle.mx_top.specs.Runs.{image_run, run_from}
-use Rattle.mx_begin.specs.Begun.{image_read, stack_at_start, started, started_after}
+use Rattle.mx_top.specs.Runs.{run_from}
+use Rattle.mx_begin.specs.BeginPlans.{image_file_plan, start_plan, begin_plan}
+use Rattle.mx_begin.specs.Begun.{stack_at_start, started}
+use Rattle.mx_begin.specs.declared.images.Form.{Form}
+use Rattle.mx_begin.proofs.Beginnings.{begin-by, start-end}
+use Rattle.mx_files.specs.FilePlans.{on_ok}
+use Rattle.mx_plan.specs.Calls.{host}
+use Rattle.mx_plan.specs.Plan.{end_of, end_after}
 use Rattle.mx_begin.specs.declared.images.Form.TheVariants.{Source, Object}
 use Rattle.mx_top.specs.Processors.{image_turns}
 use Rattle.mx_files.specs.Schedules.{schedule_bytes}
@@ -37,12 +43,20 @@ module _ (kind : MachineKind) (words others : List Word) (o p : Order) (e : Diff
   same-from (Err outcome) m = refl
   same-from (Ok s) m = rw (e.interactive, e.dump, e.steps, e.last) refl
 
-  same-run : (args : List Word) (image : Image) (m : HostModel) → image_run kind o args image m ≡ image_run kind p args image m
-  same-run args image m = same-from (started kind o.ring image args) m ∙ ap (λ r. run_from kind p r m) (start image args)
+  same-started : (args : List Word) (t : Then (Result Image Outcome)) → end_after host (on_ok (start_plan kind o.ring args)) t ≡ end_after host (on_ok (start_plan kind p.ring args)) t
+  unfolding end_of
+  same-started args (Err outcome, m) = refl
+  same-started args (Ok image, m) = start-end kind o.ring args image m ∙ ap (λ (r : Result State Outcome). (r, m)) (start image args) ∙ sym (start-end kind p.ring args image m)
 
-  same-begun : (args : List Word) (t : Then (Result Image Outcome)) → begun_run kind o (started_after kind o.ring args t) ≡ begun_run kind p (started_after kind p.ring args t)
-  same-begun args (Err outcome, m) = refl
-  same-begun args (Ok image, m) = same-run args image m
+  same-begin : (form : Form) (m : HostModel) → arguments words o ≡ arguments others p → end_of host (begin_plan kind words o form) m ≡ end_of host (begin_plan kind others p form) m
+  same-begin form m h =
+      begin-by kind words o form m
+      ∙ ap (λ (w : Word). end_after host (on_ok (start_plan kind o.ring (arguments words o))) (end_of host (image_file_plan form w) m)) e.file
+      ∙ ap (λ (args : List Word). end_after host (on_ok (start_plan kind o.ring args)) (end_of host (image_file_plan form (word_at others p.file)) m)) h
+      ∙ same-started (arguments others p) (end_of host (image_file_plan form (word_at others p.file)) m) ∙ sym (begin-by kind others p form m)
+
+  same-begun : (t : Then (Result State Outcome)) → begun_run kind o t ≡ begun_run kind p t
+  same-begun (r, m) = same-from r m
 
   same-generated : (size : ℕ) (r : Result Image Refusal) (m : HostModel) → generated_run kind o size r m ≡ generated_run kind p size r m
   same-generated size (Err refusal) m = refl
@@ -58,11 +72,11 @@ module _ (kind : MachineKind) (words others : List Word) (o p : Order) (e : Diff
 
   same-schedule : (name : Word) (t : Then (Result (List ℕ) Outcome)) → after_schedule kind o name t ≡ after_schedule kind p name t
   same-schedule name (Err outcome, m) = refl
-  same-schedule name (Ok schedule, m) = same-turned schedule (image_read Object name m)
+  same-schedule name (Ok schedule, m) = same-turned schedule (end_of host (image_file_plan Object name) m)
 
   same-ordered : (c : Command) (m : HostModel) → (HandsArguments c → arguments words o ≡ arguments others p) → (c ≡ Multi → word_at words o.schedule ≡ word_at others p.schedule) → ordered kind words o c m ≡ ordered kind others p c m
-  same-ordered Run m h k = rw (h tt, e.file) (same-begun (arguments others p) (image_read Source (word_at others p.file) m))
-  same-ordered Sim m h k = rw (h tt, e.file) (same-begun (arguments others p) (image_read Object (word_at others p.file) m))
+  same-ordered Run m h k = ap (begun_run kind o) (same-begin Source m (h tt)) ∙ same-begun (end_of host (begin_plan kind others p Source) m)
+  same-ordered Sim m h k = ap (begun_run kind o) (same-begin Object m (h tt)) ∙ same-begun (end_of host (begin_plan kind others p Object) m)
   same-ordered Asm m h k = rw (e.object, e.file) refl
   same-ordered Gen m h k = same-generated _ _ m ∙ ap (λ n. source_generated kind p (generated n) m) e.blocks
   same-ordered Show m h k = rw e.file refl
@@ -81,13 +95,12 @@ module _ (kind : MachineKind) (words others : List Word) (o p : Order) (e : Diff
     traced-from (Err outcome) m = refl
     traced-from (Ok s) m = rw (e.interactive, e.last, asks, e.steps) refl
 
-    traced-begun : (args : List Word) (t : Then (Result Image Outcome)) → begun_traces kind o (started_after kind o.ring args t) ≡ begun_traces kind p (started_after kind p.ring args t)
-    traced-begun args (Err outcome, m) = refl
-    traced-begun args (Ok image, m) = traced-from (started kind o.ring image args) m ∙ ap (λ r. traces_from kind p r m) (start image args)
+    traced-begun : (t : Then (Result State Outcome)) → begun_traces kind o t ≡ begun_traces kind p t
+    traced-begun (r, m) = traced-from r m
 
     traced-ordered : (c : Command) (m : HostModel) → (HandsArguments c → arguments words o ≡ arguments others p) → ordered_traces kind words o c m ≡ ordered_traces kind others p c m
-    traced-ordered Run m h = rw (h tt, e.file) (traced-begun (arguments others p) (image_read Source (word_at others p.file) m))
-    traced-ordered Sim m h = rw (h tt, e.file) (traced-begun (arguments others p) (image_read Object (word_at others p.file) m))
+    traced-ordered Run m h = ap (begun_traces kind o) (same-begin Source m (h tt)) ∙ traced-begun (end_of host (begin_plan kind others p Source) m)
+    traced-ordered Sim m h = ap (begun_traces kind o) (same-begin Object m (h tt)) ∙ traced-begun (end_of host (begin_plan kind others p Object) m)
     traced-ordered Asm m h = refl
     traced-ordered Gen m h = refl
     traced-ordered Show m h = refl

@@ -25,7 +25,7 @@ use Rattle.law_runs.specs.Called.{NoCallFails, IsCalled}
 use Rattle.law_runs.specs.Complete.{IsOrdered, IsStarted, IsThere, SourceIsThere, ObjectIsThere, IsHalted, IsPlayed, IsGenerated, with_output}
 use Rattle.law_runs.specs.Detour.{answer_uncounted, answer_unscheduled}
 use Rattle.mx_dump.specs.Dump.{dump_lines}
-use Rattle.mx_files.specs.Lines.{lines_put}
+use Rattle.mx_files.specs.Writing.{lines_put}
 use Rattle.mx_outcome.specs.Messages.{message_of}
 use Rattle.mx_files.specs.Objects.{source_object}
 use Rattle.mx_files.specs.Assembling.{assembled_outcome}

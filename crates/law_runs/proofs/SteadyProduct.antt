@@ -2,20 +2,16 @@
 -- list of those that fail.
 use Rattle.std.proofs.Common.{◌≡◌, ◌≤◌, ℕ, zero, suc, List, [], ◌∷◌, Bool, true, false, cond, length, take, refl, sym, ◌∙◌, ap, Ok, Err}
 use Rattle.std.specs.Prelude.{Result, ◌&&◌, codes}
-use Rattle.mx_word.specs.declared.symbols.Symbol.{Symbol}
 use Rattle.mx_host.specs.HostModel.{HostModel}
-use Rattle.mx_host.specs.HostAnswer.{Then, open_answer, close_answer}
-use Rattle.mx_host.specs.declared.slots.Mode.TheVariants.{BinaryWrite}
-use Rattle.mx_host.specs.declared.faults.HostFault.{HostFault as SlotFault}
-use Rattle.mx_host.specs.declared.faults.OpenFault.{OpenFault}
-use Rattle.mx_host.specs.declared.faults.OpenFault.TheVariants as opening
+use Rattle.mx_host.specs.HostAnswer.{Then}
 use Rattle.mx_host.proofs.Still.{still}
 use Rattle.mx_mmo.specs.Image.{Image}
-use Rattle.mx_load.specs.Objects.{object_loaded}
 use Rattle.mx_core.specs.State.{State}
 use Rattle.mx_ring.specs.Stack.{register}
 use Rattle.mx_plan.specs.Counts.{NoneFailed, unscheduled, without_count}
-use Rattle.mx_plan.proofs.Spared.{Spares, Spared, uncalled, after, then, open-spared, write-spared, close-spared}
+use Rattle.mx_plan.specs.Calls.{host, HostPlan}
+use Rattle.mx_plan.specs.Plan.{end_of}
+use Rattle.mx_plan.proofs.Spared.{Spares, Spared, uncalled, after, write-spared, plan-spared}
 use Rattle.mx_plan.proofs.Spared.{uncounted-of, still-same}
 use Rattle.mx_run.specs.Counts.{end_host}
 use Rattle.mx_back.specs.History.{kept_turn, states_kept}
@@ -41,29 +37,26 @@ use Rattle.mx_begin.specs.Arguments.{Word, word_at, arguments}
 use Rattle.law_runs.specs.Detour.{host_of, answer_uncounted, answer_unscheduled}
 use Rattle.mx_dump.specs.Dump.{dump_lines}
 use Rattle.law_gen.specs.Generator.{generated, summary}
-use Rattle.mx_files.specs.Lines.{lines_put}
-use Rattle.mx_files.specs.Typed.{typed, after_typing}
+use Rattle.mx_files.specs.Writing.{lines_put}
 use Rattle.mx_files.specs.Sources.{source_meaning}
 use Rattle.mx_outcome.specs.Messages.{message_of}
-use Rattle.mx_files.specs.Objects.{Assembled, source_object}
-use Rattle.mx_files.specs.Pieces.{put_text}
-use Rattle.mx_files.specs.Assembling.{closed_object, written_object, assembled_outcome, object_put, after_opening, after_reading}
+use Rattle.mx_files.specs.ObjectPlans.{assemble_plan, list_plan}
 use Rattle.mx_top.specs.Product.{begun_run, generator_steps, summed, summed_from, generated_run, image_turned, after_schedule, multi_ordered, ordered, carried_out, message_told, with_message, product}
 use Rattle.mx_top.specs.Runs.{ran, ran_to, outcome_of, takes_back, state_lines, reached, lines_told, taken_back, run_back, played, session_outcome, session_ran, dumped, run_from, image_run}
-use Rattle.mx_begin.specs.Begun.{image_in, most_pieces, image_after, stack_at_start, started, started_after, begun}
+use Rattle.mx_begin.specs.BeginPlans.{begin_plan, image_file_plan}
+use Rattle.mx_begin.specs.Begun.{stack_at_start, started}
 use Rattle.mx_begin.specs.declared.images.Form.{Form}
 use Rattle.mx_begin.specs.declared.images.Form.TheVariants.{Source, Object}
 use Rattle.mx_top.specs.Processors.{processors_named, multi_lines, multi_outcome, turns_told, joint_run}
-use Rattle.mx_files.specs.Schedules.{schedule_from, schedule_bytes}
+use Rattle.mx_files.specs.Schedules.{schedule_bytes, schedule_plan}
 use Rattle.mx_multi.specs.Joint.{Joint}
 use Rattle.mx_multi.specs.Joint as joint
 use Rattle.mx_multi.specs.Turns.{TurnsEnd, turns_ended, turns_wild, turns}
 use Rattle.law_runs.proofs.SteadyTurns.{turns_host, turns_still, turns-steady}
-use Rattle.mx_files.specs.Source.{file_bytes, source_pieces, object_pieces}
 use Rattle.mx_files.specs.declared.refusal.Refusal.{Refusal}
 use Rattle.mx_outcome.specs.declared.outcome.Outcome.{Outcome}
 use Rattle.mx_outcome.specs.declared.outcome.Outcome.TheVariants.{Done, Usage, NoFile, HostFault, Refused, BadObject, BadSchedule, Stopped, StepsSpent, Quit, ConsoleLimit, OutOfMemory}
-use Rattle.law_runs.proofs.SteadyFiles.{text-steady, lines-steady, file-steady}
+use Rattle.law_runs.proofs.SteadyFiles.{lines-steady}
 
 -- ---- answers
 
@@ -181,57 +174,15 @@ image-steady kind o words image m = from-steady kind o (started kind o.ring imag
 
 -- ---- `run` and `sim`
 
-image-case : (kind : MachineKind) (o : Order) (words : List Word) (r : Result Image Outcome) (m : HostModel) →
-    SparedAnswers m (begun_run kind o (started_after kind o.ring words (r, m))) (begun_run kind o (started_after kind o.ring words (r, still m)))
-image-case kind o words (Err outcome) m = uncalled
-image-case kind o words (Ok image) m = image-steady kind o words image m
-
-file-case : (kind : MachineKind) (o : Order) (words : List Word) (form : Form) (r : Result (List ℕ) Outcome) (m : HostModel) →
-    SparedAnswers m (begun_run kind o (started_after kind o.ring words (image_after form (r, m)))) (begun_run kind o (started_after kind o.ring words (image_after form (r, still m))))
-file-case kind o words form (Err outcome) m = uncalled
-file-case kind o words form (Ok bytes) m = image-case kind o words (image_in form bytes) m
-
 begun-steady : (kind : MachineKind) (words : List Word) (o : Order) (form : Form) (m : HostModel) →
-    SparedAnswers m (begun_run kind o (begun kind words o form m)) (begun_run kind o (begun kind words o form (still m)))
+    SparedAnswers m (begun_run kind o (end_of host (begin_plan kind words o form) m)) (begun_run kind o (end_of host (begin_plan kind words o form) (still m)))
 begun-steady kind words o form m =
-    behind (λ t. begun_run kind o (started_after kind o.ring (arguments words o) (image_after form t))) (file_bytes (most_pieces form) (word_at words o.file) m) (file_bytes (most_pieces form) (word_at words o.file) (still m))
-    (file-case kind o (arguments words o) form) (file-steady (most_pieces form) (word_at words o.file) m)
+    behind (begun_run kind o) (end_of host (begin_plan kind words o form) m) (end_of host (begin_plan kind words o form) (still m)) (from-steady kind o) (plan-spared (begin_plan kind words o form) m)
 
--- ---- `asm`
+-- ---- `asm` and `type`
 
-shut-case : (outcome : Outcome) (r : Result (Unit {0}) SlotFault) (m : HostModel) → Spared m (closed_object outcome (r, m)) (closed_object outcome (r, still m))
-shut-case outcome (Err e) m = uncalled
-shut-case outcome (Ok u) m = uncalled
-
-written-case : (outcome : Outcome) (b : Bool) (m : HostModel) → Spared m (written_object outcome (b, m)) (written_object outcome (b, still m))
-written-case outcome true m = then (closed_object outcome) (close_answer m 257) (close_answer (still m) 257) (shut-case outcome) (close-spared m 257)
-written-case outcome false m = uncalled
-
-put-steady : (x : Assembled) (m : HostModel) → Spared m (object_put x m) (object_put x (still m))
-put-steady (bytes, answer) m =
-    then (written_object (assembled_outcome answer)) (put_text 257 bytes m) (put_text 257 bytes (still m)) (written-case (assembled_outcome answer)) (text-steady 257 bytes m)
-
-opening-case : (source : List ℕ) (r : Result (Unit {0}) OpenFault) (m : HostModel) → Spared m (after_opening source (r, m)) (after_opening source (r, still m))
-opening-case source (Err opening.Absent) m = uncalled
-opening-case source (Err opening.Failed) m = uncalled
-opening-case source (Err opening.OutOfMemory) m = uncalled
-opening-case source (Ok u) m = put-steady (source_object source) m
-
-after_reading-case : (object : Word) (r : Result (List ℕ) Outcome) (m : HostModel) → Spared m (after_reading object (r, m)) (after_reading object (r, still m))
-after_reading-case object (Err outcome) m = uncalled
-after_reading-case object (Ok source) m =
-    then (after_opening source) (open_answer m 257 object BinaryWrite) (open_answer (still m) 257 object BinaryWrite) (opening-case source) (open-spared m 257 object BinaryWrite)
-
--- what follows the reading of a source calls no earlier
-pub reading-later : (object : Word) (t : Then (Result (List ℕ) Outcome)) → t.1.calls ≤ (after_reading object t).1.calls
-reading-later object (r, m) = (after_reading-case object r m).later
-
-plain-case : (object : Word) (r : Result (List ℕ) Outcome) (m : HostModel) → SparedAnswers m (plainly (after_reading object (r, m))) (plainly (after_reading object (r, still m)))
-plain-case object r m = behind plainly (after_reading object (r, m)) (after_reading object (r, still m)) (λ outcome n. uncalled) (after_reading-case object r m)
-
-asm-order : (source object : Word) (m : HostModel) → SparedAnswers m (plainly (after_reading object (file_bytes source_pieces source m))) (plainly (after_reading object (file_bytes source_pieces source (still m))))
-asm-order source object m =
-    behind (λ t. plainly (after_reading object t)) (file_bytes source_pieces source m) (file_bytes source_pieces source (still m)) (plain-case object) (file-steady source_pieces source m)
+plan-order : (p : HostPlan Outcome) (m : HostModel) → SparedAnswers m (plainly (end_of host p m)) (plainly (end_of host p (still m)))
+plan-order p m = behind plainly (end_of host p m) (end_of host p (still m)) (λ outcome n. uncalled) (plan-spared p m)
 
 -- ---- `gen`
 
@@ -263,15 +214,6 @@ generated-steady : (kind : MachineKind) (o : Order) (size : ℕ) (r : Result Ima
 generated-steady kind o size (Err refusal) m = uncalled
 generated-steady kind o size (Ok image) m = summed-steady kind o.number size (started kind o.ring image (codes "gen" ∷ [])) m
 
--- ---- `type`
-
-typed-case : (r : Result (List ℕ) Outcome) (m : HostModel) → SparedAnswers m (after_typing (r, m)) (after_typing (r, still m))
-typed-case (Err outcome) m = uncalled
-typed-case (Ok object) m = told-steady (typed object).1 (typed object).0 m
-
-show-order : (object : Word) (m : HostModel) → SparedAnswers m (after_typing (file_bytes object_pieces object m)) (after_typing (file_bytes object_pieces object (still m)))
-show-order object m = behind after_typing (file_bytes object_pieces object m) (file_bytes object_pieces object (still m)) typed-case (file-steady object_pieces object m)
-
 -- ---- `multi`
 
 turns-case : (dump : Bool) (steps : ℕ) (r : TurnsEnd) → SparedAnswers (turns_host r) (turns_told dump steps r) (turns_told dump steps (turns_still r))
@@ -286,36 +228,24 @@ turned-case : (kind : MachineKind) (o : Order) (schedule : List ℕ) (r : Result
 turned-case kind o schedule (Err outcome) m = uncalled
 turned-case kind o schedule (Ok image) m = joint-steady kind o schedule (joint.started image (processors_named schedule) (stack_at_start kind o.ring)) m
 
-object-turns : (kind : MachineKind) (o : Order) (schedule : List ℕ) (r : Result (List ℕ) Outcome) (m : HostModel) →
-    SparedAnswers m (image_turned kind o schedule (image_after Object (r, m))) (image_turned kind o schedule (image_after Object (r, still m)))
-object-turns kind o schedule (Err outcome) m = uncalled
-object-turns kind o schedule (Ok object) m = turned-case kind o schedule (image_in Object object) m
-
 schedule-case : (kind : MachineKind) (o : Order) (name : Word) (r : Result (List ℕ) Outcome) (m : HostModel) → SparedAnswers m (after_schedule kind o name (r, m)) (after_schedule kind o name (r, still m))
 schedule-case kind o name (Err outcome) m = uncalled
 schedule-case kind o name (Ok schedule) m =
-    behind (λ t. image_turned kind o schedule (image_after Object t)) (file_bytes object_pieces name m) (file_bytes object_pieces name (still m)) (object-turns kind o schedule) (file-steady object_pieces name m)
-
-judged-case : (r : Result (List ℕ) Outcome) (m : HostModel) → Spared m (schedule_from (r, m)) (schedule_from (r, still m))
-judged-case (Err outcome) m = uncalled
-judged-case (Ok bytes) m = uncalled
-
-schedule-steady : (name : Word) (m : HostModel) → Spared m (schedule_bytes name m) (schedule_bytes name (still m))
-schedule-steady name m = then schedule_from (file_bytes source_pieces name m) (file_bytes source_pieces name (still m)) judged-case (file-steady source_pieces name m)
+    behind (image_turned kind o schedule) (end_of host (image_file_plan Object name) m) (end_of host (image_file_plan Object name) (still m)) (turned-case kind o schedule) (plan-spared (image_file_plan Object name) m)
 
 multi-order : (kind : MachineKind) (words : List Word) (o : Order) (m : HostModel) → SparedAnswers m (multi_ordered kind words o m) (multi_ordered kind words o (still m))
 multi-order kind words o m =
     behind (after_schedule kind o (word_at words o.file)) (schedule_bytes (word_at words o.schedule) m) (schedule_bytes (word_at words o.schedule) (still m))
-    (schedule-case kind o (word_at words o.file)) (schedule-steady (word_at words o.schedule) m)
+    (schedule-case kind o (word_at words o.file)) (plan-spared (schedule_plan (word_at words o.schedule)) m)
 
 -- ---- the words, and the message
 
 ordered-steady : (kind : MachineKind) (words : List Word) (o : Order) (c : Command) (m : HostModel) → SparedAnswers m (ordered kind words o c m) (ordered kind words o c (still m))
 ordered-steady kind words o Run m = begun-steady kind words o Source m
 ordered-steady kind words o Sim m = begun-steady kind words o Object m
-ordered-steady kind words o Asm m = asm-order (word_at words o.file) (word_at words o.rest) m
+ordered-steady kind words o Asm m = plan-order (assemble_plan (word_at words o.file) (word_at words o.rest)) m
 ordered-steady kind words o Gen m = generated-steady kind o (length (generated o.number)) (source_meaning (generated o.number)) m
-ordered-steady kind words o Show m = show-order (word_at words o.file) m
+ordered-steady kind words o Show m = plan-order (list_plan (word_at words o.file)) m
 ordered-steady kind words o Multi m = multi-order kind words o m
 
 words-steady : (kind : MachineKind) (words : List Word) (r : Result Order WordsFault) (m : HostModel) → SparedAnswers m (carried_out kind words r m) (carried_out kind words r (still m))

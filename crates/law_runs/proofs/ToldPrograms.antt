@@ -1,14 +1,16 @@
 -- By its definition the program does not lack memory: no file that is opened does, no run and no session.
-use Rattle.std.proofs.Common.{◌≡◌, ℕ, zero, suc, List, [], ◌∷◌, length, Bool, true, false, cond, Option, None, Some, Result, Ok, Err, refl}
-use Rattle.std.specs.Prelude.{◌&&◌, codes, nat_lt}
+use Rattle.std.proofs.Common.{◌≡◌, ℕ, zero, suc, ◌-◌, ◌/◌, List, [], ◌∷◌, length, take, drop, Bool, true, false, cond, Option, None, Some, Result, Ok, Err, refl, sym, subst}
+use Rattle.std.specs.Prelude.{◌&&◌, codes, nat_lt, nat_le}
 use Rattle.mx_word.specs.declared.symbols.Symbol.{Symbol}
 use Rattle.mx_host.specs.HostModel.{HostModel, counted, is_failing, is_read_only, place_of}
-use Rattle.mx_host.specs.HostAnswer.{Then, open_answer, opened, read_answer, close_answer}
+use Rattle.mx_host.specs.HostAnswer.{Then, open_answer, opened}
+use Rattle.mx_plan.specs.Calls.{HostCall, HostSays, opening as opening_call, closing, reading, writing, seeking, telling, needing, host, open_plan, close_plan, read_plan, write_plan, need}
+use Rattle.mx_plan.specs.Plan.{returns, bind, end_of}
+use Rattle.mx_plan.proofs.Giving.{Gives, gives-bind, gives-end}
 use Rattle.mx_host.specs.declared.faults.HostFault.{HostFault as SlotFault}
 use Rattle.mx_host.specs.declared.faults.OpenFault.{OpenFault}
 use Rattle.mx_host.specs.declared.faults.OpenFault.TheVariants as opening
 use Rattle.mx_host.specs.declared.slots.Mode.{Mode}
-use Rattle.mx_host.specs.declared.slots.Mode.TheVariants.{BinaryRead, BinaryWrite}
 use Rattle.mx_mmo.specs.Image.{Image}
 use Rattle.mx_mmo.specs.Replies.{limit, tail_of}
 use Rattle.mx_mmo.specs.Whole.{Left, items_of}
@@ -38,21 +40,22 @@ use Rattle.mx_outcome.specs.Kinds.{leaves_machine}
 use Rattle.mx_begin.specs.Arguments.{Word, word_at, arguments}
 use Rattle.mx_dump.specs.Dump.{dump_lines}
 use Rattle.law_gen.specs.Generator.{generated, summary}
-use Rattle.mx_files.specs.Lines.{lines_put}
-use Rattle.mx_files.specs.Typed.{Typed, trie_typed, tail_typed, end_typed, typed, after_typing}
+use Rattle.mx_files.specs.Writing.{lines_put}
+use Rattle.mx_files.specs.Typed.{Typed, trie_typed, tail_typed, end_typed, typed}
 use Rattle.mx_outcome.specs.Messages.{message_of}
 use Rattle.mx_files.specs.Objects.{Assembled, source_object}
-use Rattle.mx_files.specs.Pieces.{put_text}
-use Rattle.mx_files.specs.Assembling.{object_slot, closed_object, written_object, assembled_outcome, object_put, after_opening, after_reading}
+use Rattle.mx_files.specs.FilePlans.{Part, on_ok, carried, close_file, input_opened, open_input, piece_added, read_piece, read_next, read_pieces, then_closed, read_open, file_plan, write_piece, write_pieces, text_plan, made_plan, lines_plan}
+use Rattle.mx_files.specs.ObjectPlans.{outcome_of, object_opened, open_object, assembled as assembled_answer, close_object, put_object, put_source, put_into, assemble_part, assemble_plan, whole_plan, typed_end, typed_plan, list_part, list_plan}
+use Rattle.mx_files.proofs.FileEnds.{whole-by}
 use Rattle.mx_top.specs.Product.{begun_run, image_turned, after_schedule, generator_steps, summed, summed_from, generated_run, ordered, carried_out, message_told, with_message, product}
-use Rattle.mx_top.specs.Runs.{Ran, ran, ran_wild, machine_ran, session_outcome, played, takes_back, states_back, state_lines, reached, lines_told, taken_back, order_ran, dumped, run_from, image_run}
-use Rattle.mx_begin.specs.Begun.{assembled, loaded, image_in, most_pieces, image_after, image_read, main_address, begun_at, stack_at_start, started, started_after}
+use Rattle.mx_top.specs.Runs.{Ran, ran, ran_wild, machine_ran, session_outcome, played, takes_back, states_back, state_lines, reached, lines_told, taken_back, order_ran, dumped, run_from}
+use Rattle.mx_begin.specs.BeginPlans.{image_plan, image_file_plan, start_plan, begin_plan}
+use Rattle.mx_begin.specs.Begun.{assembled, loaded, image_in, most_pieces, main_address, begun_at, stack_at_start, started}
 use Rattle.mx_begin.specs.declared.images.Form.{Form}
 use Rattle.mx_begin.specs.declared.images.Form.TheVariants.{Source, Object}
-use Rattle.mx_files.specs.Source.{input_slot, piece_read, one_piece, next_piece, pieces, closed_with, closed_after, read_after, file_bytes}
 use Rattle.mx_files.specs.Sources.{source_meaning}
 use Rattle.mx_top.specs.Processors.{processors_named, multi_lines, multi_outcome, turns_told, image_turns}
-use Rattle.mx_files.specs.Schedules.{judged, schedule_in, schedule_fault, schedule_from, schedule_bytes}
+use Rattle.mx_files.specs.Schedules.{judged, schedule_in, schedule_fault, schedule_bytes, schedule_plan}
 use Rattle.mx_multi.specs.Joint as joint
 use Rattle.mx_multi.specs.Turns.{TurnsEnd, turns_ended, turns_wild, turns}
 use Rattle.law_runs.proofs.UnbrokenTurns.{Told, turns-told}
@@ -93,40 +96,94 @@ abbrev ReadTold : {A : Type 0} → Result A Outcome → Type 0
 ReadTold (Ok x) = Unit {0}
 ReadTold (Err outcome) = OutcomeTold outcome
 
-either-read : {A : Type 0} (b : Bool) (x y : Then (Result A Outcome)) → ReadTold x.0 → ReadTold y.0 → ReadTold (cond b x y).0
-either-read true x y h k = h
-either-read false x y h k = k
+-- a call that opens a file never lacks memory
+abbrev May : (o : HostCall) → HostSays o → Type 0
+May (opening_call slot name mode) r = is_opened r ≡ true
+May (closing slot) r = Unit {0}
+May (reading slot len) r = Unit {0}
+May (writing slot from) r = Unit {0}
+May (seeking slot to) r = Unit {0}
+May (telling slot) r = Unit {0}
+May needing r = Unit {0}
 
-piece-told : (got : List ℕ) (t : Then (Result (List ℕ) SlotFault)) → ReadTold (piece_read got t).0
-piece-told got (Ok piece, m) = tt
-piece-told got (Err e, m) = refl
+may : (o : HostCall) (m : HostModel) → May o (host.act o m).0
+unfolding host
+may (opening_call slot name mode) m = either-open (nat_le slot 257) _ _ (open-told m slot name mode) refl
+may (closing slot) m = tt
+may (reading slot len) m = tt
+may (writing slot from) m = tt
+may (seeking slot to) m = tt
+may (telling slot) m = tt
+may needing m = tt
 
-next-told : (more : List ℕ → HostModel → Then (Result (List ℕ) Outcome)) → ((got : List ℕ) (m : HostModel) → ReadTold (more got m).0) →
-    (t : Then (Result (List ℕ × Bool) Outcome)) → ReadTold t.0 → ReadTold (next_piece more t).0
-next-told more f (Ok (got, whole), m) h = either-read whole _ _ (f got m) tt
-next-told more f (Err e, m) h = h
+-- a part ends the work so, whatever its calls answer of what they may
+abbrev IsTold : {A : Type 0} → Part A → Type 0
+IsTold {A} p = Gives May (ReadTold {A = A}) p
 
-pieces-told : (most : ℕ) (got : List ℕ) (m : HostModel) → ReadTold (pieces most got m).0
-unfolding pieces
-pieces-told zero got m = tt
-pieces-told (suc most) got m = next-told (pieces most) (λ g n. pieces-told most g n) (one_piece got m) (piece-told got (read_answer m input_slot 4096))
+part-end : {A : Type 0} (p : Part A) (m : HostModel) → IsTold p → ReadTold (end_of host p m).0
+part-end {A} p m h = gives-end host May (ReadTold {A = A}) may p m h
 
-closed-told : (bytes : List ℕ) (t : Then (Result (Unit {0}) SlotFault)) → ReadTold (closed_with bytes t).0
-closed-told bytes (Ok u, m) = tt
-closed-told bytes (Err e, m) = refl
+on-told : {A B : Type 0} (f : A → Part B) → ((a : A) → IsTold (f a)) → (r : Result A Outcome) → ReadTold r → IsTold (on_ok f r)
+unfolding Gives
+on-told f h (Ok a) t = h a
+on-told f h (Err outcome) t = t
 
-after-told : (t : Then (Result (List ℕ) Outcome)) → ReadTold t.0 → ReadTold (closed_after t).0
-after-told (Ok bytes, m) h = closed-told bytes (close_answer m input_slot)
-after-told (Err e, m) h = h
+then-told : {A B : Type 0} (f : A → Part B) (p : Part A) → IsTold p → ((a : A) → IsTold (f a)) → IsTold (bind (on_ok f) p)
+then-told {A} {B} f p t h = gives-bind May (ReadTold {A = A}) (ReadTold {A = B}) (on_ok f) p t (on-told f h)
 
-read-told : (most : ℕ) (t : Then (Result (Unit {0}) OpenFault)) → is_opened t.0 ≡ true → ReadTold (read_after most t).0
-read-told most (Ok u, m) h = after-told (pieces most [] m) (pieces-told most [] m)
-read-told most (Err opening.Absent, m) h = refl
-read-told most (Err opening.Failed, m) h = refl
-read-told most (Err opening.OutOfMemory, m) h = absurd (cc)
+need-told : {A : Type 0} (p : Part A) → IsTold p → IsTold (bind (λ u. p) need)
+unfolding Gives bind need
+need-told p h = λ u t. h
 
-file-told : (most : ℕ) (name : List ℕ) (m : HostModel) → ReadTold (file_bytes most name m).0
-file-told most name m = read-told most (open_answer m input_slot name BinaryRead) (open-told m input_slot name BinaryRead)
+returns-told : {A : Type 0} (r : Result A Outcome) → ReadTold r → IsTold (returns r)
+unfolding Gives
+returns-told r h = h
+
+-- ---- a file that is read
+
+added-told : (got : List ℕ) (r : Result (List ℕ) SlotFault) → IsTold (piece_added got r)
+unfolding Gives bind need
+added-told got (Ok piece) = λ u t. tt
+added-told got (Err why) = refl
+
+piece-told : (got : List ℕ) → IsTold (read_piece got)
+unfolding Gives read_piece read_plan bind
+piece-told got = λ r t. added-told got r
+
+next-told : (more : List ℕ → Part (List ℕ)) → ((bytes : List ℕ) → IsTold (more bytes)) → (x : List ℕ × Bool) → IsTold (read_next more x)
+next-told more h (bytes, true) = h bytes
+next-told more h (bytes, false) = returns-told (Ok bytes) tt
+
+pieces-told : (left : ℕ) (got : List ℕ) → IsTold (read_pieces left got)
+unfolding read_pieces
+pieces-told zero got = returns-told (Ok got) tt
+pieces-told (suc left) got = then-told (read_next (read_pieces left)) (read_piece got) (piece-told got) (next-told (read_pieces left) (λ bytes. pieces-told left bytes))
+
+close-told : (slot : ℕ) → IsTold (close_file slot)
+unfolding Gives close_file close_plan bind
+close-told slot = by
+  where
+    by : (r : Result (Unit {0}) SlotFault) → Unit {0} → ReadTold (carried r)
+    by (Ok u) t = tt
+    by (Err why) t = refl
+
+bytes-told : (most : ℕ) → IsTold (read_open most)
+unfolding read_open
+bytes-told most = then-told then_closed (read_pieces most []) (pieces-told most []) (λ bytes. then-told (λ u. returns (Ok bytes)) (close_file 256) (close-told 256) (λ u. returns-told (Ok bytes) tt))
+
+input-told : (name : List ℕ) → IsTold (open_input name)
+unfolding Gives open_input open_plan bind
+input-told name = by
+  where
+    by : (r : Result (Unit {0}) OpenFault) → is_opened r ≡ true → ReadTold (input_opened r)
+    by (Ok u) h = tt
+    by (Err opening.Absent) h = refl
+    by (Err opening.Failed) h = refl
+    by (Err opening.OutOfMemory) h = absurd (cc)
+
+read-told : (most : ℕ) (name : List ℕ) → IsTold (file_plan most name)
+unfolding file_plan
+read-told most name = then-told (λ u. read_open most) (open_input name) (input-told name) (λ u. bytes-told most)
 
 -- ---- runs, sessions and dumps
 
@@ -184,10 +241,6 @@ from-told : (kind : MachineKind) (o : Order) (s : Result State Outcome) (m : Hos
 from-told kind o (Ok s) m h = dump-told o.dump (order_ran kind o s m) (order-told kind o s m)
 from-told kind o (Err outcome) m h = h
 
-image-told : (kind : MachineKind) (o : Order) (words : List Word) (image : Image) (m : HostModel) → AnswerTold (image_run kind o words image m)
-image-told kind o words image m =
-    from-told kind o (started kind o.ring image words) m (begun-told (main_address image) (start image words (stack_at_start kind o.ring)))
-
 -- ---- the commands
 
 assembles-told : (r : Result Image Refusal) → ReadTold (assembled r)
@@ -202,44 +255,73 @@ image_in-told : (form : Form) (bytes : List ℕ) → ReadTold (image_in form byt
 image_in-told Source bytes = assembles-told (source_meaning bytes)
 image_in-told Object bytes = loads-told (object_loaded bytes)
 
-image_after-told : (form : Form) (t : Then (Result (List ℕ) Outcome)) → ReadTold t.0 → ReadTold (image_after form t).0
-image_after-told form (Ok bytes, m) h = image_in-told form bytes
-image_after-told form (Err outcome, m) h = h
+image_plan-told : (form : Form) (bytes : List ℕ) → IsTold (image_plan form bytes)
+unfolding image_plan
+image_plan-told form bytes = need-told (returns (image_in form bytes)) (returns-told (image_in form bytes) (image_in-told form bytes))
 
-image_read-told : (form : Form) (name : Word) (m : HostModel) → ReadTold (image_read form name m).0
-image_read-told form name m = image_after-told form (file_bytes (most_pieces form) name m) (file-told (most_pieces form) name m)
+image_file-told : (form : Form) (name : Word) → IsTold (image_file_plan form name)
+unfolding image_file_plan
+image_file-told form name = then-told (image_plan form) (file_plan (most_pieces form) name) (read-told (most_pieces form) name) (image_plan-told form)
 
-begun_run-told : (kind : MachineKind) (o : Order) (words : List Word) (t : Then (Result Image Outcome)) → ReadTold t.0 → AnswerTold (begun_run kind o (started_after kind o.ring words t))
-begun_run-told kind o words (Ok image, m) h = image-told kind o words image m
-begun_run-told kind o words (Err outcome, m) h = h
+started-told : (kind : MachineKind) (ring : ℕ) (image : Image) (words : List Word) → ReadTold (started kind ring image words)
+started-told kind ring image words = begun-told (main_address image) (start image words (stack_at_start kind ring))
 
-assembled-told : (r : Result (Unit {0}) Refusal) → OutcomeTold (assembled_outcome r)
-assembled-told (Ok u) = refl
+begin-told : (kind : MachineKind) (words : List Word) (o : Order) (form : Form) → IsTold (begin_plan kind words o form)
+unfolding begin_plan start_plan
+begin-told kind words o form =
+    need-told _ (then-told (start_plan kind o.ring (arguments words o)) (image_file_plan form (word_at words o.file)) (image_file-told form (word_at words o.file))
+    (λ image. need-told (returns (started kind o.ring image (arguments words o))) (returns-told (started kind o.ring image (arguments words o)) (started-told kind o.ring image (arguments words o)))))
+
+begun_run-told : (kind : MachineKind) (o : Order) (t : Then (Result State Outcome)) → ReadTold t.0 → AnswerTold (begun_run kind o t)
+begun_run-told kind o (r, m) h = from-told kind o r m h
+
+-- ---- a source that is assembled
+
+write-told : (slot : ℕ) (piece : List ℕ) → IsTold (write_piece slot piece)
+unfolding Gives write_piece write_plan bind
+write-told slot piece = by
+  where
+    by : (r : Result (Unit {0}) SlotFault) → Unit {0} → ReadTold (carried r)
+    by (Ok u) t = tt
+    by (Err why) t = refl
+
+text-told : (more slot : ℕ) (text : List ℕ) → IsTold (write_pieces more slot text)
+unfolding write_pieces
+text-told zero slot text = write-told slot text
+text-told (suc more) slot text = then-told (λ u. write_pieces more slot (drop 4096 text)) (write_piece slot (take 4096 text)) (write-told slot (take 4096 text)) (λ u. text-told more slot (drop 4096 text))
+
+assembled-told : (r : Result (Unit {0}) Refusal) → ReadTold (assembled_answer r)
+assembled-told (Ok u) = tt
 assembled-told (Err refusal) = refl
 
-close-told : (outcome : Outcome) (t : Then (Result (Unit {0}) SlotFault)) → OutcomeTold outcome → OutcomeTold (closed_object outcome t).0
-close-told outcome (Ok u, m) h = h
-close-told outcome (Err e, m) h = refl
+put-told : (a : Assembled) → IsTold (put_object a)
+unfolding put_object text_plan close_object
+put-told (bytes, answer) =
+    then-told (λ u. close_object answer) (text_plan 257 bytes) (text-told ((length bytes - 1) / 4096) 257 bytes)
+    (λ u. then-told (λ v. returns (assembled_answer answer)) (close_file 257) (close-told 257) (λ v. returns-told (assembled_answer answer) (assembled-told answer)))
 
-either-then : (b : Bool) (x y : Then Outcome) → OutcomeTold x.0 → OutcomeTold y.0 → OutcomeTold (cond b x y).0
-either-then true x y h k = h
-either-then false x y h k = k
+object-told : (name : List ℕ) → IsTold (open_object name)
+unfolding Gives open_object open_plan bind
+object-told name = by
+  where
+    by : (r : Result (Unit {0}) OpenFault) → is_opened r ≡ true → ReadTold (object_opened r)
+    by (Ok u) h = tt
+    by (Err opening.Absent) h = refl
+    by (Err opening.Failed) h = refl
+    by (Err opening.OutOfMemory) h = absurd (cc)
 
-written-told : (outcome : Outcome) (t : Then Bool) → OutcomeTold outcome → OutcomeTold (written_object outcome t).0
-written-told outcome (written, m) h = either-then written _ _ (close-told outcome (close_answer m object_slot) h) refl
+assemble-told : (source object : List ℕ) → IsTold (assemble_part source object)
+unfolding assemble_part put_into put_source
+assemble-told source object =
+    then-told (put_into object) (file_plan 1025 source) (read-told 1025 source)
+    (λ text. then-told (λ u. put_source text) (open_object object) (object-told object) (λ u. need-told (put_object (source_object text)) (put-told (source_object text))))
 
-put-told : (a : Assembled) (m : HostModel) → OutcomeTold (object_put a m).0
-put-told (bytes, answer) m = written-told (assembled_outcome answer) (put_text object_slot bytes m) (assembled-told answer)
+whole-told : (r : Result (Unit {0}) Outcome) → ReadTold r → OutcomeTold (outcome_of r)
+whole-told (Ok u) h = refl
+whole-told (Err outcome) h = h
 
-opening-told : (source : List ℕ) (t : Then (Result (Unit {0}) OpenFault)) → is_opened t.0 ≡ true → OutcomeTold (after_opening source t).0
-opening-told source (Ok u, m) h = put-told (source_object source) m
-opening-told source (Err opening.Absent, m) h = refl
-opening-told source (Err opening.Failed, m) h = refl
-opening-told source (Err opening.OutOfMemory, m) h = absurd (cc)
-
-reading-told : (object : Word) (t : Then (Result (List ℕ) Outcome)) → ReadTold t.0 → OutcomeTold (after_reading object t).0
-reading-told object (Ok source, m) h = opening-told source (open_answer m object_slot object BinaryWrite) (open-told m object_slot object BinaryWrite)
-reading-told object (Err outcome, m) h = h
+work-told : (p : Part (Unit {0})) (m : HostModel) → IsTold p → OutcomeTold (end_of host (whole_plan p) m).0
+work-told p m h = subst (λ (t : Then Outcome). OutcomeTold t.0) (sym (whole-by p m)) (whole-told (end_of host p m).0 (part-end p m h))
 
 plainly-told : (t : Then Outcome) → OutcomeTold t.0 → AnswerTold (plainly t)
 plainly-told (outcome, m) h = h
@@ -289,9 +371,22 @@ typed-told : (object : List ℕ) → OutcomeTold (typed object).1
 unfolding typed
 typed-told object = either-typed (nat_lt limit (length object)) _ _ refl (end_typed-told (items_of Start 0 object).1)
 
-typing-told : (t : Then (Result (List ℕ) Outcome)) → ReadTold t.0 → AnswerTold (after_typing t)
-typing-told (Ok object, m) h = lines-told (typed object).1 (lines_put (typed object).0 m) (typed-told object)
-typing-told (Err outcome, m) h = h
+lines_plan-told : (lines : List (List ℕ)) → IsTold (lines_plan lines)
+unfolding lines_plan made_plan
+lines_plan-told [] = returns-told (Ok tt) tt
+lines_plan-told (line ∷ lines) = then-told (λ u. lines_plan lines) _ (need-told (write_piece 259 line) (write-told 259 line)) (λ u. lines_plan-told lines)
+
+typed_end-told : (outcome : Outcome) → OutcomeTold outcome → IsTold (typed_end outcome)
+typed_end-told (Done status) h = returns-told (Ok tt) tt
+typed_end-told outcome h = need-told (returns (Err outcome)) (returns-told (Err outcome) h)
+
+typed_plan-told : (t : Typed) → OutcomeTold t.1 → IsTold (typed_plan t)
+unfolding typed_plan
+typed_plan-told t h = then-told (λ u. typed_end t.1) (lines_plan t.0) (lines_plan-told t.0) (λ u. typed_end-told t.1 h)
+
+list-told : (name : List ℕ) → IsTold (list_part name)
+unfolding list_part
+list-told name = then-told (λ object. typed_plan (typed object)) (file_plan 16385 name) (read-told 16385 name) (λ object. typed_plan-told (typed object) (typed-told object))
 
 multi-told : (dump : Bool) (steps : ℕ) (t : TurnsEnd) → Told t → AnswerTold (turns_told dump steps t)
 multi-told dump steps (turns_ended end j m) h = lines-told (multi_outcome steps end) (lines_put (multi_lines dump end j) m) (h steps)
@@ -306,30 +401,29 @@ image_turned-told : (kind : MachineKind) (o : Order) (schedule : List ℕ) (t : 
 image_turned-told kind o schedule (Ok image, m) h = image_turns-told kind o schedule image m
 image_turned-told kind o schedule (Err outcome, m) h = h
 
-schedule-told : (kind : MachineKind) (o : Order) (name : Word) (t : Then (Result (List ℕ) Outcome)) → ReadTold t.0 → AnswerTold (after_schedule kind o name t)
-schedule-told kind o name (Ok schedule, m) h = image_turned-told kind o schedule (image_read Object name m) (image_read-told Object name m)
-schedule-told kind o name (Err outcome, m) h = h
-
 judged-told : (fault : Option ℕ) (bytes : List ℕ) → ReadTold (judged fault bytes)
 judged-told None bytes = tt
 judged-told (Some place) bytes = refl
 
-from_schedule-told : (t : Then (Result (List ℕ) Outcome)) → ReadTold t.0 → ReadTold (schedule_from t).0
-unfolding schedule_in
-from_schedule-told (Ok bytes, m) h = judged-told (schedule_fault bytes) bytes
-from_schedule-told (Err outcome, m) h = h
+schedule-told : (name : Word) → IsTold (schedule_plan name)
+unfolding schedule_plan schedule_in
+schedule-told name =
+    then-told (λ bytes. returns (schedule_in bytes)) (file_plan 1025 name) (read-told 1025 name) (λ bytes. returns-told (judged (schedule_fault bytes) bytes) (judged-told (schedule_fault bytes) bytes))
+
+after_schedule-told : (kind : MachineKind) (o : Order) (name : Word) (t : Then (Result (List ℕ) Outcome)) → ReadTold t.0 → AnswerTold (after_schedule kind o name t)
+after_schedule-told kind o name (Ok schedule, m) h = image_turned-told kind o schedule (end_of host (image_file_plan Object name) m) (part-end (image_file_plan Object name) m (image_file-told Object name))
+after_schedule-told kind o name (Err outcome, m) h = h
 
 ordered-told : (kind : MachineKind) (words : List Word) (o : Order) (c : Command) (m : HostModel) → AnswerTold (ordered kind words o c m)
-ordered-told kind words o Run m = begun_run-told kind o (arguments words o) (image_read Source (word_at words o.file) m) (image_read-told Source (word_at words o.file) m)
-ordered-told kind words o Sim m = begun_run-told kind o (arguments words o) (image_read Object (word_at words o.file) m) (image_read-told Object (word_at words o.file) m)
+ordered-told kind words o Run m = begun_run-told kind o (end_of host (begin_plan kind words o Source) m) (part-end (begin_plan kind words o Source) m (begin-told kind words o Source))
+ordered-told kind words o Sim m = begun_run-told kind o (end_of host (begin_plan kind words o Object) m) (part-end (begin_plan kind words o Object) m (begin-told kind words o Object))
 ordered-told kind words o Asm m =
-    plainly-told (after_reading (word_at words o.rest) (file_bytes 1025 (word_at words o.file) m))
-    (reading-told (word_at words o.rest) (file_bytes 1025 (word_at words o.file) m) (file-told 1025 (word_at words o.file) m))
+    plainly-told (end_of host (assemble_plan (word_at words o.file) (word_at words o.rest)) m)
+    (work-told (assemble_part (word_at words o.file) (word_at words o.rest)) m (assemble-told (word_at words o.file) (word_at words o.rest)))
 ordered-told kind words o Gen m = generated-told kind o (length (generated o.number)) (source_meaning (generated o.number)) m
-ordered-told kind words o Show m = typing-told (file_bytes 16385 (word_at words o.file) m) (file-told 16385 (word_at words o.file) m)
+ordered-told kind words o Show m = plainly-told (end_of host (list_plan (word_at words o.file)) m) (work-told (list_part (word_at words o.file)) m (list-told (word_at words o.file)))
 ordered-told kind words o Multi m =
-    schedule-told kind o (word_at words o.file) (schedule_bytes (word_at words o.schedule) m)
-    (from_schedule-told (file_bytes 1025 (word_at words o.schedule) m) (file-told 1025 (word_at words o.schedule) m))
+    after_schedule-told kind o (word_at words o.file) (schedule_bytes (word_at words o.schedule) m) (part-end (schedule_plan (word_at words o.schedule)) m (schedule-told (word_at words o.schedule)))
 
 carried-told : (kind : MachineKind) (words : List Word) (r : Result Order WordsFault) (m : HostModel) → AnswerTold (carried_out kind words r m)
 carried-told kind words (Ok o) m = ordered-told kind words o o.command m

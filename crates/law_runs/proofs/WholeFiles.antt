@@ -5,15 +5,16 @@ use Rattle.mx_host.specs.HostAnswer.{Then, bytes_at}
 use Rattle.std.specs.Prelude.{Result}
 use Rattle.mx_host.proofs.Start.{start_slots-length}
 use Rattle.mx_plan.specs.Counts.{NoneFailed}
+use Rattle.mx_plan.proofs.Spared.{plan-spared}
+use Rattle.mx_files.specs.FilePlans.{file_plan}
 use Rattle.mx_files.specs.Source.{file_bytes}
 use Rattle.mx_outcome.specs.declared.outcome.Outcome.{Outcome}
 use Rattle.mx_outcome.specs.declared.outcome.Outcome.TheVariants.{NoFile}
-use Rattle.law_runs.proofs.SteadyFiles.{file-steady}
 use Rattle.law_runs.proofs.IdleFiles.{idle, file-idle, file-absent}
 
 -- what is read is what the still model reads
 read-of : (most : ℕ) (name : List ℕ) (m : HostModel) (r : Then (Result (List ℕ) Outcome)) → NoneFailed m (file_bytes most name m).1 → file_bytes most name (idle m.files m.slots m) ≡ r → (file_bytes most name m).0 ≡ r.0
-read-of most name m r h e = ap (λ (t : Then (Result (List ℕ) Outcome)). t.0) ((file-steady most name m).same h ∙ e)
+read-of most name m r h e = ap (λ (t : Then (Result (List ℕ) Outcome)). t.0) ((plan-spared (file_plan most name) m).same h ∙ e)
 
 pub file-read : (most : ℕ) (name : List ℕ) (m : HostModel) (at : ℕ) → NoneFailed m (file_bytes most name m).1 → HasStartSlots m → place_of m.files name ≡ Some at →
     (file_bytes most name m).0 ≡ Ok (take (4096 * most) (bytes_at m.files at))

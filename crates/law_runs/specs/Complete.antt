@@ -18,7 +18,7 @@ use Rattle.mx_begin.specs.Arguments.{Word, word_at, arguments}
 use Rattle.law_gen.specs.Generator.{generated, summary}
 use Rattle.law_gen.specs.Program.{generated_image}
 use Rattle.mx_files.specs.Objects.{source_object}
-use Rattle.mx_files.specs.Pieces.{put_text}
+use Rattle.mx_files.specs.Writing.{put_text}
 use Rattle.mx_files.specs.Assembling.{object_slot}
 use Rattle.mx_top.specs.Product.{generator_steps}
 use Rattle.mx_top.specs.Runs.{ran, machine_ran, session_ran}

@@ -24,7 +24,7 @@ ghost use Rattle.law_runs.specs.Complete.{IsThere, IsWritten, ObjectIsThere, Sou
 ghost use Rattle.law_runs.specs.Called.{NoCallFails};
 ghost use Rattle.law_runs.specs.Detour.{answer_unscheduled};
 ghost use Rattle.mx_dump.specs.Dump.{dump_lines};
-ghost use Rattle.mx_files.specs.Lines.{lines_put};
+ghost use Rattle.mx_files.specs.Writing.{lines_put};
 ghost use Rattle.mx_files.specs.Objects.{source_object};
 ghost use Rattle.mx_files.specs.Assembling.{assembled_outcome, refused_with};
 ghost use Rattle.mx_top.specs.Product.{product, with_message};

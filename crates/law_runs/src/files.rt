@@ -5,7 +5,7 @@ ghost use Rattle.mx_host.specs.HostModel.{HostModel, HasStartSlots, place_of};
 ghost use Rattle.mx_host.specs.HostAnswer.{bytes_at};
 ghost use Rattle.mx_plan.specs.Counts.{NoneFailed};
 ghost use Rattle.mx_trap.specs.Laws.{SameButCalls};
-ghost use Rattle.mx_files.specs.Pieces.{put_piece, put_text};
+ghost use Rattle.mx_files.specs.Writing.{put_piece, put_text};
 ghost use Rattle.mx_files.specs.Source.{file_bytes};
 ghost use Rattle.mx_outcome.specs.declared.outcome.Outcome.{Outcome};
 

@@ -1,10 +1,12 @@
--- How a machine begins, as a plan: the calls of the host up to its start, and where memory runs out between them.
+-- How a machine begins: the file that the words name is read, the source in it is assembled or the object is loaded, and the
+-- machine of a kind starts with the arguments. It is a plan: the calls of the host up to the start, and where memory is taken
+-- between them.
 use Rattle.std.specs.Prelude.{ℕ, List}
 use Rattle.mx_plan.specs.Plan.{returns, bind}
 use Rattle.mx_plan.specs.Calls.{need}
 use Rattle.mx_mmo.specs.Image.{Image}
 use Rattle.mx_core.specs.State.{State}
-use Rattle.mx_run.specs.WildRuns.{window_machine}
+use Rattle.mx_run.specs.WildRuns.{MachineKind}
 use Rattle.mx_words.specs.declared.order.Order.{Order}
 use Rattle.mx_files.specs.FilePlans.{Part, on_ok, file_plan}
 use Rattle.mx_begin.specs.Arguments.{Word, word_at, arguments}
@@ -23,9 +25,9 @@ unfoldable pub image_file_plan : Form → Word → Part Image
 image_file_plan form name = bind (on_ok (image_plan form)) (file_plan (most_pieces form) name)
 
 -- so does a machine to start
-unfoldable pub start_plan : ℕ → List Word → Image → Part State
-start_plan ring arguments image = taking (returns (started window_machine ring image arguments))
+unfoldable pub start_plan : MachineKind → ℕ → List Word → Image → Part State
+start_plan kind ring arguments image = taking (returns (started kind ring image arguments))
 
 -- and so do the arguments
-unfoldable pub begin_plan : List Word → Order → Form → Part State
-begin_plan words o form = taking (bind (on_ok (start_plan o.ring (arguments words o))) (image_file_plan form (word_at words o.file)))
+unfoldable pub begin_plan : MachineKind → List Word → Order → Form → Part State
+begin_plan kind words o form = taking (bind (on_ok (start_plan kind o.ring (arguments words o))) (image_file_plan form (word_at words o.file)))

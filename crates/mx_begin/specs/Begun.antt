@@ -1,8 +1,5 @@
--- How a machine begins: the file that the words name is read, the source in it is assembled or the object is loaded, and the
--- machine starts with the arguments.
+-- Of what a machine begins: the image of a source or of an object, and the machine that starts with it and the arguments.
 use Rattle.std.specs.Prelude.{ℕ, ◌*◌, ◌/◌, List, Option, None, Some, Result, Ok, Err}
-use Rattle.mx_host.specs.HostModel.{HostModel}
-use Rattle.mx_host.specs.HostAnswer.{Then}
 use Rattle.mx_mmo.specs.Image.{Image}
 use Rattle.mx_load.specs.Objects.{object_loaded}
 use Rattle.mx_core.specs.State.{State}
@@ -12,14 +9,12 @@ use Rattle.mx_ring.specs.Window.{window_at_start}
 use Rattle.mx_run.specs.WildRuns.{MachineKind, window_machine, list_machine}
 use Rattle.mx_start.specs.Start.{start}
 use Rattle.mx_word.specs.declared.symbols.Symbol.{Symbol}
-use Rattle.mx_words.specs.declared.order.Order.{Order}
 use Rattle.mx_files.specs.Assembling.{refused_with}
-use Rattle.mx_files.specs.Source.{file_bytes, source_pieces, object_pieces}
+use Rattle.mx_files.specs.Source.{source_pieces, object_pieces}
 use Rattle.mx_files.specs.Sources.{source_meaning}
 use Rattle.mx_files.specs.declared.refusal.Refusal.{Refusal}
 use Rattle.mx_outcome.specs.declared.outcome.Outcome.{Outcome}
 use Rattle.mx_outcome.specs.declared.outcome.Outcome.TheVariants.{BadObject, Stopped}
-use Rattle.mx_begin.specs.Arguments.{Word, word_at, arguments}
 use Rattle.mx_begin.specs.declared.images.Form.{Form}
 use Rattle.mx_begin.specs.declared.images.Form.TheVariants.{Source, Object}
 
@@ -44,14 +39,6 @@ abbrev pub most_pieces : Form → ℕ
 most_pieces Source = source_pieces
 most_pieces Object = object_pieces
 
-abbrev pub image_after : Form → Then (Result (List ℕ) Outcome) → Then (Result Image Outcome)
-image_after form (Err outcome, m) = (Err outcome, m)
-image_after form (Ok bytes, m) = (image_in form bytes, m)
-
--- the image in the file of this name, or the outcome where there is none
-abbrev pub image_read : Form → Word → HostModel → Then (Result Image Outcome)
-image_read form name m = image_after form (file_bytes (most_pieces form) name m)
-
 -- ---- a machine at its start
 
 -- the register stack at the start: a ring of so many registers, or a list
@@ -74,11 +61,3 @@ begun_at pc (Some s) = Ok s
 -- the machine of an image with these arguments, at its start
 abbrev pub started : MachineKind → ℕ → Image → List (List ℕ) → Result State Outcome
 started kind ring image arguments = begun_at (main_address image) (start image arguments (stack_at_start kind ring))
-
-abbrev pub started_after : MachineKind → ℕ → List Word → Then (Result Image Outcome) → Then (Result State Outcome)
-started_after kind ring arguments (Err outcome, m) = (Err outcome, m)
-started_after kind ring arguments (Ok image, m) = (started kind ring image arguments, m)
-
--- the machine that an order on words begins with, or the outcome where there is none
-abbrev pub begun : MachineKind → List Word → Order → Form → HostModel → Then (Result State Outcome)
-begun kind words o form m = started_after kind o.ring (arguments words o) (image_read form (word_at words o.file) m)

@@ -6,7 +6,6 @@ ghost use Rattle.mx_begin.specs.Begun as spec;
 ghost use Rattle.mx_files.specs.Failing.{PartFailsOnlyBy};
 ghost use Rattle.mx_core.specs.Bounds.{as_list_state};
 ghost use Rattle.mx_core.specs.Kept.{state_of};
-ghost use Rattle.mx_host.specs.Keeping.{Answers};
 ghost use Rattle.mx_load.specs.Kept.{image_of};
 ghost use Rattle.mx_outcome.specs.Kinds.{is_usage};
 ghost use Rattle.mx_plan.specs.Clauses.{CarriesOut};
@@ -68,13 +67,11 @@ pub fn begin<H: Host>(
 ) -> Result<Machine, Outcome>
     requires file { order.now.file < length words.now }
     requires rest { order.now.rest ≤ length words.now }
-    ensures plan { CarriesOut (H.told host.old) (H.told host.new) (Err Outcome.OutOfMemory) (map_ok state_of result)
-        (plans.begin_plan (map string_bytes words.now) order.now form) }
-    ensures told { Answers (H.told host.old) (H.told host.new) (Err Outcome.OutOfMemory) (map_ok state_of result)
-        (λ m. spec.begun window_machine (map string_bytes words.now) order.now form m) }
-    ensures listed { Answers (H.told host.old) (H.told host.new) (Err Outcome.OutOfMemory)
+    ensures window { CarriesOut (H.told host.old) (H.told host.new) (Err Outcome.OutOfMemory) (map_ok state_of result)
+        (plans.begin_plan window_machine (map string_bytes words.now) order.now form) }
+    ensures list { CarriesOut (H.told host.old) (H.told host.new) (Err Outcome.OutOfMemory)
         (map_ok (λ machine. as_list_state (state_of machine)) result)
-        (λ m. spec.begun list_machine (map string_bytes words.now) order.now form m) }
+        (plans.begin_plan list_machine (map string_bytes words.now) order.now form) }
     ensures untouched { IfOk result (λ machine. (state_of machine).touched ≡ false) }
     ensures causes { PartFailsOnlyBy H.told H.faults host.old host.new result }
 {

@@ -4,7 +4,6 @@ ghost use Rattle.std.specs.Prelude.{◌≡◌, ◌≢◌, Err, IfErr, false};
 ghost use Rattle.mx_begin.specs.BeginPlans as plans;
 ghost use Rattle.mx_begin.specs.Begun as spec;
 ghost use Rattle.mx_files.specs.Failing.{PartFailsOnlyBy};
-ghost use Rattle.mx_host.specs.Keeping.{Answers};
 ghost use Rattle.mx_load.specs.Kept.{image_of};
 ghost use Rattle.mx_outcome.specs.Kinds.{is_usage};
 ghost use Rattle.mx_plan.specs.Clauses.{CarriesOut};
@@ -87,8 +86,6 @@ pub fn read_image<H: Host>(
 ) -> Result<Image, Outcome>
     ensures plan { CarriesOut (H.told host.old) (H.told host.new) (Err Outcome.OutOfMemory) (map_ok image_of result)
         (plans.image_file_plan form name.now) }
-    ensures told { Answers (H.told host.old) (H.told host.new) (Err Outcome.OutOfMemory) (map_ok image_of result)
-        (λ m. spec.image_read form name.now m) }
     ensures causes { PartFailsOnlyBy H.told H.faults host.old host.new result }
 {
     match read_file(alloc, host, name, most_pieces(form)) {

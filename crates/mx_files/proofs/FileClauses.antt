@@ -11,15 +11,11 @@ use Rattle.mx_plan.proofs.Plans.{end_bind, end_returns, stops_first}
 use Rattle.mx_word.specs.Lists.{IsFront}
 use Rattle.mx_files.specs.Answers.{answered, output_of, GoesAs, plainly}
 use Rattle.mx_outcome.specs.Kinds.{is_usage}
-use Rattle.mx_files.specs.Assembling.{after_reading}
 use Rattle.mx_files.specs.Clauses.{ComesByFailing, HasToolSlots, Serves, WorksBetween, is_end}
 use Rattle.mx_files.specs.FilePlans.{Part, file_plan}
 use Rattle.mx_files.specs.ObjectPlans.{outcome_of, whole_plan, assemble_plan, list_plan}
-use Rattle.mx_files.specs.Source.{file_bytes}
-use Rattle.mx_files.specs.Typed.{after_typing}
 use Rattle.mx_outcome.specs.declared.outcome.Outcome.{Outcome}
 use Rattle.mx_outcome.specs.declared.outcome.Outcome.TheVariants.{NoFile, HostFault, OutOfMemory, Usage}
-use Rattle.mx_files.proofs.FileEnds.{file-end, assemble-end, list-end}
 use Rattle.mx_files.proofs.QuietFiles.{file-stops-quiet, file-ends-quiet}
 use Rattle.mx_files.proofs.Rests.{stop-front, comes-keeps}
 use Rattle.mx_files.proofs.Serving.{only-failed}
@@ -34,9 +30,6 @@ decided OutOfMemory = inl refl
 decided outcome = inr (λ e. absurd (cc))
 
 -- ---- a file that is read
-
-pub file-told : (most : ℕ) (name : List ℕ) (m n : HostModel) (r : Result (List ℕ) Outcome) → Comes host m n (Err OutOfMemory) r (file_plan most name) → r ≢ Err OutOfMemory → (r, n) ≡ file_bytes most name m
-file-told most name m n r c ne = c.ending ne ∙ file-end most name m
 
 pub file-output : (most : ℕ) (name : List ℕ) (m n : HostModel) (r : Result (List ℕ) Outcome) → Comes host m n (Err OutOfMemory) r (file_plan most name) → n.output ≡ m.output
 file-output most name m n r c = by (decided-part r)
@@ -88,25 +81,22 @@ whole-words a b k m o r p e w = rw e (outcome-words r w.ends)
 
 -- ---- an object that is assembled, and one that is listed
 
-pub assembled-told : (source object : List ℕ) (m n : HostModel) (o : Outcome) → Comes host m n OutOfMemory o (assemble_plan source object) → o ≢ OutOfMemory → (o, n) ≡ after_reading object (file_bytes 1025 source m)
-assembled-told source object m n o c ne = c.ending ne ∙ assemble-end source object m
-
 pub assembled-front : (source object : List ℕ) (m n : HostModel) (o : Outcome) → Comes host m n OutOfMemory o (assemble_plan source object) → o ≡ OutOfMemory →
-    IsFront n.output (after_reading object (file_bytes 1025 source m)).1.output
-assembled-front source object m n o c e = rw (← assemble-end source object m) (stop-front (assemble_plan source object) n m (c.stopping e))
+    IsFront n.output (end_of host (assemble_plan source object) m).1.output
+assembled-front source object m n o c e = stop-front (assemble_plan source object) n m (c.stopping e)
 
-pub listed-told : (name : List ℕ) (m n : HostModel) (o : Outcome) → Comes host m n OutOfMemory o (list_plan name) → o ≢ OutOfMemory → answered o n ≡ after_typing (file_bytes 16385 name m)
-listed-told name m n o c ne = ap plainly (c.ending ne) ∙ list-end name m
+pub listed-told : (name : List ℕ) (m n : HostModel) (o : Outcome) → Comes host m n OutOfMemory o (list_plan name) → o ≢ OutOfMemory → answered o n ≡ plainly (end_of host (list_plan name) m)
+listed-told name m n o c ne = ap plainly (c.ending ne)
 
-pub listed-goes : (name : List ℕ) (m n : HostModel) (o : Outcome) → Comes host m n OutOfMemory o (list_plan name) → o ≢ OutOfMemory → GoesAs (after_typing (file_bytes 16385 name m)) o n
+pub listed-goes : (name : List ℕ) (m n : HostModel) (o : Outcome) → Comes host m n OutOfMemory o (list_plan name) → o ≢ OutOfMemory → GoesAs (plainly (end_of host (list_plan name) m)) o n
 listed-goes name m n o c ne = subst (λ a. GoesAs a o n) (listed-told name m n o c ne) (refl, refl)
 
 answer-output : (t : Outcome × HostModel) → output_of (plainly t) ≡ t.1.output
 answer-output (outcome, m) = refl
 
-pub listed-front : (name : List ℕ) (m n : HostModel) (o : Outcome) → Comes host m n OutOfMemory o (list_plan name) → o ≡ OutOfMemory → IsFront n.output (output_of (after_typing (file_bytes 16385 name m)))
+pub listed-front : (name : List ℕ) (m n : HostModel) (o : Outcome) → Comes host m n OutOfMemory o (list_plan name) → o ≡ OutOfMemory → IsFront n.output (output_of (plainly (end_of host (list_plan name) m)))
 listed-front name m n o c e =
-    subst (IsFront n.output) (sym (answer-output (end_of host (list_plan name) m)) ∙ ap output_of (list-end name m)) (stop-front (list_plan name) n m (c.stopping e))
+    subst (IsFront n.output) (sym (answer-output (end_of host (list_plan name) m))) (stop-front (list_plan name) n m (c.stopping e))
 
 pub whole-keeps : (a b : Option HostModel) (k m : ℕ) (o : Outcome) (p : HostPlan Outcome) → CarriesOut a b OutOfMemory o p → Stands a b k m → Keeps a b k m
 whole-keeps a b k m o p told stands = comes-keeps a b k m OutOfMemory o p (decided o) told stands

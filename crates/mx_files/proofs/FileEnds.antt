@@ -1,6 +1,6 @@
--- What is read and written, by its definitions over a model, is the end of its plan.
-use Rattle.std.proofs.Common.{◌≡◌, ℕ, zero, suc, ◌-◌, ◌/◌, List, [], ◌∷◌, take, drop, length, Bool, true, false, cond, nat_lt, Ok, Err, refl, sym, ◌∙◌, ap}
-use Rattle.std.specs.Prelude.{Result}
+-- The ends of plans on files, by the answers of their calls.
+use Rattle.std.proofs.Common.{◌≡◌, ◌≤◌, ℕ, zero, suc, ◌-◌, ◌/◌, ◌++◌, List, [], ◌∷◌, take, drop, length, Bool, true, false, cond, nat_lt, Ok, Err, refl, sym, ◌∙◌, ap}
+use Rattle.std.specs.Prelude.{Result, ◌==◌}
 use Rattle.mx_host.specs.HostAnswer.{Then, open_answer, read_answer, write_answer, close_answer}
 use Rattle.mx_host.specs.HostModel.{HostModel}
 use Rattle.mx_host.specs.declared.faults.HostFault.{HostFault}
@@ -17,197 +17,201 @@ use Rattle.mx_stab.specs.declared.faults.StabFault.{StabFault}
 use Rattle.mx_word.specs.declared.symbols.Symbol.{Symbol}
 use Rattle.mx_plan.specs.Calls.{host, need, open_plan, close_plan, read_plan, write_plan}
 use Rattle.mx_plan.specs.Plan.{returns, bind, end_of, end_after}
-use Rattle.mx_plan.proofs.Plans.{end_bind}
-use Rattle.mx_files.specs.Answers.{answered, plainly, after_lines}
-use Rattle.mx_files.specs.Assembling.{closed_object, written_object, assembled_outcome, object_put, after_opening, after_reading}
+use Rattle.mx_plan.proofs.Giving.{Gives, HostMay, gives-bind, gives-end}
+use Rattle.mx_plan.proofs.Plans.{end_bind, end_returns}
+use Rattle.mx_plan.proofs.Spared.{plan-spared}
+use Rattle.mx_files.specs.Assembling.{assembled_outcome}
 use Rattle.mx_files.specs.Clauses.{part_of}
 use Rattle.mx_files.specs.FilePlans.{Part, on_ok, carried, close_file, piece_added, read_piece, read_next, read_pieces, then_closed, read_open, input_opened, open_input, file_plan, write_piece, write_pieces, text_plan, made_plan, lines_plan}
-use Rattle.mx_files.specs.Lines.{output_slot, lines_put}
+use Rattle.mx_files.specs.Writing.{was_put, put_text, lines_put}
 use Rattle.mx_files.specs.ObjectPlans.{outcome_of, whole_plan, object_opened, open_object, assembled, close_object, put_object, put_source, put_into, assemble_part, assemble_plan, typed_end, typed_plan, list_part, list_plan}
 use Rattle.mx_files.specs.Objects.{Assembled, source_object}
-use Rattle.mx_files.specs.Pieces.{piece_put, put_piece, pieces_after, put_pieces, put_text}
-use Rattle.mx_files.specs.Source.{piece_read, one_piece, next_piece, pieces, closed_with, closed_after, read_after, file_bytes, input_slot}
-use Rattle.mx_files.specs.Typed.{Typed, trie_typed, tail_typed, end_typed, typed, typed_put, after_typing}
+use Rattle.mx_files.specs.Typed.{Typed, trie_typed, tail_typed, end_typed, typed}
 use Rattle.mx_outcome.specs.declared.outcome.Outcome.{Outcome}
 use Rattle.mx_outcome.specs.declared.outcome.Outcome.TheVariants.{Done, Usage, NoFile, HostFault as Broken, Refused, BadObject, BadSchedule, Stopped, StepsSpent, Quit, ConsoleLimit, OutOfMemory}
 use Rattle.mx_files.specs.declared.refusal.Refusal.{Refusal}
 
--- ---- reading
-
-added-same : (got : List ℕ) (t : Then (Result (List ℕ) HostFault)) → end_after host (piece_added got) t ≡ piece_read got t
-unfolding bind end_of host need
-added-same got (Ok piece, m) = refl
-added-same got (Err why, m) = refl
-
-read-end : (got : List ℕ) (t : Then (Result (List ℕ) HostFault)) (m : HostModel) → t ≡ read_answer m input_slot 4096 → end_of host (read_piece got) m ≡ end_after host (piece_added got) t
-unfolding read_piece read_plan bind end_of host
-read-end got t m e = rw e refl
-
-pub piece-end : (got : List ℕ) (m : HostModel) → end_of host (read_piece got) m ≡ one_piece got m
-piece-end got m = read-end got (read_answer m input_slot 4096) m refl ∙ added-same got (read_answer m input_slot 4096)
-
-next-same : (left : ℕ) (t : Then (Result (List ℕ × Bool) Outcome)) → ((got : List ℕ) (m : HostModel) → end_of host (read_pieces left got) m ≡ pieces left got m) →
-    end_after host (on_ok (read_next (read_pieces left))) t ≡ next_piece (pieces left) t
-unfolding end_of
-next-same left (Ok (got, true), m) h = h got m
-next-same left (Ok (got, false), m) h = refl
-next-same left (Err outcome, m) h = refl
-
-pub pieces-end : (left : ℕ) (got : List ℕ) (m : HostModel) → end_of host (read_pieces left got) m ≡ pieces left got m
-unfolding read_pieces pieces end_of
-pieces-end zero got m = refl
-pieces-end (suc left) got m =
-    end_bind host (on_ok (read_next (read_pieces left))) (read_piece got) m ∙ ap (end_after host (on_ok (read_next (read_pieces left)))) (piece-end got m)
-    ∙ next-same left (one_piece got m) (λ g n. pieces-end left g n)
+-- ---- reading, by the answers of its calls
 
 abbrev pub then_carried : Then (Result (Unit {0}) HostFault) → Then (Result (Unit {0}) Outcome)
 then_carried t = (carried t.0, t.1)
 
-pub close-end : (slot : ℕ) (m : HostModel) → slot ≡ 256 → end_of host (close_file slot) m ≡ then_carried (close_answer m slot)
+read-by : (got : List ℕ) (m : HostModel) → end_of host (read_piece got) m ≡ end_after host (piece_added got) (read_answer m 256 4096)
+unfolding read_piece read_plan bind end_of host
+read-by got m = refl
+
+pub added-by : (got piece : List ℕ) (m : HostModel) → end_after host (piece_added got) (Ok piece, m) ≡ (Ok (got ++ piece, length piece == 4096), m)
+unfolding bind end_of host need
+added-by got piece m = refl
+
+pub pieces-by : (left : ℕ) (got : List ℕ) (m : HostModel) →
+    end_of host (read_pieces (suc left) got) m ≡ end_after host (on_ok (read_next (read_pieces left))) (end_after host (piece_added got) (read_answer m 256 4096))
+unfolding read_pieces
+pieces-by left got m = end_bind host (on_ok (read_next (read_pieces left))) (read_piece got) m ∙ ap (end_after host (on_ok (read_next (read_pieces left)))) (read-by got m)
+
+close-input : (m : HostModel) → end_of host (close_file 256) m ≡ then_carried (close_answer m 256)
 unfolding close_file close_plan bind end_of host
-close-end slot m e = rw e refl
+close-input m = refl
 
-closed-same : (bytes : List ℕ) (t : Then (Result (Unit {0}) HostFault)) → end_after host (on_ok (λ u. returns (Ok bytes))) (then_carried t) ≡ closed_with bytes t
-unfolding end_of
-closed-same bytes (Ok u, m) = refl
-closed-same bytes (Err why, m) = refl
+pub then-by : (bytes : List ℕ) (m : HostModel) → end_of host (then_closed bytes) m ≡ end_after host (on_ok (λ u. returns (Ok bytes))) (then_carried (close_answer m 256))
+then-by bytes m = end_bind host (on_ok (λ u. returns (Ok bytes))) (close_file 256) m ∙ ap (end_after host (on_ok (λ u. returns (Ok bytes)))) (close-input m)
 
-then-same : (t : Then (Result (List ℕ) Outcome)) → end_after host (on_ok then_closed) t ≡ closed_after t
-unfolding end_of
-then-same (Ok bytes, m) =
-    end_bind host (on_ok (λ u. returns (Ok bytes))) (close_file input_slot) m ∙ ap (end_after host (on_ok (λ u. returns (Ok bytes)))) (close-end input_slot m refl) ∙ closed-same bytes (close_answer m input_slot)
-then-same (Err outcome, m) = refl
-
-open-end : (most : ℕ) (m : HostModel) → end_of host (read_open most) m ≡ closed_after (pieces most [] m)
+pub open-by : (most : ℕ) (m : HostModel) → end_of host (read_open most) m ≡ end_after host (on_ok then_closed) (end_of host (read_pieces most []) m)
 unfolding read_open
-open-end most m = end_bind host (on_ok then_closed) (read_pieces most []) m ∙ ap (end_after host (on_ok then_closed)) (pieces-end most [] m) ∙ then-same (pieces most [] m)
+open-by most m = end_bind host (on_ok then_closed) (read_pieces most []) m
 
-input-same : (most : ℕ) (t : Then (Result (Unit {0}) OpenFault)) → end_after host (on_ok (λ u. read_open most)) (input_opened t.0, t.1) ≡ read_after most t
-unfolding end_of
-input-same most (Ok u, m) = open-end most m
-input-same most (Err opening.Absent, m) = refl
-input-same most (Err opening.Failed, m) = refl
-input-same most (Err opening.OutOfMemory, m) = refl
+abbrev pub input_after : Then (Result (Unit {0}) OpenFault) → Then (Result (Unit {0}) Outcome)
+input_after t = (input_opened t.0, t.1)
 
-input-end : (name : List ℕ) (m : HostModel) → end_of host (open_input name) m ≡ (input_opened (open_answer m 256 name BinaryRead).0, (open_answer m 256 name BinaryRead).1)
+input-by : (name : List ℕ) (m : HostModel) → end_of host (open_input name) m ≡ input_after (open_answer m 256 name BinaryRead)
 unfolding open_input open_plan bind end_of host
-input-end name m = refl
+input-by name m = refl
 
-pub file-end : (most : ℕ) (name : List ℕ) (m : HostModel) → end_of host (file_plan most name) m ≡ file_bytes most name m
+pub file-by : (most : ℕ) (name : List ℕ) (m : HostModel) → end_of host (file_plan most name) m ≡ end_after host (on_ok (λ u. read_open most)) (input_after (open_answer m 256 name BinaryRead))
 unfolding file_plan
-file-end most name m =
-    end_bind host (on_ok (λ u. read_open most)) (open_input name) m ∙ ap (end_after host (on_ok (λ u. read_open most))) (input-end name m)
-    ∙ input-same most (open_answer m 256 name BinaryRead)
+file-by most name m = end_bind host (on_ok (λ u. read_open most)) (open_input name) m ∙ ap (end_after host (on_ok (λ u. read_open most))) (input-by name m)
 
--- ---- writing
+-- ---- writing, by the answers of its calls
 
-put-same : (t : Then (Result (Unit {0}) HostFault)) → then_carried t ≡ part_of (piece_put t)
-put-same (Ok u, m) = refl
-put-same (Err why, m) = refl
-
-pub piece-put-end : (slot : ℕ) (piece : List ℕ) (m : HostModel) → end_of host (write_piece slot piece) m ≡ part_of (put_piece slot piece m)
+pub write-by : (slot : ℕ) (piece : List ℕ) (m : HostModel) → end_of host (write_piece slot piece) m ≡ then_carried (write_answer m slot piece)
 unfolding write_piece write_plan bind end_of host
-piece-put-end slot piece m = put-same (write_answer m slot piece)
+write-by slot piece m = refl
 
-more-same : (more : Part (Unit {0})) (f : HostModel → Then Bool) → ((n : HostModel) → end_of host more n ≡ part_of (f n)) → (t : Then Bool) → end_after host (on_ok (λ u. more)) (part_of t) ≡ part_of (pieces_after f t)
-unfolding end_of
-more-same more f h (true, m) = h m
-more-same more f h (false, m) = refl
+pub none-by : (slot : ℕ) (text : List ℕ) (m : HostModel) → end_of host (write_pieces 0 slot text) m ≡ end_of host (write_piece slot text) m
+unfolding write_pieces
+none-by slot text m = refl
 
-put-pieces-end : (more slot : ℕ) (text : List ℕ) (m : HostModel) → end_of host (write_pieces more slot text) m ≡ part_of (put_pieces more slot text m)
-unfolding write_pieces put_pieces
-put-pieces-end zero slot text m = piece-put-end slot text m
-put-pieces-end (suc more) slot text m =
+pub more-by : (more slot : ℕ) (text : List ℕ) (m : HostModel) →
+    end_of host (write_pieces (suc more) slot text) m ≡ end_after host (on_ok (λ u. write_pieces more slot (drop 4096 text))) (then_carried (write_answer m slot (take 4096 text)))
+unfolding write_pieces
+more-by more slot text m =
     end_bind host (on_ok (λ u. write_pieces more slot (drop 4096 text))) (write_piece slot (take 4096 text)) m
-    ∙ ap (end_after host (on_ok (λ u. write_pieces more slot (drop 4096 text)))) (piece-put-end slot (take 4096 text) m)
-    ∙ more-same (write_pieces more slot (drop 4096 text)) (put_pieces more slot (drop 4096 text)) (λ n. put-pieces-end more slot (drop 4096 text) n) (put_piece slot (take 4096 text) m)
+    ∙ ap (end_after host (on_ok (λ u. write_pieces more slot (drop 4096 text)))) (write-by slot (take 4096 text) m)
+
+made-by : (line : List ℕ) (m : HostModel) → end_of host (made_plan line) m ≡ end_of host (write_piece 259 line) m
+unfolding made_plan need bind end_of host
+made-by line m = refl
+
+pub no-lines : (m : HostModel) → end_of host (lines_plan []) m ≡ (Ok tt, m)
+unfolding lines_plan end_of
+no-lines m = refl
+
+pub line-by : (line : List ℕ) (lines : List (List ℕ)) (m : HostModel) → end_of host (lines_plan (line ∷ lines)) m ≡ end_after host (on_ok (λ u. lines_plan lines)) (then_carried (write_answer m 259 line))
+unfolding lines_plan
+line-by line lines m =
+    end_bind host (on_ok (λ u. lines_plan lines)) (made_plan line) m ∙ ap (end_after host (on_ok (λ u. lines_plan lines))) (made-by line m ∙ write-by 259 line m)
+
+-- ---- all is written, or it is a fault of the host
+
+abbrev IsPut : Result (Unit {0}) Outcome → Type 0
+IsPut (Ok u) = Unit {0}
+IsPut (Err outcome) = outcome ≡ Broken
+
+carried-put : (r : Result (Unit {0}) HostFault) → IsPut (carried r)
+carried-put (Ok u) = tt
+carried-put (Err why) = refl
+
+piece-put : (slot : ℕ) (piece : List ℕ) → Gives HostMay IsPut (write_piece slot piece)
+unfolding Gives write_piece write_plan bind
+piece-put slot piece = λ r t. carried-put r
+
+on-put : (more : Part (Unit {0})) → Gives HostMay IsPut more → (r : Result (Unit {0}) Outcome) → IsPut r → Gives HostMay IsPut (on_ok (λ u. more) r)
+unfolding Gives
+on-put more h (Ok u) t = h
+on-put more h (Err outcome) t = t
+
+pieces-put : (more slot : ℕ) (text : List ℕ) → Gives HostMay IsPut (write_pieces more slot text)
+unfolding write_pieces
+pieces-put zero slot text = piece-put slot text
+pieces-put (suc more) slot text =
+    gives-bind HostMay IsPut IsPut (on_ok (λ u. write_pieces more slot (drop 4096 text))) (write_piece slot (take 4096 text)) (piece-put slot (take 4096 text))
+    (on-put (write_pieces more slot (drop 4096 text)) (pieces-put more slot (drop 4096 text)))
+
+made-put : (line : List ℕ) → Gives HostMay IsPut (made_plan line)
+unfolding Gives made_plan need bind
+made-put line = λ u t. piece-put 259 line
+
+lines-put : (lines : List (List ℕ)) → Gives HostMay IsPut (lines_plan lines)
+unfolding Gives lines_plan
+lines-put [] = tt
+lines-put (line ∷ lines) = gives-bind HostMay IsPut IsPut (on_ok (λ u. lines_plan lines)) (made_plan line) (made-put line) (on-put (lines_plan lines) (lines-put lines))
+
+was-part : (t : Then (Result (Unit {0}) Outcome)) → IsPut t.0 → t ≡ part_of (was_put t)
+was-part (Ok u, m) h = refl
+was-part (Err outcome, m) h = ap (λ o. (Err o, m)) h
+
+put-end : (p : Part (Unit {0})) (m : HostModel) → Gives HostMay IsPut p → end_of host p m ≡ part_of (was_put (end_of host p m))
+put-end p m h = was-part (end_of host p m) (gives-end host HostMay IsPut (λ o w. tt) p m h)
 
 pub text-end : (slot : ℕ) (text : List ℕ) (m : HostModel) → end_of host (text_plan slot text) m ≡ part_of (put_text slot text m)
-unfolding text_plan
-text-end slot text m = put-pieces-end ((length text - 1) / 4096) slot text m
-
-made-end : (line : List ℕ) (m : HostModel) → end_of host (made_plan line) m ≡ part_of (put_piece output_slot line m)
-unfolding made_plan need bind end_of host
-made-end line m = piece-put-end output_slot line m
+unfolding text_plan put_text
+text-end slot text m = put-end (write_pieces ((length text - 1) / 4096) slot text) m (pieces-put ((length text - 1) / 4096) slot text)
 
 pub lines-end : (lines : List (List ℕ)) (m : HostModel) → end_of host (lines_plan lines) m ≡ part_of (lines_put lines m)
-unfolding lines_plan lines_put end_of
-lines-end [] m = refl
-lines-end (line ∷ lines) m =
-    end_bind host (on_ok (λ u. lines_plan lines)) (made_plan line) m ∙ ap (end_after host (on_ok (λ u. lines_plan lines))) (made-end line m)
-    ∙ more-same (lines_plan lines) (lines_put lines) (λ n. lines-end lines n) (put_piece output_slot line m)
+unfolding lines_put
+lines-end lines m = put-end (lines_plan lines) m (lines-put lines)
 
--- ---- a source that is assembled
+-- ---- a source that is assembled, by the answers of its calls
 
 abbrev pub whole_of : Then (Result (Unit {0}) Outcome) → Then Outcome
 whole_of t = (outcome_of t.0, t.1)
 
-whole-end : (p : Part (Unit {0})) (m : HostModel) → end_of host (whole_plan p) m ≡ whole_of (end_of host p m)
+pub whole-by : (p : Part (Unit {0})) (m : HostModel) → end_of host (whole_plan p) m ≡ whole_of (end_of host p m)
 unfolding end_of
-whole-end p m = end_bind host (λ r. returns (outcome_of r)) p m
+whole-by p m = end_bind host (λ r. returns (outcome_of r)) p m
 
 answer-same : (answer : Result (Unit {0}) Refusal) → outcome_of (assembled answer) ≡ assembled_outcome answer
 answer-same (Ok u) = refl
 answer-same (Err refusal) = refl
 
-closing-same : (answer : Result (Unit {0}) Refusal) (t : Then (Result (Unit {0}) HostFault)) → whole_of (end_after host (on_ok (λ u. returns (assembled answer))) (then_carried t)) ≡ closed_object (assembled_outcome answer) t
-unfolding end_of
-closing-same answer (Ok u, m) = ap (λ o. (o, m)) (answer-same answer)
-closing-same answer (Err why, m) = refl
-
-object-close-end : (m : HostModel) → end_of host (close_file 257) m ≡ then_carried (close_answer m 257)
+close-output : (m : HostModel) → end_of host (close_file 257) m ≡ then_carried (close_answer m 257)
 unfolding close_file close_plan bind end_of host
-object-close-end m = refl
+close-output m = refl
 
-closed-end : (answer : Result (Unit {0}) Refusal) (m : HostModel) → whole_of (end_of host (close_object answer) m) ≡ closed_object (assembled_outcome answer) (close_answer m 257)
+closed-by : (answer : Result (Unit {0}) Refusal) (m after : HostModel) → close_answer m 257 ≡ (Ok tt, after) → end_of host (close_object answer) m ≡ (assembled answer, after)
 unfolding close_object
-closed-end answer m =
-    ap whole_of (end_bind host (on_ok (λ u. returns (assembled answer))) (close_file 257) m ∙ ap (end_after host (on_ok (λ u. returns (assembled answer)))) (object-close-end m))
-    ∙ closing-same answer (close_answer m 257)
+closed-by answer m after e =
+    end_bind host (on_ok (λ u. returns (assembled answer))) (close_file 257) m
+    ∙ ap (end_after host (on_ok (λ u. returns (assembled answer)))) (close-output m ∙ ap then_carried e) ∙ end_returns host (assembled answer) after
 
-put-object-same : (answer : Result (Unit {0}) Refusal) (t : Then Bool) → whole_of (end_after host (on_ok (λ u. close_object answer)) (part_of t)) ≡ written_object (assembled_outcome answer) t
-unfolding end_of
-put-object-same answer (true, m) = closed-end answer m
-put-object-same answer (false, m) = refl
-
-put-object-end : (a : Assembled) (m : HostModel) → whole_of (end_of host (put_object a) m) ≡ object_put a m
+object-by : (a : Assembled) (m written after : HostModel) → put_text 257 a.0 m ≡ (true, written) → close_answer written 257 ≡ (Ok tt, after) → end_of host (put_object a) m ≡ (assembled a.1, after)
 unfolding put_object
-put-object-end (bytes, answer) m =
-    ap whole_of (end_bind host (on_ok (λ u. close_object answer)) (text_plan 257 bytes) m ∙ ap (end_after host (on_ok (λ u. close_object answer))) (text-end 257 bytes m))
-    ∙ put-object-same answer (put_text 257 bytes m)
+object-by a m written after e f =
+    end_bind host (on_ok (λ u. close_object a.1)) (text_plan 257 a.0) m
+    ∙ ap (end_after host (on_ok (λ u. close_object a.1))) (text-end 257 a.0 m ∙ ap part_of e) ∙ closed-by a.1 written after f
 
-put-source-end : (source : List ℕ) (m : HostModel) → whole_of (end_of host (put_source source) m) ≡ object_put (source_object source) m
+source-by : (source : List ℕ) (m : HostModel) → end_of host (put_source source) m ≡ end_of host (put_object (source_object source)) m
 unfolding put_source need bind end_of host
-put-source-end source m = put-object-end (source_object source) m
+source-by source m = refl
 
-opening-same : (source : List ℕ) (t : Then (Result (Unit {0}) OpenFault)) → whole_of (end_after host (on_ok (λ u. put_source source)) (object_opened t.0, t.1)) ≡ after_opening source t
-unfolding end_of
-opening-same source (Ok u, m) = put-source-end source m
-opening-same source (Err opening.Absent, m) = refl
-opening-same source (Err opening.Failed, m) = refl
-opening-same source (Err opening.OutOfMemory, m) = refl
-
-object-open-end : (name : List ℕ) (m : HostModel) → end_of host (open_object name) m ≡ (object_opened (open_answer m 257 name BinaryWrite).0, (open_answer m 257 name BinaryWrite).1)
+open-object-by : (name : List ℕ) (m : HostModel) → end_of host (open_object name) m ≡ (object_opened (open_answer m 257 name BinaryWrite).0, (open_answer m 257 name BinaryWrite).1)
 unfolding open_object open_plan bind end_of host
-object-open-end name m = refl
+open-object-by name m = refl
 
-into-end : (object source : List ℕ) (m : HostModel) → whole_of (end_of host (put_into object source) m) ≡ after_opening source (open_answer m 257 object BinaryWrite)
+into-by : (object source : List ℕ) (m opened : HostModel) → open_answer m 257 object BinaryWrite ≡ (Ok tt, opened) → end_of host (put_into object source) m ≡ end_of host (put_source source) opened
 unfolding put_into
-into-end object source m =
-    ap whole_of (end_bind host (on_ok (λ u. put_source source)) (open_object object) m ∙ ap (end_after host (on_ok (λ u. put_source source))) (object-open-end object m))
-    ∙ opening-same source (open_answer m 257 object BinaryWrite)
+into-by object source m opened e =
+    end_bind host (on_ok (λ u. put_source source)) (open_object object) m
+    ∙ ap (end_after host (on_ok (λ u. put_source source))) (open-object-by object m ∙ ap (λ (t : Then (Result (Unit {0}) OpenFault)). (object_opened t.0, t.1)) e)
 
-reading-same : (object : List ℕ) (t : Then (Result (List ℕ) Outcome)) → whole_of (end_after host (on_ok (put_into object)) t) ≡ after_reading object t
-unfolding end_of
-reading-same object (Ok source, m) = into-end object source m
-reading-same object (Err outcome, m) = refl
-
-pub assemble-end : (source object : List ℕ) (m : HostModel) → end_of host (assemble_plan source object) m ≡ after_reading object (file_bytes 1025 source m)
+-- it is read, the object file opens, what there is of the object is written, and the file is closed
+pub assembled-by : (source object text : List ℕ) (m read opened written after : HostModel) → end_of host (file_plan 1025 source) m ≡ (Ok text, read) → open_answer read 257 object BinaryWrite ≡ (Ok tt, opened) →
+    put_text 257 (source_object text).0 opened ≡ (true, written) → close_answer written 257 ≡ (Ok tt, after) → end_of host (assemble_plan source object) m ≡ (assembled_outcome (source_object text).1, after)
 unfolding assemble_part
-assemble-end source object m =
-    whole-end (assemble_part source object) m
-    ∙ ap whole_of (end_bind host (on_ok (put_into object)) (file_plan 1025 source) m ∙ ap (end_after host (on_ok (put_into object))) (file-end 1025 source m))
-    ∙ reading-same object (file_bytes 1025 source m)
+assembled-by source object text m read opened written after reads opens writes closes =
+    whole-by (assemble_part source object) m
+    ∙ ap whole_of (end_bind host (on_ok (put_into object)) (file_plan 1025 source) m ∙ ap (end_after host (on_ok (put_into object))) reads
+    ∙ into-by object text read opened opens ∙ source-by text opened ∙ object-by (source_object text) opened written after writes closes)
+    ∙ ap (λ (o : Outcome). (o, after)) (answer-same (source_object text).1)
+
+-- reading it makes no more calls than all of it
+reading-later : (object : List ℕ) (t : Then (Result (List ℕ) Outcome)) → t.1.calls ≤ (end_after host (on_ok (put_into object)) t).1.calls
+reading-later object (r, m) = (plan-spared (on_ok (put_into object) r) m).later
+
+pub assembled-later : (source object : List ℕ) (m : HostModel) → (end_of host (file_plan 1025 source) m).1.calls ≤ (end_of host (assemble_plan source object) m).1.calls
+unfolding assemble_part
+assembled-later source object m =
+    rw (whole-by (assemble_part source object) m, end_bind host (on_ok (put_into object)) (file_plan 1025 source) m) (reading-later object (end_of host (file_plan 1025 source) m))
 
 -- ---- an object that is listed
 
@@ -217,28 +221,11 @@ IsTyped (Done status) = Done status ≡ Done 0
 IsTyped (BadObject place fault) = Unit {0}
 IsTyped outcome = ⊥
 
-typed-same : (t : Typed) (w : Then Bool) → IsTyped t.1 → plainly (whole_of (end_after host (on_ok (λ u. typed_end t.1)) (part_of w))) ≡ after_lines t.1 w
+typed-by : (outcome : Outcome) (m : HostModel) → IsTyped outcome → whole_of (end_of host (typed_end outcome) m) ≡ (outcome, m)
 unfolding bind need end_of host
-typed-same (lines, Done status) (true, m) h = ap (λ o. answered o m) (sym h)
-typed-same (lines, Done status) (false, m) h = refl
-typed-same (lines, BadObject place fault) (true, m) h = refl
-typed-same (lines, BadObject place fault) (false, m) h = refl
-typed-same (lines, Usage fault) w h = absurd h
-typed-same (lines, NoFile) w h = absurd h
-typed-same (lines, Broken) w h = absurd h
-typed-same (lines, Refused line fault from_line) w h = absurd h
-typed-same (lines, BadSchedule place) w h = absurd h
-typed-same (lines, Stopped pc reason) w h = absurd h
-typed-same (lines, StepsSpent steps) w h = absurd h
-typed-same (lines, Quit) w h = absurd h
-typed-same (lines, ConsoleLimit) w h = absurd h
-typed-same (lines, OutOfMemory) w h = absurd h
-
-typed-end : (t : Typed) (m : HostModel) → IsTyped t.1 → plainly (whole_of (end_of host (typed_plan t) m)) ≡ typed_put t m
-unfolding typed_plan
-typed-end t m h =
-    ap (λ e. plainly (whole_of e)) (end_bind host (on_ok (λ u. typed_end t.1)) (lines_plan t.0) m ∙ ap (end_after host (on_ok (λ u. typed_end t.1))) (lines-end t.0 m))
-    ∙ typed-same t (lines_put t.0 m) h
+typed-by (Done status) m h = ap (λ o. (o, m)) (sym h)
+typed-by (BadObject place fault) m h = refl
+typed-by outcome m h = absurd h
 
 trie-typed : (place : ℕ) (trie : List ℕ) (r : Result (List Symbol) StabFault) → IsTyped (trie_typed place trie r).1
 trie-typed place trie (Ok symbols) = refl
@@ -260,16 +247,14 @@ object-typed : (object : List ℕ) → IsTyped (typed object).1
 unfolding typed
 object-typed object = either-typed (nat_lt limit (length object)) _ _ tt (end-typed (items_of Start 0 object).1)
 
-listing-same : (t : Then (Result (List ℕ) Outcome)) → plainly (whole_of (end_after host (on_ok (λ object. typed_plan (typed object))) t)) ≡ after_typing t
-unfolding end_of
-listing-same (Ok object, m) = typed-end (typed object) m (object-typed object)
-listing-same (Err outcome, m) = refl
+-- an object is read, and its lines are written
+pub listed-by : (name bytes : List ℕ) (m n k : HostModel) → end_of host (file_plan 16385 name) m ≡ (Ok bytes, n) → lines_put (typed bytes).0 n ≡ (true, k) → end_of host (list_plan name) m ≡ ((typed bytes).1, k)
+unfolding list_part typed_plan
+listed-by name bytes m n k read written =
+    let t : Typed = typed bytes in
+    whole-by (list_part name) m
+    ∙ ap whole_of (end_bind host (on_ok (λ object. typed_plan (typed object))) (file_plan 16385 name) m ∙ ap (end_after host (on_ok (λ object. typed_plan (typed object)))) read
+    ∙ end_bind host (on_ok (λ u. typed_end t.1)) (lines_plan t.0) n ∙ ap (end_after host (on_ok (λ u. typed_end t.1))) (lines-end t.0 n ∙ ap part_of written))
+    ∙ typed-by t.1 k (object-typed bytes)
 
-pub list-end : (name : List ℕ) (m : HostModel) → plainly (end_of host (list_plan name) m) ≡ after_typing (file_bytes 16385 name m)
-unfolding list_part
-list-end name m =
-    ap plainly (whole-end (list_part name) m
-    ∙ ap whole_of (end_bind host (on_ok (λ object. typed_plan (typed object))) (file_plan 16385 name) m ∙ ap (end_after host (on_ok (λ object. typed_plan (typed object)))) (file-end 16385 name m)))
-    ∙ listing-same (file_bytes 16385 name m)
-
-pub ruleset ends = (file-end, text-end, lines-end, assemble-end, list-end)
+pub ruleset ends = (text-end, lines-end)

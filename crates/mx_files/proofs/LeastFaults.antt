@@ -4,17 +4,9 @@ use Rattle.std.specs.Prelude.{Result, ◌↔◌}
 use Rattle.std.specs.List.{position}
 use Rattle.std.proofs.lemmas.Bool.Decides.{nat_tests}
 use Rattle.std.proofs.lemmas.List.Quantifiers.{position-Some}
-use Rattle.mx_host.specs.HostModel.{HostModel}
-use Rattle.mx_host.specs.HostAnswer.{Then}
-use Rattle.mx_plan.specs.Calls.{host}
-use Rattle.mx_plan.specs.Plan.{returns, end_of, end_after}
-use Rattle.mx_plan.proofs.Plans.{end_bind}
-use Rattle.mx_files.specs.FilePlans.{on_ok, file_plan}
-use Rattle.mx_files.specs.Source.{file_bytes}
-use Rattle.mx_files.specs.Schedules.{AreEight, IsAtFault, empty, long, unnamed, IsLeastFault, IsFaultless, longest, is_unnamed, length_fault, least_fault, judged, schedule_in, schedule_fault, schedule_from, schedule_bytes, schedule_plan}
+use Rattle.mx_files.specs.Schedules.{AreEight, IsAtFault, empty, long, unnamed, IsLeastFault, IsFaultless, longest, is_unnamed, length_fault, least_fault, judged, schedule_in, schedule_fault}
 use Rattle.mx_outcome.specs.declared.outcome.Outcome.{Outcome}
 use Rattle.mx_outcome.specs.declared.outcome.Outcome.TheVariants.{BadSchedule}
-use Rattle.mx_files.proofs.FileEnds.{file-end}
 use Rattle.mx_files.proofs.ReadSchedules.{none-named}
 
 -- ---- bytes that name none of eight
@@ -122,17 +114,4 @@ pub schedule-taken : (bytes : List ℕ) → (schedule_in bytes ≡ Ok bytes) ↔
 unfolding schedule_in
 schedule-taken bytes = taken-by bytes (schedule_fault bytes) (fault-judged bytes)
 
--- ---- the plan
-
-from-same : (t : Then (Result (List ℕ) Outcome)) → end_after host (on_ok (λ bytes. returns (schedule_in bytes))) t ≡ schedule_from t
-unfolding end_of
-from-same (Ok bytes, m) = refl
-from-same (Err outcome, m) = refl
-
-pub schedule-end : (name : List ℕ) (m : HostModel) → end_of host (schedule_plan name) m ≡ schedule_bytes name m
-unfolding schedule_plan
-schedule-end name m =
-    end_bind host (on_ok (λ bytes. returns (schedule_in bytes))) (file_plan 1025 name) m ∙ ap (end_after host (on_ok (λ bytes. returns (schedule_in bytes)))) (file-end 1025 name m)
-    ∙ from-same (file_bytes 1025 name m)
-
-pub ruleset judging = (schedule-refused, schedule-taken, schedule-end)
+pub ruleset judging = (schedule-refused, schedule-taken)

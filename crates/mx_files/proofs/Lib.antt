@@ -8,12 +8,10 @@ pub mod FileParts
 pub mod WrittenLines
 pub mod FileEnds
 pub mod PutPieces
-pub mod PutLines
 pub mod QuietFiles
 pub mod ReadPieces
 pub mod SourceImages
 pub mod TakenLines
-pub mod WrittenObjects
 pub mod FileClauses
 pub mod ReadSchedules
 pub mod Serving

@@ -12,9 +12,7 @@ use Rattle.mx_host.specs.declared.faults.HostFault.{HostFault as SlotFault}
 use Rattle.mx_plan.specs.Calls.{HostCall, HostSays, opening, closing, reading, writing, seeking, telling, needing, host, HostPlan, open_plan, close_plan, read_plan, need}
 use Rattle.mx_plan.specs.Plan.{returns, calls, bind, end_of, Stops}
 use Rattle.mx_files.specs.FilePlans.{Part, on_ok, close_file, piece_added, read_piece, read_next, read_pieces, then_closed, read_open, open_input, file_plan}
-use Rattle.mx_files.specs.Source.{file_bytes}
 use Rattle.mx_outcome.specs.declared.outcome.Outcome.{Outcome}
-use Rattle.mx_files.proofs.FileEnds.{file-end}
 
 -- an answer leaves standard output as it was
 abbrev pub Quiet : {A : Type 0} → HostModel → Then A → Type 0
@@ -163,6 +161,3 @@ file-stops-quiet most name m n s = calm-stop (file_plan most name) m n (file-cal
 
 pub file-ends-quiet : (most : ℕ) (name : List ℕ) (m : HostModel) → (end_of host (file_plan most name) m).1.output ≡ m.output
 file-ends-quiet most name m = calm-end (file_plan most name) m (file-calm most name)
-
-pub file-quiet : (most : ℕ) (m : HostModel) (name : List ℕ) → Quiet m (file_bytes most name m)
-file-quiet most m name = rw (← file-end most name m) (file-ends-quiet most name m)

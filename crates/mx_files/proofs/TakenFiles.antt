@@ -7,9 +7,7 @@ use Rattle.mx_plan.specs.Plan.{returns}
 use Rattle.mx_plan.specs.Calls.{reading, open_plan, close_plan, read_plan, need}
 use Rattle.mx_plan.specs.Taking.{CanSay, taken, Spares, TakesAtMost}
 use Rattle.mx_plan.proofs.Taking.{spares-bind, spares-returns, need-spares, open-spares, close-spares}
-use Rattle.mx_files.specs.FilePlans.{Part, on_ok, carried, close_file, input_opened, open_input, piece_added, read_piece, read_next, read_pieces, then_closed, read_open, file_plan}
-use Rattle.mx_files.specs.Pieces.{piece_size}
-use Rattle.mx_files.specs.Source.{input_slot}
+use Rattle.mx_files.specs.FilePlans.{piece_size, input_slot, Part, on_ok, carried, close_file, input_opened, open_input, piece_added, read_piece, read_next, read_pieces, then_closed, read_open, file_plan}
 use Rattle.mx_outcome.specs.declared.outcome.Outcome.{Outcome}
 
 -- a part is done, or it ends the work, which takes nothing more

@@ -6,9 +6,6 @@ use Rattle.mx_host.specs.declared.faults.OpenFault.TheVariants as opening
 use Rattle.mx_host.specs.declared.slots.Mode.TheVariants.{BinaryRead}
 use Rattle.mx_plan.specs.Plan.{returns, bind}
 use Rattle.mx_plan.specs.Calls.{HostPlan, open_plan, close_plan, read_plan, write_plan, need}
-use Rattle.mx_files.specs.Lines.{output_slot}
-use Rattle.mx_files.specs.Pieces.{piece_size}
-use Rattle.mx_files.specs.Source.{input_slot}
 use Rattle.mx_outcome.specs.declared.outcome.Outcome.{Outcome}
 use Rattle.mx_outcome.specs.declared.outcome.Outcome.TheVariants.{NoFile, HostFault as Broken, OutOfMemory}
 
@@ -30,6 +27,14 @@ unfoldable pub close_file : ℕ → Part (Unit {0})
 close_file slot = bind (λ r. returns (carried r)) (close_plan slot)
 
 -- ---- A FILE that is read
+
+-- the longest piece
+abbrev pub piece_size : ℕ
+piece_size = 4096
+
+-- the slot of the tool's input file
+abbrev pub input_slot : ℕ
+input_slot = 256
 
 abbrev pub input_opened : Result (Unit {0}) OpenFault → Result (Unit {0}) Outcome
 input_opened (Ok u) = Ok tt
@@ -84,6 +89,10 @@ unfoldable pub text_plan : ℕ → List ℕ → Part (Unit {0})
 text_plan slot text = write_pieces ((length text - 1) / piece_size) slot text
 
 -- ---- LINES on the tool's standard output
+
+-- its slot
+abbrev pub output_slot : ℕ
+output_slot = 259
 
 -- each by one call
 abbrev pub line_plan : List ℕ → Part (Unit {0})

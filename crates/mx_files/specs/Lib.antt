@@ -1,15 +1,14 @@
 pub use Rattle.mx_word.specs.Results
 pub mod Answers
 pub mod Failing
-pub mod Pieces
-pub mod Lines
+pub mod FilePlans
+pub mod Writing
 pub mod Source
 pub mod Loading
 pub mod Objects
 pub mod Sources
 pub mod Assembling
 pub mod Typed
-pub mod FilePlans
 pub mod ObjectPlans
 pub mod Schedules
 pub mod Clauses

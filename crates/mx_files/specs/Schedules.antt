@@ -3,9 +3,10 @@ use Rattle.std.specs.Prelude.{ℕ, ◌^◌, ◌<◌, ◌≤◌, ◌==◌, Bool, 
 use Rattle.std.specs.List.{position}
 use Rattle.mx_host.specs.HostModel.{HostModel}
 use Rattle.mx_host.specs.HostAnswer.{Then}
-use Rattle.mx_plan.specs.Plan.{returns, bind}
+use Rattle.mx_plan.specs.Calls.{host}
+use Rattle.mx_plan.specs.Plan.{returns, bind, end_of}
 use Rattle.mx_files.specs.FilePlans.{Part, on_ok, file_plan}
-use Rattle.mx_files.specs.Source.{source_pieces, file_bytes}
+use Rattle.mx_files.specs.Source.{source_pieces}
 use Rattle.mx_outcome.specs.declared.outcome.Outcome.{Outcome}
 use Rattle.mx_outcome.specs.declared.outcome.Outcome.TheVariants.{BadSchedule}
 
@@ -50,17 +51,12 @@ judged (Some place) bytes = Err (BadSchedule place)
 unfoldable pub schedule_in : List ℕ → Result (List ℕ) Outcome
 schedule_in bytes = judged (schedule_fault bytes) bytes
 
--- the schedule in the file of this name
-abbrev pub schedule_from : Then (Result (List ℕ) Outcome) → Then (Result (List ℕ) Outcome)
-schedule_from (Err outcome, m) = (Err outcome, m)
-schedule_from (Ok bytes, m) = (schedule_in bytes, m)
-
-abbrev pub schedule_bytes : List ℕ → HostModel → Then (Result (List ℕ) Outcome)
-schedule_bytes name m = schedule_from (file_bytes source_pieces name m)
-
--- the same as a plan: it is judged when the file was closed
+-- the schedule in the file of this name: it is judged when the file was closed
 unfoldable pub schedule_plan : List ℕ → Part (List ℕ)
 schedule_plan name = bind (on_ok (λ bytes. returns (schedule_in bytes))) (file_plan source_pieces name)
+
+abbrev pub schedule_bytes : List ℕ → HostModel → Then (Result (List ℕ) Outcome)
+schedule_bytes name m = end_of host (schedule_plan name) m
 
 -- each byte names one of eight processors
 abbrev pub AreEight : List ℕ → Type 0

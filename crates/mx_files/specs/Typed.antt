@@ -1,7 +1,5 @@
 -- What `type` writes for an object, line by line, and what it comes to.
 use Rattle.std.specs.Prelude.{ℕ, ◌+◌, nat_lt, List, [], ◌∷◌, ◌++◌, length, map, Result, Ok, Err, unwrap_or, if◌then◌else◌}
-use Rattle.mx_host.specs.HostModel.{HostModel}
-use Rattle.mx_host.specs.HostAnswer.{Then}
 use Rattle.mx_load.specs.Objects.{fault_at}
 use Rattle.mx_mmo.specs.Replies.{ReaderModel, limit, tail_of}
 use Rattle.mx_mmo.specs.Whole.{Left, Walk, items_of}
@@ -17,8 +15,6 @@ use Rattle.mx_type.specs.Lambda.{lambda_after}
 use Rattle.mx_type.specs.Lines.{ended, stab_line, symbol_line}
 use Rattle.mx_type.specs.Texts.{item_text}
 use Rattle.mx_word.specs.declared.symbols.Symbol.{Symbol}
-use Rattle.mx_files.specs.Answers.{Answer, answered, after_lines}
-use Rattle.mx_files.specs.Lines.{lines_put}
 use Rattle.mx_outcome.specs.declared.outcome.Outcome.{Outcome}
 use Rattle.mx_outcome.specs.declared.outcome.Outcome.TheVariants.{Done, BadObject}
 
@@ -73,14 +69,6 @@ walk_typed lambda w = behind (item_lines lambda w.0) (end_typed w.1)
 -- what its items mean plays no part. Of too many bytes there is no line.
 unfoldable pub typed : List ℕ → Typed
 typed object = if nat_lt limit (length object) then ([], unread (TooLong limit)) else walk_typed 0 (items_of Start 0 object)
-
--- the lines are written, each by one write, up to one that is not
-abbrev pub typed_put : Typed → HostModel → Answer
-typed_put t m = after_lines t.1 (lines_put t.0 m)
-
-abbrev pub after_typing : Then (Result (List ℕ) Outcome) → Answer
-after_typing (Err outcome, m) = answered outcome m
-after_typing (Ok object, m) = typed_put (typed object) m
 
 -- what a reader still gives, with what stands behind it
 abbrev pub still_typed : ℕ → ReaderModel → Typed

@@ -7,13 +7,13 @@ ghost use Rattle.mx_asm.specs.Whole.{assembled_lines, line_after};
 ghost use Rattle.mx_host.specs.Keeping.{Answers, WritesFront};
 ghost use Rattle.mx_line.specs.Lines.{lines_of};
 ghost use Rattle.mx_mmo.specs.Spelling.{written};
+ghost use Rattle.mx_plan.specs.Calls as calls;
 ghost use Rattle.mx_plan.specs.Clauses.{CarriesOut};
+ghost use Rattle.mx_plan.specs.Plan.{end_of};
 ghost use Rattle.mx_files.specs.Failing.{FailsOnlyBy};
-ghost use Rattle.mx_files.specs.Assembling as spec;
 ghost use Rattle.mx_files.specs.Clauses.{ComesByFailing, Works};
 ghost use Rattle.mx_files.specs.ObjectPlans as plans;
 ghost use Rattle.mx_files.specs.Objects as objects;
-ghost use Rattle.mx_files.specs.Source.{file_bytes};
 
 use crate::pieces::{close_file, put_text, whole_outcome};
 use crate::refusal::{Refusal, is_out_of_memory, refusal_of};
@@ -222,9 +222,9 @@ pub fn assemble_file<H: Host>(alloc: Global, host: &mut H, source: &[u8], object
     ensures cause { ComesByFailing (H.told host.old) Outcome.HostFault result (H.faults host.old) (H.faults host.new)
         (plans.assemble_part source.now object.now) }
     ensures told { Answers (H.told host.old) (H.told host.new) Outcome.OutOfMemory result
-        (λ m. spec.after_reading object.now (file_bytes 1025 source.now m)) }
+        (λ m. end_of calls.host (plans.assemble_plan source.now object.now) m) }
     ensures written { WritesFront (H.told host.old) (H.told host.new) Outcome.OutOfMemory result
-        (λ m. spec.after_reading object.now (file_bytes 1025 source.now m)) }
+        (λ m. end_of calls.host (plans.assemble_plan source.now object.now) m) }
     ensures causes { FailsOnlyBy H.told H.faults host.old host.new result }
 {
     whole_outcome(assemble(alloc, host, source, object))

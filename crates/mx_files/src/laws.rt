@@ -6,30 +6,20 @@ ghost use Rattle.mx_plan.specs.Calls.{HostPlan, host};
 ghost use Rattle.mx_plan.specs.Held.{KeepsStreams, Makes, OnlyAdds};
 ghost use Rattle.mx_plan.specs.Plan.{Stops, end_of};
 ghost use Rattle.mx_plan.specs.Taking.{TakesAtMost};
-ghost use Rattle.mx_files.specs.Answers.{plainly};
-ghost use Rattle.mx_files.specs.Assembling.{after_reading};
 ghost use Rattle.mx_files.specs.Clauses.{HasToolSlots, Serves, part_of};
-ghost use Rattle.mx_files.specs.FilePlans.{file_plan, lines_plan, text_plan};
-ghost use Rattle.mx_files.specs.Lines.{lines_put};
-ghost use Rattle.mx_files.specs.ObjectPlans.{assemble_part, assemble_plan, list_part, list_plan};
-ghost use Rattle.mx_files.specs.Pieces.{put_text};
-ghost use Rattle.mx_files.specs.Source.{file_bytes, input_slot};
-ghost use Rattle.mx_files.specs.Typed.{after_typing};
+ghost use Rattle.mx_files.specs.FilePlans.{file_plan, input_slot, lines_plan, text_plan};
+ghost use Rattle.mx_files.specs.Writing.{lines_put};
+ghost use Rattle.mx_files.specs.ObjectPlans.{assemble_part, list_part};
+ghost use Rattle.mx_files.specs.Writing.{put_text};
 ghost use Rattle.mx_outcome.specs.declared.outcome.Outcome.{Outcome};
 
-/// What is read, written, assembled and listed is what its plan comes to.
+/// A text and lines are written, or they are not, and then that is a fault of the host: their plans come to nothing else.
 #[tactic(auto, using(crate::proofs::FileEnds::ends))]
 pub fn files_are_their_plans()
-    ensures read { (most : ℕ) (name : List ℕ) (m : HostModel) →
-        end_of host (file_plan most name) m ≡ file_bytes most name m }
     ensures text { (slot : ℕ) (text : List ℕ) (m : HostModel) →
         end_of host (text_plan slot text) m ≡ part_of (put_text slot text m) }
     ensures lines { (lines : List (List ℕ)) (m : HostModel) →
         end_of host (lines_plan lines) m ≡ part_of (lines_put lines m) }
-    ensures assembled { (source object : List ℕ) (m : HostModel) →
-        end_of host (assemble_plan source object) m ≡ after_reading object (file_bytes 1025 source m) }
-    ensures listed { (name : List ℕ) (m : HostModel) →
-        plainly (end_of host (list_plan name) m) ≡ after_typing (file_bytes 16385 name m) }
 {}
 
 /// Where a plan stops for want of memory, it only added to standard output, and what stands there is a front of what

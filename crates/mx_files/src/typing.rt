@@ -3,17 +3,18 @@
 ghost use Rattle.std.specs.Prelude.{◌≡◌, ◌≢◌, ◌<◌, ◌≤◌, ◌^◌, Ok, Err, None, true, false, length, map, OnOk};
 ghost use Rattle.std.specs.Prelude.{IfErr, IfSome};
 ghost use Rattle.mx_mmo.specs.Whole.{left_of};
+ghost use Rattle.mx_plan.specs.Calls as calls;
 ghost use Rattle.mx_plan.specs.Clauses.{CarriesOut};
+ghost use Rattle.mx_plan.specs.Plan.{end_of};
 ghost use Rattle.mx_stab.specs.Faults as tries;
 ghost use Rattle.mx_type.specs.Lambda.{lambda_after};
 ghost use Rattle.mx_type.specs.Lines.{ended, stab_line, symbol_line};
 ghost use Rattle.mx_type.specs.Texts.{item_text};
 ghost use Rattle.mx_files.specs.Failing.{FailsOnlyBy};
-ghost use Rattle.mx_files.specs.Answers.{AnswersAs, AnswersAsList, WritesFrontOf};
+ghost use Rattle.mx_files.specs.Answers.{AnswersAs, AnswersAsList, WritesFrontOf, plainly};
 ghost use Rattle.mx_files.specs.Clauses.{ComesByFailing, Leaves, Works, is_end};
 ghost use Rattle.mx_files.specs.FilePlans as lines;
 ghost use Rattle.mx_files.specs.ObjectPlans as plans;
-ghost use Rattle.mx_files.specs.Source.{file_bytes};
 ghost use Rattle.mx_files.specs.Typed as spec;
 
 use crate::lines::write_line;
@@ -277,11 +278,11 @@ pub fn list_file<H: Host>(alloc: Global, host: &mut H, name: &[u8]) -> Outcome
     ensures cause { ComesByFailing (H.told host.old) Outcome.HostFault result (H.faults host.old) (H.faults host.new)
         (plans.list_part name.now) }
     ensures told { AnswersAs (H.told host.old) (H.told host.new) result
-        (λ m. spec.after_typing (file_bytes 16385 name.now m)) }
+        (λ m. plainly (end_of calls.host (plans.list_plan name.now) m)) }
     ensures listed { AnswersAsList (H.told host.old) (H.told host.new) result
-        (λ m. spec.after_typing (file_bytes 16385 name.now m)) }
+        (λ m. plainly (end_of calls.host (plans.list_plan name.now) m)) }
     ensures front { WritesFrontOf (H.told host.old) (H.told host.new) result
-        (λ m. spec.after_typing (file_bytes 16385 name.now m)) }
+        (λ m. plainly (end_of calls.host (plans.list_plan name.now) m)) }
     ensures causes { FailsOnlyBy H.told H.faults host.old host.new result }
 {
     whole_outcome(list_whole(alloc, host, name))

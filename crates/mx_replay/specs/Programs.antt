@@ -4,13 +4,15 @@ use Rattle.mx_host.specs.HostAnswer.{Then, with_file}
 use Rattle.mx_host.specs.HostModel.{HostModel, start_model}
 use Rattle.mx_host.specs.declared.files.StoredFile.{StoredFile}
 use Rattle.mx_word.specs.Results.{map_ok}
+use Rattle.mx_plan.specs.Calls.{host}
+use Rattle.mx_plan.specs.Plan.{end_of}
 use Rattle.mx_core.specs.State.{State}
 use Rattle.mx_run.specs.Runs.{Ended, no_flags, run}
 use Rattle.mx_run.specs.WildRuns.{window_machine}
 use Rattle.mx_run.specs.declared.end.End.{End}
 use Rattle.mx_run.specs.declared.end.End.TheVariants.{Halted, Stopped, Broke, Traced, Spent, OutOfMemory}
 use Rattle.mx_outcome.specs.declared.outcome.Outcome.{Outcome}
-use Rattle.mx_begin.specs.Begun.{begun}
+use Rattle.mx_begin.specs.BeginPlans.{begin_plan}
 use Rattle.mx_replay.specs.declared.program.Program.{Program}
 
 -- ---- the start
@@ -26,7 +28,7 @@ host_of p = with_files (start_model p.input []) p.files
 
 -- the machine at its start and the host then, or the outcome where no machine starts
 abbrev pub start_of : Program → Then (Result State Outcome)
-start_of p = begun window_machine (map string_bytes p.words) p.order p.form (host_of p)
+start_of p = end_of host (begin_plan window_machine (map string_bytes p.words) p.order p.form) (host_of p)
 
 -- the words name a file
 pub record NamesFile (p : Program) : Type 0 where

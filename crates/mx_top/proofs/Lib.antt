@@ -1,4 +1,5 @@
 pub mod Answering
+pub mod BegunRuns
 pub mod SameDumps
 pub mod Dumped
 pub mod Generated

@@ -3,7 +3,9 @@ use Rattle.std.proofs.Common.{◌≡◌, List, Ok, Err, refl, sym, ◌∙◌, su
 use Rattle.std.specs.Prelude.{Option, Result}
 use Rattle.mx_host.specs.HostModel.{HostModel, tells, contents}
 use Rattle.mx_host.specs.HostAnswer.{Then}
-use Rattle.mx_host.specs.Keeping.{Answers}
+use Rattle.mx_plan.specs.Calls.{host}
+use Rattle.mx_plan.specs.Clauses.{CarriesOut}
+use Rattle.mx_plan.specs.Plan.{end_of}
 use Rattle.mx_core.specs.Bounds.{as_list_state}
 use Rattle.mx_core.specs.State.{State}
 use Rattle.mx_run.specs.WildRuns.{list_machine}
@@ -16,7 +18,7 @@ use Rattle.mx_files.specs.Schedules.{schedule_bytes}
 use Rattle.mx_outcome.specs.declared.outcome.Outcome.{Outcome}
 use Rattle.mx_outcome.specs.declared.outcome.Outcome.TheVariants.{OutOfMemory}
 use Rattle.mx_begin.specs.Arguments.{Word, word_at}
-use Rattle.mx_begin.specs.Begun.{begun}
+use Rattle.mx_begin.specs.BeginPlans.{begin_plan}
 use Rattle.mx_begin.specs.declared.images.Form.{Form}
 use Rattle.mx_top.specs.Product.{after_schedule, begun_run, ordered}
 use Rattle.mx_top.specs.ProductPlan as plans
@@ -26,16 +28,16 @@ use Rattle.mx_top.proofs.WorkPlans.{taking-by, tells-then}
 
 -- a machine that has begun, or has not
 pub begun-listed : (a b c : Option HostModel) (r : Outcome) (words : List Word) (o : Order) (form : Form) (s : State) → tells b ≡ tells a →
-    Answers a b (Err OutOfMemory) (Ok (as_list_state s)) (λ m. begun list_machine words o form m) → CarriesOutBoth b c r (plans.machine_plan o s) →
-    AnswersAsList a c r (λ m. begun_run list_machine o (begun list_machine words o form m))
+    CarriesOut a b (Err OutOfMemory) (Ok (as_list_state s)) (begin_plan list_machine words o form) → CarriesOutBoth b c r (plans.machine_plan o s) →
+    AnswersAsList a c r (λ m. begun_run list_machine o (end_of host (begin_plan list_machine words o form) m))
 begun-listed a b c r words o form s e was h = λ t ne.
-    subst (λ (x : Then (Result State Outcome)). GoesAs (begun_run list_machine o x) r (contents c)) (was t (λ x. absurd (cc)))
+    subst (λ (x : Then (Result State Outcome)). GoesAs (begun_run list_machine o x) r (contents c)) ((was t).ending (λ x. absurd (cc)))
     (subst (λ (x : Answer). GoesAs x r (contents c)) (machine-end list_machine o s (contents b)) (h.list (tells-then a b e t) ne))
 
-pub unbegun-listed : (a b : Option HostModel) (r : Outcome) (words : List Word) (o : Order) (form : Form) → Answers a b (Err OutOfMemory) (Err r) (λ m. begun list_machine words o form m) →
-    AnswersAsList a b r (λ m. begun_run list_machine o (begun list_machine words o form m))
+pub unbegun-listed : (a b : Option HostModel) (r : Outcome) (words : List Word) (o : Order) (form : Form) → CarriesOut a b (Err OutOfMemory) (Err r) (begin_plan list_machine words o form) →
+    AnswersAsList a b r (λ m. begun_run list_machine o (end_of host (begin_plan list_machine words o form) m))
 unbegun-listed a b r words o form was = λ t ne.
-    subst (λ (x : Then (Result State Outcome)). GoesAs (begun_run list_machine o x) r (contents b)) (was t (λ x. ne (cc))) (refl, refl)
+    subst (λ (x : Then (Result State Outcome)). GoesAs (begun_run list_machine o x) r (contents b)) ((was t).ending (λ x. ne (cc))) (refl, refl)
 
 pub gen-listed : (a b : Option HostModel) (r : Outcome) (words : List Word) (o : Order) → o.command ≡ Gen → CarriesOutBoth a b r (plans.taking (plans.generated_plan o (generated o.number))) →
     AnswersAsList a b r (λ m. ordered list_machine words o o.command m)

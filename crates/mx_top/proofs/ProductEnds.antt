@@ -40,22 +40,20 @@ use Rattle.law_gen.specs.Generator.{generated}
 use Rattle.mx_files.specs.Answers.{Answer, answered, wild, plainly, after_lines}
 use Rattle.mx_outcome.specs.Kinds.{leaves_machine}
 use Rattle.mx_files.specs.Clauses.{part_of}
-use Rattle.mx_files.specs.FilePlans.{Part, file_plan, lines_plan, on_ok}
-use Rattle.mx_files.specs.Lines.{lines_put}
+use Rattle.mx_files.specs.FilePlans.{Part, lines_plan}
+use Rattle.mx_files.specs.Writing.{lines_put}
 use Rattle.mx_outcome.specs.Messages.{message_of}
 use Rattle.mx_files.specs.ObjectPlans.{assemble_plan, list_plan}
-use Rattle.mx_files.specs.Schedules.{schedule_in, schedule_from, schedule_bytes, schedule_plan}
-use Rattle.mx_files.specs.Source.{file_bytes}
+use Rattle.mx_files.specs.Schedules.{schedule_bytes, schedule_plan}
 use Rattle.mx_files.specs.Sources.{source_meaning}
 use Rattle.mx_files.specs.declared.refusal.Refusal.{Refusal}
 use Rattle.mx_outcome.specs.declared.outcome.Outcome.{Outcome}
 use Rattle.mx_outcome.specs.declared.outcome.Outcome.TheVariants.{Done, Usage, NoFile, HostFault, Refused, BadObject, BadSchedule, Stopped, StepsSpent, Quit, ConsoleLimit, OutOfMemory}
-use Rattle.mx_files.proofs.FileEnds.{file-end, lines-end, assemble-end, list-end}
+use Rattle.mx_files.proofs.FileEnds.{lines-end}
 use Rattle.mx_begin.specs.Arguments.{Word, word_at}
 use Rattle.mx_begin.specs.BeginPlans.{begin_plan, image_file_plan}
 use Rattle.mx_begin.specs.declared.images.Form.{Form}
 use Rattle.mx_begin.specs.declared.images.Form.TheVariants.{Source, Object}
-use Rattle.mx_begin.proofs.Beginnings.{image-end, begin-end}
 use Rattle.mx_dump.specs.Dump.{dump_lines}
 use Rattle.mx_top.specs.Processors.{multi_lines, multi_outcome, processors_named, turns_told, joint_run, image_turns}
 use Rattle.mx_top.specs.Product.{generator_steps, summed, summed_from, generated_run, source_generated, begun_run, image_turned, after_schedule, ordered, carried_out, message_told}
@@ -63,7 +61,7 @@ use Rattle.mx_top.specs.ProductPlan as plans
 use Rattle.mx_top.specs.ProgramCalls.{ProgramCall, of_host, stepping, reporting, keeping, sitting, turning, beside_end, beside_kept, program, ProgramPlan, on_host, steps_plan, reported_plan, keeping_plan, sitting_plan, turns_made}
 use Rattle.mx_top.specs.Reports.{report_put, reports_put}
 use Rattle.mx_top.specs.Runs.{Ran, ran, ran_wild, dumped, ran_to, machine_ran, session_ran, session_outcome, played, outcome_of, takes_back, state_lines, reached, lines_told, taken_back, run_back, run_from}
-use Rattle.mx_begin.specs.Begun.{begun_at, main_address, started, stack_at_start, image_read, begun}
+use Rattle.mx_begin.specs.Begun.{begun_at, main_address, started, stack_at_start}
 use Rattle.mx_top.specs.WorkKinds.{machine_by, joint_by, host_course, run_course, kept_course, session_course, turns_course, call_by, on_course, answer_by}
 use Rattle.mx_top.proofs.TakenBack.{faulted, no-last}
 use Rattle.mx_top.proofs.WorkPlans.{host-by, taking-by, part-by}
@@ -88,10 +86,10 @@ window-answer (calls o k) m = ap (on_course (λ r n. answer_by window_machine (k
 
 -- ---- parts
 
-part-end : {A : Type 0} (kind : MachineKind) (f : A → ProgramPlan Outcome) (g : Then (Result A Outcome) → Answer) (p : Part A) (m : HostModel) (t : Then (Result A Outcome)) → end_of host p m ≡ t → ((o : Outcome) (n : HostModel) → answered o n ≡ g (Err o, n)) →
-    ((x : A) (n : HostModel) → answer_by kind (f x) n ≡ g (Ok x, n)) → answer_by kind (bind (plans.on_part f) (on_host p)) m ≡ g t
+part-end : {A : Type 0} (kind : MachineKind) (f : A → ProgramPlan Outcome) (g : Then (Result A Outcome) → Answer) (p : Part A) (m : HostModel) → ((o : Outcome) (n : HostModel) → answered o n ≡ g (Err o, n)) →
+    ((x : A) (n : HostModel) → answer_by kind (f x) n ≡ g (Ok x, n)) → answer_by kind (bind (plans.on_part f) (on_host p)) m ≡ g (end_of host p m)
 unfolding answer_by
-part-end {A} kind f g p m t e none some = part-by kind f p m t (sym e) ∙ by t
+part-end {A} kind f g p m none some = part-by kind f p m (end_of host p m) refl ∙ by (end_of host p m)
   where
     by : (t : Then (Result A Outcome)) → answer_by kind (plans.on_part f t.0) t.1 ≡ g t
     by (Ok x, n) = some x n
@@ -191,9 +189,9 @@ machine-end kind o s m = by o.interactive o.report (o.last == 0) refl
 
 -- ---- `run` and `sim`
 
-begun-end : (words : List Word) (o : Order) (form : Form) (m : HostModel) → answer_by window_machine (plans.begun_plan words o form) m ≡ begun_run window_machine o (begun window_machine words o form m)
+begun-end : (words : List Word) (o : Order) (form : Form) (m : HostModel) → answer_by window_machine (plans.begun_plan words o form) m ≡ begun_run window_machine o (end_of host (begin_plan window_machine words o form) m)
 unfolding plans.begun_plan
-begun-end words o form m = part-end window_machine (plans.machine_plan o) (begun_run window_machine o) (begin_plan words o form) m (begun window_machine words o form m) (begin-end words o form m) (λ x n. refl) (machine-end window_machine o)
+begun-end words o form m = part-end window_machine (plans.machine_plan o) (begun_run window_machine o) (begin_plan window_machine words o form) m (λ x n. refl) (machine-end window_machine o)
 
 -- ---- `gen`
 
@@ -272,26 +270,15 @@ image-turns-end kind o schedule image m =
     let j = joint.started image (processors_named schedule) (stack_at_start window_machine o.ring) in
     taking-by kind (plans.joint_plan o schedule j) m ∙ joint-end kind o schedule j m ∙ ap (λ (i : Joint). joint_run kind o schedule i m) (joint-started kind o.ring (processors_named schedule) image)
 
-turns-file-end : (kind : MachineKind) (o : Order) (name : Word) (schedule : List ℕ) (m : HostModel) → answer_by kind (plans.turns_file_plan o name schedule) m ≡ image_turned kind o schedule (image_read Object name m)
+turns-file-end : (kind : MachineKind) (o : Order) (name : Word) (schedule : List ℕ) (m : HostModel) → answer_by kind (plans.turns_file_plan o name schedule) m ≡ image_turned kind o schedule (end_of host (image_file_plan Object name) m)
 unfolding plans.turns_file_plan
 turns-file-end kind o name schedule m =
-    part-end kind (plans.image_turns_plan o schedule) (image_turned kind o schedule) (image_file_plan Object name) m (image_read Object name m) (image-end Object name m) (λ x n. refl) (image-turns-end kind o schedule)
-
-judged-end : (t : Then (Result (List ℕ) Outcome)) → end_after host (on_ok (λ bytes. returns (schedule_in bytes))) t ≡ schedule_from t
-unfolding end_of
-judged-end (Ok bytes, m) = refl
-judged-end (Err outcome, m) = refl
-
-schedule-end : (name : Word) (m : HostModel) → end_of host (schedule_plan name) m ≡ schedule_bytes name m
-unfolding schedule_plan
-schedule-end name m =
-    end_bind host (on_ok (λ (bytes : List ℕ). returns (schedule_in bytes))) (file_plan 1025 name) m
-    ∙ ap (end_after host (on_ok (λ (bytes : List ℕ). returns (schedule_in bytes)))) (file-end 1025 name m) ∙ judged-end (file_bytes 1025 name m)
+    part-end kind (plans.image_turns_plan o schedule) (image_turned kind o schedule) (image_file_plan Object name) m (λ x n. refl) (image-turns-end kind o schedule)
 
 pub multi-end : (kind : MachineKind) (o : Order) (schedule object : Word) (m : HostModel) → answer_by kind (plans.multi_plan o schedule object) m ≡ after_schedule kind o object (schedule_bytes schedule m)
 unfolding plans.multi_plan
 multi-end kind o schedule object m =
-    part-end kind (plans.turns_file_plan o object) (after_schedule kind o object) (schedule_plan schedule) m (schedule_bytes schedule m) (schedule-end schedule m) (λ x n. refl) (turns-file-end kind o object)
+    part-end kind (plans.turns_file_plan o object) (after_schedule kind o object) (schedule_plan schedule) m (λ x n. refl) (turns-file-end kind o object)
 
 -- ---- the words
 
@@ -299,9 +286,9 @@ ordered-end : (words : List Word) (o : Order) (command : Command) (m : HostModel
 unfolding plans.ordered_plan
 ordered-end words o Run m = begun-end words o Source m
 ordered-end words o Sim m = begun-end words o Object m
-ordered-end words o Asm m = host-by window_machine (assemble_plan (word_at words o.file) (word_at words o.rest)) m ∙ ap plainly (assemble-end (word_at words o.file) (word_at words o.rest) m)
+ordered-end words o Asm m = host-by window_machine (assemble_plan (word_at words o.file) (word_at words o.rest)) m
 ordered-end words o Gen m = taking-by window_machine (plans.generated_plan o (generated o.number)) m ∙ generated-end window_machine o (generated o.number) m
-ordered-end words o Show m = host-by window_machine (list_plan (word_at words o.file)) m ∙ list-end (word_at words o.file) m
+ordered-end words o Show m = host-by window_machine (list_plan (word_at words o.file)) m
 ordered-end words o Multi m = multi-end window_machine o (word_at words o.schedule) (word_at words o.file) m
 
 pub work-end : (words : List Word) (r : Result Order WordsFault) (m : HostModel) → plainly (end_of program (plans.work_plan words r) m) ≡ carried_out window_machine words r m

@@ -23,7 +23,7 @@ use Rattle.mx_words.specs.declared.order.Order.{Order}
 use Rattle.mx_files.specs.Answers.{Answer, answered, after_lines}
 use Rattle.mx_files.specs.Clauses.{WorksBetween}
 use Rattle.mx_files.specs.FilePlans.{lines_plan}
-use Rattle.mx_files.specs.Lines.{lines_put}
+use Rattle.mx_files.specs.Writing.{lines_put}
 use Rattle.mx_outcome.specs.declared.outcome.Outcome.{Outcome}
 use Rattle.mx_outcome.specs.declared.outcome.Outcome.TheVariants.{HostFault, OutOfMemory}
 use Rattle.mx_dump.specs.Dump.{Line, dump_lines}
@@ -103,7 +103,7 @@ faulted dump s m = ap (λ (x : Bool). cond x (after_lines HostFault (lines_put (
 -- ---- where none is taken back
 
 none-back : (r : Ran) → taken_back [] r ≡ r
-unfolding state_lines reached lines_put
+unfolding state_lines reached lines_put lines_plan end_of
 none-back (ran_wild m) = refl
 none-back (ran outcome s m) = by (takes_back outcome)
   where

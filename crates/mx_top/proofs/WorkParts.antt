@@ -42,14 +42,14 @@ unstarted a r start more ends is (inr ne) =
     both-taking a a r (more start) (subst (λ (x : Result State Outcome). CarriesOutBoth a a r (more x)) (is ne) (subst (λ (p : ProgramPlan Outcome). CarriesOutBoth a a r p) (sym (ends r)) (both-returns a r ne)))
 
 -- a machine that has begun, or has not
-pub begun-work : (a b c : Option HostModel) (r : Outcome) (words : List Word) (o : Order) (form : Form) (s : State) → tells b ≡ tells a → CarriesOut a b (Err OutOfMemory) (Ok s) (begin_plan words o form) →
+pub begun-work : (a b c : Option HostModel) (r : Outcome) (words : List Word) (o : Order) (form : Form) (s : State) → tells b ≡ tells a → CarriesOut a b (Err OutOfMemory) (Ok s) (begin_plan window_machine words o form) →
     CarriesOutWork b c r (plans.machine_plan o s) → CarriesOutWork a c r (plans.begun_plan words o form)
 unfolding plans.begun_plan
-begun-work a b c r words o form s e first second = work-then a b c s r (plans.machine_plan o) (begin_plan words o form) e first second
+begun-work a b c r words o form s e first second = work-then a b c s r (plans.machine_plan o) (begin_plan window_machine words o form) e first second
 
-pub unbegun-work : (a b : Option HostModel) (r : Outcome) (words : List Word) (o : Order) (form : Form) → CarriesOut a b (Err OutOfMemory) (Err r) (begin_plan words o form) → CarriesOutWork a b r (plans.begun_plan words o form)
+pub unbegun-work : (a b : Option HostModel) (r : Outcome) (words : List Word) (o : Order) (form : Form) → CarriesOut a b (Err OutOfMemory) (Err r) (begin_plan window_machine words o form) → CarriesOutWork a b r (plans.begun_plan words o form)
 unfolding plans.begun_plan
-unbegun-work a b r words o form h = work-ends a b r (plans.machine_plan o) (begin_plan words o form) h
+unbegun-work a b r words o form h = work-ends a b r (plans.machine_plan o) (begin_plan window_machine words o form) h
 
 -- ---- `gen`
 

@@ -14,7 +14,7 @@ use Rattle.mx_multi.specs.declared.end.MultiEnd.{MultiEnd}
 use Rattle.mx_multi.specs.declared.end.MultiEnd.TheVariants as turning
 use Rattle.mx_words.specs.declared.order.Order.{Order}
 use Rattle.mx_files.specs.Answers.{Answer, wild, after_lines}
-use Rattle.mx_files.specs.Lines.{lines_put}
+use Rattle.mx_files.specs.Writing.{lines_put}
 use Rattle.mx_outcome.specs.declared.outcome.Outcome.{Outcome}
 use Rattle.mx_outcome.specs.declared.outcome.Outcome.TheVariants.{Done, Stopped, StepsSpent, OutOfMemory}
 use Rattle.mx_dump.specs.Dump.{Line, octa_lines, octa_count}

@@ -3,6 +3,8 @@
 use Rattle.std.specs.Prelude.{ℕ, ◌^◌, List, [], ◌∷◌, length, Result, Ok, Err, codes}
 use Rattle.mx_host.specs.HostModel.{HostModel}
 use Rattle.mx_host.specs.HostAnswer.{Then, write_answer}
+use Rattle.mx_plan.specs.Calls.{host}
+use Rattle.mx_plan.specs.Plan.{end_of}
 use Rattle.mx_mmo.specs.Image.{Image}
 use Rattle.mx_core.specs.State.{State}
 use Rattle.mx_ring.specs.Stack.{register}
@@ -15,17 +17,17 @@ use Rattle.mx_words.specs.declared.order.WordsFault.{WordsFault}
 use Rattle.mx_files.specs.Answers.{Answer, answered, wild, plainly, and_then, after_lines}
 use Rattle.mx_begin.specs.Arguments.{Word, word_at}
 use Rattle.law_gen.specs.Generator.{generated, summary}
-use Rattle.mx_files.specs.Lines.{lines_put}
+use Rattle.mx_files.specs.Writing.{lines_put}
 use Rattle.mx_outcome.specs.Messages.{message_of}
-use Rattle.mx_files.specs.Assembling.{refused_with, after_reading}
+use Rattle.mx_files.specs.Assembling.{refused_with}
+use Rattle.mx_files.specs.ObjectPlans.{assemble_plan, list_plan}
 use Rattle.mx_top.specs.Runs.{Ran, ran, ran_wild, machine_ran, run_from}
-use Rattle.mx_begin.specs.Begun.{image_read, started, begun}
+use Rattle.mx_begin.specs.BeginPlans.{image_file_plan, begin_plan}
+use Rattle.mx_begin.specs.Begun.{started}
 use Rattle.mx_begin.specs.declared.images.Form.TheVariants.{Source, Object}
 use Rattle.mx_top.specs.Processors.{image_turns}
 use Rattle.mx_files.specs.Schedules.{schedule_bytes}
-use Rattle.mx_files.specs.Source.{file_bytes, source_pieces, object_pieces}
 use Rattle.mx_files.specs.Sources.{source_meaning}
-use Rattle.mx_files.specs.Typed.{after_typing}
 use Rattle.mx_files.specs.declared.refusal.Refusal.{Refusal}
 use Rattle.mx_outcome.specs.declared.outcome.Outcome.{Outcome}
 use Rattle.mx_outcome.specs.declared.outcome.Outcome.TheVariants.{Done, Usage}
@@ -71,7 +73,7 @@ image_turned kind o schedule (Ok image, m) = image_turns kind o schedule image m
 -- the object is read where the schedule is in order
 abbrev pub after_schedule : MachineKind → Order → Word → Then (Result (List ℕ) Outcome) → Answer
 after_schedule kind o name (Err outcome, m) = answered outcome m
-after_schedule kind o name (Ok schedule, m) = image_turned kind o schedule (image_read Object name m)
+after_schedule kind o name (Ok schedule, m) = image_turned kind o schedule (end_of host (image_file_plan Object name) m)
 
 -- ---- the words, and the message
 
@@ -79,11 +81,11 @@ abbrev pub multi_ordered : MachineKind → List Word → Order → HostModel →
 multi_ordered kind words o m = after_schedule kind o (word_at words o.file) (schedule_bytes (word_at words o.schedule) m)
 
 abbrev pub ordered : MachineKind → List Word → Order → Command → HostModel → Answer
-ordered kind words o Run m = begun_run kind o (begun kind words o Source m)
-ordered kind words o Sim m = begun_run kind o (begun kind words o Object m)
-ordered kind words o Asm m = plainly (after_reading (word_at words o.rest) (file_bytes source_pieces (word_at words o.file) m))
+ordered kind words o Run m = begun_run kind o (end_of host (begin_plan kind words o Source) m)
+ordered kind words o Sim m = begun_run kind o (end_of host (begin_plan kind words o Object) m)
+ordered kind words o Asm m = plainly (end_of host (assemble_plan (word_at words o.file) (word_at words o.rest)) m)
 ordered kind words o Gen m = source_generated kind o (generated o.number) m
-ordered kind words o Show m = after_typing (file_bytes object_pieces (word_at words o.file) m)
+ordered kind words o Show m = plainly (end_of host (list_plan (word_at words o.file)) m)
 ordered kind words o Multi m = multi_ordered kind words o m
 
 -- the outcome of the words before its message

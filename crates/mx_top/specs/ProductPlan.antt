@@ -106,7 +106,7 @@ machine_plan o s =
 
 -- a machine begins, and what has begun runs
 unfoldable pub begun_plan : List Word → Order → Form → ProgramPlan Outcome
-begun_plan words o form = bind (on_part (machine_plan o)) (on_host (begin_plan words o form))
+begun_plan words o form = bind (on_part (machine_plan o)) (on_host (begin_plan window_machine words o form))
 
 -- ---- `gen`
 

@@ -3,6 +3,8 @@ use Rattle.std.specs.Prelude.{ℕ, ◌≡◌, ◌≢◌, ◌==◌, not, IsTrue, 
 use Rattle.std.specs.List.{range_with_len}
 use Rattle.mx_host.specs.HostModel.{HostModel, tells, contents}
 use Rattle.mx_host.specs.HostAnswer.{Then, write_answer}
+use Rattle.mx_plan.specs.Calls.{host}
+use Rattle.mx_plan.specs.Plan.{end_of}
 use Rattle.mx_core.specs.State.{State}
 use Rattle.mx_code.specs.declared.trace.Trace.{Trace}
 use Rattle.mx_run.specs.WildRuns.{MachineKind, window_machine, list_machine}
@@ -21,7 +23,7 @@ use Rattle.mx_outcome.specs.declared.outcome.Outcome.{Outcome}
 use Rattle.mx_outcome.specs.declared.outcome.Outcome.TheVariants.{OutOfMemory}
 use Rattle.mx_begin.specs.Arguments.{Word}
 use Rattle.mx_top.specs.Product.{product}
-use Rattle.mx_begin.specs.Begun.{begun}
+use Rattle.mx_begin.specs.BeginPlans.{begin_plan}
 use Rattle.mx_begin.specs.declared.images.Form.TheVariants.{Source, Object}
 
 -- ---- the traces that watchers are told: those of the steps of the run, where the order asks for reports. A session has none, nor
@@ -38,8 +40,8 @@ abbrev pub begun_traces : MachineKind → Order → Then (Result State Outcome) 
 begun_traces kind o (begun, m) = traces_from kind o begun m
 
 abbrev pub ordered_traces : MachineKind → List Word → Order → Command → HostModel → List Trace
-ordered_traces kind words o Run m = begun_traces kind o (begun kind words o Source m)
-ordered_traces kind words o Sim m = begun_traces kind o (begun kind words o Object m)
+ordered_traces kind words o Run m = begun_traces kind o (end_of host (begin_plan kind words o Source) m)
+ordered_traces kind words o Sim m = begun_traces kind o (end_of host (begin_plan kind words o Object) m)
 ordered_traces kind words o Asm m = []
 ordered_traces kind words o Gen m = []
 ordered_traces kind words o Show m = []

@@ -1,10 +1,12 @@
 //! The top call.
 
 ghost use Rattle.std.specs.Prelude.{◌≡◌, ◌≢◌, ◌≤◌, ◌<◌, length, map, string_bytes};
+ghost use Rattle.mx_plan.specs.Calls as calls;
+ghost use Rattle.mx_plan.specs.Plan.{end_of};
 ghost use Rattle.mx_run.specs.WildRuns.{list_machine};
 ghost use Rattle.mx_words.specs.Orders.{order_of};
 ghost use Rattle.mx_files.specs.Answers.{AnswersAsList};
-ghost use Rattle.mx_begin.specs.Begun.{begun};
+ghost use Rattle.mx_begin.specs.BeginPlans.{begin_plan};
 ghost use Rattle.mx_top.specs.Product as spec;
 ghost use Rattle.mx_top.specs.Reports as reports;
 ghost use Rattle.mx_top.specs.Reports.{HearsByKind};
@@ -44,11 +46,14 @@ fn run_ordered<H: Host>(
     ensures plan { CarriesOutWork (H.told host.old) (H.told host.new) result
         (plans.begun_plan (map string_bytes words.now) order.now form) }
     ensures listed { AnswersAsList (H.told host.old) (H.told host.new) result (λ m.
-        spec.begun_run list_machine order.now (begun list_machine (map string_bytes words.now) order.now form m)) }
+        spec.begun_run list_machine order.now
+        (end_of calls.host (begin_plan list_machine (map string_bytes words.now) order.now form) m)) }
     ensures heard { HearsByKind (H.told host.old) result (map meaning watchers.old.items)
         (map meaning watchers.new.items) kept.old kept.new
-        (λ kind m. spec.begun_run kind order.now (begun kind (map string_bytes words.now) order.now form m))
-        (λ kind m. reports.begun_traces kind order.now (begun kind (map string_bytes words.now) order.now form m)) }
+        (λ kind m. spec.begun_run kind order.now
+        (end_of calls.host (begin_plan kind (map string_bytes words.now) order.now form) m))
+        (λ kind m. reports.begun_traces kind order.now
+        (end_of calls.host (begin_plan kind (map string_bytes words.now) order.now form) m)) }
     ensures causes { FailsOnlyBy H.told H.faults host.old host.new result }
 {
     match begin(alloc, host, words, order, form) {

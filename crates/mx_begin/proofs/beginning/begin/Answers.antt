@@ -1,49 +1,44 @@
-use Rattle.std.proofs.Common.{◌∙◌, ap, refl, map, string_bytes}
+use Rattle.std.proofs.Common.{◌∙◌, ap, refl}
 use Rattle.mx_core.specs.Bounds.{as_list_state}
 use Rattle.mx_core.specs.Kept.{state_of}
-use Rattle.mx_run.specs.WildRuns.{window_machine, list_machine}
 use Rattle.mx_host.proofs.Keeping.{keeps-all}
 use Rattle.mx_word.specs.Results.{map_ok}
-use Rattle.mx_begin.proofs.Beginnings.{begun-carried, begun-uncarried, begun-lacks, begun-told, begun-untold}
+use Rattle.mx_begin.proofs.Beginnings.{begun-carried, begun-uncarried, begun-lacks}
 use Rattle.mx_begin.proofs.beginning.begin.Goals as goal
 
 -- ---- no memory for the arguments
 
-pub returns-in-Err-clause-plan : goal.returns-in-Err-clause-plan
-returns-in-Err-clause-plan g c = begun-lacks _ _ _ _
+pub returns-in-Err-clause-window : goal.returns-in-Err-clause-window
+returns-in-Err-clause-window g c = begun-lacks _ _ _ _ _
+
+pub returns-in-Err-clause-list : goal.returns-in-Err-clause-list
+returns-in-Err-clause-list g c = begun-lacks _ _ _ _ _
 
 pub returns-in-Err-clause-causes : goal.returns-in-Err-clause-causes
 returns-in-Err-clause-causes g c = (λ had e. absurd (cc), λ n e. absurd (cc), refl, keeps-all _ _)
 
 -- ---- an image
 
-pub returns-in-Ok-read_image-clause-plan : goal.returns-in-Ok-read_image-clause-plan
-returns-in-Ok-read_image-clause-plan g c =
-    begun-carried _ _ _ _ _ _ _ _ _ c.word.ensures (c.as_slice.ensures.value ∙ c.in-Ok.ensures.value) c.in-Ok-read_image.ensures.causes.3.telling (λ ne. c.start.ensures.window (λ e. ne (ap (map_ok state_of) e)))
+pub returns-in-Ok-read_image-clause-window : goal.returns-in-Ok-read_image-clause-window
+returns-in-Ok-read_image-clause-window g c =
+    begun-carried _ _ _ _ _ _ _ _ _ _ c.word.ensures (c.as_slice.ensures.value ∙ c.in-Ok.ensures.value) c.in-Ok-read_image.ensures.causes.3.telling (λ ne. c.start.ensures.window (λ e. ne (ap (map_ok state_of) e)))
     c.in-Ok-read_image.ensures.plan
 
-pub returns-in-Ok-read_image-clause-told : goal.returns-in-Ok-read_image-clause-told
-returns-in-Ok-read_image-clause-told g c =
-    begun-told _ _ window_machine (map string_bytes c.args.words.now) c.args.order.now _ _ _ _ _ c.word.ensures (c.as_slice.ensures.value ∙ c.in-Ok.ensures.value) (λ ne. c.start.ensures.window (λ e. ne (ap (map_ok state_of) e))) c.in-Ok-read_image.ensures.told
-
-pub returns-in-Ok-read_image-clause-listed : goal.returns-in-Ok-read_image-clause-listed
-returns-in-Ok-read_image-clause-listed g c =
-    begun-told _ _ list_machine (map string_bytes c.args.words.now) c.args.order.now _ _ _ _ _ c.word.ensures (c.as_slice.ensures.value ∙ c.in-Ok.ensures.value) (λ ne. c.start.ensures.list (λ e. ne (ap (map_ok (λ m. as_list_state (state_of m))) e)))
-    c.in-Ok-read_image.ensures.told
+pub returns-in-Ok-read_image-clause-list : goal.returns-in-Ok-read_image-clause-list
+returns-in-Ok-read_image-clause-list g c =
+    begun-carried _ _ _ _ _ _ _ _ _ _ c.word.ensures (c.as_slice.ensures.value ∙ c.in-Ok.ensures.value) c.in-Ok-read_image.ensures.causes.3.telling
+    (λ ne. c.start.ensures.list (λ e. ne (ap (map_ok (λ m. as_list_state (state_of m))) e))) c.in-Ok-read_image.ensures.plan
 
 pub returns-in-Ok-read_image-clause-causes : goal.returns-in-Ok-read_image-clause-causes
 returns-in-Ok-read_image-clause-causes g c = (λ had e. absurd (c.start.ensures.well e), λ n e. absurd (c.start.ensures.present e), c.start.ensures.words, c.in-Ok-read_image.ensures.causes.3)
 
 -- ---- and none
 
-pub returns-clause-plan : goal.returns-clause-plan
-returns-clause-plan g c = begun-uncarried _ _ _ _ _ _ _ c.word.ensures c.in-Err-read_image.ensures.plan
+pub returns-clause-window : goal.returns-clause-window
+returns-clause-window g c = begun-uncarried _ _ _ _ _ _ _ _ c.word.ensures c.in-Err-read_image.ensures.plan
 
-pub returns-clause-told : goal.returns-clause-told
-returns-clause-told g c = begun-untold _ _ window_machine (map string_bytes c.args.words.now) c.args.order.now _ _ _ c.word.ensures c.in-Err-read_image.ensures.told
-
-pub returns-clause-listed : goal.returns-clause-listed
-returns-clause-listed g c = begun-untold _ _ list_machine (map string_bytes c.args.words.now) c.args.order.now _ _ _ c.word.ensures c.in-Err-read_image.ensures.told
+pub returns-clause-list : goal.returns-clause-list
+returns-clause-list g c = begun-uncarried _ _ _ _ _ _ _ _ c.word.ensures c.in-Err-read_image.ensures.plan
 
 pub returns-clause-causes : goal.returns-clause-causes
 returns-clause-causes g c = (λ had e. c.in-Err-read_image.ensures.causes.0 had (cc), λ n e. c.in-Err-read_image.ensures.causes.1 n (cc), c.in-Err-read_image.ensures.causes.2, c.in-Err-read_image.ensures.causes.3)

@@ -1,7 +1,7 @@
 use Rattle.std.proofs.Common.{ap}
 use Rattle.mx_load.specs.Kept.{image_of}
 use Rattle.mx_word.specs.Results.{map_ok}
-use Rattle.mx_begin.proofs.Beginnings.{image-carried, image-uncarried, image-told, image-untold}
+use Rattle.mx_begin.proofs.Beginnings.{image-carried, image-uncarried}
 use Rattle.mx_begin.proofs.images.read_image.Goals as goal
 
 pub returns-in-Ok-clause-plan : goal.returns-in-Ok-clause-plan
@@ -10,12 +10,6 @@ returns-in-Ok-clause-plan g c =
 
 pub returns-in-Err-clause-plan : goal.returns-in-Err-clause-plan
 returns-in-Err-clause-plan g c = image-uncarried _ _ _ _ _ _ c.most_pieces.ensures c.in-Err.ensures.works.told
-
-pub returns-in-Ok-clause-told : goal.returns-in-Ok-clause-told
-returns-in-Ok-clause-told g c = image-told _ _ _ _ _ _ _ _ c.most_pieces.ensures c.as_slice.ensures (λ ne. c.image_in.ensures.image (λ e. ne (ap (map_ok image_of) e))) c.in-Ok.ensures.told
-
-pub returns-in-Err-clause-told : goal.returns-in-Err-clause-told
-returns-in-Err-clause-told g c = image-untold _ _ _ _ _ _ c.most_pieces.ensures c.in-Err.ensures.told
 
 pub returns-in-Ok-clause-causes : goal.returns-in-Ok-clause-causes
 returns-in-Ok-clause-causes g c = (λ had e. absurd (c.image_in.ensures.well e), λ n e. absurd (c.image_in.ensures.present e), c.image_in.ensures.words, c.in-Ok.ensures.causes.3)

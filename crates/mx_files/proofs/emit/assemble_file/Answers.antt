@@ -1,4 +1,4 @@
-use Rattle.mx_files.proofs.FileClauses.{whole-told, whole-cause, whole-rose, whole-absent, whole-words, whole-keeps, assembled-told, assembled-front}
+use Rattle.mx_files.proofs.FileClauses.{whole-told, whole-cause, whole-rose, whole-absent, whole-words, whole-keeps, assembled-front}
 use Rattle.mx_files.proofs.Serving.{assemble-served}
 use Rattle.mx_files.proofs.emit.assemble_file.Goals as goal
 
@@ -9,7 +9,7 @@ pub returns-clause-cause : goal.returns-clause-cause
 returns-clause-cause g c = whole-cause _ _ _ _ _ _ _ c.whole_outcome.ensures c.assemble.ensures
 
 pub returns-clause-told : goal.returns-clause-told
-returns-clause-told g c = λ t. assembled-told _ _ _ _ _ (whole-told _ _ _ _ _ c.whole_outcome.ensures c.assemble.ensures.told t)
+returns-clause-told g c = λ t. (whole-told _ _ _ _ _ c.whole_outcome.ensures c.assemble.ensures.told t).ending
 
 pub returns-clause-written : goal.returns-clause-written
 returns-clause-written g c = λ t. assembled-front _ _ _ _ _ (whole-told _ _ _ _ _ c.whole_outcome.ensures c.assemble.ensures.told t)

@@ -12,3 +12,9 @@ returns-in-Ok-clause-causes g c = (λ had e. absurd (c.judged.ensures.well e), �
 
 pub returns-in-Err-clause-causes : goal.returns-in-Err-clause-causes
 returns-in-Err-clause-causes g c = (λ had e. c.in-Err.ensures.causes.0 had (cc e), λ n e. c.in-Err.ensures.causes.1 n (cc e), c.in-Err.ensures.causes.2, c.in-Err.ensures.causes.3)
+
+pub returns-in-Ok-clause-told : goal.returns-in-Ok-clause-told
+returns-in-Ok-clause-told g c = λ t. ((schedule-read _ _ _ _ _ _ _ c.judged.ensures.value c.in-Ok.ensures.works).told t).ending
+
+pub returns-in-Err-clause-told : goal.returns-in-Err-clause-told
+returns-in-Err-clause-told g c = λ t. ((schedule-unread _ _ _ _ _ _ c.in-Err.ensures.works).told t).ending
