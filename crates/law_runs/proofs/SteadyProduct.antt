@@ -2,7 +2,6 @@
 -- list of those that fail.
 use Rattle.std.proofs.Common.{◌≡◌, ◌≤◌, ℕ, zero, suc, List, [], ◌∷◌, Bool, true, false, cond, length, take, refl, sym, ◌∙◌, ap, Ok, Err}
 use Rattle.std.specs.Prelude.{Result, ◌&&◌, codes}
-use Rattle.mx_word.specs.declared.symbols.Symbol.{Symbol}
 use Rattle.mx_host.specs.HostModel.{HostModel}
 use Rattle.mx_host.specs.HostAnswer.{Then, open_answer, close_answer}
 use Rattle.mx_host.specs.declared.slots.Mode.TheVariants.{BinaryWrite}
@@ -11,7 +10,6 @@ use Rattle.mx_host.specs.declared.faults.OpenFault.{OpenFault}
 use Rattle.mx_host.specs.declared.faults.OpenFault.TheVariants as opening
 use Rattle.mx_host.proofs.Still.{still}
 use Rattle.mx_mmo.specs.Image.{Image}
-use Rattle.mx_load.specs.Objects.{object_loaded}
 use Rattle.mx_core.specs.State.{State}
 use Rattle.mx_ring.specs.Stack.{register}
 use Rattle.mx_plan.specs.Counts.{NoneFailed, unscheduled, without_count}
