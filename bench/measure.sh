@@ -3,7 +3,7 @@
 # loops/. Each time is in seconds, the least of three.
 # Usage: bench/measure.sh [PROGRAM [OTHER]]
 # Where valgrind is there, the machine instructions that a step takes are counted too, which other work does not change.
-# OTHER is another simulator that takes an object file; it is timed in turns with PROGRAM on the loops, and the ratio told.
+# OTHER is another simulator that takes an object file; it is timed in turns with PROGRAM on the loops, and the ratio is printed.
 here=$(cd "$(dirname "$0")/.." && pwd) || exit 1
 program=$(realpath "${1:-$here/.built/mmixware}") || exit 1
 other=${2:+$(realpath "$2")} || exit 1

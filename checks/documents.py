@@ -1,15 +1,16 @@
 #!/usr/bin/env python3
 """Checks what the documents say against the repository, and prints only what is wrong.
 
-- Links lead to files, and to headings in them. Each crate is described, and what it offers stands in docs/PROVED.md.
-- Names in backquotes are there: crates `mx_..`, paths, the modules that docs/ARCHITECTURE.md names, and the files,
-  clauses and definitions of docs/PROVED.md. In a path a word of capitals, as NAME, or a * stands for any word.
-- Each crate names those that crates.txt lists behind it.
+- Links lead to files, and to headings in them. Each crate has a row in docs/ARCHITECTURE.md.
+- Names in backquotes are there: crates `mx_..`, paths, the modules that docs/ARCHITECTURE.md names, and on each page the clauses
+  and definitions `CRATE.NAME`. In a path a word of capitals, as NAME, or a * means any word.
+- A block with a path of crates/ quotes that file.
+- Each crate names those that crates.txt lists after it.
 - A table of CONTRIBUTING.md with the head "`WORD` in" names the files of sources, definitions and proofs that have the word.
 - The numbers and names of docs/MESSAGES.md are those of the program's table.
 - The blocks marked `console` on every page are run on the program that is kept, if it is that of these sources: a line
   that begins with "$ " is a command, and the lines after it are what it prints. Where a block has a console session whose
-  input is no file, what stands behind each prompt is typed. A block marked `mms NAME` is a file that the reader has
+  input is no file, what follows each prompt is typed. A block marked `mms NAME` is a file that the reader has
   saved under that name. Nothing is built here.
 - The examples of docs/MESSAGES.md give the number and name of their row: words of a command line, a source of one line, or
   an object in hexadecimal tetras. Of what beginners write, the mended source gives no message; of slips without a message
@@ -28,6 +29,8 @@ import shutil
 import subprocess
 import sys
 import tempfile
+
+import sources
 
 TOP = os.path.dirname(os.path.dirname(os.path.realpath(__file__)))
 # where the programs are, and the grader with its parts where it is installed, too
@@ -97,84 +100,68 @@ def check_links_and_paths():
                     wrong(where, f"{path} does not define {name}")
 
 
-def crates():
-    """The crates of crates.txt, each with what it stands on."""
-    rows = re.findall(r"^(\w+)[^:\n]*:(.*)", text_of("crates.txt"), re.M)
-    return {crate: below.split() for crate, below in rows}
-
-
-def sources_of(crate):
+def whole_text_of(crate):
     paths = [it for end in ("rt", "antt") for it in glob.glob(f"crates/{crate}/**/*.{end}", recursive=True)]
     return "".join(text_of(it) for it in paths if "/out/" not in it)
 
 
 def check_needs():
-    """What crates.txt lists behind a crate is named in its files."""
-    for crate, below in crates().items():
-        sources = sources_of(crate)
+    """What crates.txt lists after a crate is named in its files."""
+    for crate, below in sources.crates().items():
+        text = whole_text_of(crate)
         for name in below:
-            if not re.search(rf"\b{name}\b", sources):
+            if not re.search(rf"\b{name}\b", text):
                 wrong("crates.txt", f"{crate} does not name {name}")
 
 
 def check_architecture():
-    """The first picture has each crate but those of tests; a crate's row says what it stands on; in the other tables a crate is
-    followed by modules of its specs."""
-    listed = crates()
+    """The first picture has each crate but those of tests; a crate's row says what it depends on; a name of a module is that of one."""
+    listed = sources.crates()
     picture = re.search(r"^```\n(.*?)^```", text_of("docs/ARCHITECTURE.md"), re.M | re.S)[1]
     for crate in listed:
         if not crate.startswith("test_") and not re.search(rf"\b{crate}\b", picture):
             wrong("docs/ARCHITECTURE.md", f"its first picture has no {crate}")
     for where, line in lines_of("docs/ARCHITECTURE.md"):
-        names = re.findall(r"`(\w+)`", line)
         row = re.match(r"\| `(\w+)` \|([^|]*)\|", line)
-        if row and row[1] in listed:
-            for below in re.findall(r"`(\w+)`", row[2]):
-                if below not in listed[row[1]]:
-                    wrong(where, f"{row[1]} does not stand on {below} in crates.txt")
-            continue
-        crate = None
-        for name in names:
-            crate = name if name in listed else crate
-            folder = f"crates/{crate}" if crate and line.startswith("|") else "crates/*"
-            places = [f"{folder}/{part}/{inner}{name}.antt" for part in ("specs", "proofs") for inner in ("", "*/")]
-            if name[0].isupper() and not any(glob.glob(it) for it in places):
-                wrong(where, f"{folder} has no module {name}")
-
-
-def defines(crate, module, name):
-    places = glob.glob(f"crates/{crate}/specs/{module}.antt") + glob.glob(f"crates/{crate}/specs/*/{module}.antt")
-    return any(declares(it, name) for it in places)
+        for below in re.findall(r"`(\w+)`", row[2]) if row and row[1] in listed else []:
+            if below not in listed[row[1]]:
+                wrong(where, f"{row[1]} does not depend on {below} in crates.txt")
+        for name in re.findall(r"`([A-Z]\w*)`", line) if not row else []:
+            if not any(glob.glob(f"crates/*/{part}/{inner}{name}.antt") for part in ("specs", "proofs") for inner in ("", "*/")):
+                wrong(where, f"no crate has a module {name}")
 
 
 def declares(path, name):
     return os.path.isfile(path) and re.search(rf"^ *(\w+ )?pub (data |record )?{name}\b", text_of(path), re.M)
 
 
-def promises(path, call, clause):
-    for body in re.split(r"\bfn ", text_of(path))[1:]:
-        if re.match(rf"{call}\b", body) and re.search(rf"ensures\*? {clause + ' ' if clause else ''}{{", body):
-            return True
-    return False
+def is_claim(crate, rest):
+    """Whether a crate has a definition, as Module.name, or a function with a clause, as Type::function.clause."""
+    module, _, name = rest.partition(".")
+    if module[0].isupper() and "::" not in module:
+        return any(declares(it, name) for it in sources.files_of(crate, "specs", "antt") if it.endswith(f"/{module}.antt"))
+    owner, _, call = module.rpartition("::")
+    calls = [it for it in sources.functions_of(crate) if (it.owner, it.name) == (owner, call)]
+    return any(not name or name == clause for it in calls for clause, _ in it.clauses)
 
 
 def check_claims():
-    crate = path = None
-    for where, line in lines_of("docs/PROVED.md"):
-        if line.startswith("#"):
-            crate = re.match(r"#+ (\w+)", line)[1]
-            crate = crate if os.path.isdir(f"crates/{crate}") else None
-        if line.startswith(("#", "- ")) or not line:
-            path = None
-        for name in re.findall(r"`([^`\s]+)`", line):
-            if re.fullmatch(r"crates/\S+\.rt", name):
-                path = name if os.path.isfile(name) else None
-            elif crate and re.fullmatch(r"[A-Z]\w*\.\w+", name) and not defines(crate, *name.split(".")):
-                wrong(where, f"specs of {crate} do not define {name}")
-            elif path and re.fullmatch(r"[a-z]\w*(\.[a-z]\w*)?", name):
-                call, _, clause = name.partition(".")
-                if not promises(path, call, clause):
-                    wrong(where, f"{path} has no such clause as {name}")
+    """A name in backquotes that begins with a crate and a point is a definition of it, or a function with a clause."""
+    for page in pages():
+        for where, line in lines_of(page):
+            for name in re.findall(r"`((?:mx|law|face|test)_\w+\.[^`\s]+)`", line):
+                crate, _, rest = name.partition(".")
+                if crate not in sources.crates() or not is_claim(crate, rest):
+                    wrong(where, f"there is no such clause or definition as {name}")
+
+
+def check_quotes():
+    """Each paragraph of a block that names a file of crates/ is in that file."""
+    for page in pages():
+        for path, block in re.findall(r"^```\w+ (crates/\S+)\n(.*?)^```", text_of(page), re.M | re.S):
+            for part in block.strip("\n").split("\n\n"):
+                if not os.path.isfile(path) or f"\n{part}\n" not in text_of(path):
+                    wrong(page, f"{path} does not have\n{part}")
 
 
 def sources_with(word):
@@ -212,17 +199,10 @@ def check_messages():
 
 
 def check_crates():
-    """Each crate is described, and each function that it offers stands among the claims."""
-    proved = text_of("docs/PROVED.md")
-    for crate in crates():
-        for page in ("docs/ARCHITECTURE.md", "docs/PROVED.md"):
-            if not re.search(rf"\b{crate}\b", text_of(page)):
-                wrong(page, f"{crate} is not described")
-        root = f"crates/{crate}/src/lib.rt"
-        for offered in re.findall(r"^pub use (.*?);", text_of(root), re.M | re.S) if os.path.isfile(root) else []:
-            for name in re.findall(r"\b([a-z]\w*)\b(?!::)", offered):
-                if not re.search(rf"`{name}[.`]", proved):
-                    wrong("docs/PROVED.md", f"{name} of {crate} is not among the claims")
+    """Each crate has its row in docs/ARCHITECTURE.md."""
+    for crate in sources.crates():
+        if not re.search(rf"^\| `{crate}` \|", text_of("docs/ARCHITECTURE.md"), re.M):
+            wrong("docs/ARCHITECTURE.md", f"{crate} is not in the table of crates")
 
 
 def is_typed(commands):
@@ -342,7 +322,7 @@ def source_in(cell):
 
 def check_examples_of_messages():
     """In a row of five cells an example in backquotes, the fourth, gives the message of the row: its number and name, or
-    its line, where that has no word of capitals, which stands for others."""
+    its line, where that has no word of capitals, which means others."""
     if not is_fresh():
         return
     for where, line in lines_of("docs/MESSAGES.md"):
@@ -381,7 +361,7 @@ def main(words):
         FOLDER = os.path.realpath(f"{words[1]}/bin")
         GRADER = f"{FOLDER}/grade"
     else:
-        checks = [check_links_and_paths, check_needs, check_architecture, check_claims, check_file_tables, check_messages, check_crates, *checks]
+        checks = [check_links_and_paths, check_needs, check_architecture, check_claims, check_quotes, check_file_tables, check_messages, check_crates, *checks]
     os.chdir(TOP)
     for check in checks:
         check()

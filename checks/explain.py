@@ -114,7 +114,7 @@ def check_messages(rows):
 
 
 def operations_of(cell):
-    """The operations that a cell of docs/LANGUAGE.md names; `ZS.. likewise` stands for those before it with this front."""
+    """The operations that a cell of docs/LANGUAGE.md names; `ZS.. likewise` means those before it with this front."""
     words = re.findall(r"[A-Z0-9]+(?:\.\.)?", cell)
     plain_words = [it for it in words if not it.endswith("..") and re.search("[A-Z]{2}", it)]
     fronts = [it[:-2] for it in words if it.endswith("..")]
@@ -200,7 +200,7 @@ def run_of(source):
 
 
 def refusal_of(source):
-    """The fault of a source, or nothing, where it is put behind an instruction; a source without Main gets one."""
+    """The fault of a source, or nothing, where it comes after an instruction; a source without Main gets one."""
     given = source if re.search(r"^(.*;)?Main\b", source) else f" SWYM 0\n{source}\n PREFIX :\nMain SWYM 0"
     outcome = answer_of(["asm", "p.mms", "p.mmo"], b"p.mms", (given + "\n").encode())
     return outcome.values[1] if outcome.kind == "Refused" else None

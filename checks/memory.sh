@@ -28,7 +28,7 @@ Main    SET   $252,0            $0 to $252 are local
 Next    SUB   Left,Left,1
         PBNZ  Left,Main
         SETH  $0,#6000
-        INCML $0,#10            far behind all of them in the stack area
+        INCML $0,#10            far above all of them in the stack area
         SET   $1,1000
 Store   STO   $1,$0,0
         STO   $1,$0,8

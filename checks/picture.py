@@ -3,10 +3,10 @@
 
 usage: checks/picture.py          writes the picture
        checks/picture.py --check  says whether the picture is that of crates.txt, and no chain is too long
-A crate stands in the column of its area and in a layer above all that it stands on; a line leads from a crate to
-each one that it stands on and that no other line leads to. To mx_word, on which all stand but mx_ops,
-mx_spec and mx_costs, no line is drawn; crates of tests (test_...) and of laws alone (law_...) have none. No chain may have more than ten
-crates, those of tests aside.
+A crate is in the column of its area and in a layer above all that it depends on; a line leads from a crate to each one
+that it depends on and that no other line leads to. No line is drawn to mx_word, on which all but mx_ops, mx_spec and mx_costs
+depend; crates of tests (test_...) and of laws alone (law_...) have none. No chain may have more than ten crates, those of tests
+aside.
 """
 import os
 import sys
@@ -30,7 +30,7 @@ FILL = ["#e8f0fa", "#eaf5e6", "#fdf1dc", "#f9e6e6", "#efe8f7", "#eeeeee", "#e3f4
 
 
 def rows():
-    """The crates and what each stands on, of the repository alone."""
+    """The crates and what each depends on, of the repository alone."""
     below = {}
     for line in open(HERE + "/crates.txt"):
         line = line.split("#")[0].strip()
@@ -41,7 +41,7 @@ def rows():
 
 
 def layers(below):
-    """The layer of each crate: one above the highest that it stands on."""
+    """The layer of each crate: one above the highest that it depends on."""
     layer = {}
 
     def of(name):
@@ -55,7 +55,7 @@ def layers(below):
 
 
 def reduced(below):
-    """For each crate those that it stands on, without those that are reached through another."""
+    """For each crate those that it depends on, without those that are reached through another."""
 
     def under(name):
         found = set()
@@ -132,7 +132,7 @@ def drawing():
     width = starts[-1] + widths[-1] * (WIDE + GAP) + 12
     head = (
         f'<svg xmlns="http://www.w3.org/2000/svg" width="{width}" height="{y}" viewBox="0 0 {width} {y}">'
-        "<title>The crates in their layers; each stands on those that its lines lead down to</title>"
+        "<title>The crates in their layers; each depends on those that its lines lead down to</title>"
         "<style>text{font:12px sans-serif;fill:#222}.title{font-weight:bold}line{stroke:#999;stroke-width:1}</style>"
         f'<rect width="{width}" height="{y}" fill="#fff"/>'
     )

@@ -79,9 +79,10 @@ if command -v dpkg-deb >/dev/null; then
   sh checks/release.sh || bad=1
 fi
 
-# the picture of the crates is that of crates.txt, and what the documents say is so
+# the picture of the crates is that of crates.txt, the table of claims is that of the sources, and what the documents say is so
 if command -v python3 >/dev/null; then
   python3 checks/picture.py --check || bad=1
+  python3 checks/claims --check || bad=1
   python3 checks/documents.py || bad=1
   # what mmixview explains is what the documents say
   python3 checks/explain.py || bad=1

@@ -1,7 +1,8 @@
 #!/bin/sh
 # Long schedules cost no time of their own: a program with traps, one whose other processor has halted, and one of which seven
-# halt while nearly all names are left take some 30 milliseconds more by a schedule of 2^22 bytes than by a short one, and a tenth of a second at most beside others.
-# It prints the seconds of each, of the user and of the system, the least of nine runs, and proves and builds nothing.
+# halt while nearly all names are left take some 30 milliseconds more by a schedule of 2^22 bytes than by a short one, and at most
+# a tenth of a second on a busy machine. It prints the seconds of each, of the user and of the system, the least of nine runs, and
+# proves and builds nothing.
 # Usage: checks/schedules.sh [PROGRAM]
 here=$(cd "$(dirname "$0")/.." && pwd) || exit 1
 program=$(realpath "${1:-$here/.built/mmixware}") || exit 1

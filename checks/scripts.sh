@@ -227,7 +227,7 @@ status 0' "$name" a
 done
 
 # from a copy whose times are all new, without what rt made; there and back; with a change that the program does not
-# stand on; with another program; and with a change that the program stands on
+# depend on; with another program; and with a change that the program depends on
 cp -r repo 'a copy'
 rm -rf 'a copy/crates/mmixware/out'
 sleep 0.1

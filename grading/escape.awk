@@ -1,4 +1,4 @@
-# Prints bytes, which it reads as numbers, in one line of UTF-8: \\ stands for a backslash, \n and \t for the end of a line
+# Prints bytes, which it reads as numbers, in one line of UTF-8: \\ means a backslash, \n and \t for the end of a line
 # and a tab, \xHH for another control character and for a byte that is no UTF-8. So two texts stay two. Where `most` is
 # given, what is longer is cut, and has ... at its end.
 

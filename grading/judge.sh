@@ -54,13 +54,13 @@ difference() {
 # what a status can mean that the tool has too, or the system
 meaning() {
   case $1 in
-    65) echo "status 65: refused, or it halted so" ;;
-    70) echo "status 70: stopped, or it halted so" ;;
-    71) echo "status 71: out of memory, or it halted so" ;;
-    75) echo "status 75: all steps were made, or it halted so" ;;
-    153) echo "status 153: more than $size KiB were written, or it halted so" ;;
-    6[4-9] | 7[0-6]) echo "status $1: the tool failed, or it halted so" ;;
-    12[4-9] | 1[3-9]? | 2??) echo "status $1: killed, or it halted so" ;;
+    65) echo "status 65: refused, or it halted with 65" ;;
+    70) echo "status 70: stopped, or it halted with 70" ;;
+    71) echo "status 71: out of memory, or it halted with 71" ;;
+    75) echo "status 75: it did not end within the steps, or it halted with 75" ;;
+    153) echo "status 153: more than $size KiB were written, or it halted with 153" ;;
+    6[4-9] | 7[0-6]) echo "status $1: the tool failed, or it halted with $1" ;;
+    12[4-9] | 1[3-9]? | 2??) echo "status $1: killed, or it halted with $1" ;;
     *) echo "status $1, not $2" ;;
   esac
 }

@@ -11,7 +11,7 @@ BEGIN {
   FS = "\t"
   while ((getline line <"names") > 0) {
     name[++names] = line
-    if (length(line) > wide) wide = length(line)
+    if (columns(line) > wide) wide = columns(line)
   }
   while ((getline line <"tests") > 0) add_test(line)
   if (points != "" && sum) for (i = 1; i <= tests; i++) worth[i] = worth[i] * points / sum
@@ -112,12 +112,28 @@ function complaint(i) {
   return (is_whole(i) ? "" : label[i] ": ") detail[i] (message[i] == "" ? "" : " (\"" message[i] "\")")
 }
 
+# the columns that a text in UTF-8 takes: its bytes, but for those that go on with a character
+function columns(text) {
+  gsub(/[\200-\277]/, "", text)
+  return length(text)
+}
+
+# a text with blanks after it, up to the width of the names
+function padded(text) {
+  return sprintf("%s%" (wide - columns(text)) "s", text, "")
+}
+
+# whether a test is told before another: a visible one before a hidden one, of which there is little to tell
+function is_told_before(i, first) {
+  return !first || is_hidden[first] && !is_hidden[i] && !revealed
+}
+
 function show_in_table(    i, first, listed) {
   for (i = 1; i <= tests; i++) {
-    if (verdict[i] != "right" && !first) first = i
+    if (verdict[i] != "right" && is_told_before(i, first)) first = i
     listed = listed (i == 1 ? "" : " ") (steps[i] == "" ? "-" : steps[i])
   }
-  printf "%-" wide "s  %d/%d%s%s%s\n", name[$1], how_many("right"), tests,
+  printf "%s  %d/%d%s%s%s\n", padded(name[$1]), how_many("right"), tests,
     has_points ? "  " number(total(earned)) "/" number(total(worth)) : "", counting ? "  " listed " steps" : "",
     first && !detailed ? "  " complaint(first) : ""
   if (detailed && first) show_details()
@@ -138,7 +154,7 @@ function show_least(    i, listed) {
       printf "{\"test\":%s,\"least\":%s,\"solution\":%s}\n", quoted(label[i]), or_null(least[i]), i in by ? quoted(by[i]) : "null"
     else listed = listed " " (i in least ? least[i] : "-")
   if (form == "tap") print "# least steps:" listed
-  else if (form == "table") printf "%-" wide "s  %s\n", "least", substr(listed, 2) " steps"
+  else if (form == "table") printf "%s  %s\n", padded("least"), substr(listed, 2) " steps"
 }
 
 # ---- JSON

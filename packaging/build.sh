@@ -1,4 +1,4 @@
-# How a program is proved, built and kept. The scripts read this file behind packaging/kept.sh, once `say` prints a line and
+# How a program is proved, built and kept. The scripts read this file after packaging/kept.sh, once `say` prints a line and
 # $took says how long it takes.
 
 # waits until no `rt ci` and no other ./mmixware or ./mmixview builds here, and keeps them waiting until this one is done
@@ -14,7 +14,7 @@ progress() {
   say "$checked of $crates crates, $minutes $unit"
 }
 
-# keeps what rt says in a file, and tells at each crate that is done how far it is
+# keeps what rt says in a file, and says at each crate that is done how far it is
 told() {
   began=$(date +%s) crates=$(rows | wc -l) checked=0
   while IFS= read -r line; do
@@ -81,7 +81,7 @@ build() {
   return $status
 }
 
-# sees to it that the program that is kept is that of the sources here, or fails
+# makes the program that is kept that of the sources here, or fails
 make_ready() {
   is_kept || {
     { wait_for_turn && { is_kept || take_over; }; } || build || return 1

@@ -1,4 +1,4 @@
-# The program that is kept: where it stands, and whether it was built from the sources that are here. The scripts read
+# The program that is kept: where it is, and whether it was built from the sources that are here. The scripts read
 # this file once $here is the top of the repository. Sums decide, and times only once, where `rt ci` has built it.
 # The program is mmixware, or the one that $tool names.
 kept=$here/.built/${tool:-mmixware}
@@ -69,7 +69,7 @@ close_lock() {
   exec 9<&-
 }
 
-# Keeps the program that `rt ci` has built from the sources that are here; the lock is held. `rt ci` tells no sums. But
+# Keeps the program that `rt ci` has built from the sources that are here; the lock is held. `rt ci` gives no sums. But
 # it opens its lock when it begins, sets each out/ aside, and makes a new one before it reads the crate. So what it has
 # read is here, if no source has been changed since the oldest of these. It links a second program once the first one is
 # whole.

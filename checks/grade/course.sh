@@ -74,7 +74,7 @@ other.mms    0/3
   refusal: not refused, and 39 is wanted
   stop: not stopped with 113, but #0000000000000108: 117 Negative ("#0000000000000108: 117 Negative")
 forges.mms   0/3
-  errors: status 70: stopped, or it halted so ("#0000000000000108: 113 Negative")
+  errors: status 70: stopped, or it halted with 70 ("#0000000000000108: 113 Negative")
   refusal: not refused, and 39 is wanted
   stop: it halted with 70, and was not stopped ("#0000000000000108: 113 Negative")
 halts.mms    1/3
@@ -87,8 +87,8 @@ refuses.mms  0/3
 put ends/stop/errors 'a word'
 put both.mms 'echo hello; echo a word >&2; stop 113'
 put glued.mms 'echo hello; printf "a word\n" >&2; printf x >&2; stop 113'
-gives 'the line of the tool is no word of the program' 'both.mms   1/3  errors: status 70: stopped, or it halted so ("#0000000000000108: 113 Negative")
-glued.mms  0/3  errors: status 70: stopped, or it halted so ("x#0000000000000108: 113 Negative")' 1 ends both.mms glued.mms
+gives 'the line of the tool is no word of the program' 'both.mms   1/3  errors: status 70: stopped, or it halted with 70 ("#0000000000000108: 113 Negative")
+glued.mms  0/3  errors: status 70: stopped, or it halted with 70 ("x#0000000000000108: 113 Negative")' 1 ends both.mms glued.mms
 put faulty/1/output hello
 for part in stop/x refusal/1 stop/1000; do
   put "faulty/1/${part%/*}" "${part#*/}"
@@ -136,6 +136,19 @@ for form in table json tap junit gradescope; do
   grep -q unseen out && grep -q told out || wrong "hidden tests, $form: they are not revealed: $(cat out)"
 done
 gives 'a hidden test in the table' 'tells.mms  1/2  hidden 1: not right' 1 secret tells.mms
+put early/a-secret/output hello
+put early/a-secret/hidden ''
+put early/b-shown/output other
+put neither.mms 'echo neither'
+gives 'what may be shown is told first' 'neither.mms  0/2  b-shown: another byte is printed: byte 1, line 1' 1 early neither.mms
+
+# ---- words and columns
+put plain/1/output hello
+put plain/2/output other
+put plain/2/arguments 2
+put 'zoë.mms' 'echo hello'
+gives 'columns are counted by characters, and a value may follow an equals sign' 'zoë.mms    1/2  2: another byte is printed: byte 1, line 1
+whole.mms  2/2' 1 --format=table --steps=1000 plain 'zoë.mms' whole.mms
 
 # ---- forms; a name may have what matters in each of them
 odd=$(printf 'odd/a & <b> "c" # TODO\377\n.mms')
@@ -153,14 +166,14 @@ odd/bad.mms 2 output 0 1 hello\\n <&"
 odd/none 1 failed 0 1 null null
 odd/none 2 failed 0 1 null null
 END
-  diff wanted out >&2 || wrong 'JSON is another'
+  diff wanted out >&2 || wrong 'the JSON differs'
   grade --format gradescope points half.mms |
     jq -c '.tests[] | [.name, .score, .max_score, .status, .visibility, .output]' >out
   cat >wanted <<'END'
 ["1",8,8,"passed","visible",null]
 ["2",0,2,"failed","visible","another byte is printed: byte 1, line 1\nexpected: other\\n\nprinted:  hello\\n"]
 END
-  diff wanted out >&2 || wrong "Gradescope's results are others"
+  diff wanted out >&2 || wrong "Gradescope's results differ"
   grade --format gradescope --count secret quick.mms | jq -c '[.tests[1].visibility, .leaderboard]' >out
   echo '["hidden",[{"name":"steps","value":9,"order":"asc"}]]' | diff - out >&2 || wrong "Gradescope's results lack something"
   grade --format gradescope points half.mms whole.mms | jq -e '.score == 0 and (.tests | not)' >out ||
@@ -177,7 +190,7 @@ if command -v xmllint >/dev/null; then
   xmllint --xpath 'concat(//testsuite[1]/@name, " ", count(//testcase), " ", count(//failure), " ", count(//error),
     " ", //testsuite[2]/testcase[1]/failure)' odd.xml >out
   printf '%s\n' "$shown 6 2 2 another byte is printed: byte 1, line 1" 'expected: hello\n' 'printed:  <&"' | diff - out >&2 ||
-    wrong 'JUnit is another'
+    wrong "JUnit's XML differs"
 fi
 
 # ---- rows come one by one, in the order of the words, also where a later solution is over first

@@ -67,7 +67,7 @@ began() {
 
 all_gone() {
   for one in "$room"/running/*; do
-    # one that is over, but not yet taken note of, is gone
+    # one that has ended, and was not yet waited for, is gone
     case $(ps -o stat= -p "${one##*/}") in
       [!Z]*) return 1 ;;
     esac

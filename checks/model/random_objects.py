@@ -14,7 +14,7 @@ class Objects:
         return (number % (1 << 32)).to_bytes(4, "big")
 
     def item(self):
-        """One item that may stand between `pre` and `post`."""
+        """One item that may come between `pre` and `post`."""
         rng = self.rng
         code = rng.choice((0, 1, 1, 2, 3, 4, 5, 6, 7, 8, 99, 99, 99))
         start = rng.choice((0, 0, 0x20, 0x20, 0x40, 0x5F if rng.random() < 0.1 else 0))

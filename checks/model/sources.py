@@ -16,7 +16,7 @@ FAULTY = (
 
 
 class Sources:
-    """Random sources with statements of every kind. Most are right as they stand; some are damaged afterwards."""
+    """Random sources with statements of every kind. Most are right as they are; some are damaged afterwards."""
 
     def __init__(self, rng):
         self.rng = rng

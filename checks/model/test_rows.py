@@ -162,7 +162,7 @@ def test_bytes():
 
 
 def test_objects():
-    """Records of later labels, quoted tetras, what stands of a refused source, and faults of objects."""
+    """Records of later labels, quoted tetras, what there is of a refused source, and faults of objects."""
     found = assembled("_LOC #200/Main BZ $0,x/_LOC #100/x TRAP 0,Halt,0")[1].hex()
     check("fixrx", "9801000100000100980500100100ffc0" in found, True)
     check("quoted", "9800000198000000" in assembled("Main BYTE 1/_LOC 0/_BYTE 3/_TETRA #98000000")[1].hex(), True)
