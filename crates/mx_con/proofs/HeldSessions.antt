@@ -16,7 +16,7 @@ use Rattle.mx_run.specs.Runs.{FlagsOf}
 use Rattle.mx_run.specs.WildRuns.{MachineKind, ends_wild}
 use Rattle.mx_run.proofs.HeldRuns.{run-held}
 use Rattle.mx_con.specs.Session.{keeping_flags, command_ends_wild, session_goes}
-use Rattle.mx_con.specs.SessionPlans.{SessionCall, of_host, of_turn, of_run, replying, counting, locating, tracing, judging, SessionWorld, SessionPlan, Part, conversing}
+use Rattle.mx_con.specs.SessionPlans.{SessionCall, of_host, of_turn, of_run, replying, SessionWorld, SessionPlan, Part, conversing}
 use Rattle.mx_con.specs.declared.end.SessionEnd.{SessionEnd}
 use Rattle.mx_con.specs.declared.end.SessionEnd.TheVariants.{OutOfMemory}
 
@@ -43,31 +43,21 @@ session-held Rel h = record {
     acts (of_host o) w = h.acting o w.0.1
     acts of_turn w = run.acting turning w.0
     acts (of_run n pass) w = held-end running (OverRuns Rel) run (run_plan n w.1 pass) w.0
-    acts (replying shown command) w = h.self w.0.1
-    acts counting w = h.self w.0.1
-    acts locating w = h.self w.0.1
-    acts (tracing trace) w = h.self w.0.1
-    acts (judging shown command) w = h.self w.0.1
+    acts other w = h.self w.0.1
 
     lacks : (o : SessionCall) (w v : SessionWorld) → conversing.Lacks o w v → Rel w.0.1 v.0.1
     lacks (of_host o) w v l = h.lacking o w.0.1 v.0.1 l.1.1
     lacks of_turn w v l = run.lacking turning w.0 v.0 l.0
     lacks (of_run n pass) w v l = held-stop running (OverRuns Rel) run (run_plan n w.1 pass) v.0 w.0 l.0
     lacks (replying shown command) w v l = rw l (h.self w.0.1)
-    lacks counting w v l = absurd l
-    lacks locating w v l = absurd l
-    lacks (tracing trace) w v l = absurd l
-    lacks (judging shown command) w v l = absurd l
+    lacks other w v l = absurd l
 
     lies : (o : SessionCall) (w v : SessionWorld) → conversing.Lacks o w v → Rel v.0.1 (conversing.act o w).1.0.1
     lies (of_host o) w v l = h.between o w.0.1 v.0.1 l.1.1
     lies of_turn w v l = run.between turning w.0 v.0 l.0
     lies (of_run n pass) w v l = held-on running (OverRuns Rel) run (run_plan n w.1 pass) v.0 w.0 l.0
     lies (replying shown command) w v l = rw l (h.self w.0.1)
-    lies counting w v l = absurd l
-    lies locating w v l = absurd l
-    lies (tracing trace) w v l = absurd l
-    lies (judging shown command) w v l = absurd l
+    lies other w v l = absurd l
 
 -- ---- plans
 

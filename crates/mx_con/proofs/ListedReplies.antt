@@ -221,17 +221,17 @@ lines-of r m = course (session_goes list_machine) (plans.replied (r.shown, r.lin
 listed-replied : (r : Reply) (m : HostModel) → r.state.touched ≡ false → Listed (plans.replied (r.shown, r.lines)) ((r.state, m), r.flags)
 listed-replied r m u = listed-showing r.shown (on_host (lines_plan r.lines)) ((r.state, m), r.flags) (listed-host (lines_plan r.lines) r.state m r.flags u)
 
+abbrev lines-end : Reply → HostModel → Result (Option ℕ) SessionEnd × SessionWorld
+lines-end r m = end_of conversing (plans.replied (r.shown, r.lines)) ((r.state, m), r.flags)
+
 carried-listed : (shown : Option ℕ) (command : Command) (s : State) (w : Window) (m : HostModel) (f : FlagsOf) → IsMachine s w → s.touched ≡ false → command_bad s shown command ≡ None → command_wild shown command ≡ false →
-    GoesAsList (lines-of (reply_to (as_list_state s) f shown command) m)
-    (end_of conversing (plans.replied ((reply_to s f shown command).shown, (reply_to s f shown command).lines)) (((reply_to s f shown command).state, m), (reply_to s f shown command).flags)).0
-    (end_of conversing (plans.replied ((reply_to s f shown command).shown, (reply_to s f shown command).lines)) (((reply_to s f shown command).state, m), (reply_to s f shown command).flags)).1
+    GoesAsList (lines-of (reply_to (as_list_state s) f shown command) m) (lines-end (reply_to s f shown command) m).0 (lines-end (reply_to s f shown command) m).1
 carried-listed shown command s w m f k u b e =
     let r = reply_to s f shown command in
     let own : r ≡ reply_in s f shown command = unnoted s f shown command e in
     let same : reply_to (as_list_state s) f shown command ≡ as_list_reply r =
     unnoted (as_list_state s) f shown command e ∙ same-reply s w f shown command k b e ∙ ap (λ x. as_list_reply x) (sym own) in
-    let last = end_of conversing (plans.replied (r.shown, r.lines)) ((r.state, m), r.flags) in
-    subst (λ (x : Reply). GoesAsList (lines-of x m) last.0 last.1) (sym same)
+    subst (λ (x : Reply). GoesAsList (lines-of x m) (lines-end r m).0 (lines-end r m).1) (sym same)
     (listed-replied r m (ap (λ (x : Reply). x.state.touched) own ∙ reply-touched s f shown command ∙ u))
 
 -- a good command, and one that is judged

@@ -10,7 +10,7 @@ use Rattle.mx_run.specs.RunPlans.{turning, looking, RunWorld, RunPlan, running, 
 use Rattle.mx_run.specs.Runs.{FlagsOf}
 use Rattle.mx_run.specs.WildRuns.{MachineKind, window_machine}
 use Rattle.mx_con.specs.Session.{keeping_flags, session_goes, session_ended, ended_session, of_course, session_course, session}
-use Rattle.mx_con.specs.SessionPlans.{SessionCall, of_host, of_turn, of_run, replying, counting, locating, tracing, judging, SessionSays, SessionWorld, SessionPlan, conversing, beside_machine, on_host, session_plan}
+use Rattle.mx_con.specs.SessionPlans.{SessionCall, of_run, SessionSays, SessionWorld, SessionPlan, conversing, beside_machine, on_host, session_plan}
 
 -- ---- over the host alone
 
@@ -48,14 +48,8 @@ run-window (calls looking k) w = run-window (k (running.act looking w).0) (runni
 
 call-window : (o : SessionCall) (w : SessionWorld) → session_goes window_machine o w ≡ carried conversing o w
 unfolding conversing running run_course
-call-window (of_host o) w = refl
-call-window of_turn w = refl
 call-window (of_run n pass) w = ap (keeping_flags w.1) (run-window (run_plan n w.1 pass) w.0)
-call-window (replying shown command) w = refl
-call-window counting w = refl
-call-window locating w = refl
-call-window (tracing trace) w = refl
-call-window (judging shown command) w = refl
+call-window other w = refl
 
 window-course : {A : Type 0} (p : SessionPlan A) (w : SessionWorld) → course (session_goes window_machine) p w ≡ ends (end_of conversing p w).0 (end_of conversing p w).1
 unfolding course end_of

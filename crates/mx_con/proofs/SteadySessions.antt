@@ -18,7 +18,7 @@ use Rattle.mx_run.specs.Turns.{Turn, went_on, halts, stops, turn, turn_answer}
 use Rattle.mx_run.specs.WildRuns.{MachineKind, ends_wild, host_after}
 use Rattle.mx_run.specs.declared.turn_answer.TurnAnswer.{TurnAnswer}
 use Rattle.mx_con.specs.Session.{keeping_flags, command_ends_wild, session_goes, SessionRun, session_ended, session_wild, of_course, session_course, session}
-use Rattle.mx_con.specs.SessionPlans.{SessionCall, of_host, of_turn, of_run, replying, counting, locating, tracing, judging, SessionSays, SessionWorld, conversing, session_plan}
+use Rattle.mx_con.specs.SessionPlans.{SessionCall, of_host, of_turn, of_run, replying, SessionSays, SessionWorld, conversing, session_plan}
 use Rattle.mx_con.specs.declared.end.SessionEnd.{SessionEnd}
 
 -- ---- runs
@@ -76,10 +76,7 @@ call-spared kind (replying shown command) w = by (command_ends_wild kind shown c
     by : (b : Bool) → SparedCourse world_host world_still w (cond b (meets_wild w) (carried conversing (replying shown command) w)) (cond b (meets_wild (world_still w)) (carried conversing (replying shown command) (world_still w)))
     by true = uncalled
     by false = uncalled
-call-spared kind counting w = uncalled
-call-spared kind locating w = uncalled
-call-spared kind (tracing trace) w = uncalled
-call-spared kind (judging shown command) w = uncalled
+call-spared kind other w = uncalled
 
 abbrev pub session_host : SessionRun → HostModel
 session_host (session_ended e) = e.host

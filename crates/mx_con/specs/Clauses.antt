@@ -1,6 +1,6 @@
 -- The words of clauses over a runner, a session and a host: `old` and `new` are what the host told before and after, r
--- and s the runners, d and e what the session remembers. The words of parts take the host itself before and after, with what
--- it tells (`says`) and its count of faults as functions.
+-- and s the runners. The words of parts take the host itself before and after, with what it tells (`says`) and its count of
+-- faults as functions.
 use Rattle.std.specs.Prelude.{ℕ, ◌≡◌, ◌≢◌, ◌≤◌, ◌+◌, ◌-◌, IsTrue, false, List, Option, Result, Err}
 use Rattle.mx_word.specs.Lists.{IsFront}
 use Rattle.mx_word.specs.Results.{map_ok}
