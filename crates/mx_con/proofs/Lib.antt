@@ -8,7 +8,6 @@ pub mod StepBounds
 pub mod HeldSessions
 pub mod SessionCourses
 pub mod SessionBoth
-pub mod RunAnswers
 pub mod QuietTraces
 pub mod SameTexts
 pub mod ListedRuns
@@ -19,5 +18,5 @@ pub mod SessionClauses
 pub mod ListedReplies
 pub mod ListedSessions
 pub mod SteadySessions
+pub mod WalkedPlans
 pub mod ToldSessions
-pub mod TakenInput

@@ -6,8 +6,8 @@ use Rattle.std.proofs.lemmas.Bool.Decides.{nat_tests}
 use Rattle.mx_host.specs.HostModel.{HostModel}
 use Rattle.mx_mem.specs.declared.part.Part.{Part}
 use Rattle.mx_mem.specs.declared.part.Part.TheVariants as part
-use Rattle.mx_plan.specs.Wild.{meets_wild, carried}
-use Rattle.mx_plan.proofs.WildLaws.{Answers, course_gives}
+use Rattle.mx_plan.specs.Wild.{Course, ends, meets_wild}
+use Rattle.mx_plan.proofs.WildLaws.{EndsSo}
 use Rattle.mx_ring.specs.Stack.{in_stack_area}
 use Rattle.mx_spec.specs.SpecialRegisters.{rW, rX}
 use Rattle.mx_trip.specs.declared.call.TrapCall.{TrapCall}
@@ -37,17 +37,16 @@ use Rattle.mx_code.specs.declared.trace.Touch.{Touch}
 use Rattle.mx_code.specs.declared.trace.Trace.{Trace}
 use Rattle.mx_core.proofs.Same.Quiet.{free}
 use Rattle.mx_core.proofs.Steps.{other_deed, step_went, step_stopped, step_traps, step_negative}
-use Rattle.mx_run.specs.WildRuns.{run_goes, run_course}
-use Rattle.mx_run.specs.RunPlans.{RunCall, turning, looking, RunWorld, running, end_of_trace, end_of_turn, run_plan}
+use Rattle.mx_run.specs.RunPlans.{RunWorld, end_of_trace, end_of_turn}
 use Rattle.mx_run.specs.Runs.{FlagsOf, break_of}
 use Rattle.mx_run.specs.Turns.{Turn, area_size, turn_with, trap_turn, turn_of, turn, turn_answer}
-use Rattle.mx_run.specs.WildRuns.{list_machine, trap_touches, turn_is_wild}
+use Rattle.mx_run.specs.WildRuns.{list_machine, trap_touches, turn_is_wild, run_course, of_course, run_by}
 use Rattle.mx_run.specs.declared.end.BreakKind.{BreakKind}
 use Rattle.mx_run.specs.declared.end.End.{End}
 use Rattle.mx_run.specs.declared.end.End.TheVariants as ending
 use Rattle.mx_run.specs.declared.turn_answer.TurnAnswer.{TurnAnswer}
 use Rattle.mx_run.specs.declared.turn_answer.TurnAnswer.TheVariants as answer
-use Rattle.mx_con.proofs.RunAnswers.{TurnsMay, EndsSo, run-gives}
+use Rattle.mx_run.proofs.RunCases.{OnOr, AnyWay, RunEndsSo, run-ends-so}
 
 -- what is touched lies outside the stack area
 abbrev pub Outside : Option Touch → Type 0
@@ -220,28 +219,29 @@ EndOutside (ending.Traced trace) = Outside trace.writes
 EndOutside ending.Spent = Unit {0}
 EndOutside ending.OutOfMemory = Unit {0}
 
-trace-outside : (traced : Bool) (trace : Trace) (b : Option (BreakKind × ℕ)) → Outside trace.writes → EndsSo EndOutside (end_of_trace traced trace b)
-trace-outside true trace (Some (kind, n)) h = h
-trace-outside false trace (Some (kind, n)) h = tt
-trace-outside true trace None h = h
-trace-outside false trace None h = tt
+abbrev EndsOutside : End → RunWorld → Type 0
+EndsOutside end w = EndOutside end
 
-answer-outside : (f : FlagsOf) (pc : ℕ) (a : TurnAnswer) → AnswerOutside a → EndsSo EndOutside (end_of_turn f pc a)
-answer-outside f pc (answer.Went trace) h = trace-outside (f (pc / 4)).t trace (break_of f trace) h
-answer-outside f pc (answer.Halted status) h = tt
-answer-outside f pc (answer.Stopped reason) h = tt
-answer-outside f pc answer.OutOfMemory h = tt
+trace-outside : (n : ℕ) (traced : Bool) (trace : Trace) (b : Option (BreakKind × ℕ)) (v : RunWorld) → Outside trace.writes → OnOr (AnyWay n) EndsOutside (end_of_trace traced trace b) v
+trace-outside n true trace (Some (kind, at)) v h = h
+trace-outside n false trace (Some (kind, at)) v h = tt
+trace-outside n true trace None v h = h
+trace-outside n false trace None v h = tt
 
-call-outside : (o : RunCall) (w : RunWorld) → Answers (TurnsMay AnswerOutside o) (run_goes list_machine o w)
-unfolding running
-call-outside turning w = by (turn_is_wild w.0) refl
-  where
-    by : (b : Bool) → turn_is_wild w.0 ≡ b → Answers AnswerOutside (cond b (meets_wild w) (carried running turning w))
-    by true e = tt
-    by false e = turn-outside w.0 w.1 e
-call-outside looking w = tt
+turned-outside : (n : ℕ) (f : FlagsOf) (pc : ℕ) (a : TurnAnswer) (v : RunWorld) → AnswerOutside a → OnOr (AnyWay n) EndsOutside (end_of_turn f pc a) v
+turned-outside n f pc (answer.Went trace) v h = trace-outside n (f (pc / 4)).t trace (break_of f trace) v h
+turned-outside n f pc (answer.Halted status) v h = tt
+turned-outside n f pc (answer.Stopped reason) v h = tt
+turned-outside n f pc answer.OutOfMemory v h = tt
 
-pub run-outside : (n : ℕ) (f : FlagsOf) (pass : Bool) (s : State) (m : HostModel) → Answers EndOutside (run_course list_machine n f pass s m)
-unfolding run_course
+-- what is known of the end of a run is known of its course
+pub run-ends : (Such : End → RunWorld → Type 0) (c : Course End RunWorld) → RunEndsSo Such (of_course c) → EndsSo Such c
+run-ends Such (ends end w) h = h
+run-ends Such (meets_wild w) h = tt
+
+pub run-outside : (n : ℕ) (f : FlagsOf) (pass : Bool) (s : State) (m : HostModel) → EndsSo (λ end w. EndOutside end) (run_course list_machine n f pass s m)
+unfolding run_by
 run-outside n f pass s m =
-    course_gives (run_goes list_machine) (TurnsMay AnswerOutside) EndOutside call-outside (run_plan n f pass) (s, m) (run-gives AnswerOutside EndOutside answer-outside (λ pc. tt) tt n f pass)
+    run-ends EndsOutside (run_course list_machine n f pass s m)
+    (run-ends-so list_machine f (λ w a v. AnswerOutside a) AnyWay EndsOutside (record { spent = λ w g. tt; broken = λ k w x g. tt; turned = λ k a w v g h. turned-outside k f w.0.pc a v h })
+    (λ t k tame. turn-outside t k tame) n pass s m tt)

@@ -77,15 +77,7 @@ unfolding command_plan
 answered-comes steps shown v w r command.Step i c = absurd i
 answered-comes steps shown v w r command.Continue i c = absurd i
 answered-comes steps shown v w r command.Quit i c = absurd i
-answered-comes steps shown v w r command.State i c = c
-answered-comes steps shown v w r (command.Show subject form) i c = c
-answered-comes steps shown v w r (command.Change subject value) i c = c
-answered-comes steps shown v w r (command.ShowMore n form) i c = c
-answered-comes steps shown v w r (command.GoTo a) i c = c
-answered-comes steps shown v w r (command.Break breaks a) i c = c
-answered-comes steps shown v w r (command.Trace a) i c = c
-answered-comes steps shown v w r (command.Untrace a) i c = c
-answered-comes steps shown v w r command.Flags i c = c
+answered-comes steps shown v w r command i c = c
 
 pub answered-part : {Host : Type 0} {says : Host → Option HostModel} {faults : Host → ℕ} {a b : Host} {v w : SessionWorld} {r : Result (Option ℕ) SessionEnd} (steps : ℕ) (shown : Option ℕ) (command : Command) → IsAnswered command →
     Proceeds conversing says faults a b v w r (answered_plan shown command) → Proceeds conversing says faults a b v w r (command_plan steps shown (Some command))

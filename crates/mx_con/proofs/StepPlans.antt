@@ -6,7 +6,7 @@ use Rattle.mx_plan.specs.Plan.{returns, bind, end_of, Stops, Comes}
 use Rattle.mx_plan.specs.Calls.{host, HostPlan}
 use Rattle.mx_plan.specs.Wild.{Course, ends, meets_wild, then_on, course, GoesAs, alike}
 use Rattle.mx_plan.proofs.Plans.{stops_first}
-use Rattle.mx_plan.proofs.WildLaws.{Answers}
+use Rattle.mx_plan.proofs.WildLaws.{EndsSo}
 use Rattle.mx_plan.specs.Clauses.{Stands}
 use Rattle.mx_core.specs.Bounds.{as_list_state}
 use Rattle.mx_core.specs.State.{State}
@@ -144,7 +144,7 @@ one-run-comes steps n pass f end s t m k u r e h c lacked same =
     record { ending = λ ne. from.ending ne; stopping = λ o. inr (from.stopping o) }
 
 -- over the list machine: its course of the run, and the lines on its end
-run-listed : (c : Course End RunWorld) (end : End) (t : State) (k u : HostModel) (f : FlagsOf) (r : Result Bool SessionEnd) → Answers EndOutside c → GoesAs runs.as_list_world runs.IsUntouched runs.WritesOn c end (t, k) →
+run-listed : (c : Course End RunWorld) (end : End) (t : State) (k u : HostModel) (f : FlagsOf) (r : Result Bool SessionEnd) → EndsSo (λ end w. EndOutside end) c → GoesAs runs.as_list_world runs.IsUntouched runs.WritesOn c end (t, k) →
     Comes conversing ((t, k), f) ((t, u), f) (Err OutOfMemory) r (after_end end) → r ≢ Err OutOfMemory →
     GoesAsList (then_on (λ e v. course (session_goes list_machine) (after_end e) v) (keeping_flags f c)) r ((t, u), f)
 run-listed (ends e v) end t k u f r o h c ne =
@@ -223,26 +223,6 @@ unfolding turn_at
 turned pc a s t m k f u r ne h c =
     bind-comes conversing (after_turn pc) turn_made a ((s, m), f) ((t, k), f) u (Err OutOfMemory) r ((turn-comes f a s t m k h).ending ne) c
 
-pub step-went : (steps : ℕ) (trace : Trace) (s t : State) (m k n : HostModel) (f : FlagsOf) (r : Result (Unit {0}) SessionEnd) → steps - s.steps ≢ 0 →
-    Comes running (s, m) (t, k) answer.OutOfMemory (answer.Went trace) turn_plan → Comes host k n (Err OutOfMemory) r (line_plan (trace_text trace t)) →
-    Comes conversing ((s, m), f) ((t, n), f) (Err OutOfMemory) r (stepped_plan steps)
-step-went steps trace s t m k n f r ne h c =
-    step-from steps s m f ((t, n), f) r ne (turned s.pc (answer.Went trace) s t m k f ((t, n), f) r (λ e. absurd (cc)) h (traced-comes trace t k n f r c))
-
-pub step-halted : (steps status : ℕ) (s t : State) (m k : HostModel) (f : FlagsOf) → steps - s.steps ≢ 0 → Comes running (s, m) (t, k) answer.OutOfMemory (answer.Halted status) turn_plan →
-    Comes conversing ((s, m), f) ((t, k), f) (Err OutOfMemory) (Err (Halted status)) (stepped_plan steps)
-step-halted steps status s t m k f ne h =
-    step-from steps s m f ((t, k), f) (Err (Halted status)) ne
-    (turned s.pc (answer.Halted status) s t m k f ((t, k), f) (Err (Halted status)) (λ e. absurd (cc)) h (returned conversing (Err (Halted status)) ((t, k), f) (λ e. absurd (cc))))
-
-pub step-stopped : (steps pc reason : ℕ) (s t : State) (m k : HostModel) (f : FlagsOf) → steps - s.steps ≢ 0 → pc ≡ s.pc → Comes running (s, m) (t, k) answer.OutOfMemory (answer.Stopped reason) turn_plan →
-    Comes conversing ((s, m), f) ((t, k), f) (Err OutOfMemory) (Err (Stopped pc reason)) (stepped_plan steps)
-step-stopped steps pc reason s t m k f ne e h =
-    step-from steps s m f ((t, k), f) (Err (Stopped pc reason)) ne
-    (turned s.pc (answer.Stopped reason) s t m k f ((t, k), f) (Err (Stopped pc reason)) (λ o. absurd (cc)) h
-    (subst (λ x. Comes conversing ((t, k), f) ((t, k), f) (Err OutOfMemory) (Err (Stopped pc reason)) (after_turn x (answer.Stopped reason))) e
-    (returned conversing (Err (Stopped pc reason)) ((t, k), f) (λ o. absurd (cc)))))
-
 turn-lacked : (pc : ℕ) (s t : State) (m k : HostModel) (f : FlagsOf) → Comes running (s, m) (t, k) answer.OutOfMemory answer.OutOfMemory turn_plan →
     Comes conversing ((s, m), f) ((t, k), f) (Err OutOfMemory) (Err OutOfMemory) (turn_at pc)
 unfolding turn_at
@@ -251,28 +231,31 @@ turn-lacked pc s t m k f h = record {
   stopping = λ e. stops_first conversing (after_turn pc) turn_made ((t, k), f) ((s, m), f) ((turn-comes f answer.OutOfMemory s t m k h).stopping refl);
 }
 
-pub step-lacked : (steps : ℕ) (s t : State) (m k : HostModel) (f : FlagsOf) → steps - s.steps ≢ 0 → Comes running (s, m) (t, k) answer.OutOfMemory answer.OutOfMemory turn_plan →
-    Comes conversing ((s, m), f) ((t, k), f) (Err OutOfMemory) (Err OutOfMemory) (stepped_plan steps)
-step-lacked steps s t m k f ne h = step-from steps s m f ((t, k), f) (Err OutOfMemory) ne (turn-lacked s.pc s t m k f h)
-
 -- as the code has them: how many steps are left, the flags after the step, and the machine of which the line tells
 pub stepped-went : (steps left : ℕ) (trace : Trace) (s t seen : State) (m k n : HostModel) (f g : FlagsOf) (r : Result (Unit {0}) SessionEnd) → left ≡ steps - s.steps → left ≢ 0 → g ≡ f → seen ≡ t →
     Comes running (s, m) (t, k) answer.OutOfMemory (answer.Went trace) turn_plan → Comes host k n (Err OutOfMemory) r (line_plan (trace_text trace seen)) →
     Comes conversing ((s, m), f) ((t, n), g) (Err OutOfMemory) r (stepped_plan steps)
 stepped-went steps left trace s t seen m k n f g r e ne fl at h c =
-    rw fl (step-went steps trace s t m k n f r (subst (λ i. i ≢ 0) e ne) h (subst (λ (x : State). Comes host k n (Err OutOfMemory) r (line_plan (trace_text trace x))) at c))
+    rw fl (step-from steps s m f ((t, n), f) r (subst (λ i. i ≢ 0) e ne) (turned s.pc (answer.Went trace) s t m k f ((t, n), f) r (λ o. absurd (cc)) h
+    (traced-comes trace t k n f r (subst (λ (x : State). Comes host k n (Err OutOfMemory) r (line_plan (trace_text trace x))) at c))))
 
 pub stepped-halted : (steps left status : ℕ) (s t : State) (m k : HostModel) (f g : FlagsOf) → left ≡ steps - s.steps → left ≢ 0 → g ≡ f → Comes running (s, m) (t, k) answer.OutOfMemory (answer.Halted status) turn_plan →
     Comes conversing ((s, m), f) ((t, k), g) (Err OutOfMemory) (Err (Halted status)) (stepped_plan steps)
-stepped-halted steps left status s t m k f g e ne fl h = rw fl (step-halted steps status s t m k f (subst (λ i. i ≢ 0) e ne) h)
+stepped-halted steps left status s t m k f g e ne fl h =
+    rw fl (step-from steps s m f ((t, k), f) (Err (Halted status)) (subst (λ i. i ≢ 0) e ne)
+    (turned s.pc (answer.Halted status) s t m k f ((t, k), f) (Err (Halted status)) (λ o. absurd (cc)) h (returned conversing (Err (Halted status)) ((t, k), f) (λ o. absurd (cc)))))
 
 pub stepped-stopped : (steps left pc reason : ℕ) (s t : State) (m k : HostModel) (f g : FlagsOf) → left ≡ steps - s.steps → left ≢ 0 → g ≡ f → pc ≡ s.pc →
     Comes running (s, m) (t, k) answer.OutOfMemory (answer.Stopped reason) turn_plan → Comes conversing ((s, m), f) ((t, k), g) (Err OutOfMemory) (Err (Stopped pc reason)) (stepped_plan steps)
-stepped-stopped steps left pc reason s t m k f g e ne fl at h = rw fl (step-stopped steps pc reason s t m k f (subst (λ i. i ≢ 0) e ne) at h)
+stepped-stopped steps left pc reason s t m k f g e ne fl at h =
+    rw fl (step-from steps s m f ((t, k), f) (Err (Stopped pc reason)) (subst (λ i. i ≢ 0) e ne)
+    (turned s.pc (answer.Stopped reason) s t m k f ((t, k), f) (Err (Stopped pc reason)) (λ o. absurd (cc)) h
+    (subst (λ x. Comes conversing ((t, k), f) ((t, k), f) (Err OutOfMemory) (Err (Stopped pc reason)) (after_turn x (answer.Stopped reason))) at
+    (returned conversing (Err (Stopped pc reason)) ((t, k), f) (λ o. absurd (cc))))))
 
 pub stepped-lacked : (steps left : ℕ) (s t : State) (m k : HostModel) (f g : FlagsOf) → left ≡ steps - s.steps → left ≢ 0 → g ≡ f → Comes running (s, m) (t, k) answer.OutOfMemory answer.OutOfMemory turn_plan →
     Comes conversing ((s, m), f) ((t, k), g) (Err OutOfMemory) (Err OutOfMemory) (stepped_plan steps)
-stepped-lacked steps left s t m k f g e ne fl h = rw fl (step-lacked steps s t m k f (subst (λ i. i ≢ 0) e ne) h)
+stepped-lacked steps left s t m k f g e ne fl h = rw fl (step-from steps s m f ((t, k), f) (Err OutOfMemory) (subst (λ i. i ≢ 0) e ne) (turn-lacked s.pc s t m k f h))
 
 pub ruleset stepping = (step-spent)
 

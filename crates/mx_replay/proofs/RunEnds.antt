@@ -1,5 +1,5 @@
 -- Runs without flags by their last turn.
-use Rattle.std.proofs.Common.{IsTrue, Some, ◌≡◌, ◌≢◌, ◌<◌, ◌≤◌, ◌+◌, ◌-◌, ◌%◌, ◌^◌, ℕ, zero, suc, true, arith, refl, sym, subst, ◌∙◌, ap}
+use Rattle.std.proofs.Common.{IsTrue, Some, ◌≡◌, ◌≢◌, ◌<◌, ◌≤◌, ◌+◌, ◌-◌, ◌%◌, ◌^◌, ℕ, zero, suc, true, false, arith, refl, sym, subst, ◌∙◌, ap}
 use Rattle.mx_host.specs.HostModel.{HostModel, tells, contents}
 use Rattle.mx_core.specs.State.{State}
 use Rattle.mx_run.specs.Runs.{Ended, ended, no_flags, run}
