@@ -209,4 +209,4 @@ pub generated-done : (kind : MachineKind) (words : List Word) (m left after : Ho
     product kind words m ≡ answered (Done 0) after
 generated-done kind words m left after line h e = generated-told kind words m left line h ∙ ap (λ t. with_message (after_lines (Done 0) t)) e
 
-pub ruleset completed = (source-plain, source-dumped, object-plain, object-dumped, source-sat, object-sat, source-played, object-played, accepted-written, refused-written, meant-object, accepted-object, unrefused-means, generated-means, generated-done)
+pub ruleset completed = (meant-object, accepted-object, unrefused-means, generated-means, generated-done)

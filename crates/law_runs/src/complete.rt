@@ -38,7 +38,6 @@ ghost use Rattle.mx_files.specs.declared.refusal.Refusal.{Refusal};
 /// the order, is done: the program answers the status that the machine halted with, and leaves the host
 /// as the machine left it. With a dump it leaves the host as the last line of the dump did, if each line
 /// is written. By the clauses of the top call the program then answers this, or it is out of memory.
-#[tactic(auto, using(crate::proofs::Completed::completed))]
 pub fn sources_that_halt_are_done()
     ensures plain { (kind : MachineKind) (words : List Word) (o : Order) (image : Image) (status : ℕ) (ended : State)
         (m begun after : HostModel) → HasSource words o image m begun →
@@ -54,7 +53,6 @@ pub fn sources_that_halt_are_done()
 /// An object that is read and loaded, and whose machine starts and halts within the steps of the order, is done: the
 /// program answers the status that the machine halted with, and leaves the host as the machine left it, or as the
 /// last line of the dump did, where a dump is asked for and each of its lines is written.
-#[tactic(auto, using(crate::proofs::Completed::completed))]
 pub fn objects_that_halt_are_done()
     ensures plain { (kind : MachineKind) (words : List Word) (o : Order) (image : Image) (status : ℕ) (ended : State)
         (m begun after : HostModel) → HasObject words o image m begun →
@@ -69,7 +67,6 @@ pub fn objects_that_halt_are_done()
 
 /// With the console, where the machine starts, the program answers what the session comes to, and leaves
 /// the host as the session does, behind which the dump and the message may write.
-#[tactic(auto, using(crate::proofs::Completed::completed))]
 pub fn consoles_answer_as_sessions()
     ensures source { (kind : MachineKind) (words : List Word) (o : Order) (image : Image) (s : State)
         (m begun : HostModel) → HasSource words o image m begun → o.interactive ≡ true →

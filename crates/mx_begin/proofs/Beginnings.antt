@@ -1,7 +1,6 @@
 -- How an image is read, and a machine begins.
 use Rattle.std.proofs.Common.{◌≡◌, ◌≢◌, ℕ, List, Ok, Err, refl, ◌∙◌, ap, subst}
 use Rattle.std.specs.Prelude.{Option, Result}
-use Rattle.mx_host.specs.HostAnswer.{Then}
 use Rattle.mx_host.specs.HostModel.{HostModel, tells}
 use Rattle.mx_plan.specs.Calls.{host, need}
 use Rattle.mx_plan.specs.Clauses.{CarriesOut}

@@ -5,7 +5,6 @@ use Rattle.mx_host.specs.HostAnswer.{Then, open_answer, read_answer, write_answe
 use Rattle.mx_host.specs.HostModel.{HostModel}
 use Rattle.mx_host.specs.declared.faults.HostFault.{HostFault}
 use Rattle.mx_host.specs.declared.faults.OpenFault.{OpenFault}
-use Rattle.mx_host.specs.declared.faults.OpenFault.TheVariants as opening
 use Rattle.mx_host.specs.declared.slots.Mode.TheVariants.{BinaryRead, BinaryWrite}
 use Rattle.mx_mmo.specs.Replies.{limit, tail_of}
 use Rattle.mx_mmo.specs.Whole.{Left, items_of}
@@ -28,7 +27,7 @@ use Rattle.mx_files.specs.ObjectPlans.{outcome_of, whole_plan, object_opened, op
 use Rattle.mx_files.specs.Objects.{Assembled, source_object}
 use Rattle.mx_files.specs.Typed.{Typed, trie_typed, tail_typed, end_typed, typed}
 use Rattle.mx_outcome.specs.declared.outcome.Outcome.{Outcome}
-use Rattle.mx_outcome.specs.declared.outcome.Outcome.TheVariants.{Done, Usage, NoFile, HostFault as Broken, Refused, BadObject, BadSchedule, Stopped, StepsSpent, Quit, ConsoleLimit, OutOfMemory}
+use Rattle.mx_outcome.specs.declared.outcome.Outcome.TheVariants.{Done, HostFault as Broken, BadObject}
 use Rattle.mx_files.specs.declared.refusal.Refusal.{Refusal}
 
 -- ---- reading, by the answers of its calls

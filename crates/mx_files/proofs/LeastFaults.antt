@@ -1,11 +1,10 @@
 -- The place at which a schedule is refused is the least one at which it is at fault.
-use Rattle.std.proofs.Common.{◌≡◌, ℕ, zero, suc, ◌<◌, ◌≤◌, ◌==◌, Bool, true, false, cond, nat_lt, List, [], ◌∷◌, length, get_or, Option, None, Some, Ok, Err, arith, refl, subst, ap, ◌∙◌}
-use Rattle.std.specs.Prelude.{Result, ◌↔◌}
+use Rattle.std.proofs.Common.{◌≡◌, ℕ, zero, suc, ◌<◌, ◌≤◌, ◌==◌, Bool, true, false, cond, nat_lt, List, [], ◌∷◌, length, get_or, Option, None, Some, Ok, Err, arith, refl, subst, ap}
+use Rattle.std.specs.Prelude.{◌↔◌}
 use Rattle.std.specs.List.{position}
 use Rattle.std.proofs.lemmas.Bool.Decides.{nat_tests}
 use Rattle.std.proofs.lemmas.List.Quantifiers.{position-Some}
 use Rattle.mx_files.specs.Schedules.{AreEight, IsAtFault, empty, long, unnamed, IsLeastFault, IsFaultless, longest, is_unnamed, length_fault, least_fault, judged, schedule_in, schedule_fault}
-use Rattle.mx_outcome.specs.declared.outcome.Outcome.{Outcome}
 use Rattle.mx_outcome.specs.declared.outcome.Outcome.TheVariants.{BadSchedule}
 use Rattle.mx_files.proofs.ReadSchedules.{none-named}
 

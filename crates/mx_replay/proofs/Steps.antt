@@ -1,5 +1,5 @@
 -- Steps of a run: at its start, after some turns, and after one.
-use Rattle.std.proofs.Common.{IsTrue, Some, List, map, ◌≡◌, ◌≢◌, ◌<◌, ◌≤◌, ◌+◌, ◌-◌, ℕ, Bool, true, false, inl, inr, Ok, Err, arith, refl, sym, subst, ◌∙◌, ap}
+use Rattle.std.proofs.Common.{Some, List, map, ◌≡◌, ◌≢◌, ◌<◌, ◌≤◌, ◌+◌, ◌-◌, ℕ, Bool, true, false, inl, inr, Ok, Err, arith, refl, sym, subst, ◌∙◌, ap}
 use Rattle.std.specs.Prelude.{Result, ◌⊎◌, string_bytes}
 use Rattle.std.proofs.Math.Nat.{eq-or-lt_of_le}
 use Rattle.std.proofs.lemmas.Bool.{cases_lt}
