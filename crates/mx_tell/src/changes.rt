@@ -16,7 +16,7 @@ pub struct Before {
     octa: u64,
 }
 
-/// The codes of the special registers that go with each step, or with each call.
+/// The codes of the special registers that go with each step, with each call, or with the registers that are local.
 const CYCLES: u8 = 8;
 
 const HIDDEN: u8 = 10;
@@ -157,7 +157,7 @@ fn add_given(
 
 /// Whether a special register is told where it changes.
 fn is_told(code: u8) -> bool {
-    code != CYCLES && code != HIDDEN && code != SPILLED
+    code != CYCLES && code != HIDDEN && code != SPILLED && code != LOCALS
 }
 
 /// Adds a special register, if it is told and has another value than before.
@@ -207,7 +207,7 @@ fn add_octa(
     text.push(b'\n')
 }
 
-/// Adds what a step changed, a line for each value: registers, special registers but those that count steps and hidden registers,
+/// Adds what a step changed, a line for each value: registers, special registers but those that count steps and registers,
 /// and the octa that was written. After a call its arguments are told, and after a return its results, since all registers have
 /// other numbers then.
 pub fn add_changes(

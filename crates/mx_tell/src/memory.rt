@@ -20,7 +20,7 @@ const MOST: u64 = 1024;
 const LONGEST: u64 = 200;
 
 /// What a row begins with is this wide.
-const HEAD: usize = 28;
+const HEAD: usize = 32;
 
 /// How many bytes a unit has; of a text it is not known.
 fn size_of(unit: Unit) -> u64

@@ -54,14 +54,28 @@ pub fn add_watch_row(
     text.push(b'\n')
 }
 
-/// Adds the value of a symbol that is a number, and the line there, if it is known, to a row that began there.
-fn add_number(text: &mut Bytes, book: &Book, from: usize, x: u64) -> Result<(), NoMemory> {
+/// Whether a symbol with this name and address is a label.
+fn is_label(book: &Book, name: &[u8], address: u64) -> bool {
+    let mut labels = book.labels.as_slice().iter();
+    labels.any(|label| label.address == address && label.name.as_slice() == name)
+}
+
+/// Adds the value of a symbol that is a number, and of a label its line, if it is known, to a row that began there.
+fn add_number(
+    text: &mut Bytes,
+    book: &Book,
+    from: usize,
+    name: &[u8],
+    x: u64,
+) -> Result<(), NoMemory> {
     add_short_hex(text, x)?;
-    if let Some(line) = book.line_at(x) {
-        fill(text, from, LINES)?;
-        add_line_name(text, book, line)?;
+    match book.line_at(x) {
+        Some(line) if is_label(book, name, x) => {
+            fill(text, from, LINES)?;
+            add_line_name(text, book, line)
+        }
+        _ => Ok(()),
     }
-    Ok(())
 }
 
 /// Adds the row of a symbol.
@@ -70,7 +84,7 @@ fn add_symbol(text: &mut Bytes, book: &Book, symbol: &Symbol) -> Result<(), NoMe
     add_name(text, symbol.name.as_slice())?;
     fill(text, from, VALUES)?;
     match symbol.value {
-        Value::Pure(x) => add_number(text, book, from, x)?,
+        Value::Pure(x) => add_number(text, book, from, symbol.name.as_slice(), x)?,
         Value::Reg(k) => {
             text.push(b'$')?;
             add_decimal(text, u64::from(k))?;

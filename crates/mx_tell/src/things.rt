@@ -89,6 +89,38 @@ pub fn add_thing(text: &mut Bytes, book: &Book, thing: Thing) -> Result<(), NoMe
     }
 }
 
+/// Whether a special register has the address of an instruction: rJ, rT, rTT, rW and rWW do.
+fn is_place(code: u8) -> bool {
+    code == 4 || code == 13 || code == 14 || code == 24 || code == 28
+}
+
+/// Adds what a thing has, as it is shown where no form is asked for.
+pub(crate) fn add_held(
+    text: &mut Bytes,
+    book: &Book,
+    thing: Thing,
+    value: u64,
+) -> Result<(), NoMemory> {
+    match thing {
+        Thing::Special(code) if is_place(code) => add_address(text, book, value),
+        _ => add_usual(text, book, value),
+    }
+}
+
+/// Adds what a thing has, in a form if one is asked for.
+fn add_formed(
+    text: &mut Bytes,
+    book: &Book,
+    thing: Thing,
+    value: u64,
+    form: Option<Form>,
+) -> Result<(), NoMemory> {
+    match form {
+        None => add_held(text, book, thing, value),
+        Some(_) => add_value(text, book, value, form),
+    }
+}
+
 /// Adds a thing and what it has: `$1 (k) = 9`; of a number the number alone.
 pub fn add_shown(
     text: &mut Bytes,
@@ -104,7 +136,7 @@ pub fn add_shown(
             text.extend(b" = ")?;
         }
     }
-    add_value(text, book, value_of(machine, thing), form)?;
+    add_formed(text, book, thing, value_of(machine, thing), form)?;
     text.push(b'\n')
 }
 
@@ -118,9 +150,9 @@ pub(crate) fn add_change(
 ) -> Result<(), NoMemory> {
     add_thing(text, book, thing)?;
     text.extend(b" = ")?;
-    add_usual(text, book, new)?;
+    add_held(text, book, thing, new)?;
     text.extend(b"  (was ")?;
-    add_usual(text, book, old)?;
+    add_held(text, book, thing, old)?;
     text.extend(b")\n")
 }
 
