@@ -1,8 +1,10 @@
 //! The text of an instruction.
 
 use crate::characters::{Style, add_characters};
+use crate::names::add_label_between;
 use crate::values::tetra_at;
 use mx_book::{Book, Load};
+use mx_code::Instruction;
 use mx_core::Machine;
 use mx_line::{Cut, next_statement};
 use mx_text::add_instruction;
@@ -37,6 +39,25 @@ fn add_cut(text: &mut Bytes, line: &[u8], cut: &Cut) -> Result<(), NoMemory> {
     add_characters(text, Style::Line, operands)
 }
 
+/// The address that a tetra goes to or makes, where it is a branch, JMP, PUSHJ or GETA.
+fn target_of(address: u64, word: u32) -> Option<u64> {
+    let instruction = Instruction::new(address, word);
+    match instruction.code() {
+        0xf0 | 0xf1 => Some(instruction.far_address()),
+        0x40..=0x5f | 0xf2..=0xf5 => Some(instruction.near_address()),
+        _ => None,
+    }
+}
+
+/// Adds the instruction that a tetra is, and the label of the address that it goes to.
+fn add_tetra(text: &mut Bytes, book: &Book, word: u32, address: u64) -> Result<(), NoMemory> {
+    add_instruction(text, word, address)?;
+    match target_of(address, word) {
+        Some(target) => add_label_between(text, b" <", book, target, b">"),
+        None => Ok(()),
+    }
+}
+
 /// Adds the instruction at an address: as the line of its source has it, or else by its tetra.
 pub(crate) fn add_code(
     text: &mut Bytes,
@@ -45,10 +66,10 @@ pub(crate) fn add_code(
     address: u64,
 ) -> Result<(), NoMemory> {
     let Some(line) = code_line(book, address) else {
-        return add_instruction(text, tetra_at(machine, address), address);
+        return add_tetra(text, book, tetra_at(machine, address), address);
     };
     match next_statement(line.as_slice(), 0) {
         Ok(Some(cut)) => add_cut(text, line.as_slice(), &cut),
-        _ => add_instruction(text, tetra_at(machine, address), address),
+        _ => add_tetra(text, book, tetra_at(machine, address), address),
     }
 }
