@@ -1,12 +1,12 @@
 //! The text of an instruction.
 
-use crate::characters::{Style, add_characters};
 use crate::names::add_label_between;
 use crate::values::tetra_at;
 use mx_book::{Book, Load};
 use mx_code::Instruction;
 use mx_core::Machine;
 use mx_line::{Cut, next_statement};
+use mx_pieces::{Style, add_characters};
 use mx_text::add_instruction;
 use mx_word::{Bytes, NoMemory};
 

@@ -4,14 +4,11 @@
 
 mod calls;
 mod changes;
-mod characters;
 mod code;
-mod columns;
 mod ends;
 mod lines;
 mod memory;
 mod names;
-mod numbers;
 mod registers;
 mod ring;
 mod stops;
@@ -21,10 +18,10 @@ mod values;
 
 pub use calls::{Call, add_backtrace};
 pub use changes::{Before, add_changes};
-pub use characters::add_output;
 pub use ends::add_end;
 pub use lines::{add_instructions, add_lines, around};
 pub use memory::add_memory;
+pub use mx_pieces::add_output;
 pub use names::{add_label, add_place};
 pub use registers::add_registers;
 pub use ring::add_ring;

@@ -1,11 +1,10 @@
 //! The lines of a program.
 
-use crate::characters::{Style, add_characters};
 use crate::code::add_code;
-use crate::columns::{add_right, fill};
 use crate::names::add_address;
 use mx_book::Book;
 use mx_core::Machine;
+use mx_pieces::{Style, add_characters, add_right, fill};
 use mx_word::{Bytes, NoMemory};
 
 /// So many lines are shown.

@@ -2,13 +2,12 @@
 
 ghost use Rattle.std.specs.Prelude.{◌≤◌};
 
-use crate::characters::{Style, add_characters};
-use crate::columns::fill;
 use crate::names::add_address;
 use crate::values::byte_at;
 use mx_ask::Unit;
 use mx_book::Book;
 use mx_core::Machine;
+use mx_pieces::{Style, add_characters, fill};
 use mx_text::byte_hex;
 use mx_word::{Bytes, NoMemory};
 use std::alloc::Global;

@@ -1,8 +1,8 @@
 //! Places by their names.
 
-use crate::numbers::add_short_hex;
 use mx_book::Book;
 use mx_object::Label;
+use mx_pieces::add_short_hex;
 use mx_text::add_decimal;
 use mx_word::{Bytes, NoMemory};
 

@@ -1,11 +1,10 @@
 //! All registers.
 
-use crate::columns::fill;
 use crate::names::add_name;
-use crate::numbers::add_signed;
 use crate::things::{add_special, register_symbol};
 use mx_book::Book;
 use mx_core::Machine;
+use mx_pieces::{add_signed, fill};
 use mx_text::{add_decimal, octa_hex};
 use mx_word::{Bytes, NoMemory};
 

@@ -1,10 +1,9 @@
 //! Breaks, watches and symbols.
 
-use crate::columns::fill;
 use crate::names::{add_line_name, add_name, add_place};
-use crate::numbers::add_short_hex;
 use crate::things::add_thing;
 use mx_book::{Book, Thing};
+use mx_pieces::{add_short_hex, fill};
 use mx_text::add_decimal;
 use mx_word::{Bytes, NoMemory, Symbol, Value};
 

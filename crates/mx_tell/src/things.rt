@@ -1,11 +1,11 @@
 //! Things that have values.
 
 use crate::names::{add_address, add_label_between, add_name};
-use crate::numbers::{add_octa_text, add_short_hex, add_signed, is_short};
 use crate::values::value_of;
 use mx_book::{Book, Thing};
 use mx_cmd::special_name;
 use mx_core::Machine;
+use mx_pieces::{add_octa_text, add_short_hex, add_signed, is_short};
 use mx_text::{Form, add_decimal, octa_hex};
 use mx_word::{Bytes, NoMemory, Symbol, Value};
 

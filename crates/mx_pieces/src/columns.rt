@@ -16,7 +16,7 @@ fn blanks_for(used: usize, width: usize) -> &'static [u8] {
 }
 
 /// Adds blanks until what follows the first `from` bytes of a text is this wide, and one at least.
-pub(crate) fn fill(text: &mut Bytes, from: usize, width: usize) -> Result<(), NoMemory> {
+pub fn fill(text: &mut Bytes, from: usize, width: usize) -> Result<(), NoMemory> {
     let used = text.as_slice().len().saturating_sub(from);
     text.extend(blanks_for(used, width.saturating_sub(1)))?;
     text.push(b' ')
@@ -34,7 +34,7 @@ fn digit_count(n: u64) -> usize {
 }
 
 /// Adds a number behind blanks that fill it up to a width of 5.
-pub(crate) fn add_right(text: &mut Bytes, n: u64) -> Result<(), NoMemory> {
+pub fn add_right(text: &mut Bytes, n: u64) -> Result<(), NoMemory> {
     text.extend(blanks_for(digit_count(n), 5))?;
     add_decimal(text, n)
 }

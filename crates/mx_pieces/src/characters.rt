@@ -7,7 +7,7 @@ use mx_word::{Bytes, NoMemory};
 
 /// The bytes that are shown otherwise than by their number, beside printed characters.
 #[derive(Clone, Copy)]
-pub(crate) enum Style {
+pub enum Style {
     /// Newlines and tabs as they are.
     Plain,
     /// Tabs as they are.
@@ -25,7 +25,7 @@ fn is_text(bytes: &[u8]) -> bool {
 }
 
 /// The first bytes of a text, so many or all.
-pub(crate) fn front(bytes: &[u8], count: usize) -> &[u8] {
+fn front(bytes: &[u8], count: usize) -> &[u8] {
     if count < bytes.len() {
         &bytes[..count]
     } else {
@@ -77,7 +77,7 @@ fn add_byte(text: &mut Bytes, style: Style, b: u8) -> Result<(), NoMemory> {
 }
 
 /// Adds bytes as characters; what is no UTF-8, and control characters, by their numbers.
-pub(crate) fn add_characters(text: &mut Bytes, style: Style, bytes: &[u8]) -> Result<(), NoMemory> {
+pub fn add_characters(text: &mut Bytes, style: Style, bytes: &[u8]) -> Result<(), NoMemory> {
     let mut left = 0usize;
     for i in 0..bytes.len() {
         if left == 0 {

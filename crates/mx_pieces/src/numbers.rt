@@ -9,12 +9,12 @@ use mx_word::{Bytes, NoMemory, octa_bytes};
 const SHORT: u64 = 999_999_999_999;
 
 /// Whether the signed value of an octa has few digits.
-pub(crate) fn is_short(x: u64) -> bool {
+pub fn is_short(x: u64) -> bool {
     x <= SHORT || 0u64.wrapping_sub(x) <= SHORT
 }
 
 /// Adds the signed value of an octa in decimal digits.
-pub(crate) fn add_signed(text: &mut Bytes, x: u64) -> Result<(), NoMemory> {
+pub fn add_signed(text: &mut Bytes, x: u64) -> Result<(), NoMemory> {
     if x < 1 << 63 {
         return add_decimal(text, x);
     }
@@ -31,7 +31,7 @@ fn zeros_before(x: u64) -> usize
 }
 
 /// Adds `#` and the hexadecimal digits of an octa without zeros in front.
-pub(crate) fn add_short_hex(text: &mut Bytes, x: u64) -> Result<(), NoMemory> {
+pub fn add_short_hex(text: &mut Bytes, x: u64) -> Result<(), NoMemory> {
     let digits = octa_hex(x);
     text.push(b'#')?;
     text.extend(&digits[1 + zeros_before(x)..])
@@ -43,7 +43,7 @@ fn shown_byte(b: u8) -> u8 {
 }
 
 /// Adds the eight bytes of an octa between quotation marks.
-pub(crate) fn add_octa_text(text: &mut Bytes, x: u64) -> Result<(), NoMemory> {
+pub fn add_octa_text(text: &mut Bytes, x: u64) -> Result<(), NoMemory> {
     text.push(b'"')?;
     text.extend(&octa_bytes(x).map(shown_byte))?;
     text.push(b'"')
