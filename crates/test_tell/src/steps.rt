@@ -45,21 +45,29 @@ fn shows(alloc: Global, book: &Book, replay: &mut Replay, due: &str) -> bool {
 }
 
 /// The number of the first step that shows something else.
-fn first_wrong(alloc: Global) -> Option<usize> {
-    let (Some(book), Some(mut replay)) = (book(alloc), replay(alloc, 0)) else {
-        return Some(SHOWN.len());
-    };
+fn first_wrong(alloc: Global, book: &Book, replay: &mut Replay) -> Option<usize> {
     for (number, due) in SHOWN.iter().enumerate() {
-        if !shows(alloc, &book, &mut replay, due) {
+        if !shows(alloc, book, replay, due) {
             return Some(number);
         }
     }
     None
 }
 
+/// The number of the first step that shows something else in the run of the program.
+fn wrong_step(alloc: Global) -> Option<usize> {
+    let Some(book) = book(alloc) else {
+        return Some(SHOWN.len());
+    };
+    let Some(mut replay) = replay(alloc, 0) else {
+        return Some(SHOWN.len());
+    };
+    first_wrong(alloc, &book, &mut replay)
+}
+
 #[test]
 fn stops_and_changes_are_shown(rt: HostRuntime) -> Result<(), Fail> {
-    let wrong = first_wrong(rt.alloc());
+    let wrong = wrong_step(rt.alloc());
     if wrong != None {
         return Err(Fail::new(format_args!("{wrong:?}")));
     }
