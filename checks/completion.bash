@@ -49,7 +49,7 @@ offers '' mmixware sim --last ''
 offers a.mms mmixware run --last 5 a
 offers '' mmixware other ''
 
-offers '--help|--version|check|count|explain|help|list|where' mmixview ''
+offers '--help|--version|check|count|debug|explain|help|list|where' mmixview ''
 offers 'check|count' mmixview c
 offers 'a.mms|b c.mms|programs' mmixview list ''
 offers '' mmixview list a.mms ''
@@ -68,7 +68,12 @@ offers '1024|16384' mmixview count --ring 1
 offers '' mmixview count --steps ''
 offers a.mms mmixview count --ring 256 --steps 9 a
 offers 'a.mms|b c.mms|d.mmo|notes|programs' mmixview count a.mms ''
-offers 'check|count|explain|list|where' mmixview help ''
+offers '--command|--file|--input|--ring|--steps' mmixview debug -
+offers 'a.mms|b c.mms|programs' mmixview debug ''
+offers notes mmixview debug --input n
+offers '--ring' mmixview debug --file notes --file d.mmo --r
+offers 'a.mms|b c.mms|d.mmo|notes|programs' mmixview debug --steps 9 a.mms ''
+offers 'check|count|debug|explain|list|where' mmixview help ''
 
 offers programs grade ''
 offers '--shield|--show|--size|--sshlogin|--steps|--suffix' grade --s

@@ -8,8 +8,8 @@
 - A table of CONTRIBUTING.md with the head "`WORD` in" names the files of sources, definitions and proofs that have the word.
 - The numbers and names of docs/MESSAGES.md are those of the program's table.
 - The blocks marked `console` on every page are run on the program that is kept, if it is that of these sources: a line
-  that begins with "$ " is a command, and the lines after it are what it prints. Where a block has a console session whose
-  input is no file, what stands behind each prompt is typed. A block marked `mms NAME` is a file that the reader has
+  that begins with "$ " is a command, and the lines after it are what it prints. Where a block has a session of the console or of
+  the debugger whose input is no file, what stands behind each prompt is typed. A block marked `mms NAME` is a file that the reader has
   saved under that name. Nothing is built here.
 - The examples of docs/MESSAGES.md give the number and name of their row: words of a command line, a source of one line, or
   an object in hexadecimal tetras. Of what beginners write, the mended source gives no message; of slips without a message
@@ -33,7 +33,8 @@ TOP = os.path.dirname(os.path.dirname(os.path.realpath(__file__)))
 # where the programs are, and the grader with its parts where it is installed, too
 FOLDER = ".built"
 GRADER = None
-PROMPT = "mmix> "
+# the prompts of sessions, and what the program itself writes where lines come from no keyboard
+PROMPTS = {"mmix>": "mmix> ", "(mmix)": ""}
 wrongs = []
 
 
@@ -226,8 +227,8 @@ def check_crates():
 
 
 def is_typed(commands):
-    """Whether a console session among the commands takes its lines from the keyboard."""
-    return any(" -i " in it and " <" not in it and "|" not in it for it in commands)
+    """Whether a session among the commands takes its lines from the keyboard."""
+    return any(re.search(r" -i | debug ", it) and not re.search(r" <|\||--command", it) for it in commands)
 
 
 def printed(commands, typed, folder, room):
@@ -272,9 +273,9 @@ def session(block, saved, folder="."):
     """What a block shows of the program's output, and what it prints now in a folder of the room."""
     commands, typed, shown = re.findall(r"^\$ (.*)$", block, re.M), "", block
     if is_typed(commands):
-        prompt = re.compile(r"^mmix>(?: (.*))?\n", re.M)
-        typed = "".join(f"{line}\n" for line in prompt.findall(block))
-        shown = prompt.sub(PROMPT, block)
+        prompt = re.compile(r"^(mmix>|\(mmix\))(?: (.*))?\n", re.M)
+        typed = "".join(f"{line}\n" for _, line in prompt.findall(block))
+        shown = prompt.sub(lambda it: PROMPTS[it[1]], block)
     return shown, with_room(lambda room: printed(commands, typed, f"{room}/{folder}", room), saved)
 
 

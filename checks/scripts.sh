@@ -278,6 +278,7 @@ install: to/share/zsh/site-functions/_mmixview
 install: to/share/man/man1/grade.1
 install: to/share/bash-completion/completions/grade
 install: to/share/zsh/site-functions/_grade
+install: to/share/mmixware/debug.words
 install: to/share/vim/vimfiles/syntax/mmixal.vim
 install: to/share/vim/vimfiles/ftdetect/mmixal.vim
 install: to/share/vim/vimfiles/ftplugin/mmixal.vim
@@ -301,6 +302,14 @@ for option in $(repo/grade --help | grep -o -e '--[a-z]*'); do
       wrong "$file has no $option"
     fi
   done
+done
+
+# the manual page has each word of the debugger, and so has the list for completion, with what `info` shows
+words=$(sed -n 's/^ *name: "\(.*\)",$/\1/p' "$here/crates/mx_ask/src/table.rt")
+[ "$(printf '%s\n' $words breaks output registers ring symbols)" = "$(cat "$here/completion/debug.words")" ] ||
+  wrong 'completion/debug.words does not have the words of the debugger'
+for word in $words; do
+  sed 's/\\-/-/g' "$here/docs/mmixview.1" | grep -q "^\.BR.*\b$word\b" || wrong "docs/mmixview.1 has no $word"
 done
 
 exit $bad

@@ -15,7 +15,7 @@ _mmixview_given() {
   local at=2 given=0
   while [ "$at" -lt "$COMP_CWORD" ]; do
     case $given/${COMP_WORDS[at]} in
-      0/--ring | 0/--steps) at=$((at + 1)) ;;
+      0/--ring | 0/--steps | 0/--command | 0/--input | 0/--file) at=$((at + 1)) ;;
       0/-*) ;;
       *) given=$((given + 1)) ;;
     esac
@@ -29,7 +29,7 @@ _mmixview() {
   local given words='' files=none
   given=$(_mmixview_given)
   case $COMP_CWORD/$command/$given/$before in
-    1/*) words='list check where count explain help --help --version' ;;
+    1/*) words='list check where count debug explain help --help --version' ;;
     */list/0/*) words='--json' files=.mms ;;
     */check/0/*) words='--json --gnu --no-warnings' files=.mms ;;
     */where/0/*) words='--json' ;;
@@ -39,7 +39,12 @@ _mmixview() {
     */count/0/--steps) ;;
     */count/0/*) words='--ring --steps' files=.mms ;;
     */count/*) files='' ;;
-    2/help/*) words='list check where count explain' ;;
+    */debug/0/--ring) words='256 512 1024 2048 4096 8192 16384 32768 65536' ;;
+    */debug/0/--steps) ;;
+    */debug/0/--command | */debug/0/--input | */debug/0/--file) files='' ;;
+    */debug/0/*) words='--command --input --file --ring --steps' files=.mms ;;
+    */debug/*) files='' ;;
+    2/help/*) words='list check where count debug explain' ;;
   esac
   if [ "$files" != none ] && { [ -z "$words" ] || [ "${word#-}" = "$word" ]; }; then
     _mmixview_files "$files" "$word"

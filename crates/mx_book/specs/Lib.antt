@@ -1,0 +1,5 @@
+pub mod Loads
+pub mod Labels
+pub mod Books
+pub mod Things
+pub mod Lookups

@@ -1,0 +1,10 @@
+//! Pieces of the texts that a debugger shows: numbers, characters and columns.
+#![tactic(auto)]
+
+mod characters;
+mod columns;
+mod numbers;
+
+pub use characters::{Style, add_characters, add_output};
+pub use columns::{add_right, fill};
+pub use numbers::{add_octa_text, add_short_hex, add_signed, is_short};
