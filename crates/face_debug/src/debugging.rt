@@ -104,8 +104,9 @@ fn session_of(
     requires rest { ordered.order.rest ≤ length ordered.named.words.items }
     ensures { IfErr result IsOfView }
 {
-    let order = ordered.order;
-    let words = ordered.named.words;
+    let Ordered { named, order } = ordered;
+    let words = named.words;
+    let steps = order.steps;
     let name = base_name(word(words.as_slice(), order.file));
     let book = match book_of(alloc, name, source.as_slice()) {
         Ok(book) => book,
@@ -114,7 +115,7 @@ fn session_of(
     let Ok(program) = program_of(alloc, words, order, source, input, files) else {
         return Err(Outcome::OutOfMemory);
     };
-    match Session::begin(alloc, program, book, order.steps) {
+    match Session::begin(alloc, program, book, steps) {
         Ok(session) => Ok(session),
         Err(outcome) => Err(of_memory(outcome)),
     }

@@ -35,12 +35,11 @@ Main LDA $255,Where
 ";
 
 /// The first byte of the file `lines` is `s`.
-static ECHOED: &str = "step 0  sum.mms:8  Main  LDA $255,Where
+static ECHOED: &str = "step 0  sum.mms:9  Main  LDA $255,Where
 at the start
 sA
-step 11  sum.mms:18  Main+40  TRAP 0,Halt,0
-halted with status 0
-sA
+step 11  sum.mms:19  Main+40  TRAP 0,Halt,0
+halted with status 1
 ";
 
 static ROWS: [Row; 9] = [
@@ -51,7 +50,7 @@ static ROWS: [Row; 9] = [
         output: "step 0  sum.mms:1  Main  SET $255,7
 at the start
 step 1  sum.mms:2  Main+4  TRAP 0,Halt,0
-$255 = 7  (was 256)
+$255 = 7  (was 0)
 ",
         errors: "",
     },
@@ -62,7 +61,7 @@ $255 = 7  (was 256)
         output: "step 0  sum.mms:1  Main  SET $255,7
 at the start
 step 1  sum.mms:2  Main+4  TRAP 0,Halt,0
-$255 = 7  (was 256)
+$255 = 7  (was 0)
 1 steps spent: --steps allows more
 ",
         errors: "",
@@ -151,7 +150,7 @@ fn words_order_a_session_or_are_refused(rt: HostRuntime) {
 
 /// What the program wrote that reads its input and a file.
 fn is_echoed(alloc: Global) -> Option<bool> {
-    let mut host = host(alloc, ECHO, "c\nc\nbreak #108\nrc\n")?;
+    let mut host = host(alloc, ECHO, "c\n")?;
     let words = ["--input", "lines", "--file", "byte", "sum.mms"];
     let status = status(alloc, &mut host, &words)?;
     Some(status == 0 && host.output() == ECHOED.as_bytes())

@@ -109,7 +109,7 @@ at the start
         answer: "",
     },
     Row {
-        lines: "\ns\n",
+        lines: "\ns\r\n",
         answer: "step 1  sum.mms:9  Main+4  SET sum,0
 $1 (k) = 3  (was #4000000000000008)
 ",
@@ -164,7 +164,7 @@ at the start
     },
     Row {
         lines: "b Loop if k < -1\nc\n",
-        answer: "1    break  sum.mms:10  Loop  if $1 (k) < #ffffffffffffffff
+        answer: "1    break  sum.mms:10  Loop  if $1 (k) < -1
 done
 step 24  sum.mms:19  Loop+36  TRAP 0,Halt,0
 halted with status 12
