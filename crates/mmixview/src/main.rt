@@ -1,18 +1,20 @@
-//! Views of a source: its listing, its faults, the lines of an address, and how often each line runs; and what words mean.
+//! Views of a source: its listing, its faults, the lines of an address, how often each line runs, and its run step by step; and what
+//! words mean.
 #![tactic(auto)]
 
 use clap::Error;
 use clap::error::ErrorKind;
 use face_check::{Form, check};
 use face_count::count;
+use face_debug::debug;
 use face_explain::{show_list, show_word};
 use face_source::{find_lines, list, read_address, refuse_address};
-use mx_menu::{Choice, Face, choose, count_words};
+use mx_menu::{Choice, Face, choose, count_words, debug_words};
 use mx_outcome::Outcome;
 use mx_real::{RealHost, StandIns};
 use std::alloc::Global;
 use std::env;
-use std::io::ErrorKind as Fault;
+use std::io::{ErrorKind as Fault, IsTerminal};
 use std::process::ExitCode;
 
 /// The statuses of faulty words, of want of memory, and of a write that fails.
@@ -44,6 +46,7 @@ fn carry_out(alloc: Global, host: &mut RealHost, choice: &Choice) -> Outcome {
             None => refuse_address(host),
         },
         Face::Count => count(alloc, host, &[]),
+        Face::Debug => debug(alloc, host, &[], false),
         Face::Explain => match choice.word {
             Some(word) => show_word(alloc, host, word),
             None => show_list(alloc, host),
@@ -69,6 +72,15 @@ fn answered(rt: &HostRuntime, error: &Error) -> u8 {
     }
 }
 
+/// Does what the words after `debug` order, and gives the status. A person at a terminal is asked for each line.
+fn debugged(rt: HostRuntime, alloc: Global, words: &[String]) -> u8 {
+    let has_prompt = rt.stdin().is_terminal();
+    match RealHost::new(rt) {
+        Some(mut host) => debug(alloc, &mut host, words, has_prompt).status(),
+        None => OUT_OF_MEMORY,
+    }
+}
+
 /// Does what the words of the command line order, and gives the status.
 fn obey(rt: HostRuntime, alloc: Global, all: &[String]) -> u8 {
     if let Some(words) = count_words(all) {
@@ -76,6 +88,9 @@ fn obey(rt: HostRuntime, alloc: Global, all: &[String]) -> u8 {
             Some(mut host) => count(alloc, &mut host, words).status(),
             None => OUT_OF_MEMORY,
         };
+    }
+    if let Some(words) = debug_words(all) {
+        return debugged(rt, alloc, words);
     }
     match choose(alloc, all) {
         Err(error) => answered(&rt, &error),

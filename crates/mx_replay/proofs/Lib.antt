@@ -5,3 +5,4 @@ pub mod Turning
 pub mod Found
 pub mod Framed
 pub mod Keeping
+pub mod Unmarked

@@ -1,7 +1,8 @@
 -- One turn of a visit, and its marks.
 use Rattle.std.proofs.lemmas.Option.{same_Some}
-use Rattle.std.proofs.Common.{◌≡◌, ◌≢◌, IsTrue, ◌/◌, ℕ, false, Some, None, refl, subst, ◌∙◌, ap}
-use Rattle.std.specs.Prelude.{Option, ◌||◌, ◌==◌, nat_le, not}
+use Rattle.std.proofs.Common.{◌≡◌, ◌≢◌, IsTrue, ◌/◌, ℕ, true, false, Some, None, refl, subst, ◌∙◌, ap}
+use Rattle.std.specs.Prelude.{Option, Bool, List, ◌∷◌, ◌||◌, ◌==◌, nat_le, not}
+use Rattle.std.specs.List.{list_any}
 use Rattle.mx_host.specs.HostModel.{HostModel, tells, contents}
 use Rattle.mx_code.specs.declared.trace.Trace.{Trace}
 use Rattle.mx_core.specs.Kept.{state_of}
@@ -13,9 +14,11 @@ use Rattle.mx_run.specs.declared.end.End.{End}
 use Rattle.mx_run.specs.declared.end.End.TheVariants.{Halted, Stopped, Spent}
 use Rattle.mx_run.specs.declared.turn_answer.TurnAnswer.{TurnAnswer}
 use Rattle.mx_run.specs.declared.turn_answer.TurnAnswer.TheVariants as answer
-use Rattle.mx_replay.specs.Marks.{changes_value, depth, is_at_most, is_watched, meets_flag, value_at}
+use Rattle.mx_replay.specs.Marks.{changes_value, changes_watched, depth, is_at_most, is_at_most_if, is_met, is_watched, meets_break, meets_flag, value_at}
 use Rattle.mx_replay.specs.Visits.{MakesTurn, came_by, came_to, trace_of, turn_end, turn_from}
 use Rattle.mx_replay.specs.declared.marks.Place.{Place}
+use Rattle.mx_replay.specs.declared.stops.Break.{Break}
+use Rattle.mx_replay.specs.declared.stops.Watch.{Watch}
 use Rattle.mx_replay.specs.declared.visit.Visit.{Visit}
 
 -- ---- what a turn comes to, by its answer
@@ -84,4 +87,36 @@ depth-told v w after h e = e ∙ ap depth (ap (λ (x : Ended). x.state) h.came �
 pub shallow-told : (most : ℕ) (v w : Visit) (after : ℕ) → MakesTurn v w → after ≡ depth (state_of w.machine) → nat_le after most ≡ is_at_most most (state_after (turn_from v))
 shallow-told most v w after h e = ap (λ n. nat_le n most) (depth-told v w after h e)
 
-pub ruleset marking = (flag-told, no-flag-told, change-told, shallow-told)
+pub shallow-if-told : (most : Option ℕ) (v w : Visit) → MakesTurn v w → is_at_most_if most (state_of w.machine) ≡ is_at_most_if most (state_after (turn_from v))
+shallow-if-told most v w h = ap (λ (x : Ended). is_at_most_if most x.state) h.came ∙ ap (is_at_most_if most) (after-by (state_of v.machine).pc (turn_from v))
+
+-- ---- breaks and watches
+
+break-by : (breaks : List Break) (pc : ℕ) (trace : Trace) (x : Turn) (e : Ended) → e ≡ came_by pc x → Some trace ≡ trace_of x → list_any (is_met e.state) breaks ≡ meets_break breaks x
+break-by breaks pc trace (went_on u k other) e h t = ap (λ (x : Ended). list_any (is_met x.state) breaks) h
+break-by breaks pc trace (halts status u k) e h t = absurd (cc)
+break-by breaks pc trace (stops reason u k) e h t = absurd (cc)
+
+pub break-told : (breaks : List Break) (v w : Visit) (trace : Trace) → MakesTurn v w → Some trace ≡ trace_of (turn_from v) → list_any (is_met (state_of w.machine)) breaks ≡ meets_break breaks (turn_from v)
+break-told breaks v w trace h t = break-by breaks (state_of v.machine).pc trace (turn_from v) (came_to w) h.came t
+
+no-break-by : (breaks : List Break) (x : Turn) → None ≡ trace_of x → false ≡ meets_break breaks x
+no-break-by breaks (went_on u k other) t = absurd (cc)
+no-break-by breaks (halts status u k) t = refl
+no-break-by breaks (stops reason u k) t = refl
+
+pub no-break-told : (breaks : List Break) (v : Visit) → None ≡ trace_of (turn_from v) → false ≡ meets_break breaks (turn_from v)
+no-break-told breaks v t = no-break-by breaks (turn_from v) t
+
+or-both : (a b c : Bool) → (a || (b || c)) ≡ ((a || b) || c)
+or-both true b c = refl
+or-both false b c = refl
+
+pub stop-told : (watch : Watch) (more : List Watch) (v w : Visit) (before after : ℕ) (rest is_stop : Bool) → MakesTurn v w → before ≡ value_at watch.place (state_of v.machine) → after ≡ value_at watch.place (state_of w.machine) →
+    is_stop ≡ (changes_watched more (state_of v.machine) (turn_from v) || rest) → (not (before == after) || is_stop) ≡ (changes_watched (watch ∷ more) (state_of v.machine) (turn_from v) || rest)
+stop-told watch more v w before after rest is_stop h e f g =
+    ap (λ b. b || is_stop) (change-told watch.place v w before after h e f)
+    ∙ ap (λ b. changes_value watch.place (state_of v.machine) (turn_from v) || b) g
+    ∙ or-both (changes_value watch.place (state_of v.machine) (turn_from v)) (changes_watched more (state_of v.machine) (turn_from v)) rest
+
+pub ruleset marking = (flag-told, no-flag-told, change-told, shallow-told, shallow-if-told, break-told, no-break-told, stop-told)

@@ -1,10 +1,13 @@
--- Steps that are looked for: those whose turn comes to a flag of a tetra or changes a value, and those at which few registers are hidden.
-use Rattle.std.specs.Prelude.{ℕ, zero, suc, ◌+◌, ◌/◌, ◌%◌, ◌^◌, ◌||◌, ◌&&◌, ◌==◌, not, Bool, false, if◌then◌else◌, nat_le, nat_lt, Option, None, Some, Result, Ok, Err}
+-- Steps that are looked for: those whose turn comes to a flag of a tetra, changes a value or comes to a break, and those at which few
+-- registers are hidden.
+use Rattle.std.specs.Prelude.{ℕ, zero, suc, ◌+◌, ◌/◌, ◌%◌, ◌^◌, ◌||◌, ◌&&◌, ◌==◌, not, Bool, false, true, if◌then◌else◌, nat_le, nat_lt, int_lt, List, Option, None, Some, Result, Ok, Err}
+use Rattle.std.specs.List.{list_any}
+use Rattle.mx_word.specs.Words.{signed_value}
 use Rattle.mx_host.specs.HostModel.{HostModel}
 use Rattle.mx_ring.specs.Stack.{hidden_count, register}
 use Rattle.mx_code.specs.declared.trace.Touch.{Touch}
 use Rattle.mx_code.specs.declared.trace.Trace.{Trace}
-use Rattle.mx_core.specs.State.{State, octa}
+use Rattle.mx_core.specs.State.{State, octa, special_register}
 use Rattle.mx_run.specs.FlagMaps.{flags_at}
 use Rattle.mx_run.specs.Runs.{FlagsOf, Ended}
 use Rattle.mx_run.specs.Turns.{Turn, went_on, halts, stops, turn}
@@ -14,10 +17,15 @@ use Rattle.mx_run.specs.declared.end.End.TheVariants.{Halted, Stopped, Broke, Tr
 use Rattle.mx_outcome.specs.declared.outcome.Outcome.{Outcome}
 use Rattle.mx_replay.specs.Programs.{step_of}
 use Rattle.mx_replay.specs.declared.marks.Sought.{Sought}
-use Rattle.mx_replay.specs.declared.marks.Sought.TheVariants.{Flags, Change, Shallow}
+use Rattle.mx_replay.specs.declared.marks.Sought.TheVariants.{Flags, Change, Shallow, Stops}
 use Rattle.mx_replay.specs.declared.marks.Place.{Place}
-use Rattle.mx_replay.specs.declared.marks.Place.TheVariants.{Register, Octa}
+use Rattle.mx_replay.specs.declared.marks.Place.TheVariants.{Register, Octa, Special}
 use Rattle.mx_replay.specs.declared.program.Program.{Program}
+use Rattle.mx_replay.specs.declared.stops.Break.{Break}
+use Rattle.mx_replay.specs.declared.stops.Condition.{Condition}
+use Rattle.mx_replay.specs.declared.stops.Relation.{Relation}
+use Rattle.mx_replay.specs.declared.stops.Relation.TheVariants.{Equal, Unequal, Less, AtMost, Greater, AtLeast}
+use Rattle.mx_replay.specs.declared.stops.Watch.{Watch}
 
 -- ---- flags
 
@@ -43,14 +51,45 @@ meets_flag f s (stops reason t m) = false
 -- ---- changes
 
 -- what stands at a place: in a register that the program sees, or in the octa that holds an address, which is 0 where
--- there is no memory
+-- there is no memory, or in a special register, if there is one of that code
 abbrev pub value_at : Place → State → ℕ
 value_at (Register k) s = register s.stack k
 value_at (Octa a) s = if nat_lt a (2 ^ 63) then octa s a else 0
+value_at (Special code) s = if nat_lt code 32 then special_register s code else 0
 
 -- whether a turn from a state changes it
 abbrev pub changes_value : Place → State → Turn → Bool
 changes_value place s t = not (value_at place s == value_at place (state_after t))
+
+-- ---- breaks and watches
+
+-- whether octas are so related, as signed numbers
+abbrev pub compares : Relation → ℕ → ℕ → Bool
+compares Equal x y = x == y
+compares Unequal x y = not (x == y)
+compares Less x y = int_lt (signed_value x) (signed_value y)
+compares AtMost x y = not (int_lt (signed_value y) (signed_value x))
+compares Greater x y = int_lt (signed_value y) (signed_value x)
+compares AtLeast x y = not (int_lt (signed_value x) (signed_value y))
+
+-- whether a condition holds, if there is one
+abbrev pub holds : Option Condition → State → Bool
+holds None s = true
+holds (Some c) s = compares c.relation (value_at c.place s) c.number
+
+-- whether a machine is at a break: the instruction there comes next, and the condition holds
+abbrev pub is_met : State → Break → Bool
+is_met s b = s.pc / 4 == b.address / 4 && holds b.condition s
+
+-- whether a turn that goes on comes to a break
+abbrev pub meets_break : List Break → Turn → Bool
+meets_break breaks (went_on t m trace) = list_any (is_met t) breaks
+meets_break breaks (halts status t m) = false
+meets_break breaks (stops reason t m) = false
+
+-- whether a turn changes a value that is watched
+abbrev pub changes_watched : List Watch → State → Turn → Bool
+changes_watched watches s t = list_any (λ w. changes_value w.place s t) watches
 
 -- ---- depth
 
@@ -61,6 +100,11 @@ depth s = hidden_count s.stack
 -- whether at most so many are
 abbrev pub is_at_most : ℕ → State → Bool
 is_at_most most s = nat_le (depth s) most
+
+-- if that is asked
+abbrev pub is_at_most_if : Option ℕ → State → Bool
+is_at_most_if None s = false
+is_at_most_if (Some most) s = is_at_most most s
 
 -- ---- marks
 
@@ -76,6 +120,13 @@ comes_to_flag f = record { start = λ _. false; turn = meets_flag f }
 -- the turn changes the value at a place
 abbrev pub changes : Place → Mark
 changes place = record { start = λ _. false; turn = changes_value place }
+
+-- the turn changes a value that is watched, comes to a break, or leads to where at most so many are hidden, if that is asked
+abbrev pub stops_at : List Break → List Watch → Option ℕ → Mark
+stops_at breaks watches most = record {
+  start = λ _. false;
+  turn = λ s t. changes_watched watches s t || (meets_break breaks t || is_at_most_if most (state_after t));
+}
 
 -- at most so many registers are hidden at the step
 abbrev pub is_shallow : ℕ → Mark
@@ -109,3 +160,4 @@ abbrev pub mark_of : Sought → Mark
 mark_of (Flags flags) = comes_to_flag (flags_at flags.now)
 mark_of (Change place) = changes place
 mark_of (Shallow most) = is_shallow most
+mark_of (Stops breaks watches most) = stops_at breaks.now watches.now most

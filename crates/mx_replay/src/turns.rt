@@ -1,6 +1,6 @@
 //! Single turns, and whether they have a mark.
 
-ghost use Rattle.std.specs.Prelude.{◌≡◌, ◌+◌, ◌<◌, ◌^◌, IfOk, OnOk};
+ghost use Rattle.std.specs.Prelude.{◌≡◌, ◌+◌, ◌<◌, ◌^◌, ◌||◌, IfOk, OnOk};
 ghost use Rattle.mx_core.specs.Kept.{state_of};
 ghost use Rattle.mx_run.specs.FlagMaps.{flags_at};
 ghost use Rattle.mx_run.specs.WildRuns.{state_after};
@@ -10,7 +10,8 @@ ghost use Rattle.mx_replay.specs.Programs.{IsReached};
 ghost use Rattle.mx_replay.specs.Visits.{IsStep, MakesTurn, turn_from};
 ghost use Rattle.mx_replay.specs.declared.program.Program.{Program};
 
-use crate::marks::{Place, Sought, depth, is_watched, value_at};
+use crate::marks::{Place, Sought, depth, is_shallow_if, is_watched, value_at};
+use crate::stops::{Break, Watch, meets_any};
 use crate::visit::{Visit, is_over};
 use mx_code::Trace;
 use mx_run::{End, FlagMap, TurnAnswer, turn};
@@ -107,6 +108,61 @@ fn turn_to_depth(alloc: Global, visit: &mut Visit, most: u64) -> Result<bool, No
     Ok(depth(&visit.machine) <= most)
 }
 
+/// Makes a turn, and says whether it comes to a break.
+#[tactic(auto, using(crate::proofs::Turning::marking))]
+fn turn_to_break(alloc: Global, visit: &mut Visit, breaks: &[Break]) -> Result<bool, NoMemory>
+    requires { visit.old.at + 1 < 2 ^ 64 }
+    ensures turn { OnOk result (MakesTurn visit.old visit.new) }
+    ensures mark { IfOk result (λ marked. marked ≡ marks.meets_break breaks.now (turn_from visit.old)) }
+{
+    match make_turn(alloc, visit) {
+        Ok(Some(_)) => Ok(meets_any(&visit.machine, breaks)),
+        Ok(None) => Ok(false),
+        Err(NoMemory) => Err(NoMemory),
+    }
+}
+
+/// Makes a turn, and says whether it comes to a break, or leads to where at most so many registers are hidden, if that is asked.
+#[tactic(auto, using(crate::proofs::Turning::marking))]
+fn turn_to_break_or_depth(
+    alloc: Global,
+    visit: &mut Visit,
+    breaks: &[Break],
+    most: Option<u64>,
+) -> Result<bool, NoMemory>
+    requires { visit.old.at + 1 < 2 ^ 64 }
+    ensures turn { OnOk result (MakesTurn visit.old visit.new) }
+    ensures mark { IfOk result (λ marked. marked
+        ≡ (marks.meets_break breaks.now (turn_from visit.old)
+        || marks.is_at_most_if most (state_after (turn_from visit.old)))) }
+{
+    let is_met = turn_to_break(alloc, visit, breaks)?;
+    Ok(is_met || is_shallow_if(&visit.machine, most))
+}
+
+/// Makes a turn, and says whether it changes a value that is watched, comes to a break, or leads to where at most so many
+/// registers are hidden, if that is asked.
+#[tactic(auto, using(crate::proofs::Turning::marking))]
+fn turn_to_stop(
+    alloc: Global,
+    visit: &mut Visit,
+    breaks: &[Break],
+    watches: &[Watch],
+    most: Option<u64>,
+) -> Result<bool, NoMemory>
+    requires { visit.old.at + 1 < 2 ^ 64 }
+    ensures turn { OnOk result (MakesTurn visit.old visit.new) }
+    ensures mark { IfOk result (λ marked. marked
+        ≡ (marks.stops_at breaks.now watches.now most).turn (state_of visit.old.machine) (turn_from visit.old)) }
+{
+    let [watch, more @ ..] = watches else {
+        return turn_to_break_or_depth(alloc, visit, breaks, most);
+    };
+    let before = value_at(&visit.machine, watch.place);
+    let is_stop = turn_to_stop(alloc, visit, breaks, more, most)?;
+    Ok(before != value_at(&visit.machine, watch.place) || is_stop)
+}
+
 /// Makes a turn, and says whether it has a mark. Out of memory the visit is at no step of the run.
 pub(crate) fn turn_marked(
     alloc: Global,
@@ -122,5 +178,6 @@ pub(crate) fn turn_marked(
         Sought::Flags(flags) => turn_to_flag(alloc, visit, flags),
         Sought::Change(place) => turn_changes(alloc, visit, place),
         Sought::Shallow(most) => turn_to_depth(alloc, visit, most),
+        Sought::Stops(breaks, watches, most) => turn_to_stop(alloc, visit, breaks, watches, most),
     }
 }

@@ -1,9 +1,9 @@
 //! What is looked for in a run.
 
-ghost use Rattle.std.specs.Prelude.{◌≡◌, ◌-◌, IfOk, OnErr};
+ghost use Rattle.std.specs.Prelude.{◌≡◌, ◌-◌, [], None, IfOk, IsTrue, OnErr};
 ghost use Rattle.mx_run.specs.FlagMaps.{flags_at};
 ghost use Rattle.mx_replay.specs.Frames.{frames_at};
-ghost use Rattle.mx_replay.specs.Marks.{changes, comes_to_flag, is_shallow, mark_of};
+ghost use Rattle.mx_replay.specs.Marks.{changes, comes_to_flag, is_shallow, mark_of, stops_at};
 ghost use Rattle.mx_replay.specs.Searches.{FoundAt, IsLast, IsLastBefore, IsLeft, IsNext};
 
 use super::Replay;
@@ -11,8 +11,16 @@ use super::visiting::start_again;
 use crate::frames::{Frame, find_frames};
 use crate::marks::{Place, Sought, marks_start};
 use crate::searches::{find_last, find_next};
+use crate::stops::{Break, Watch};
 use mx_run::FlagMap;
 use mx_word::{NoMemory, Sequence};
+
+/// Whether no break, no watch and no depth is looked for.
+fn is_nothing(breaks: &[Break], watches: &[Watch], most: Option<u64>) -> bool
+    ensures { IsTrue result → stops_at breaks.now watches.now most ≡ stops_at [] [] None }
+{
+    breaks.is_empty() && watches.is_empty() && most.is_none()
+}
 
 /// The next step, from the one that is shown.
 impl Replay {
@@ -56,6 +64,45 @@ impl Replay {
         self.next_marked(Sought::Shallow(at_most), until)
     }
 
+    /// Goes on to the next step whose turn comes to one of these breaks, changes the value at a place that is watched, or leads
+    /// to where at most so many registers are hidden, if that is asked; up to step `until`: the least step after this one.
+    /// Where there is none, it goes on as far as `until`, or to the last step before it.
+    ///
+    /// Errors: out of memory; then it is where it was, or at the start.
+    #[tactic(auto, using(crate::proofs::Unmarked::unmarking))]
+    pub fn next_stop(
+        &mut self,
+        breaks: &[Break],
+        watches: &[Watch],
+        most: Option<u64>,
+        until: u64,
+    ) -> Result<Option<u64>, NoMemory>
+        ensures program { self.new.program ≡ self.old.program }
+        ensures next { IfOk result (IsNext self.old.program (stops_at breaks.now watches.now most) self.old.at until) }
+        ensures place { IfOk result (FoundAt self.old.program until self.old.at self.new.at) }
+        ensures err { OnErr result (IsLeft self.old.at self.new.at) }
+    {
+        if is_nothing(breaks, watches, most) {
+            self.go_as_far_as(until)
+        } else {
+            self.next_marked(Sought::Stops(breaks, watches, most), until)
+        }
+    }
+
+    /// Goes on as far as step `until`, and finds nothing.
+    #[tactic(auto, using(crate::proofs::Unmarked::unmarking))]
+    fn go_as_far_as(&mut self, until: u64) -> Result<Option<u64>, NoMemory>
+        ensures program { self.new.program ≡ self.old.program }
+        ensures next { IfOk result (IsNext self.old.program (stops_at [] [] None) self.old.at until) }
+        ensures place { IfOk result (FoundAt self.old.program until self.old.at self.new.at) }
+        ensures err { OnErr result (IsLeft self.old.at self.new.at) }
+    {
+        if self.here.at < until {
+            self.go_on(until)?;
+        }
+        Ok(None)
+    }
+
     /// Goes on to the next step that has a mark, up to step `until`.
     fn next_marked(&mut self, sought: Sought<'_>, until: u64) -> Result<Option<u64>, NoMemory>
         ensures program { self.new.program ≡ self.old.program }
@@ -97,6 +144,26 @@ impl Replay {
         ensures last { IfOk result (IsLast self.old.program (changes place) (self.old.at - 1)) }
     {
         self.last_marked(Sought::Change(place), self.here.at.saturating_sub(1))
+    }
+
+    /// The last step before this one whose turn comes to one of these breaks, changes the value at a place that is watched, or
+    /// leads to where at most so many registers are hidden, if that is asked: the greatest. It stays where it is.
+    ///
+    /// Errors: out of memory.
+    #[tactic(auto, using(crate::proofs::Unmarked::unmarking))]
+    pub fn last_stop(
+        &mut self,
+        breaks: &[Break],
+        watches: &[Watch],
+        most: Option<u64>,
+    ) -> Result<Option<u64>, NoMemory>
+        ensures same { self.new ≡ self.old }
+        ensures last { IfOk result (IsLast self.old.program (stops_at breaks.now watches.now most) (self.old.at - 1)) }
+    {
+        if is_nothing(breaks, watches, most) {
+            return Ok(None);
+        }
+        self.last_marked(Sought::Stops(breaks, watches, most), self.here.at.saturating_sub(1))
     }
 
     /// The step whose turn made the value that is at a place now: the greatest up to this one whose turn changed it.

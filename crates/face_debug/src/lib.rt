@@ -1,0 +1,10 @@
+//! The debugger over a host: what its words order, the program with its files, and a session over standard input and output.
+#![tactic(auto)]
+
+mod debugging;
+mod lines;
+mod program;
+mod talking;
+mod words;
+
+pub use debugging::debug;

@@ -1,0 +1,121 @@
+//! How words are found by what is written of them, and explained.
+
+use crate::table::ROWS;
+use crate::words::{Row, row_of};
+use mx_word::{Bytes, NoMemory};
+
+/// How far the names of words reach in the list of all.
+const WIDTH: usize = 24;
+
+/// What a name asks for: a word, none, or one of several that begin so.
+#[derive(Clone, Copy)]
+pub enum Asked {
+    Word(&'static Row),
+    Unknown,
+    Ambiguous,
+}
+
+/// Adds a line.
+fn add_said(out: &mut Bytes, said: &[u8]) -> Result<(), NoMemory> {
+    out.extend(said)?;
+    out.extend(b"\n")
+}
+
+/// Whether a row's name begins so.
+fn begins(row: &Row, name: &[u8]) -> bool {
+    row.name.as_bytes().starts_with(name)
+}
+
+/// The word that begins so, if it is the only one.
+fn beginning(name: &[u8]) -> Asked {
+    let mut found = Asked::Unknown;
+    for row in &ROWS {
+        if begins(row, name) {
+            found = match found {
+                Asked::Unknown => Asked::Word(row),
+                Asked::Word(_) | Asked::Ambiguous => Asked::Ambiguous,
+            };
+        }
+    }
+    found
+}
+
+/// The word that is written so: by its name, its short form, or the beginning of its name.
+pub fn word_asked(name: &[u8]) -> Asked {
+    match row_of(&ROWS, name) {
+        Some(row) => Asked::Word(row),
+        None => beginning(name),
+    }
+}
+
+/// Adds that several words begin so, and which.
+fn add_ambiguous(out: &mut Bytes, name: &[u8]) -> Result<(), NoMemory> {
+    out.extend(b"? several words begin so:")?;
+    for row in &ROWS {
+        if begins(row, name) {
+            out.extend(b" ")?;
+            out.extend(row.name.as_bytes())?;
+        }
+    }
+    out.extend(b"\n")
+}
+
+/// Adds why no word is meant.
+pub fn add_unasked(
+    out: &mut Bytes,
+    name: &[u8],
+    is_ambiguous: bool,
+) -> Result<(), NoMemory> {
+    if is_ambiguous {
+        return add_ambiguous(out, name);
+    }
+    out.extend(b"? no word ")?;
+    out.extend(name)?;
+    out.extend(b": help lists all\n")
+}
+
+/// Adds blanks up to a width.
+fn add_blanks(out: &mut Bytes, from: usize) -> Result<(), NoMemory> {
+    for _ in from..WIDTH {
+        out.push(b' ')?;
+    }
+    Ok(())
+}
+
+/// Adds a word with its short form, and what it does.
+fn add_row(out: &mut Bytes, row: &Row) -> Result<(), NoMemory> {
+    out.extend(row.name.as_bytes())?;
+    out.extend(b", ")?;
+    out.extend(row.short.as_bytes())?;
+    let length = row.name.len().saturating_add(row.short.len());
+    add_blanks(out, length.saturating_add(2))?;
+    add_said(out, row.help.as_bytes())
+}
+
+/// Adds all words.
+fn add_all(out: &mut Bytes) -> Result<(), NoMemory> {
+    for row in &ROWS {
+        add_row(out, row)?;
+    }
+    Ok(())
+}
+
+/// Adds what one word does.
+fn add_one(out: &mut Bytes, row: &Row) -> Result<(), NoMemory> {
+    add_said(out, row.form.as_bytes())?;
+    out.extend(b"short ")?;
+    add_said(out, row.short.as_bytes())?;
+    add_said(out, row.help.as_bytes())
+}
+
+/// Adds what a word does, or all words where none is written.
+pub fn add_help(out: &mut Bytes, rest: &[u8]) -> Result<(), NoMemory> {
+    if rest.is_empty() {
+        return add_all(out);
+    }
+    match word_asked(rest) {
+        Asked::Word(row) => add_one(out, row),
+        Asked::Unknown => add_unasked(out, rest, false),
+        Asked::Ambiguous => add_unasked(out, rest, true),
+    }
+}

@@ -1,0 +1,95 @@
+//! What a session knows beside the run.
+
+ghost use Rattle.std.specs.Prelude.{◌≡◌, []};
+
+use mx_book::Book;
+use mx_replay::{Break, Watch};
+use mx_word::{NoMemory, Sequence};
+use std::alloc::Global;
+
+/// The breaks, what is watched, and the number that was given last.
+#[derive(Drop)]
+pub(crate) struct Stops {
+    pub(crate) breaks: Sequence<Break>,
+    pub(crate) watches: Sequence<Watch>,
+    pub(crate) last: u32,
+}
+
+/// What is known of the program by name, its breaks, what is watched, the last step that may be gone to, and how many registers
+/// the ring has.
+#[derive(Drop)]
+pub(crate) struct Known {
+    pub(crate) alloc: Global,
+    pub(crate) book: Book,
+    pub(crate) stops: Stops,
+    pub(crate) most: u64,
+    pub(crate) ring: u32,
+}
+
+impl Stops {
+    /// None.
+    pub(crate) fn new(alloc: Global) -> Stops
+        ensures breaks { result.breaks ≡ [] }
+        ensures watches { result.watches ≡ [] }
+    {
+        Stops {
+            breaks: Sequence::new(alloc),
+            watches: Sequence::new(alloc),
+            last: 0,
+        }
+    }
+
+    /// The next number.
+    pub(crate) fn next(&mut self) -> u32
+        ensures breaks { self.new.breaks ≡ self.old.breaks }
+        ensures watches { self.new.watches ≡ self.old.watches }
+    {
+        self.last = self.last.saturating_add(1);
+        self.last
+    }
+
+    /// Drops all of them.
+    pub(crate) fn clear(&mut self, alloc: Global)
+        ensures breaks { self.new.breaks ≡ [] }
+        ensures watches { self.new.watches ≡ [] }
+    {
+        self.breaks = Sequence::new(alloc);
+        self.watches = Sequence::new(alloc);
+    }
+
+    /// Whether one has this number.
+    pub(crate) fn has(&self, number: u32) -> bool {
+        self.breaks.as_slice().iter().any(|b| b.number == number)
+            || self.watches.as_slice().iter().any(|w| w.number == number)
+    }
+}
+
+/// The breaks but that of a number.
+pub(crate) fn without_break(
+    alloc: Global,
+    breaks: &[Break],
+    number: u32,
+) -> Result<Sequence<Break>, NoMemory> {
+    let mut left = Sequence::new(alloc);
+    for b in breaks {
+        if b.number != number {
+            left.push(*b)?;
+        }
+    }
+    Ok(left)
+}
+
+/// What is watched but that of a number.
+pub(crate) fn without_watch(
+    alloc: Global,
+    watches: &[Watch],
+    number: u32,
+) -> Result<Sequence<Watch>, NoMemory> {
+    let mut left = Sequence::new(alloc);
+    for watch in watches {
+        if watch.number != number {
+            left.push(*watch)?;
+        }
+    }
+    Ok(left)
+}

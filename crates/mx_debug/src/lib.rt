@@ -1,0 +1,17 @@
+//! A session of the debugger: the run of a program that is gone through step by step, forth and back, as lines ask.
+#![tactic(auto)]
+
+mod arriving;
+mod backtrace;
+mod conditions;
+mod going;
+mod known;
+mod listing;
+mod obeying;
+mod session;
+mod setting;
+mod showing;
+mod telling;
+
+pub use obeying::Flow;
+pub use session::Session;

@@ -1,0 +1,197 @@
+//! A session, and how it goes from step to step.
+
+ghost use Rattle.std.specs.Prelude.{◌≡◌, ◌≢◌, ◌+◌, ◌-◌, [], min, Err, IfErr, IfOk, OnOk};
+ghost use Rattle.mx_replay.specs.Marks.{changes, stops_at};
+ghost use Rattle.mx_replay.specs.Programs.{IsReached, NamesFile, step_of};
+ghost use Rattle.mx_replay.specs.Searches.{FoundAt, IsLast, IsNext};
+ghost use Rattle.mx_debug.specs.Sessions.{KeepsProgram, KeepsStops, StandsBack, StandsBefore};
+
+use crate::arriving::{arrive, arrive_back, arrive_here};
+use crate::known::{Known, Stops};
+use crate::telling::Written;
+use mx_ask::{Unit, Word};
+use mx_book::Book;
+use mx_outcome::Outcome;
+use mx_replay::{Place, Program, Replay};
+use mx_word::{Bytes, NoMemory};
+use std::alloc::Global;
+use std::marker::Model;
+
+/// What an empty line does again.
+#[derive(Clone, Copy)]
+pub(crate) struct Again {
+    pub(crate) word: Option<Word>,
+    pub(crate) count: u64,
+    pub(crate) unit: Unit,
+    pub(crate) examined: u64,
+    pub(crate) listed: Option<u64>,
+}
+
+/// A run that is gone through step by step, forth and back. Whatever words came before, what is shown at step k is step k of the run of
+/// the program.
+#[derive(Drop)]
+pub struct Session {
+    pub(crate) replay: Replay,
+    pub(crate) known: Known,
+    pub(crate) again: Again,
+}
+
+impl Model for Session {
+    ghost use Rattle.mx_debug.specs.Sessions.{Debugged};
+
+    ghost Value = { Debugged };
+
+    ghost view = { λ s. record {
+      program = s.replay.program;
+      at = s.replay.at;
+      most = s.known.most;
+      breaks = s.known.stops.breaks;
+      watches = s.known.stops.watches;
+    } };
+}
+
+impl Session {
+    /// A session at the start of a program's run, with what is known of it by name. No step after `most` is gone to.
+    ///
+    /// Errors: the outcome where no machine starts, as that of a source that is refused, and out of memory.
+    pub fn begin(alloc: Global, program: Program, book: Book, most: u64) -> Result<Session, Outcome>
+        requires { NamesFile program }
+        ensures start { IfOk result (λ s. s
+            ≡ record { program = program; at = 0; most = most; breaks = []; watches = [] }) }
+        ensures refused { IfErr result (λ outcome. outcome ≢ Outcome.OutOfMemory → step_of program 0 ≡ Err outcome) }
+    {
+        let ring = program.order.ring.registers();
+        match Replay::begin(alloc, program) {
+            Ok(replay) => Ok(Session {
+                replay,
+                known: Known {
+                    alloc,
+                    book,
+                    stops: Stops::new(alloc),
+                    most,
+                    ring,
+                },
+                again: Again {
+                    word: None,
+                    count: 1,
+                    unit: Unit::Octa,
+                    examined: 0,
+                    listed: None,
+                },
+            }),
+            Err(outcome) => Err(outcome),
+        }
+    }
+
+    /// Tells of the step that is shown.
+    pub fn tell(&mut self, out: &mut Bytes) -> Result<(), NoMemory>
+        ensures program { KeepsProgram self.old self.new }
+        ensures stops { KeepsStops self.old self.new }
+        ensures same { OnOk result (self.new.at ≡ self.old.at) }
+    {
+        let since = Written::of(self.replay.host());
+        arrive_here(&mut self.replay, &self.known, since, out)
+    }
+
+    /// Goes to step k, but not past the last one that may be gone to nor past the end, and tells of it.
+    pub fn go_to(&mut self, k: u64, out: &mut Bytes) -> Result<(), NoMemory>
+        ensures program { KeepsProgram self.old self.new }
+        ensures stops { KeepsStops self.old self.new }
+        ensures reached { OnOk result (IsReached self.old.program (min k self.old.most) self.new.at) }
+    {
+        let since = Written::of(self.replay.host());
+        let k = k.min(self.known.most);
+        arrive(&mut self.replay, &self.known, since, k, out)
+    }
+
+    /// The last step that may be gone to.
+    pub fn most(&self) -> u64
+        ensures { result ≡ self.now.most }
+    {
+        self.known.most
+    }
+
+    /// Goes n steps on, but not past the last one that may be gone to nor past the end, and tells of the step.
+    #[tactic(auto, using(crate::proofs::Reaching::reaching))]
+    pub fn step_on(&mut self, n: u64, out: &mut Bytes) -> Result<(), NoMemory>
+        ensures program { KeepsProgram self.old self.new }
+        ensures stops { KeepsStops self.old self.new }
+        ensures reached { OnOk result (IsReached self.old.program (min (self.old.at + n) self.old.most) self.new.at) }
+    {
+        let k = self.replay.at().saturating_add(n).min(self.most());
+        self.go_to(k, out)
+    }
+
+    /// Goes n steps back, but not past the start, and tells of the step.
+    #[tactic(auto, using(crate::proofs::Reaching::reaching))]
+    pub fn step_back(&mut self, n: u64, out: &mut Bytes) -> Result<(), NoMemory>
+        ensures program { KeepsProgram self.old self.new }
+        ensures stops { KeepsStops self.old self.new }
+        ensures back { OnOk result (self.new.at ≡ self.old.at - n) }
+    {
+        let since = Written::of(self.replay.host());
+        let k = self.replay.at().saturating_sub(n);
+        arrive_back(&mut self.replay, &self.known, since, k, out)
+    }
+
+    /// Goes on to the next step at a break or a change of what is watched, or at which at most so many registers are hidden, if
+    /// that is asked: the least after this one. Where there is none, it goes on to the end, or to the last step that may be gone
+    /// to. It tells of the step.
+    #[tactic(auto, using(crate::proofs::Reaching::reaching))]
+    pub fn go_on(&mut self, depth: Option<u64>, out: &mut Bytes) -> Result<Option<u64>, NoMemory>
+        ensures program { KeepsProgram self.old self.new }
+        ensures stops { KeepsStops self.old self.new }
+        ensures next { IfOk result (
+            IsNext self.old.program (stops_at self.old.breaks self.old.watches depth) self.old.at self.old.most) }
+        ensures place { IfOk result (FoundAt self.old.program self.old.most self.old.at self.new.at) }
+    {
+        let since = Written::of(self.replay.host());
+        let stops = &self.known.stops;
+        let most = self.known.most;
+        let found = self
+            .replay
+            .next_stop(stops.breaks.as_slice(), stops.watches.as_slice(), depth, most)?;
+        arrive_here(&mut self.replay, &self.known, since, out)?;
+        Ok(found)
+    }
+
+    /// Goes back to the last step at a break or a change of what is watched, or at which at most so many registers are hidden, if
+    /// that is asked: the greatest before this one. Where there is none, it goes back to the start. It tells of the step.
+    #[tactic(auto, using(crate::proofs::Reaching::reaching))]
+    pub fn go_back(&mut self, depth: Option<u64>, out: &mut Bytes) -> Result<Option<u64>, NoMemory>
+        ensures program { KeepsProgram self.old self.new }
+        ensures stops { KeepsStops self.old self.new }
+        ensures last { IfOk result (
+            IsLast self.old.program (stops_at self.old.breaks self.old.watches depth) (self.old.at - 1)) }
+        ensures place { IfOk result (StandsBack self.new.at) }
+    {
+        let since = Written::of(self.replay.host());
+        let stops = &self.known.stops;
+        let found = self
+            .replay
+            .last_stop(stops.breaks.as_slice(), stops.watches.as_slice(), depth)?;
+        arrive_back(&mut self.replay, &self.known, since, found.unwrap_or(0), out)?;
+        Ok(found)
+    }
+
+    /// Goes back to the step from which the turn leads on that made the value at a place: the greatest up to this one that
+    /// changed it. Where it never changed, it stays where it is. It tells of the step.
+    #[tactic(auto, using(crate::proofs::Reaching::reaching))]
+    pub fn go_to_maker(
+        &mut self,
+        place: Place,
+        out: &mut Bytes,
+    ) -> Result<Option<u64>, NoMemory>
+        ensures program { KeepsProgram self.old self.new }
+        ensures stops { KeepsStops self.old self.new }
+        ensures last { IfOk result (IsLast self.old.program (changes place) self.old.at) }
+        ensures place { IfOk result (StandsBefore self.old.at self.new.at) }
+    {
+        let since = Written::of(self.replay.host());
+        let found = self.replay.maker(place)?;
+        if let Some(k) = found {
+            arrive_back(&mut self.replay, &self.known, since, k.saturating_sub(1), out)?;
+        }
+        Ok(found)
+    }
+}

@@ -1,0 +1,219 @@
+//! The words that change the breaks and what is watched.
+
+ghost use Rattle.std.specs.Prelude.{◌≡◌};
+ghost use Rattle.mx_debug.specs.Sessions.{KeepsProgram};
+
+use crate::conditions::add_condition;
+use crate::known::{Known, without_break, without_watch};
+use crate::session::Session;
+use crate::telling::add_said;
+use mx_ask::{cut_word, number_in};
+use mx_places::{Target, condition_in, place_in, target_in, thing_at};
+use mx_replay::{Break, Condition, Place, Watch};
+use mx_tell::{add_break_row, add_place, add_watch_row};
+use mx_text::add_decimal;
+use mx_word::{Bytes, NoMemory};
+
+/// A break as a line orders it.
+#[derive(Clone, Copy)]
+struct Wanted {
+    target: Target,
+    condition: Option<Condition>,
+}
+
+/// Why a line orders no break.
+#[derive(Clone, Copy)]
+enum Unwanted {
+    Target,
+    Condition,
+}
+
+/// What follows the place of a break: a condition, or nothing.
+fn wanted_condition(known: &Known, rest: &[u8]) -> Result<Option<Condition>, Unwanted> {
+    if rest.is_empty() {
+        return Ok(None);
+    }
+    let (word, rest) = cut_word(rest);
+    if word != b"if".as_slice() {
+        return Err(Unwanted::Condition);
+    }
+    match condition_in(&known.book, rest) {
+        Some(condition) => Ok(Some(condition)),
+        None => Err(Unwanted::Condition),
+    }
+}
+
+/// The place of a break: where nothing is written, the instruction that comes next.
+fn wanted_target(known: &Known, pc: u64, word: &[u8]) -> Result<Target, Unwanted> {
+    if word.is_empty() {
+        return Ok(Target {
+            address: pc,
+            line: None,
+        });
+    }
+    match target_in(&known.book, word) {
+        Some(target) => Ok(target),
+        None => Err(Unwanted::Target),
+    }
+}
+
+/// The break that a line orders.
+fn wanted_in(known: &Known, pc: u64, text: &[u8]) -> Result<Wanted, Unwanted> {
+    let (word, rest) = cut_word(text);
+    let target = match wanted_target(known, pc, word) {
+        Ok(target) => target,
+        Err(why) => return Err(why),
+    };
+    match wanted_condition(known, rest) {
+        Ok(condition) => Ok(Wanted { target, condition }),
+        Err(why) => Err(why),
+    }
+}
+
+/// Adds the row of a break.
+fn add_break(text: &mut Bytes, known: &Known, b: &Break) -> Result<(), NoMemory> {
+    let mut condition = Bytes::new(known.alloc);
+    add_condition(&mut condition, &known.book, b.condition)?;
+    add_break_row(
+        text,
+        &known.book,
+        u64::from(b.number),
+        b.address,
+        condition.as_slice(),
+    )
+}
+
+/// Adds the row of what is watched.
+fn add_watch(text: &mut Bytes, known: &Known, watch: &Watch) -> Result<(), NoMemory> {
+    add_watch_row(
+        text,
+        &known.book,
+        u64::from(watch.number),
+        thing_at(watch.place),
+    )
+}
+
+/// Adds the rows of all breaks.
+fn add_breaks(text: &mut Bytes, known: &Known) -> Result<(), NoMemory> {
+    for b in known.stops.breaks.as_slice() {
+        add_break(text, known, b)?;
+    }
+    Ok(())
+}
+
+/// Adds the rows of all breaks and of what is watched.
+pub(crate) fn add_stops(text: &mut Bytes, known: &Known) -> Result<(), NoMemory> {
+    let stops = &known.stops;
+    if stops.breaks.as_slice().is_empty() && stops.watches.as_slice().is_empty() {
+        return text.extend(b"no breaks and nothing watched\n");
+    }
+    add_breaks(text, known)?;
+    for watch in stops.watches.as_slice() {
+        add_watch(text, known, watch)?;
+    }
+    Ok(())
+}
+
+/// Adds why a line orders no break.
+fn add_unwanted(out: &mut Bytes, why: Unwanted) -> Result<(), NoMemory> {
+    match why {
+        Unwanted::Target => out.extend(
+            b"? no such place: a label, a line that loads an instruction, or #ADDRESS\n",
+        ),
+        Unwanted::Condition => {
+            out.extend(b"? no condition: if VALUE OP N, with OP ==, !=, <, <=, > or >=\n")
+        }
+    }
+}
+
+impl Session {
+    /// Sets a break.
+    fn set_break(&mut self, wanted: Wanted, out: &mut Bytes) -> Result<(), NoMemory>
+        ensures program { KeepsProgram self.old self.new }
+        ensures place { self.new.at ≡ self.old.at }
+        ensures watches { self.new.watches ≡ self.old.watches }
+    {
+        let number = self.known.stops.next();
+        let b = Break {
+            number,
+            address: wanted.target.address,
+            condition: wanted.condition,
+        };
+        self.known.stops.breaks.push(b)?;
+        add_break(out, &self.known, &b)
+    }
+
+    /// Watches a place.
+    fn set_watch(&mut self, place: Place, out: &mut Bytes) -> Result<(), NoMemory>
+        ensures program { KeepsProgram self.old self.new }
+        ensures place { self.new.at ≡ self.old.at }
+        ensures breaks { self.new.breaks ≡ self.old.breaks }
+    {
+        let number = self.known.stops.next();
+        let watch = Watch { number, place };
+        self.known.stops.watches.push(watch)?;
+        add_watch(out, &self.known, &watch)
+    }
+
+    /// Obeys `break`.
+    pub(crate) fn obey_break(&mut self, rest: &[u8], out: &mut Bytes) -> Result<(), NoMemory>
+        ensures program { KeepsProgram self.old self.new }
+        ensures place { self.new.at ≡ self.old.at }
+    {
+        let pc = self.replay.machine().pc();
+        match wanted_in(&self.known, pc, rest) {
+            Ok(wanted) => self.set_break(wanted, out),
+            Err(why) => add_unwanted(out, why),
+        }
+    }
+
+    /// Obeys `watch`.
+    pub(crate) fn obey_watch(&mut self, rest: &[u8], out: &mut Bytes) -> Result<(), NoMemory>
+        ensures program { KeepsProgram self.old self.new }
+        ensures place { self.new.at ≡ self.old.at }
+    {
+        match place_in(&self.known.book, rest) {
+            Some(place) => self.set_watch(place, out),
+            None => add_said(out, b"? nothing to watch: a name, $K, rX, M#ADDRESS"),
+        }
+    }
+
+    /// Deletes the break or the watch of a number.
+    fn delete(&mut self, number: u32, out: &mut Bytes) -> Result<(), NoMemory>
+        ensures program { KeepsProgram self.old self.new }
+        ensures place { self.new.at ≡ self.old.at }
+    {
+        if !self.known.stops.has(number) {
+            return add_said(out, b"? no break and no watch has this number");
+        }
+        let alloc = self.known.alloc;
+        let breaks = without_break(alloc, self.known.stops.breaks.as_slice(), number)?;
+        let watches = without_watch(alloc, self.known.stops.watches.as_slice(), number)?;
+        self.known.stops.breaks = breaks;
+        self.known.stops.watches = watches;
+        add_said(out, b"deleted")
+    }
+
+    /// Deletes all breaks and watches.
+    fn delete_all(&mut self, out: &mut Bytes) -> Result<(), NoMemory>
+        ensures program { KeepsProgram self.old self.new }
+        ensures place { self.new.at ≡ self.old.at }
+    {
+        self.known.stops.clear(self.known.alloc);
+        add_said(out, b"all deleted")
+    }
+
+    /// Obeys `delete`.
+    pub(crate) fn obey_delete(&mut self, rest: &[u8], out: &mut Bytes) -> Result<(), NoMemory>
+        ensures program { KeepsProgram self.old self.new }
+        ensures place { self.new.at ≡ self.old.at }
+    {
+        if rest.is_empty() {
+            return self.delete_all(out);
+        }
+        match number_in(rest) {
+            Some(number) => self.delete(u32::try_from(number).unwrap_or(0), out),
+            None => add_said(out, b"? no number"),
+        }
+    }
+}

@@ -1,0 +1,145 @@
+//! What is told of a step: what the program wrote on the way, where it stands, and why it stopped there.
+
+use crate::known::Known;
+use mx_core::Machine;
+use mx_host::MemHost;
+use mx_places::thing_at;
+use mx_replay::{Replay, Watch, value_at};
+use mx_run::End;
+use mx_tell::{add_end, add_output, add_stop, add_watched};
+use mx_text::add_decimal;
+use mx_word::{Bytes, NoMemory, Sequence};
+use std::alloc::Global;
+
+/// How many bytes a program wrote to its standard output and its standard error.
+#[derive(Clone, Copy)]
+pub(crate) struct Written {
+    output: usize,
+    errors: usize,
+}
+
+impl Written {
+    /// What was written up to a step.
+    pub(crate) fn of(host: &MemHost) -> Written {
+        Written {
+            output: host.output().len(),
+            errors: host.errors().len(),
+        }
+    }
+}
+
+/// Adds what was written beyond a length, or how much is taken back.
+fn add_written(out: &mut Bytes, bytes: &[u8], before: usize) -> Result<(), NoMemory> {
+    if before < bytes.len() {
+        return add_output(out, &bytes[before..]);
+    }
+    if before > bytes.len() {
+        out.extend(b"output taken back: ")?;
+        add_decimal(out, (before - bytes.len()) as u64)?;
+        return out.extend(b" bytes\n");
+    }
+    Ok(())
+}
+
+/// Adds what a program wrote on the way, or how much of it is taken back.
+fn add_meanwhile(out: &mut Bytes, host: &MemHost, since: Written) -> Result<(), NoMemory> {
+    add_written(out, host.output(), since.output)?;
+    add_written(out, host.errors(), since.errors)
+}
+
+/// Adds the line of the step that is shown, after what the program wrote on the way.
+pub(crate) fn add_step(
+    out: &mut Bytes,
+    replay: &Replay,
+    known: &Known,
+    since: Written,
+) -> Result<(), NoMemory> {
+    add_meanwhile(out, replay.host(), since)?;
+    add_stop(out, &known.book, replay.at(), replay.machine())
+}
+
+/// Adds a line.
+pub(crate) fn add_said(out: &mut Bytes, said: &[u8]) -> Result<(), NoMemory> {
+    out.extend(said)?;
+    out.extend(b"\n")
+}
+
+/// Whether a run has ended so.
+pub(crate) fn is_over(end: End) -> bool {
+    !matches!(end, End::Spent)
+}
+
+/// Adds that the start is reached, the end, or the last step that may be gone to.
+fn add_bounds(out: &mut Bytes, replay: &Replay, known: &Known) -> Result<(), NoMemory> {
+    if is_over(replay.end()) {
+        return add_end(out, &known.book, replay.end());
+    }
+    if replay.at() == 0 {
+        return out.extend(b"at the start\n");
+    }
+    if replay.at() >= known.most {
+        add_decimal(out, known.most)?;
+        return out.extend(b" steps spent: --steps allows more\n");
+    }
+    Ok(())
+}
+
+/// Adds the numbers of the breaks that a machine is at.
+fn add_breaks(out: &mut Bytes, machine: &Machine, known: &Known) -> Result<(), NoMemory> {
+    for b in known.stops.breaks.as_slice() {
+        if b.is_met(machine) {
+            out.extend(b"break ")?;
+            add_decimal(out, u64::from(b.number))?;
+            out.extend(b"\n")?;
+        }
+    }
+    Ok(())
+}
+
+/// Adds why a run stops at the step that is shown.
+pub(crate) fn add_reasons(out: &mut Bytes, replay: &Replay, known: &Known) -> Result<(), NoMemory> {
+    add_breaks(out, replay.machine(), known)?;
+    add_bounds(out, replay, known)
+}
+
+/// The values that are watched.
+pub(crate) fn watched_values(
+    alloc: Global,
+    machine: &Machine,
+    watches: &[Watch],
+) -> Result<Sequence<u64>, NoMemory> {
+    let mut values = Sequence::new(alloc);
+    for watch in watches {
+        values.push(value_at(machine, watch.place))?;
+    }
+    Ok(values)
+}
+
+/// Adds what became of a value that is watched, if it changed.
+fn add_if_changed(
+    out: &mut Bytes,
+    machine: &Machine,
+    known: &Known,
+    watch: &Watch,
+    old: u64,
+) -> Result<(), NoMemory> {
+    let new = value_at(machine, watch.place);
+    if new == old {
+        return Ok(());
+    }
+    let number = u64::from(watch.number);
+    add_watched(out, &known.book, number, thing_at(watch.place), old, new)
+}
+
+/// Adds which of the values that are watched changed.
+pub(crate) fn add_all_watched(
+    out: &mut Bytes,
+    machine: &Machine,
+    known: &Known,
+    values: &[u64],
+) -> Result<(), NoMemory> {
+    for (watch, old) in known.stops.watches.as_slice().iter().zip(values) {
+        add_if_changed(out, machine, known, watch, *old)?;
+    }
+    Ok(())
+}
