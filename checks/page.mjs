@@ -10,8 +10,8 @@ import fs from 'node:fs';
 import path from 'node:path';
 
 const page = path.join(import.meta.dirname ?? path.dirname(process.argv[1]), '../crates/mmixview/page/script.js');
-const { Run, SPECIALS, textOf, charactersOf } = new Function(
-  fs.readFileSync(page, 'utf8') + '\nreturn { Run, SPECIALS, textOf, charactersOf };',
+const { runOf, SPECIALS, textOf, charactersOf } = new Function(
+  fs.readFileSync(page, 'utf8') + '\nreturn { runOf, SPECIALS, textOf, charactersOf };',
 )();
 
 assert.equal(textOf('h\xc3\xa9\xe2\x82\xac\xf0\x9f\x8d\x80\n'), 'hé€🍀\n');
@@ -35,7 +35,7 @@ function dumpOf(run, octas) {
   const hidden = Number(run.value[10] & 0xffffffn) >> 3;
   assert.equal(hidden, run.hidden[run.at]);
   const lines = SPECIALS.map((name, code) => `${name}=${shown(code === 8 ? BigInt(run.at) : run.value[code])}`);
-  for (let k = 0; k < local; k++) lines.push(`$${k}=${shown(run.value[run.register(hidden + k)] ?? 0n)}`);
+  for (let k = 0; k < local; k++) lines.push(`$${k}=${shown(run.value[run.numbers.get(`l${(hidden + k).toString(16)}`)] ?? 0n)}`);
   for (let k = Number(run.value[19]); k < 256; k++) lines.push(`$${k}=${shown(register(k))}`);
   for (const [address, place] of octas) if (run.value[place]) lines.push(`M${shown(address)}=${shown(run.value[place])}`);
   return lines;
@@ -51,7 +51,7 @@ function checkEnd(run) {
 
 const data = JSON.parse(fs.readFileSync(process.argv[2], 'utf8'));
 const every = Number(process.argv[3]);
-const run = new Run(data);
+const run = runOf(data);
 const octas = octasOf(run);
 assert.equal(run.written[run.steps], data.output.length);
 assert.equal(data.start.split(';').length, 2);

@@ -285,7 +285,7 @@ class Page:
             is_near = abs(self.step() - part * last) <= 0.1 * last + 1
             self.expect(f"slider at {part}", is_near, True)
             self.check_state()
-        for selector in ("#buttons [data-move=back]", "#buttons [data-move=over]", "#buttons [data-move=backOut]", "#buttons [data-move=out]"):
+        for selector in ("#buttons [data-key=ArrowLeft]", "#buttons [data-key=ShiftArrowRight]", "#buttons [data-key=ShiftArrowUp]", "#buttons [data-key=ShiftArrowDown]"):
             self.click(selector)
             self.check_state()
         self.press("Home Right Right Shift+Right Shift+Left Shift+Down Shift+Up End")
@@ -296,7 +296,7 @@ class Page:
         self.expect("the maker of $255", step == 0 or is_made == "new", True)
         self.check_state()
         self.click("#lines th button")
-        self.expect("a click on a line", self.browser.run("return document.querySelector('#lines tr.now th button') !== null"), True)
+        self.expect("a click on a line", self.browser.run("return document.querySelector('#lines tr[aria-current] th button') !== null"), True)
         self.check_state()
         unnamed = self.browser.run("return [...document.querySelectorAll('button, input')].filter((e) => "
                                    "!(e.textContent + e.ariaLabel + (e.labels?.[0]?.textContent ?? '')).trim()).length")

@@ -15,8 +15,10 @@ DATA = '<script id="data" type="application/json">'
 
 
 def text_of(name):
+    """A file without what its readers alone need: blanks in front of lines, empty lines, and lines of comment."""
     with open(os.path.join(FOLDER, name), encoding="utf-8") as file:
-        return file.read()
+        lines = [line.strip() for line in file]
+    return "".join(line + "\n" for line in lines if line and not line.startswith("// "))
 
 
 def hash_of(text):

@@ -2,142 +2,124 @@
 
 // A run, by its data as docs/PAGE.md describes it. Places are numbered: special registers 0 to 31, global ones 32 to 255,
 // and further ones as records name them. Record r leads to step r, and record 0 to the start.
-class Run {
-  constructor({ start, records, steps }) {
-    const text = start + records;
-    const changes = text.split('=').length - 1;
-    this.steps = steps;
-    this.names = Array.from({ length: 256 }, (_, k) => (k < 32 ? 's' : 'g') + k.toString(16));
-    this.numbers = new Map(); // of places by their names
-    this.pc = new BigUint64Array(steps + 1); // the next address, at each step
-    this.hidden = new Uint32Array(steps + 1); // how many registers are hidden
-    this.call = new Uint32Array(steps + 1); // the record of the call that hid the last ones, or 0
-    this.written = new Uint32Array(steps + 1); // how much was written
-    this.errors = new Set(); // the records that wrote to standard error
-    this.first = new Uint32Array(steps + 2); // the first change of each record
-    this.place = new Uint32Array(changes);
-    this.change = new BigUint64Array(changes);
-    this.read(text);
-    this.value = new BigUint64Array(this.names.length);
-    this.at = -1;
-    this.goTo(0);
-  }
+function runOf({ start, records, steps }) {
+  const text = start + records;
+  let changes = 0;
+  for (let i = -1; (i = text.indexOf('=', i + 1)) >= 0; ) changes++;
+  const names = Array.from({ length: 256 }, () => 's');
+  const numbers = new Map(); // of places by their names
+  const first = new Uint32Array(steps + 2); // the first change of each record
+  const place = new Uint32Array(changes);
+  const change = new BigUint64Array(changes);
+  // at each step: the next address, how many registers are hidden, by which record's call, and how much was written
+  const pc = new BigUint64Array(steps + 1);
+  const [hidden, call, written] = [0, 0, 0].map(() => new Uint32Array(steps + 1));
+  const errors = new Set(); // the records that wrote to standard error
 
-  read(text) {
-    const number = new BigUint64Array(1);
-    const half = new Uint32Array(number.buffer); // low, high
-    let [i, n, stack, pc] = [0, 0, 0, 0n];
-    const readNumber = () => {
-      for (half.fill(0); ; i++) {
-        const c = text.charCodeAt(i);
-        const digit = c < 58 ? c - 48 : c - 87;
-        if (!(digit >= 0 && digit < 16)) return;
-        half[1] = (half[1] << 4) | (half[0] >>> 28);
-        half[0] = (half[0] << 4) | digit;
-      }
-    };
-    for (let r = 0; r <= this.steps; r++) {
-      let next = pc + 4n;
-      this.first[r] = n;
-      this.written[r] = this.written[r - 1];
-      while (text[i] !== ';') {
-        const from = i++;
-        readNumber();
-        if (text[from] === '@') next = pc ^ number[0];
-        else if (text[i] !== '=') {
-          this.written[r] += half[0];
-          if (text[from] === '!') this.errors.add(r);
-        } else {
-          const place = this.numberOf(text[from], half[0], text.slice(from, i++));
-          readNumber();
-          if (place === RO) stack ^= half[0];
-          this.place[n] = place;
-          this.change[n++] = number[0];
-        }
-      }
-      i++;
-      this.pc[r] = next;
-      pc = this.pc[r];
-      this.hidden[r] = (stack & 0xffffff) >>> 3;
-      this.call[r] = this.callAfter(r);
-    }
-    this.first[this.steps + 1] = n;
-  }
-
-  numberOf(kind, index, name) {
+  const numberOf = (kind, index, name) => {
     if (kind === 's' || kind === 'g') return index;
-    if (!this.numbers.has(name)) this.numbers.set(name, this.names.push(name) - 1);
-    return this.numbers.get(name);
-  }
+    if (!numbers.has(name)) numbers.set(name, names.push(name) - 1);
+    return numbers.get(name);
+  };
 
   // what hides registers is a call; it has returned when as few are hidden as before it
-  callAfter(r) {
-    if (this.hidden[r] > this.hidden[r - 1]) return r;
-    let call = this.call[r - 1];
-    while (call && this.hidden[call - 1] >= this.hidden[r]) call = this.call[call - 1];
-    return call;
-  }
+  const callAfter = (r) => {
+    if (hidden[r] > hidden[r - 1]) return r;
+    let c = call[r - 1];
+    while (c && hidden[c - 1] >= hidden[r]) c = call[c - 1];
+    return c;
+  };
 
-  goTo(step) {
-    const turn = (r) => {
-      for (let n = this.first[r]; n < this.first[r + 1]; n++) this.value[this.place[n]] ^= this.change[n];
-    };
-    while (this.at < step) turn(++this.at);
-    while (this.at > step) turn(this.at--);
+  const number = new BigUint64Array(1);
+  const half = new Uint32Array(number.buffer); // low, high
+  let [i, n, stack] = [0, 0, 0];
+  const readNumber = () => {
+    for (half.fill(0); ; i++) {
+      const c = text.charCodeAt(i);
+      const digit = c < 58 ? c - 48 : c - 87;
+      if (!(digit >= 0 && digit < 16)) return;
+      half[1] = (half[1] << 4) | (half[0] >>> 28);
+      half[0] = (half[0] << 4) | digit;
+    }
+  };
+  for (let r = 0; r <= steps; r++) {
+    const last = pc[r - 1] ?? 0n;
+    pc[r] = last + 4n;
+    first[r] = n;
+    written[r] = written[r - 1];
+    while (text[i] !== ';') {
+      const from = i++;
+      readNumber();
+      if (text[from] === '@') pc[r] = last ^ number[0];
+      else if (text[i] === '=') {
+        place[n] = numberOf(text[from], half[0], text.slice(from, i++));
+        readNumber();
+        if (place[n] === RO) stack ^= half[0];
+        change[n++] = number[0];
+      } else {
+        written[r] += half[0];
+        if (text[from] === '!') errors.add(r);
+      }
+    }
+    i++;
+    hidden[r] = (stack & 0xffffff) >>> 3;
+    call[r] = callAfter(r);
   }
+  first[steps + 1] = n;
 
-  // the last record up to a step that changes a place, or 0
-  makerOf(place, step) {
-    let n = this.first[step + 1] - 1;
-    while (n >= 0 && this.place[n] !== place) n--;
-    while (step > 0 && this.first[step] > n) step--;
-    return step;
-  }
-
-  // the nearest step, on (1) or back (-1), at which at most so many registers are hidden, or the last one that way
-  nearest(by, most) {
-    let step = this.at + by;
-    while (step > 0 && step < this.steps && this.hidden[step] > most) step += by;
-    return step;
-  }
-
-  register(k) {
-    return this.numbers.get('l' + k.toString(16));
-  }
+  return {
+    ...{ steps, names, numbers, first, place, change, pc, hidden, call, written, errors },
+    value: new BigUint64Array(names.length),
+    at: -1,
+    apply(r) {
+      for (let n = first[r]; n < first[r + 1]; n++) this.value[place[n]] ^= change[n];
+    },
+    goTo(step) {
+      while (this.at < step) this.apply(++this.at);
+      while (this.at > step) this.apply(this.at--);
+      return this;
+    },
+    // the last record up to a step that changes a place, or 0
+    makerOf(wanted, step) {
+      let n = first[step + 1] - 1;
+      while (n >= 0 && place[n] !== wanted) n--;
+      while (step > 0 && first[step] > n) step--;
+      return step;
+    },
+    // the nearest step, on (1) or back (-1), with so many more registers hidden than now at most; or the last one that way
+    nearest(by, more) {
+      let step = this.at + by;
+      while (step > 0 && step < steps && hidden[step] > hidden[this.at] + more) step += by;
+      return step;
+    },
+  }.goTo(0);
 }
 
 const [RO, RS, RG, RL] = [10, 11, 19, 20];
 const SPECIALS =
   'rB rD rE rH rJ rM rR rBB rC rN rO rS rI rT rTT rK rQ rU rV rG rL rA rF rP rW rX rY rZ rWW rXX rYY rZZ'.split(' ');
 
+// by keys, which buttons name, too
 const MOVES = {
-  start: () => 0,
-  backOut: () => run.nearest(-1, run.hidden[run.at] - 1),
-  backOver: () => run.nearest(-1, run.hidden[run.at]),
-  back: () => run.at - 1,
-  on: () => run.at + 1,
-  over: () => run.nearest(1, run.hidden[run.at]),
-  out: () => run.nearest(1, run.hidden[run.at] - 1),
-  end: () => run.steps,
-};
-
-const KEYS = {
-  Home: 'start',
-  ShiftArrowUp: 'backOut',
-  ShiftArrowLeft: 'backOver',
-  ArrowLeft: 'back',
-  ArrowRight: 'on',
-  ShiftArrowRight: 'over',
-  ShiftArrowDown: 'out',
-  End: 'end',
+  Home: () => 0,
+  ShiftArrowUp: () => run.nearest(-1, -1),
+  ShiftArrowLeft: () => run.nearest(-1, 0),
+  ArrowLeft: () => run.at - 1,
+  ArrowRight: () => run.at + 1,
+  ShiftArrowRight: () => run.nearest(1, 0),
+  ShiftArrowDown: () => run.nearest(1, -1),
+  End: () => run.steps,
 };
 
 // ---- texts
 
 const hexadecimal = (value) => '#' + value.toString(16);
 const addressOf = (text) => BigInt('0x' + text.slice(1));
-const inBytes = (value) => value.toString(16).padStart(16, '0').match(/../g);
-const charactersOf = (value) => inBytes(value).map((b) => (b > '1f' && b < '7f' ? String.fromCharCode('0x' + b) : '.')).join('');
+
+function charactersOf(value) {
+  const bytes = value.toString(16).padStart(16, '0').match(/../g);
+  return bytes.map((b) => (b > '1f' && b < '7f' ? String.fromCharCode('0x' + b) : '.')).join('');
+}
 
 // bytes, one a character, as UTF-8; what is none, and what controls a terminal, as \xNN
 function textOf(bytes) {
@@ -150,16 +132,14 @@ function textOf(bytes) {
   });
 }
 
-// the label of an address, or the last one before it in its segment and how far it is from there; no distance is 2^24
+// the last label of the segment up to an address, and how far the address is from it
 function labelOf(address) {
   const label = labels.findLast(({ value }) => value <= address);
   if (!label || label.value >> 61n !== address >> 61n || address - label.value >> 24n) return '';
   return label.name + (label.value < address ? '+' + (address - label.value) : '');
 }
 
-function shownValue(value) {
-  return (value >> 61n && value < 1n << 63n && labelOf(value)) || BigInt.asIntN(64, value).toString();
-}
+const shownValue = (value) => (value >> 61n && !(value >> 63n) && labelOf(value)) || String(BigInt.asIntN(64, value));
 
 function endOfRun() {
   const { message, status } = data.outcome;
@@ -174,14 +154,15 @@ function endOfRun() {
 
 // ---- the program
 
-const UNTOLD = [7, RO, RS, RL, 28, 29, 30, 31]; // special registers that calls and traps change beside
-const [MOST_VALUES, MOST_BYTES] = [200, 20000]; // that are shown at once
+const UNTOLD = 'rBB rO rS rL rWW rXX rYY rZZ'.split(' '); // what calls and traps change beside
+const [MOST_VALUES, MOST_BYTES, MOST_LINES] = [100, 20000, 3000]; // that are shown at once
 let data, run, specials, stop;
 let octas = []; // of memory, those that change: { name, place, address }
 let firstOcta = 0; // the first one that is shown
-const before = new Map(); // what the last step changed: places with the values that were there
+const before = new Map(); // the values that the last step changed, as they were, by their places
 const labels = ['Data', 'Pool', 'Stack'].map((name, k) => ({ name: name + '_Segment', value: BigInt(k + 1) << 61n }));
 const registerNames = new Map();
+const namesAt = new Map(); // the labels of loaded tetras, by their addresses
 const lines = []; // { line, addresses, tr, text }
 const lineAt = new Map(); // by the address
 
@@ -196,38 +177,46 @@ function add(parent, name, text = '', className = '') {
 }
 
 function readSymbols() {
-  const loaded = new Set(data.lines.flatMap(({ cells }) => cells.map(({ address }) => addressOf(address) >> 2n)));
-  for (const { name, value } of data.symbols) {
-    const short = name.replace(/^:/, '');
-    if (value[0] === '$') registerNames.set(value, `${registerNames.get(value) ?? value} ${short}`);
-    else if (addressOf(value) >> 61n || loaded.has(addressOf(value) >> 2n)) labels.push({ name: short, value: addressOf(value) });
+  for (const { cells } of data.lines) for (const { address } of cells) namesAt.set(addressOf(address), []);
+  for (const symbol of data.symbols) {
+    const name = symbol.name.replace(/^:/, '');
+    if (symbol.value[0] === '$') {
+      registerNames.set(symbol.value, (registerNames.get(symbol.value) ?? symbol.value) + ' ' + name);
+    } else {
+      const value = addressOf(symbol.value);
+      const names = namesAt.get(value & ~3n);
+      names?.push(name);
+      if (names || value >> 61n) labels.push({ name, value });
+    }
   }
-  labels.sort((a, b) => Number(a.value > b.value) - Number(a.value < b.value));
+  labels.sort((a, b) => (a.value > b.value) - (a.value < b.value));
 }
 
 function showLine(line, heat) {
   const tr = add(element('lines'), 'tr', '', line.times === 0 ? 'never' : '');
   const addresses = line.cells.map(({ address }) => addressOf(address));
   const few = (texts) => texts.slice(0, 4).join('\n') + (texts.length > 4 ? '\n…' : '');
+  const shortAddresses = few(addresses.map(hexadecimal));
   add(tr, 'td');
-  const isMade = line.times && addresses.length;
-  const number = add(tr, 'th', isMade ? '' : (line.line ?? ''));
-  if (isMade) add(number, 'button', line.line ?? '·').title = 'to the next step that carries it out';
-  add(tr, 'td', few(addresses.map(hexadecimal)), 'more');
+  const number = add(tr, 'th');
+  add(number, line.times && addresses.length ? 'button' : 'span', line.line ?? shortAddresses);
+  add(tr, 'td', shortAddresses, 'more');
   add(tr, 'td', few(line.cells.map(({ tetra }) => tetra)), 'more');
   add(tr, 'td', line.times ?? '', 'times').style.setProperty('--part', heat);
   add(tr, 'td', line.oops ?? '', 'more');
   add(tr, 'td', line.mems ?? '', 'more');
   const text = add(tr, 'td', '', 'text');
-  if (data.object) for (const { name, value } of labels) if (value >> 2n === addresses[0] >> 2n) add(text, 'b', name + '\n');
+  if (data.object) add(text, 'b', (namesAt.get(addresses[0]) ?? []).map((name) => name + '\n').join(''));
   text.append(line.text);
   lines.push({ line, addresses, tr, text });
   for (const address of addresses) if (!lineAt.has(address)) lineAt.set(address, lines.at(-1));
 }
 
+// of a long program the lines that are carried out
 function showProgram() {
   const most = data.lines.reduce((most, { times }) => Math.max(most, times), 9);
-  for (const line of data.lines) showLine(line, Math.log1p(line.times) / Math.log1p(most));
+  const isShort = !data.start || data.lines.length <= MOST_LINES;
+  for (const line of data.lines) if (isShort || line.times) showLine(line, Math.log1p(line.times) / Math.log1p(most));
   if (data.total) showLine({ ...data.total, cells: [], text: 'all steps' }, 0);
 }
 
@@ -256,32 +245,31 @@ function showFault({ at, caret, fault, from_line, help, length, line, meant, nam
 
 // ---- a step
 
-const valueAt = (place) => run.value[place] ?? 0n;
 const special = (code) => Number(run.value[code] & 0xffffffn);
 const registerName = (k) => registerNames.get('$' + k) ?? '$' + k;
-const localsFrom = () => run.hidden[run.at];
+// a program that has halted has no next line
+const hasNext = () => run.at < run.steps || data.end !== 'halted';
 
 function lineName(step) {
   const line = lineAt.get(run.pc[step])?.line.line;
   return line ? 'line ' + line : labelOf(run.pc[step]) || hexadecimal(run.pc[step]);
 }
 
-// fills a table with { name, place } for values and { name, step } for calls
+// fills a table with values, { name, place, address }, and calls, { name, step }
 function showValues(id, items) {
   const body = element(id);
   body.closest('section').hidden = !items.length;
   items.forEach(({ name, place, step, address }, i) => {
     const row = body.rows[i] ?? addValue(body);
-    const value = valueAt(place);
-    const texts = [name, shownValue(value), hexadecimal(value), address ? charactersOf(value) : ''];
-    if (step) texts.splice(1, 2, 'step ' + step, '');
-    texts.push(before.has(place) ? 'was ' + shownValue(before.get(place)) : '');
-    texts.forEach((text, k) => {
+    const value = run.value[place] ?? 0n;
+    const texts = step ? ['step ' + step, ''] : [shownValue(value), hexadecimal(value)];
+    texts.push(address ? charactersOf(value) : '', before.has(place) ? 'was ' + shownValue(before.get(place)) : '');
+    [name, ...texts].forEach((text, k) => {
       const node = row.cells[k].firstElementChild ?? row.cells[k];
       if (node.textContent !== text) node.textContent = text;
     });
-    row.title = address ? hexadecimal(address) : '';
     row.className = step ? 'call' : before.has(place) ? 'new' : '';
+    row.title = address ? hexadecimal(address) : '';
     Object.assign(row, { place, step });
   });
   while (body.rows.length > items.length) body.lastChild.remove();
@@ -290,29 +278,32 @@ function showValues(id, items) {
 function addValue(body) {
   const row = add(body, 'tr');
   add(row, 'th');
-  add(add(row, 'td', '', 'value'), 'button').title = 'to the step that made it';
+  add(add(row, 'td', '', 'value'), 'button');
   for (const name of ['hexadecimal', 'characters', 'was']) add(row, 'td', '', name);
   return row;
 }
 
-const registers = (from, to, nameOf) =>
-  Array.from({ length: to - from }, (_, k) => ({ name: nameOf(k), place: run.register(from + k) }));
+// registers from one number up to another, as values
+const registers = (from, to, nameOf, placeOf) =>
+  Array.from({ length: to - from }, (_, k) => ({ name: nameOf(k), place: placeOf(from + k) }));
+const stacked = (i) => run.numbers.get('l' + i.toString(16));
 
 function callItems() {
   const items = [];
   for (let call = run.call[run.at]; call; call = run.call[call - 1]) {
-    if (items.length > MOST_VALUES) return [...items, { name: 'and calls before', step: call }];
+    if (items.length > MOST_VALUES) return [...items, { name: 'more calls, up to', step: call }];
     items.push({ name: 'call in ' + lineName(call - 1), step: call });
-    items.push(...registers(run.hidden[call - 1], run.hidden[call], (k) => '  $' + k));
+    items.push(...registers(run.hidden[call - 1], run.hidden[call], (k) => '  $' + k, stacked));
   }
   return items;
 }
 
 // as many octas as can be looked over, with the one that was changed last
 function octasShown() {
+  const { place, names } = run;
   let n = run.first[run.at + 1] - 1;
-  while (n >= 0 && (run.place[n] < 256 || run.names[run.place[n]][0] === 'l')) n--;
-  const last = Math.max(0, octas.findIndex(({ place }) => place === run.place[n]));
+  while (n >= 0 && 'sl'.includes(names[place[n]][0])) n--;
+  const last = Math.max(0, octas.findIndex((octa) => octa.place === place[n]));
   if (last < firstOcta || last >= firstOcta + MOST_VALUES) firstOcta = Math.max(0, last - MOST_VALUES / 2);
   const shown = octas.slice(firstOcta, firstOcta + MOST_VALUES);
   element('window').textContent = shown.length < octas.length ? `${shown.length} octas of ${octas.length}` : '';
@@ -332,75 +323,71 @@ function showOutput() {
 }
 
 function showRing() {
-  const [hidden, local, size] = [localsFrom(), special(RL), data.ring];
-  const spilled = special(RS) >> 3;
+  const [hidden, local, spilled, size] = [run.hidden[run.at], special(RL), special(RS) >> 3, data.ring];
   const draw = (name, from, length) => {
-    const arc = document.querySelector(`circle.${name}`);
-    arc.setAttribute('stroke-dasharray', `${length / size} ${1 - length / size}`);
-    arc.setAttribute('stroke-dashoffset', -(from % size) / size);
+    const arc = document.querySelector('circle.' + name);
+    arc.setAttribute('stroke-dasharray', [length, size - length]);
+    arc.setAttribute('stroke-dashoffset', -from % size);
+    arc.setAttribute('pathLength', size);
   };
   draw('hidden', spilled, hidden - spilled);
   draw('local', hidden, local);
-  element('ring-told').textContent =
-    `Of ${size} registers ${local} are local (broad), ${hidden - spilled} hidden and ${size - local - hidden + spilled} free (thin). ` +
-    `${spilled} more hidden ones are in memory.`;
+  element('ring-told').textContent = `Of ${size} registers ${local} are local (the broad part), ${hidden - spilled} hidden, and
+    ${size - local - hidden + spilled} free (the thin part). ${spilled} more hidden ones are in memory.`;
 }
 
-function changeTold([place, old]) {
-  const k = run.names[place][0] === 'l' && parseInt(run.names[place].slice(1), 16) - localsFrom();
-  if (k < 0 || k >= special(RL) || UNTOLD.includes(place)) return [];
-  const octa = octas.find((octa) => octa.place === place);
-  const name = SPECIALS[place] ?? octa?.name ?? registerName(k === false ? place : k);
-  return [`${name} = ${shownValue(valueAt(place))}, was ${shownValue(old)}`];
+// the changes of registers and memory that are told, by the rows that show them
+function changesTold() {
+  const rows = [...document.querySelectorAll('#state section:not(#calls) .new')];
+  const told = rows.map(({ cells }) => [...cells].map((cell) => cell.textContent)).filter(([name]) => !UNTOLD.includes(name));
+  return told.map(([name, value, , , was]) => `${name} = ${value}, ${was}`);
 }
 
 function tellStep() {
   const { at, steps, hidden, written, errors } = run;
   const texts = [`Step ${at} of ${steps}.`];
   if (at) {
-    const told = [...before].flatMap(changeTold);
+    const told = changesTold();
     if (told.length > 3) told.splice(3, told.length, `${told.length - 3} more`);
-    if (hidden[at] > hidden[at - 1]) told.unshift(`call, ${hidden[at] - hidden[at - 1]} registers hidden`);
-    if (hidden[at] < hidden[at - 1]) told.unshift('return');
-    if (written[at] > written[at - 1]) told.push(`${written[at] - written[at - 1]} bytes ${errors.has(at) ? 'to standard error' : 'written'}`);
-    texts.push(`Made: ${lineName(at - 1)}` + (told.length ? ', ' : '') + told.join('; ') + '.');
+    if (hidden[at] > hidden[at - 1]) told.unshift(`a call that hides ${hidden[at] - hidden[at - 1]} registers`);
+    if (hidden[at] < hidden[at - 1]) told.unshift('a return');
+    const bytes = written[at] - written[at - 1];
+    if (bytes) told.push(`${bytes} bytes written` + (errors.has(at) ? ' to standard error' : ''));
+    texts.push(`Last: ${[lineName(at - 1), ...told].join('; ')}.`);
   }
   if (hasNext()) texts.push(`Next: ${lineName(at)}.`);
   if (at === steps) texts.push(endOfRun());
   element('told').textContent = texts.join(' ');
 }
 
-// whether there is a next line: a program that has halted has none
-const hasNext = () => run.at < run.steps || data.end !== 'halted';
-
 function markLines() {
-  for (const tr of element('lines').querySelectorAll('.now, .done')) tr.classList.remove('now', 'done');
-  const done = run.at && lineAt.get(run.pc[run.at - 1])?.tr;
-  const now = hasNext() && lineAt.get(run.pc[run.at])?.tr;
-  done && done.classList.add('done');
-  now && now.classList.add('now');
-  const [tr, box] = [now || done, element('program')];
-  const top = tr ? tr.offsetTop - box.scrollTop : 100;
+  document.querySelector('.done')?.classList.remove('done');
+  document.querySelector('[aria-current]')?.removeAttribute('aria-current');
+  const done = run.at ? lineAt.get(run.pc[run.at - 1])?.tr : null;
+  const now = hasNext() ? lineAt.get(run.pc[run.at])?.tr : null;
+  done?.classList.add('done');
+  now?.setAttribute('aria-current', 'step');
+  const box = element('program');
+  const top = ((now ?? done)?.offsetTop ?? 0) - box.scrollTop;
   if (top < 30 || top + 30 > box.clientHeight) box.scrollTop += top - box.clientHeight / 3;
 }
 
 function goTo(step) {
   run.goTo(Math.max(0, Math.min(run.steps, step)));
-  const { at, steps, place, change, first } = run;
+  const { at, steps, place, change, first, value } = run;
   before.clear();
-  for (let n = first[at]; at && n < first[at + 1]; n++) before.set(place[n], valueAt(place[n]) ^ change[n]);
+  for (let n = first[at]; at && n < first[at + 1]; n++) before.set(place[n], value[place[n]] ^ change[n]);
   element('slider').value = element('step').value = at;
   element('slider').setAttribute('aria-valuetext', `step ${at} of ${steps}`);
   if (stop) stop.hidden = at < steps;
   markLines();
-  tellStep();
   showOutput();
-  const [local, global] = [special(RL), special(RG)];
-  showValues('locals', registers(localsFrom(), localsFrom() + local, registerName));
+  showValues('locals', registers(run.hidden[at], run.hidden[at] + special(RL), registerName, stacked));
   showValues('hidden', callItems());
   showValues('memory', octasShown());
-  showValues('globals', Array.from({ length: 256 - global }, (_, k) => ({ name: registerName(k + global), place: k + global })));
+  showValues('globals', registers(special(RG), 256, (k) => registerName(k + special(RG)), (k) => k));
   showValues('specials', specials);
+  tellStep();
   if (element('ring').open) showRing();
 }
 
@@ -424,26 +411,27 @@ function goToMaker(place) {
 function onClick({ target }) {
   const [row, button] = [target.closest('tr'), target.closest('button')];
   const line = lines.find(({ tr }) => tr === row);
-  if (button?.dataset.move) goTo(MOVES[button.dataset.move]());
+  if (button?.dataset.key) goTo(MOVES[button.dataset.key]());
   else if (line && getSelection().isCollapsed) goToNext(line);
   else if (row && button) row.step ? goTo(row.step) : goToMaker(row.place);
 }
 
 function onKey(event) {
-  const move = KEYS[(event.shiftKey ? 'Shift' : '') + event.key];
+  const move = MOVES[(event.shiftKey ? 'Shift' : '') + event.key];
   if (!move || event.ctrlKey || event.altKey || event.metaKey || event.target.type === 'number') return;
   event.preventDefault();
-  goTo(MOVES[move]());
+  goTo(move());
 }
 
 function showRun() {
-  run = new Run(data);
+  run = runOf(data);
   const changing = new Set(run.place.subarray(run.first[1]));
-  specials = [...SPECIALS.keys()].filter((k) => changing.has(k)).map((place) => ({ name: SPECIALS[place], place }));
-  octas = [...run.numbers].filter(([name, place]) => name[0] !== 'l' && changing.has(place)).map(([name, place]) => {
-    const address = BigInt('0x' + name.slice(1)) + (BigInt('tmpq'.indexOf(name[0])) << 61n);
-    return { name: labelOf(address) || hexadecimal(address), place, address };
-  });
+  specials = SPECIALS.map((name, place) => ({ name, place })).filter(({ place }) => changing.has(place));
+  for (const [name, place] of run.numbers) {
+    if (name[0] === 'l' || !changing.has(place)) continue;
+    const address = addressOf(name) + (BigInt('tmpq'.indexOf(name[0])) << 61n);
+    octas.push({ name: labelOf(address) || hexadecimal(address), place, address });
+  }
   octas.sort((a, b) => (a.address < b.address ? -1 : 1));
   if (data.end === 'stopped') stop = addNote(lineAt.get(run.pc[run.steps]), endOfRun(), [data.outcome.what, data.outcome.help]);
   for (const id of ['controls', 'state', 'keys']) element(id).hidden = false;
@@ -451,14 +439,11 @@ function showRun() {
   element('slider').max = element('step').max = element('steps').textContent = run.steps;
   element('slider').oninput = element('step').onchange = ({ target }) => goTo(+target.value);
   element('ring').ontoggle = showRing;
-  document.addEventListener('click', onClick);
-  document.addEventListener('keydown', onKey);
-  addEventListener('hashchange', goToHash);
-  goToHash();
+  document.onclick = onClick;
+  document.onkeydown = onKey;
+  window.onhashchange = () => goTo(+location.hash.slice(1) || 0); // run.html#57 is opened at step 57
+  window.onhashchange();
 }
-
-// run.html#57 is opened at step 57
-const goToHash = () => goTo(+location.hash.slice(1) || 0);
 
 function showPage() {
   data = JSON.parse(element('data').textContent);
