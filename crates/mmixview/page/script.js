@@ -196,11 +196,11 @@ function showLine(line, heat) {
   const tr = add(element('lines'), 'tr', '', line.times === 0 ? 'never' : '');
   const addresses = line.cells.map(({ address }) => addressOf(address));
   const few = (texts) => texts.slice(0, 4).join('\n') + (texts.length > 4 ? '\n…' : '');
-  const shortAddresses = few(addresses.map(hexadecimal));
+  const places = [line.line ?? '', few(addresses.map(hexadecimal))];
+  if (data.object) places.reverse();
   add(tr, 'td');
-  const number = add(tr, 'th');
-  add(number, line.times && addresses.length ? 'button' : 'span', line.line ?? shortAddresses);
-  add(tr, 'td', shortAddresses, 'more');
+  add(add(tr, 'th'), line.times && addresses.length ? 'button' : 'span', places[0]);
+  add(tr, 'td', places[1], 'more');
   add(tr, 'td', few(line.cells.map(({ tetra }) => tetra)), 'more');
   add(tr, 'td', line.times ?? '', 'times').style.setProperty('--part', heat);
   add(tr, 'td', line.oops ?? '', 'more');
@@ -214,6 +214,8 @@ function showLine(line, heat) {
 
 // of a long program the lines that are carried out
 function showProgram() {
+  const heads = document.querySelectorAll('thead th');
+  if (data.object) [heads[1].textContent, heads[2].textContent] = ['address', 'line'];
   const most = data.lines.reduce((most, { times }) => Math.max(most, times), 9);
   const isShort = !data.start || data.lines.length <= MOST_LINES;
   for (const line of data.lines) if (isShort || line.times) showLine(line, Math.log1p(line.times) / Math.log1p(most));
@@ -233,7 +235,7 @@ function addNote(shown, title, texts) {
 
 function showFault({ at, caret, fault, from_line, help, length, line, meant, name, what }) {
   const shown = lines[at - 1];
-  addNote(shown, `${fault} ${name}`, [from_line && `From line ${from_line} to line ${line}.`, what, meant, help]);
+  addNote(shown, `${fault} ${name}`, [from_line && `From line ${from_line}, to line ${line}.`, what, meant && `Is ${meant} meant?`, help]);
   if (!shown || !caret) return;
   const { bytes, text } = shown.line;
   const all = bytes ? Uint8Array.from(bytes.match(/../g), (b) => '0x' + b) : new TextEncoder().encode(text);
@@ -291,8 +293,8 @@ const stacked = (i) => run.numbers.get('l' + i.toString(16));
 function callItems() {
   const items = [];
   for (let call = run.call[run.at]; call; call = run.call[call - 1]) {
-    if (items.length > MOST_VALUES) return [...items, { name: 'more calls, up to', step: call }];
-    items.push({ name: 'call in ' + lineName(call - 1), step: call });
+    if (items.length > MOST_VALUES) return [...items, { name: 'and more, up to', step: call }];
+    items.push({ name: 'from ' + lineName(call - 1), step: call });
     items.push(...registers(run.hidden[call - 1], run.hidden[call], (k) => '  $' + k, stacked));
   }
   return items;
@@ -300,14 +302,14 @@ function callItems() {
 
 // as many octas as can be looked over, with the one that was changed last
 function octasShown() {
+  if (octas.length <= MOST_VALUES) return octas;
   const { place, names } = run;
   let n = run.first[run.at + 1] - 1;
   while (n >= 0 && 'sl'.includes(names[place[n]][0])) n--;
   const last = Math.max(0, octas.findIndex((octa) => octa.place === place[n]));
   if (last < firstOcta || last >= firstOcta + MOST_VALUES) firstOcta = Math.max(0, last - MOST_VALUES / 2);
-  const shown = octas.slice(firstOcta, firstOcta + MOST_VALUES);
-  element('window').textContent = shown.length < octas.length ? `${shown.length} octas of ${octas.length}` : '';
-  return shown;
+  element('window').textContent = `${MOST_VALUES} octas of ${octas.length}, with the one that was changed last`;
+  return octas.slice(firstOcta, firstOcta + MOST_VALUES);
 }
 
 function showOutput() {
@@ -434,7 +436,7 @@ function showRun() {
   }
   octas.sort((a, b) => (a.address < b.address ? -1 : 1));
   if (data.end === 'stopped') stop = addNote(lineAt.get(run.pc[run.steps]), endOfRun(), [data.outcome.what, data.outcome.help]);
-  for (const id of ['controls', 'state', 'keys']) element(id).hidden = false;
+  for (const id of ['controls', 'told', 'state', 'keys']) element(id).hidden = false;
   element('output').parentNode.hidden = !data.output;
   element('slider').max = element('step').max = element('steps').textContent = run.steps;
   element('slider').oninput = element('step').onchange = ({ target }) => goTo(+target.value);
