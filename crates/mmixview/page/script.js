@@ -143,18 +143,19 @@ const shownValue = (value) => (value >> 61n && !(value >> 63n) && labelOf(value)
 
 function endOfRun() {
   const { message, status } = data.outcome;
+  const cut = `The program went on; these are its first ${data.steps} steps.`;
   return {
     halted: `The program halted with status ${status}.`,
     stopped: `The program was stopped: ${message}.`,
-    steps: `The program went on; this page has its first ${data.steps} steps.`,
-    records: `The program went on; this page has its first ${data.steps} steps, for more would be too large.`,
+    steps: cut,
+    records: cut + ' There is no room for more.',
     refused: `The program is refused: ${message}.`,
   }[data.end];
 }
 
 // ---- the program
 
-const UNTOLD = 'rBB rO rS rL rWW rXX rYY rZZ'.split(' '); // what calls and traps change beside
+const UNTOLD = /^r([LOS]|(.)\2)$/; // special registers that calls and traps change beside, as rBB
 const [MOST_VALUES, MOST_BYTES, MOST_LINES] = [100, 20000, 3000]; // that are shown at once
 let data, run, specials, stop;
 let octas = []; // of memory, those that change: { name, place, address }
@@ -166,7 +167,7 @@ const namesAt = new Map(); // the labels of loaded tetras, by their addresses
 const lines = []; // { line, addresses, tr, text }
 const lineAt = new Map(); // by the address
 
-const element = (id) => document.getElementById(id);
+const $ = (id) => document.getElementById(id);
 
 function add(parent, name, text = '', className = '') {
   const child = document.createElement(name);
@@ -193,7 +194,7 @@ function readSymbols() {
 }
 
 function showLine(line, heat) {
-  const tr = add(element('lines'), 'tr', '', line.times === 0 ? 'never' : '');
+  const tr = add($('lines'), 'tr', '', line.times === 0 ? 'never' : '');
   const addresses = line.cells.map(({ address }) => addressOf(address));
   const few = (texts) => texts.slice(0, 4).join('\n') + (texts.length > 4 ? '\n…' : '');
   const places = [line.line ?? '', few(addresses.map(hexadecimal))];
@@ -224,7 +225,7 @@ function showProgram() {
 
 // a row below a line: what is wrong with it, or why the run was stopped there
 function addNote(shown, title, texts) {
-  const tr = add(element('lines'), 'tr', '', 'note');
+  const tr = add($('lines'), 'tr', '', 'note');
   const cell = add(tr, 'td');
   cell.colSpan = 8;
   add(cell, 'b', title);
@@ -259,7 +260,7 @@ function lineName(step) {
 
 // fills a table with values, { name, place, address }, and calls, { name, step }
 function showValues(id, items) {
-  const body = element(id);
+  const body = $(id);
   body.closest('section').hidden = !items.length;
   items.forEach(({ name, place, step, address }, i) => {
     const row = body.rows[i] ?? addValue(body);
@@ -308,7 +309,7 @@ function octasShown() {
   while (n >= 0 && 'sl'.includes(names[place[n]][0])) n--;
   const last = Math.max(0, octas.findIndex((octa) => octa.place === place[n]));
   if (last < firstOcta || last >= firstOcta + MOST_VALUES) firstOcta = Math.max(0, last - MOST_VALUES / 2);
-  element('window').textContent = `${MOST_VALUES} octas of ${octas.length}, with the one that was changed last`;
+  $('window').textContent = `${MOST_VALUES} octas of ${octas.length}`;
   return octas.slice(firstOcta, firstOcta + MOST_VALUES);
 }
 
@@ -318,10 +319,9 @@ function showOutput() {
   const all = textOf(data.output.slice(start, to));
   let old = textOf(data.output.slice(start, Math.max(from, start)));
   while (!all.startsWith(old)) old = old.slice(0, -1);
-  const output = element('output');
+  const output = $('output');
   output.textContent = (start ? '…' : '') + old;
   add(output, 'mark', all.slice(old.length));
-  output.scrollTop = output.scrollHeight;
 }
 
 function showRing() {
@@ -334,15 +334,15 @@ function showRing() {
   };
   draw('hidden', spilled, hidden - spilled);
   draw('local', hidden, local);
-  element('ring-told').textContent = `Of ${size} registers ${local} are local (the broad part), ${hidden - spilled} hidden, and
-    ${size - local - hidden + spilled} free (the thin part). ${spilled} more hidden ones are in memory.`;
+  $('ring-told').textContent = `Of ${size} registers ${local} are local (broad), ${hidden - spilled} hidden, and the rest free (thin).
+    ${spilled} more hidden ones are in memory.`;
 }
 
 // the changes of registers and memory that are told, by the rows that show them
 function changesTold() {
   const rows = [...document.querySelectorAll('#state section:not(#calls) .new')];
-  const told = rows.map(({ cells }) => [...cells].map((cell) => cell.textContent)).filter(([name]) => !UNTOLD.includes(name));
-  return told.map(([name, value, , , was]) => `${name} = ${value}, ${was}`);
+  const texts = rows.map(({ cells }) => [0, 1, 4].map((k) => cells[k].textContent));
+  return texts.filter(([name]) => !UNTOLD.test(name)).map(([name, value, was]) => `${name} = ${value}, ${was}`);
 }
 
 function tellStep() {
@@ -351,7 +351,7 @@ function tellStep() {
   if (at) {
     const told = changesTold();
     if (told.length > 3) told.splice(3, told.length, `${told.length - 3} more`);
-    if (hidden[at] > hidden[at - 1]) told.unshift(`a call that hides ${hidden[at] - hidden[at - 1]} registers`);
+    if (hidden[at] > hidden[at - 1]) told.unshift('a call');
     if (hidden[at] < hidden[at - 1]) told.unshift('a return');
     const bytes = written[at] - written[at - 1];
     if (bytes) told.push(`${bytes} bytes written` + (errors.has(at) ? ' to standard error' : ''));
@@ -359,18 +359,23 @@ function tellStep() {
   }
   if (hasNext()) texts.push(`Next: ${lineName(at)}.`);
   if (at === steps) texts.push(endOfRun());
-  element('told').textContent = texts.join(' ');
+  $('told').textContent = texts.join(' ');
 }
 
+// marks the lines that are next and done, and gives the one to look at
 function markLines() {
   document.querySelector('.done')?.classList.remove('done');
   document.querySelector('[aria-current]')?.removeAttribute('aria-current');
-  const done = run.at ? lineAt.get(run.pc[run.at - 1])?.tr : null;
-  const now = hasNext() ? lineAt.get(run.pc[run.at])?.tr : null;
+  const done = lineAt.get(run.pc[run.at - 1])?.tr;
+  const now = hasNext() && lineAt.get(run.pc[run.at])?.tr;
   done?.classList.add('done');
-  now?.setAttribute('aria-current', 'step');
-  const box = element('program');
-  const top = ((now ?? done)?.offsetTop ?? 0) - box.scrollTop;
+  if (now) now.setAttribute('aria-current', 'step');
+  return now || done;
+}
+
+// scrolls a box to a row of it, if there is one
+function reveal(box, row) {
+  const top = row ? row.offsetTop - box.scrollTop : 30;
   if (top < 30 || top + 30 > box.clientHeight) box.scrollTop += top - box.clientHeight / 3;
 }
 
@@ -379,10 +384,10 @@ function goTo(step) {
   const { at, steps, place, change, first, value } = run;
   before.clear();
   for (let n = first[at]; at && n < first[at + 1]; n++) before.set(place[n], value[place[n]] ^ change[n]);
-  element('slider').value = element('step').value = at;
-  element('slider').setAttribute('aria-valuetext', `step ${at} of ${steps}`);
+  $('slider').value = $('step').value = at;
+  $('slider').setAttribute('aria-valuetext', `step ${at} of ${steps}`);
   if (stop) stop.hidden = at < steps;
-  markLines();
+  const line = markLines();
   showOutput();
   showValues('locals', registers(run.hidden[at], run.hidden[at] + special(RL), registerName, stacked));
   showValues('hidden', callItems());
@@ -390,7 +395,11 @@ function goTo(step) {
   showValues('globals', registers(special(RG), 256, (k) => registerName(k + special(RG)), (k) => k));
   showValues('specials', specials);
   tellStep();
-  if (element('ring').open) showRing();
+  if ($('ring').open) showRing();
+  // the layout is asked for once, after all that changes it
+  reveal($('program'), line);
+  for (const table of document.querySelectorAll('#state table')) reveal(table, table.querySelector('.new'));
+  $('output').scrollTop = 1e9;
 }
 
 // ---- what is pressed
@@ -436,11 +445,11 @@ function showRun() {
   }
   octas.sort((a, b) => (a.address < b.address ? -1 : 1));
   if (data.end === 'stopped') stop = addNote(lineAt.get(run.pc[run.steps]), endOfRun(), [data.outcome.what, data.outcome.help]);
-  for (const id of ['controls', 'told', 'state', 'keys']) element(id).hidden = false;
-  element('output').parentNode.hidden = !data.output;
-  element('slider').max = element('step').max = element('steps').textContent = run.steps;
-  element('slider').oninput = element('step').onchange = ({ target }) => goTo(+target.value);
-  element('ring').ontoggle = showRing;
+  for (const id of ['controls', 'told', 'state', 'keys']) $(id).hidden = false;
+  $('output').parentNode.hidden = !data.output;
+  $('slider').max = $('step').max = $('steps').textContent = run.steps;
+  $('slider').oninput = $('step').onchange = ({ target }) => goTo(+target.value);
+  $('ring').ontoggle = showRing;
   document.onclick = onClick;
   document.onkeydown = onKey;
   window.onhashchange = () => goTo(+location.hash.slice(1) || 0); // run.html#57 is opened at step 57
@@ -448,20 +457,21 @@ function showRun() {
 }
 
 function showPage() {
-  data = JSON.parse(element('data').textContent);
-  element('name').textContent = [data.name.replace(/.*\//, ''), ...data.arguments].join(' ');
-  document.title = element('name').textContent + ': a program and its run';
-  element('about').textContent = endOfRun();
-  element('version').textContent = data.version;
+  data = JSON.parse($('data').textContent);
+  $('name').textContent = [data.name.replace(/.*\//, ''), ...data.arguments].join(' ');
+  document.title = $('name').textContent + ': a program and its run';
+  $('about').textContent = endOfRun();
+  $('version').textContent = data.version;
   readSymbols();
   showProgram();
   data.faults.forEach(showFault);
   if (data.more) addNote(null, 'There are more faults than these.', []);
-  const all = element('all');
+  const all = $('all');
   all.onchange = () => document.body.classList.toggle('all', all.checked);
   all.checked = innerWidth > 1400;
   all.onchange();
   if (data.start) showRun();
+  else $('program').style.maxHeight = 'none';
 }
 
 if (typeof document === 'object') showPage();
