@@ -31,9 +31,10 @@ def style_of(text):
 
 
 def script_of(text):
-    """A script without comments, and without blanks and ends of lines beside signs; what is quoted stays as it is. So each
-    statement has to end with ; or }."""
-    quoted = r"""('(?:[^'\\\n]|\\.)*'|`(?:[^`\\]|\\.)*`|(?:(?<=\()|(?<== ))/(?:[^/\\\n[]|\\.|\[(?:[^]\\]|\\.)*\])+/|//[^\n]*)"""
+    """A script without comments, and without blanks and ends of lines beside signs; what is quoted stays as it is. So
+    each statement has to end with ; or }."""
+    expression = r"(?:(?<=\()|(?<== ))/(?:[^/\\\n[]|\\.|\[(?:[^]\\]|\\.)*\])+/"
+    quoted = rf"""('(?:[^'\\\n]|\\.)*'|`(?:[^`\\]|\\.)*`|{expression}|//[^\n]*)"""
     uncommented = "".join("" if part.startswith("//") else part for part in re.split(quoted, text))
     parts = re.split(quoted, uncommented)
     for index in range(0, len(parts), 2):
@@ -59,7 +60,8 @@ def parts():
     for text in style, script:
         if "</" in text or "<!--" in text:
             sys.exit("style.css and script.js must not have </ or <!-- in them")
-    page = replaced(page, "style-src 'self'; script-src 'self'", f"style-src {hash_of(style)}; script-src {hash_of(script)}")
+    page = replaced(page, "style-src 'self'", f"style-src {hash_of(style)}")
+    page = replaced(page, "script-src 'self'", f"script-src {hash_of(script)}")
     page = replaced(page, LINK, f"<style>{style}</style>")
     page = replaced(page, SCRIPT, f"<script>{script}</script>")
     before, after = page.split(DATA)

@@ -1,7 +1,7 @@
 'use strict';
 
-// A run, by its data as docs/PAGE.md describes it. Places are numbered: special registers 0 to 31, global ones 32 to 255,
-// and further ones as records name them. Record r leads to step r, and record 0 to the start.
+// A run, by its data as docs/PAGE.md describes it. Places are numbered: special registers 0 to 31, global ones 32 to
+// 255, and further ones as records name them. Record r leads to step r, and record 0 to the start.
 function runOf({ start, records, steps }) {
   const text = start + records;
   let changes = 0;
@@ -86,7 +86,7 @@ function runOf({ start, records, steps }) {
       while (step > 0 && first[step] > n) step--;
       return step;
     },
-    // the nearest step, on (1) or back (-1), with so many more registers hidden than now at most; or the last one that way
+    // the nearest step, on (1) or back (-1), with at most so many more registers hidden than now; or the last one
     nearest(by, more) {
       let step = this.at + by;
       while (step > 0 && step < steps && hidden[step] > hidden[this.at] + more) step += by;
@@ -124,7 +124,8 @@ function charactersOf(value) {
 // bytes, one a character, as UTF-8; what is none, and what controls a terminal, as \xNN
 function textOf(bytes) {
   const coded = (c, sign) => c.replace(/[^]/g, (b) => sign + b.charCodeAt(0).toString(16).padStart(2, '0'));
-  return bytes.replace(/[\xc2-\xdf][\x80-\xbf]|[\xe0-\xef][\x80-\xbf]{2}|[\xf0-\xf4][\x80-\xbf]{3}|[^\t\n -~]/g, (c) => {
+  const special = /[\xc2-\xdf][\x80-\xbf]|[\xe0-\xef][\x80-\xbf]{2}|[\xf0-\xf4][\x80-\xbf]{3}|[^\t\n -~]/g;
+  return bytes.replace(special, (c) => {
     try {
       if (c.length > 1) return decodeURIComponent(coded(c, '%'));
     } catch {}
@@ -236,7 +237,8 @@ function addNote(shown, title, texts) {
 
 function showFault({ at, caret, fault, from_line, help, length, line, meant, name, what }) {
   const shown = lines[at - 1];
-  addNote(shown, `${fault} ${name}`, [from_line && `From line ${from_line}, to line ${line}.`, what, meant && `Is ${meant} meant?`, help]);
+  const other = from_line && `From line ${from_line}, to line ${line}.`;
+  addNote(shown, `${fault} ${name}`, [other, what, meant && `Is ${meant} meant?`, help]);
   if (!shown || !caret) return;
   const { bytes, text } = shown.line;
   const all = bytes ? Uint8Array.from(bytes.match(/../g), (b) => '0x' + b) : new TextEncoder().encode(text);
@@ -334,8 +336,8 @@ function showRing() {
   };
   draw('hidden', spilled, hidden - spilled);
   draw('local', hidden, local);
-  $('ring-told').textContent = `Of ${size} registers ${local} are local (broad), ${hidden - spilled} hidden, and the rest free (thin).
-    ${spilled} more hidden ones are in memory.`;
+  $('ring-told').textContent = `Of ${size} registers ${local} are local (broad), ${hidden - spilled} hidden, and the
+    rest free (thin). ${spilled} more hidden ones are in memory.`;
 }
 
 // the changes of registers and memory that are told, by the rows that show them
@@ -444,7 +446,8 @@ function showRun() {
     octas.push({ name: labelOf(address) || hexadecimal(address), place, address });
   }
   octas.sort((a, b) => (a.address < b.address ? -1 : 1));
-  if (data.end === 'stopped') stop = addNote(lineAt.get(run.pc[run.steps]), endOfRun(), [data.outcome.what, data.outcome.help]);
+  const { what, help } = data.outcome;
+  if (data.end === 'stopped') stop = addNote(lineAt.get(run.pc[run.steps]), endOfRun(), [what, help]);
   for (const id of ['controls', 'told', 'state', 'keys']) $(id).hidden = false;
   $('output').parentNode.hidden = !data.output;
   $('slider').max = $('step').max = $('steps').textContent = run.steps;
