@@ -377,7 +377,7 @@ function markLines() {
 
 // scrolls a box to a row of it, if there is one
 function reveal(box, row) {
-  const top = row ? row.offsetTop - box.scrollTop : 30;
+  const top = row ? row.getBoundingClientRect().top - box.getBoundingClientRect().top : 30;
   if (top < 30 || top + 30 > box.clientHeight) box.scrollTop += top - box.clientHeight / 3;
 }
 
@@ -400,8 +400,7 @@ function goTo(step) {
   if ($('ring').open) showRing();
   // the layout is asked for once, after all that changes it
   reveal($('program'), line);
-  for (const table of document.querySelectorAll('#state table')) reveal(table, table.querySelector('.new'));
-  $('output').scrollTop = 1e9;
+  for (const section of document.querySelectorAll('#state section')) reveal(section, section.querySelector('.new, mark'));
 }
 
 // ---- what is pressed
