@@ -375,6 +375,8 @@ def check_pages(maker):
         pages = []
         for program in programs:
             text = program.data(maker, MOST_STEPS)
+            if not text:
+                continue
             path = f"{room}/{program.word}.html"
             with open(path, "wb") as file:
                 file.write(before.encode() + text.strip() + after.encode())
