@@ -377,9 +377,12 @@ def check_pages(maker):
             text = program.data(maker, MOST_STEPS)
             if not text:
                 continue
+            page = before.encode() + text.strip() + after.encode()
+            if maker[-1] == "--json" and program.data(maker[:-1], MOST_STEPS) != page:
+                wrong(program.name, "the page is not what join.py makes of the data")
             path = f"{room}/{program.word}.html"
             with open(path, "wb") as file:
-                file.write(before.encode() + text.strip() + after.encode())
+                file.write(page)
             if shutil.which("tidy"):
                 done = subprocess.run(["tidy", "-q", "-e", path], capture_output=True, text=True, check=False)
                 if done.stderr:
