@@ -83,7 +83,7 @@ for (let k = 0; k < length; k++) {
   assert.deepEqual(dumpOf(run, octas), state.dump);
 }
 // who made a value: the step changes it, and none between does
-for (let place = 0; place < run.names.length; place += 7) {
+for (let place = 0; place < run.value.length; place += 7) {
   const maker = run.makerOf(place, run.steps);
   run.goTo(run.steps);
   const value = run.value[place];

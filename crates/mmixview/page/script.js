@@ -6,7 +6,6 @@ function runOf({ start, records, steps }) {
   const text = start + records;
   let changes = 0;
   for (let i = -1; (i = text.indexOf('=', i + 1)) >= 0; ) changes++;
-  const names = Array.from({ length: 256 }, () => 's');
   const numbers = new Map(); // of places by their names
   const first = new Uint32Array(steps + 2); // the first change of each record
   const place = new Uint32Array(changes);
@@ -18,7 +17,7 @@ function runOf({ start, records, steps }) {
 
   const numberOf = (kind, index, name) => {
     if (kind === 's' || kind === 'g') return index;
-    if (!numbers.has(name)) numbers.set(name, names.push(name) - 1);
+    if (!numbers.has(name)) numbers.set(name, 256 + numbers.size);
     return numbers.get(name);
   };
 
@@ -68,8 +67,8 @@ function runOf({ start, records, steps }) {
   first[steps + 1] = n;
 
   return {
-    ...{ steps, names, numbers, first, place, change, pc, hidden, call, written, errors },
-    value: new BigUint64Array(names.length),
+    ...{ steps, numbers, first, place, change, pc, hidden, call, written, errors },
+    value: new BigUint64Array(256 + numbers.size),
     at: -1,
     apply(r) {
       for (let n = first[r]; n < first[r + 1]; n++) this.value[place[n]] ^= change[n];
@@ -159,8 +158,8 @@ function endOfRun() {
 const UNTOLD = /^r([LOS]|(.)\2)$/; // special registers that calls and traps change beside, as rBB
 const [MOST_VALUES, MOST_BYTES, MOST_LINES] = [100, 20000, 3000]; // that are shown at once
 let data, run, specials, stop;
-let octas = []; // of memory, those that change: { name, place, address }
-let firstOcta = 0; // the first one that is shown
+const octas = []; // of memory, those that change: { name, place, address }
+const indices = new Map(); // of these, by their places
 const before = new Map(); // the values that the last step changed, as they were, by their places
 const labels = ['Data', 'Pool', 'Stack'].map((name, k) => ({ name: name + '_Segment', value: BigInt(k + 1) << 61n }));
 const registerNames = new Map();
@@ -306,13 +305,11 @@ function callItems() {
 // as many octas as can be looked over, with the one that was changed last
 function octasShown() {
   if (octas.length <= MOST_VALUES) return octas;
-  const { place, names } = run;
   let n = run.first[run.at + 1] - 1;
-  while (n >= 0 && 'sl'.includes(names[place[n]][0])) n--;
-  const last = Math.max(0, octas.findIndex((octa) => octa.place === place[n]));
-  if (last < firstOcta || last >= firstOcta + MOST_VALUES) firstOcta = Math.max(0, last - MOST_VALUES / 2);
+  while (n >= 0 && !indices.has(run.place[n])) n--;
+  const from = Math.max(0, (indices.get(run.place[n]) ?? 0) - MOST_VALUES / 2);
   $('window').textContent = `${MOST_VALUES} octas of ${octas.length}`;
-  return octas.slice(firstOcta, firstOcta + MOST_VALUES);
+  return octas.slice(from, from + MOST_VALUES);
 }
 
 function showOutput() {
@@ -445,6 +442,7 @@ function showRun() {
     octas.push({ name: labelOf(address) || hexadecimal(address), place, address });
   }
   octas.sort((a, b) => (a.address < b.address ? -1 : 1));
+  octas.forEach(({ place }, index) => indices.set(place, index));
   const { what, help } = data.outcome;
   if (data.end === 'stopped') stop = addNote(lineAt.get(run.pc[run.steps]), endOfRun(), [what, help]);
   for (const id of ['controls', 'told', 'state', 'keys']) $(id).hidden = false;
