@@ -320,8 +320,12 @@ class Page:
         self.expect("keys with Shift", self.step(), last)
         self.click("#globals tr:last-child button")
         is_made = self.all("#globals tr:last-child", "e.className") == ["new"]
-        self.expect("the maker of $255", self.step() == 0 or is_made, True)
+        step = self.step()
+        self.expect("the maker of $255", step == 0 or is_made, True)
         self.check_state()
+        self.press("End")
+        self.click("#globals tr:last-child .hexadecimal")
+        self.expect("the maker of $255, by its digits", self.step(), step)
         self.click("#lines th button")
         self.expect("a click on a line", len(self.all("#lines tr[aria-current] th button", "1")), 1)
         self.check_state()

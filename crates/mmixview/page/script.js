@@ -421,8 +421,10 @@ function onClick({ target }) {
   const [row, button] = [target.closest('tr'), target.closest('button')];
   const line = lines.find(({ tr }) => tr === row);
   if (button?.dataset.key) goTo(MOVES[button.dataset.key]());
-  else if (line && getSelection().isCollapsed) goToNext(line);
-  else if (row && button) row.step ? goTo(row.step) : goToMaker(row.place);
+  else if (!button && !getSelection().isCollapsed) return; // a text was marked
+  else if (line) goToNext(line);
+  else if (row?.step) goTo(row.step);
+  else if (row && 'place' in row) goToMaker(row.place);
 }
 
 function onKey(event) {
