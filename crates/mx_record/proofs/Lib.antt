@@ -1,0 +1,5 @@
+pub mod Telling
+pub mod Beyond
+pub mod Searching
+pub mod Inverse
+pub mod States
