@@ -2,5 +2,8 @@ pub mod Telling
 pub mod Beyond
 pub mod Searching
 pub mod Stacking
+pub mod Reaching
+pub mod Stacks
+pub mod StackTurns
 pub mod Inverse
 pub mod States
