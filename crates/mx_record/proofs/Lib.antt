@@ -5,5 +5,6 @@ pub mod Stacking
 pub mod Reaching
 pub mod Stacks
 pub mod StackTurns
+pub mod Turning
 pub mod Inverse
 pub mod States

@@ -7,6 +7,7 @@ mod octas;
 mod reach;
 mod registers;
 mod stacked;
+mod turns;
 
 pub use changes::{Change, Record};
 pub use laws::{records_are_counted, records_are_their_own_inverse, states_follow_from_records};
