@@ -24,7 +24,7 @@ register-beyond s q h l =
     cond_both (q == rL) _ _ (λ x. x ≡ 0) (λ e. absurd (grind (arith, nat_tests))) (λ _.
     get_or_past s.special q 0 (omega (arith, h, l)))))))
 
-special-beyond : (s : State) (w : Window) (q : ℕ) → IsMachine s w → 32 ≤ q → special_shown s q ≡ 0
+pub special-beyond : (s : State) (w : Window) (q : ℕ) → IsMachine s w → 32 ≤ q → special_shown s q ≡ 0
 special-beyond s w q m l = cond_both (q == rC) 0 (special_register s q) (λ x. x ≡ 0) (λ _. refl) (λ _. register-beyond s q m.specials l)
 
 pub specials-beyond : (s t : State) (v w : Window) (q : ℕ) → IsMachine s v → IsMachine t w → 32 ≤ q → special_shown s q ≡ special_shown t q
@@ -40,7 +40,7 @@ value-beyond v q b l =
 in-bounds : (s : State) (w : Window) → IsMachine s w → AreInBounds (visible s.stack)
 in-bounds s w m = subst (λ z. AreInBounds (visible z)) (sym m.over) m.ring.registers
 
-global-beyond : (s : State) (w : Window) (q : ℕ) → IsMachine s w → 256 ≤ q → global_shown s q ≡ 0
+pub global-beyond : (s : State) (w : Window) (q : ℕ) → IsMachine s w → 256 ≤ q → global_shown s q ≡ 0
 unfolding register
 global-beyond s w q m l = cond_both (nat_lt q (global_start s)) 0 (register s.stack q) (λ x. x ≡ 0) (λ _. refl) (λ _. value-beyond (visible s.stack) q (in-bounds s w m) l)
 

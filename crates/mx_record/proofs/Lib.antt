@@ -6,5 +6,7 @@ pub mod Reaching
 pub mod Stacks
 pub mod StackTurns
 pub mod Turning
+pub mod Starting
+pub mod Recording
 pub mod Inverse
 pub mod States

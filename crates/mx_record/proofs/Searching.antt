@@ -1,11 +1,11 @@
 -- Octas that are searched for, one after another.
-use Rattle.std.proofs.Common.{◌≡◌, ◌≢◌, ◌≤◌, ◌<◌, ℕ, ◌+◌, ◌*◌, ◌/◌, ◌^◌, ◌==◌, not, true, false, List, Some, None, arith, sym, ◌∙◌, ap}
+use Rattle.std.proofs.Common.{◌≡◌, ◌≢◌, ◌≤◌, ◌<◌, ℕ, ◌+◌, ◌*◌, ◌/◌, ◌^◌, ◌==◌, not, true, false, List, Some, None, [], arith, refl, sym, ◌∙◌, ap}
 use Rattle.std.proofs.lemmas.Bool.Decides.{nat_tests}
 use Rattle.mx_mem.specs.Memory.{IsNextNonzero}
 use Rattle.mx_core.specs.State.{State, octa}
 use Rattle.mx_record.specs.Following.{TellsAll, TellsWithin}
 use Rattle.mx_record.specs.Pictures.{octa_shown}
-use Rattle.mx_record.specs.Records.{noted}
+use Rattle.mx_record.specs.Records.{difference, noted}
 use Rattle.mx_record.specs.declared.changes.Change.{Change}
 use Rattle.mx_record.proofs.Beyond.{octa-zero, octa-beyond, octa-hidden}
 use Rattle.mx_record.proofs.Telling.{Zeros, new-done, new-first, new-noted, new-on, none-old, old-below, old-done, old-noted, old-or-below}
@@ -56,4 +56,21 @@ new-none s t changes n h f = new-done changes (octa_shown s) (octa_shown t) n h 
 pub new-all : (s t : State) (changes : List Change) (n : ℕ) → TellsWithin changes (octa_shown s) (octa_shown t) (old-or-below (octa_shown s) n) → 2 ^ 60 ≤ n → TellsAll changes (octa_shown s) (octa_shown t)
 new-all s t changes n h l = new-done changes (octa_shown s) (octa_shown t) n h (λ q m. behind-all t n q l m)
 
+-- FROM NOTHING
+
+pub start-first : (changes : List Change) (new : ℕ → ℕ) → changes ≡ [] → TellsWithin changes (λ _. 0) new (old-or-below (λ _. 0) 0)
+unfolding difference
+start-first changes new e = new-first changes (λ _. 0) new (record { at = λ q. ap (λ x. difference x q) e })
+
+pub start-next : (t : State) (changes later : List Change) (n a x : ℕ) → TellsWithin changes (λ _. 0) (octa_shown t) (old-or-below (λ _. 0) n) → IsNextNonzero (octa t) (8 * n) (Some (a, x)) →
+    later ≡ noted changes (a / 8) 0 (octa_shown t (a / 8)) → TellsWithin later (λ _. 0) (octa_shown t) (old-or-below (λ _. 0) (a / 8 + 1))
+start-next t changes later n a x h f e = new-noted changes later (λ _. 0) (octa_shown t) n (a / 8) h (omega (arith, f.0)) (before-next t n a x f) refl e
+
+pub start-none : (t : State) (changes : List Change) (n : ℕ) → TellsWithin changes (λ _. 0) (octa_shown t) (old-or-below (λ _. 0) n) → IsNextNonzero (octa t) (8 * n) None → TellsAll changes (λ _. 0) (octa_shown t)
+start-none t changes n h f = new-done changes (λ _. 0) (octa_shown t) n h (behind-last t n f)
+
+pub start-all : (t : State) (changes : List Change) (n : ℕ) → TellsWithin changes (λ _. 0) (octa_shown t) (old-or-below (λ _. 0) n) → 2 ^ 60 ≤ n → TellsAll changes (λ _. 0) (octa_shown t)
+start-all t changes n h l = new-done changes (λ _. 0) (octa_shown t) n h (λ q m. behind-all t n q l m)
+
 pub ruleset searching = (old-all, new-all, new-first, none-old)
+pub ruleset starting = (start-first, start-all)

@@ -226,25 +226,34 @@ local-value : (z : Stack) (k : ℕ) → AreInBounds (visible z) → k < local_co
 unfolding register
 local-value z k b l = value-at (visible z) k b l
 
-pub all-found : (y : Stack) (w : Window) → IsRing w → Turned y (windowed w) → AreFound (hidden_count y) (octa_of (all_registers y)) (windowed w)
-all-found y w r t i = by-hidden (cases_lt i (hidden_count (windowed w)))
+-- where those that are hidden and not spilled are found by what they had, all are
+abbrev Above : ℕ → (ℕ → ℕ) → Stack → Type 0
+Above before old z = (i : ℕ) → spilled_count z ≤ i → i < hidden_count z → octa_of (hidden_octas z) i ≡ hidden_by before (hidden_count z) (old i) i
+
+found-by : (before : ℕ) (old : ℕ → ℕ) (w : Window) → IsRing w → Above before old (windowed w) → AreFound before old (windowed w)
+found-by before old w r t i = by-hidden (cases_lt i (hidden_count (windowed w)))
   where
     z : Stack
     z = windowed w
 
-    old : ℕ
-    old = octa_of (all_registers y) i
-
-    in-hidden : i < hidden_count z → octa_of (all_registers z) i ≡ cond (nat_lt i (spilled_count z)) (stack_octa z i) (hidden_by (hidden_count y) (hidden_count z) old i)
+    in-hidden : i < hidden_count z → octa_of (all_registers z) i ≡ cond (nat_lt i (spilled_count z)) (stack_octa z i) (hidden_by before (hidden_count z) (old i) i)
     in-hidden l =
-        hidden-at z i l ∙ cond_both (nat_lt i (spilled_count z)) (stack_octa z i) (hidden_by (hidden_count y) (hidden_count z) old i) (λ x. octa_of (hidden_octas z) i ≡ x)
-          (λ e. area-at w i r (grind (arith, nat_tests))) (λ e. t.above i (grind (arith, nat_tests)) l)
+        hidden-at z i l ∙ cond_both (nat_lt i (spilled_count z)) (stack_octa z i) (hidden_by before (hidden_count z) (old i) i) (λ x. octa_of (hidden_octas z) i ≡ x)
+          (λ e. area-at w i r (grind (arith, nat_tests))) (λ e. t i (grind (arith, nat_tests)) l)
 
     in-locals : hidden_count z ≤ i → octa_of (all_registers z) i ≡ cond (nat_lt (i - hidden_count z) (local_count z)) (register z (i - hidden_count z)) 0
     in-locals l =
         local-at z i l ∙ cond_both (nat_lt (i - hidden_count z) (local_count z)) (register z (i - hidden_count z)) 0 (λ x. octa_of (visible z).locals (i - hidden_count z) ≡ x)
           (λ e. local-value z (i - hidden_count z) r.registers (grind (arith, nat_tests))) (λ e. get_or_past (visible z).locals (i - hidden_count z) 0 (grind (arith, nat_tests)))
 
-    by-hidden : (i < hidden_count z) ⊎ (hidden_count z ≤ i) → octa_of (all_registers z) i ≡ stacked_by (hidden_count y) old z i
+    by-hidden : (i < hidden_count z) ⊎ (hidden_count z ≤ i) → octa_of (all_registers z) i ≡ stacked_by before (old i) z i
     by-hidden (inl l) = cond_both (nat_lt i (hidden_count z)) _ _ (λ x. octa_of (all_registers z) i ≡ x) (λ _. in-hidden l) (λ e. absurd (grind (arith, nat_tests)))
     by-hidden (inr l) = cond_both (nat_lt i (hidden_count z)) _ _ (λ x. octa_of (all_registers z) i ≡ x) (λ e. absurd (grind (arith, nat_tests))) (λ _. in-locals l)
+
+pub all-found : (y : Stack) (w : Window) → IsRing w → Turned y (windowed w) → AreFound (hidden_count y) (octa_of (all_registers y)) (windowed w)
+all-found y w r t = found-by (hidden_count y) (octa_of (all_registers y)) w r t.above
+
+-- and so they are where none is hidden, whatever was there
+pub none-found : (z : Stack) (w : Window) (old : ℕ → ℕ) → z ≡ windowed w → IsRing w → hidden_count z ≡ 0 → AreFound 0 old z
+none-found z w old e r h =
+    subst (AreFound 0 old) (sym e) (found-by 0 old w r (λ i _ l. absurd (let none : hidden_count (windowed w) ≡ 0 = sym (ap hidden_count e) ∙ h in omega (arith, l, none))))

@@ -1,10 +1,16 @@
 -- A recorder at a step of a run.
-use Rattle.std.specs.Prelude.{ℕ, ◌≡◌, List, Ok}
+use Rattle.std.specs.Prelude.{ℕ, ◌≡◌, ◌+◌, List, Option, Ok}
 use Rattle.mx_word.specs.Results.{map_ok}
+use Rattle.mx_code.specs.declared.trace.Trace.{Trace}
 use Rattle.mx_core.specs.State.{State}
 use Rattle.mx_replay.specs.Programs.{step_of}
 use Rattle.mx_replay.specs.Searches.{Replayed}
+use Rattle.mx_replay.specs.Visits.{trace_after}
+use Rattle.mx_replay.specs.declared.program.Program.{Program}
 use Rattle.mx_record.specs.Following.{HoldsStack}
+use Rattle.mx_record.specs.Pictures.{no_picture, picture_at}
+use Rattle.mx_record.specs.Records.{Leads}
+use Rattle.mx_record.specs.declared.changes.Record.{Record}
 
 -- two replays of a run, of which one goes ahead, and the registers of the register stack where the other is
 pub record Recorded : Type 0 where
@@ -12,7 +18,18 @@ pub record Recorded : Type 0 where
   pub after : Replayed
   pub stacked : List ℕ
 
--- both are at the same step, and the registers are those of its state
-pub record IsReady (r : Recorded) : Type 0 where
+-- it has the registers of the state at step k
+abbrev pub HoldsStep : List ℕ → Program → ℕ → Type 0
+HoldsStep octas p k = (s : State) → map_ok (λ e. e.state) (step_of p k) ≡ Ok s → HoldsStack octas s.stack
+
+-- both are at step k of the run of this program, and the registers are those of its state
+pub record IsAt (r : Recorded) (p : Program) (k : ℕ) : Type 0 where
+  pub program : r.before.program ≡ p
+  pub step : r.before.at ≡ k
   pub together : r.after ≡ r.before
-  pub stacked : (s : State) → map_ok (λ e. e.state) (step_of r.before.program r.before.at) ≡ Ok s → HoldsStack r.stacked s.stack
+  pub stacked : HoldsStep r.stacked p k
+
+-- this is the record of the turn after step k, and its trace
+pub record IsRecordOf (p : Program) (k : ℕ) (made : Record × Option Trace) : Type 0 where
+  pub leads : Leads made.0 (picture_at p k) (picture_at p (k + 1))
+  pub traced : map_ok trace_after (step_of p k) ≡ Ok made.1

@@ -5,9 +5,12 @@ mod changes;
 mod laws;
 mod octas;
 mod reach;
+mod recorder;
 mod registers;
 mod stacked;
+mod start;
 mod turns;
 
 pub use changes::{Change, Record};
+pub use recorder::Recorder;
 pub use laws::{records_are_counted, records_are_their_own_inverse, states_follow_from_records};

@@ -13,11 +13,11 @@ use mx_word::{NoMemory, Sequence};
 use std::alloc::Global;
 
 /// How many octas have an address below 2^63.
-const OCTAS: u64 = 1 << 60;
+pub(crate) const OCTAS: u64 = 1 << 60;
 
 /// What is shown of the octa with a number.
 #[tactic(auto, using(crate::proofs::Beyond::octa_showing))]
-fn octa_shown(machine: &Machine, n: u64) -> u64
+pub(crate) fn octa_shown(machine: &Machine, n: u64) -> u64
     ensures { result ≡ spec.octa_shown (state_of machine.now) n }
 {
     if n >= OCTAS || is_in_stack_area(8 * n) {

@@ -14,7 +14,7 @@ use std::alloc::Global;
 const RC: u8 = 8;
 
 /// What is shown of the special register with a code.
-fn special_shown(machine: &Machine, code: u8) -> u64
+pub(crate) fn special_shown(machine: &Machine, code: u8) -> u64
     requires { code < 32 }
     ensures { result ≡ spec.special_shown (state_of machine.now) code }
 {
@@ -22,7 +22,7 @@ fn special_shown(machine: &Machine, code: u8) -> u64
 }
 
 /// What is shown of the global register with a number.
-fn global_shown(machine: &Machine, k: u8) -> u64
+pub(crate) fn global_shown(machine: &Machine, k: u8) -> u64
     ensures { result ≡ spec.global_shown (state_of machine.now) k }
 {
     if k < machine.g() { 0 } else { machine.register(k) }

@@ -1,0 +1,87 @@
+//! The records of a run, one after another.
+
+ghost use Rattle.std.specs.Prelude.{◌≡◌, ◌+◌, ℕ, Ok, IfOk, OnOk};
+ghost use Rattle.mx_core.specs.Kept.{state_of};
+ghost use Rattle.mx_replay.specs.Programs.{GoesOn, step_of};
+ghost use Rattle.mx_replay.specs.declared.program.Program.{Program};
+ghost use Rattle.mx_record.specs.Recording.{IsAt, IsRecordOf};
+ghost use Rattle.mx_word.specs.Results.{map_ok};
+
+use crate::changes::Record;
+use crate::stacked::Stacked;
+use crate::turns::turn_changes;
+use mx_core::{Machine, Trace};
+use mx_host::MemHost;
+use mx_replay::Replay;
+use mx_run::End;
+use mx_word::NoMemory;
+use std::alloc::Global;
+use std::marker::Model;
+
+/// A run whose turns are recorded: it is at a step of it, before the next turn.
+#[derive(Drop)]
+pub struct Recorder {
+    alloc: Global,
+    before: Replay,
+    after: Replay,
+    stacked: Stacked,
+}
+
+impl Model for Recorder {
+    ghost use Rattle.mx_record.specs.Recording.{Recorded};
+
+    ghost Value = { Recorded };
+
+    ghost view = { λ r. record { before = r.before; after = r.after; stacked = r.stacked } };
+}
+
+impl Recorder {
+    /// The step that it is at: how many turns were recorded.
+    pub fn at(&self) -> u64
+        ensures { result ≡ self.now.before.at }
+    {
+        self.before.at()
+    }
+
+    /// The machine at this step.
+    pub fn machine(&self) -> &Machine
+        ensures { map_ok (λ e. e.state) (step_of self.now.before.program self.now.before.at) ≡ Ok (state_of result.now) }
+    {
+        self.before.machine()
+    }
+
+    /// The host at this step.
+    pub fn host(&self) -> &MemHost
+        ensures { map_ok (λ e. e.host) (step_of self.now.before.program self.now.before.at) ≡ Ok result.now }
+    {
+        self.before.host()
+    }
+
+    /// How the run has ended at this step, or that it goes on, which is `Spent`.
+    pub fn end(&self) -> End
+        ensures { map_ok (λ e. e.end) (step_of self.now.before.program self.now.before.at) ≡ Ok result }
+    {
+        self.before.end()
+    }
+
+    /// Makes the next turn, and gives its record, with the trace where the machine went on.
+    ///
+    /// Errors: out of memory; then the recorder is at no step any more.
+    pub fn next(&mut self) -> Result<(Record, Option<Trace>), NoMemory>
+        requires ready { IsAt self.old self.old.before.program self.old.before.at }
+        requires on { GoesOn self.old.before.program self.old.before.at }
+        ensures ready { OnOk result (IsAt self.new self.old.before.program (self.old.before.at + 1)) }
+        ensures record { IfOk result (λ made. IsRecordOf self.old.before.program self.old.before.at made) }
+    {
+        let trace = self.after.step()?;
+        let record = turn_changes(
+            self.alloc,
+            self.before.machine(),
+            self.after.machine(),
+            trace,
+            &mut self.stacked,
+        )?;
+        self.before.step()?;
+        Ok((record, trace))
+    }
+}
