@@ -7,6 +7,7 @@ pub mod Stacks
 pub mod StackTurns
 pub mod Turning
 pub mod Starting
+pub mod Fresh
 pub mod Recording
 pub mod Inverse
 pub mod States

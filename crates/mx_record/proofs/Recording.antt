@@ -20,7 +20,7 @@ use Rattle.mx_replay.specs.declared.program.Program.{Program}
 use Rattle.mx_replay.proofs.RunEnds.{none-made, run-halts, run-stops}
 use Rattle.mx_replay.proofs.Steps.{step-before, step-from}
 use Rattle.mx_record.specs.Following.{ComesByTurn, HoldsStack}
-use Rattle.mx_record.specs.Pictures.{Picture, picture, picture_at, picture_of}
+use Rattle.mx_record.specs.Pictures.{Picture, no_picture, picture, picture_at, picture_of}
 use Rattle.mx_record.specs.Recording.{HoldsStep, IsAt, IsRecordOf, Recorded}
 use Rattle.mx_record.specs.Records.{Leads}
 use Rattle.mx_record.specs.declared.changes.Record.{Record}
@@ -108,3 +108,17 @@ goes-ahead v a s t trace i on own reach f g h =
     let next : map_ok (λ (e : Ended). e.state) (step_of v.before.program (v.before.at + 1)) ≡ Ok t = ap (map_ok (λ (e : Ended). e.state)) (sym (ap (λ q. step_of q a.at) program ∙ ap (step_of v.before.program) at)) ∙ g in
     let told : map_ok trace_after (step_of v.before.program v.before.at) ≡ Ok trace = subst (λ (x : Replayed). map_ok trace_after (step_of x.program x.at) ≡ Ok trace) i.together h in
     record { program = program; at = at; state = next; traced = told; turn = comes-next v.before.program v.before.at s t trace on f next told }
+
+-- THE START
+
+pub leads-first : (v : Replayed) (p : Program) (s : State) (r : Record) → v ≡ record { program = p; at = 0 } → map_ok (λ (e : Ended). e.state) (step_of v.program v.at) ≡ Ok s → Leads r no_picture (picture s) → Leads r no_picture (picture_at p 0)
+leads-first v p s r e f h = subst (λ (q : Picture). Leads r no_picture q) (sym (picture-is p 0 s (sym (ap (λ (x : Replayed). map_ok (λ (e : Ended). e.state) (step_of x.program x.at)) e) ∙ f))) h
+
+pub begun-ready : (v a : Replayed) (p q : Program) (s : State) (octas : List ℕ) → q ≡ p → v ≡ record { program = p; at = 0 } → a ≡ record { program = q; at = 0 } → map_ok (λ (e : Ended). e.state) (step_of v.program v.at) ≡ Ok s → HoldsStack octas s.stack →
+    IsAt (record { before = v; after = a; stacked = octas }) p 0
+begun-ready v a p q s octas e f g h k = record {
+  program = ap (λ (x : Replayed). x.program) f;
+  step = ap (λ (x : Replayed). x.at) f;
+  together = g ∙ ap (λ x. record { program = x; at = 0 }) e ∙ sym f;
+  stacked = holds-step octas p 0 s (sym (ap (λ (x : Replayed). map_ok (λ (e : Ended). e.state) (step_of x.program x.at)) f) ∙ h) k;
+}

@@ -1,18 +1,21 @@
 //! The records of a run, one after another.
 
-ghost use Rattle.std.specs.Prelude.{◌≡◌, ◌+◌, ℕ, Ok, IfOk, OnOk};
+ghost use Rattle.std.specs.Prelude.{◌≡◌, ◌≢◌, ◌+◌, ℕ, Ok, Err, IfErr, IfOk, OnOk};
 ghost use Rattle.mx_core.specs.Kept.{state_of};
-ghost use Rattle.mx_replay.specs.Programs.{GoesOn, step_of};
-ghost use Rattle.mx_replay.specs.declared.program.Program.{Program};
+ghost use Rattle.mx_replay.specs.Programs.{GoesOn, NamesFile, step_of};
+ghost use Rattle.mx_record.specs.Pictures.{no_picture, picture_at};
+ghost use Rattle.mx_record.specs.Records.{Leads};
 ghost use Rattle.mx_record.specs.Recording.{IsAt, IsRecordOf};
 ghost use Rattle.mx_word.specs.Results.{map_ok};
 
 use crate::changes::Record;
 use crate::stacked::Stacked;
+use crate::start::start_changes;
 use crate::turns::turn_changes;
 use mx_core::{Machine, Trace};
 use mx_host::MemHost;
-use mx_replay::Replay;
+use mx_outcome::Outcome;
+use mx_replay::{Program, Replay};
 use mx_run::End;
 use mx_word::NoMemory;
 use std::alloc::Global;
@@ -28,7 +31,9 @@ pub struct Recorder {
 }
 
 impl Model for Recorder {
-    ghost use Rattle.mx_record.specs.Recording.{Recorded};
+    ghost use Rattle.mx_record.specs.Pictures.{no_picture, picture_at};
+ghost use Rattle.mx_record.specs.Records.{Leads};
+ghost use Rattle.mx_record.specs.Recording.{Recorded};
 
     ghost Value = { Recorded };
 
@@ -36,6 +41,44 @@ impl Model for Recorder {
 }
 
 impl Recorder {
+    /// A program's run at its start, and the record that leads there from the picture in which everything is 0. It takes the
+    /// program twice.
+    ///
+    /// Errors: the outcome where no machine starts, as that of a source that is refused, and out of memory.
+    pub fn begin(
+        alloc: Global,
+        before: Program,
+        after: Program,
+    ) -> Result<(Recorder, Record), Outcome>
+        requires same { after ≡ before }
+        requires named { NamesFile before }
+        ensures ready { IfOk result (λ begun. IsAt begun.0 before 0) }
+        ensures record { IfOk result (λ begun. Leads begun.1 no_picture (picture_at before 0)) }
+        ensures refused { IfErr result (λ outcome. outcome ≢ Outcome.OutOfMemory → step_of before 0 ≡ Err outcome) }
+    {
+        let before = match Replay::begin(alloc, before) {
+            Ok(before) => before,
+            Err(outcome) => return Err(outcome),
+        };
+        let after = match Replay::begin(alloc, after) {
+            Ok(after) => after,
+            Err(outcome) => return Err(outcome),
+        };
+        let started = start_changes(alloc, before.machine());
+        match started {
+            Ok((record, stacked)) => Ok((
+                Recorder {
+                    alloc,
+                    before,
+                    after,
+                    stacked,
+                },
+                record,
+            )),
+            Err(_) => Err(Outcome::OutOfMemory),
+        }
+    }
+
     /// The step that it is at: how many turns were recorded.
     pub fn at(&self) -> u64
         ensures { result ≡ self.now.before.at }
