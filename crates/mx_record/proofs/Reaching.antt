@@ -26,7 +26,11 @@ use Rattle.mx_code.specs.declared.trace.Trace.{Trace}
 use Rattle.mx_core.specs.Bounds.{IsMachine}
 use Rattle.mx_core.specs.Deeds.{Deed, deed_for, deed_of, resumed}
 use Rattle.mx_core.specs.Effects.{Store}
-use Rattle.mx_core.specs.MachineSpace.{machine_contents, state_in}
+use Rattle.mx_mem.specs.Space.{Contents}
+use Rattle.mx_core.specs.MachineSpace.{IsWholeSpace, machine_contents, state_in}
+use Rattle.mx_core.specs.Traps.{trapped}
+use Rattle.mx_core.proofs.Spaces.States.{told}
+use Rattle.mx_record.proofs.Unread.{contents-kept}
 use Rattle.mx_core.specs.State.{State, is_negative}
 use Rattle.mx_core.specs.Step.{Stepped, went, calls, stopped, after, call_of, completed, fetched, made, step, store_touch, trace_of}
 use Rattle.mx_core.specs.Wild.{deed}
@@ -35,10 +39,10 @@ use Rattle.mx_core.proofs.Undone.Steps.{IsNotable, step-notes}
 use Rattle.mx_run.specs.Turns.{Turn, area_size, halts, stops, turn, turn_of, turn_with, went_on}
 use Rattle.mx_run.specs.WildRuns.{state_after}
 use Rattle.mx_replay.specs.Visits as visits
-use Rattle.mx_record.specs.Following.{ComesByTurn, is_reached, is_trap, operation_of_word, reach_of, written_reach}
+use Rattle.mx_record.specs.Following.{ComesByTurn, is_reached, is_trap, operation_of_word, reach_of, reads_file, written_reach}
 use Rattle.mx_record.specs.Pictures.{octa_shown}
 use Rattle.mx_record.specs.declared.reach.Reach.{Reach}
-use Rattle.mx_record.specs.declared.reach.Reach.TheVariants.{All}
+use Rattle.mx_record.specs.declared.reach.Reach.TheVariants.{All, Nothing}
 
 -- A STEP WITH ITS TRACE
 
@@ -76,7 +80,7 @@ step-traced s t trace e =
     subst (OfStep (λ u k. IsTraced s u k) (λ _. Unit {0})) e (step-of (λ u k. IsTraced s u k) (λ _. Unit {0}) s (λ _. tt) (λ p. record { state = refl; traced = refl; plain = p }))
 
 -- and one that calls a file trap is a TRAP
-step-called : (s : State) (call : TrapCall) → step s ≡ calls call → is_trap (operation_of_word call.word) ≡ true
+pub step-called : (s : State) (call : TrapCall) → step s ≡ calls call → is_trap (operation_of_word call.word) ≡ true
 step-called s call e =
     subst (OfStep (λ _ _. Unit {0}) (λ k. is_trap (operation_of_word k.word) ≡ true)) e (step-of (λ _ _. Unit {0}) (λ k. is_trap (operation_of_word k.word) ≡ true) s (λ p. p) (λ _. tt))
 
@@ -109,23 +113,18 @@ went-memory : (s : State) (d : Deed) → IsNotable s d → Stores (memory_of s) 
 went-memory s d q = subst (λ m. Stores m (memory_of (after s d)) d.effect.store) q.memory (applied-memory d.here d.instruction (unwrap_or d.destination 0) d.effect)
 
 -- where no TRAP is, it is what is written
-plain-reach : (b : Bool) (r : Reach) (n : ℕ) → b ≡ false → is_reached (cond b All r) n ≡ false → is_reached r n ≡ false
-plain-reach true r n e f = absurd (cc)
-plain-reach false r n e f = f
+plain-reach : (b : Bool) (q r : Reach) (n : ℕ) → b ≡ false → is_reached (cond b q r) n ≡ false → is_reached r n ≡ false
+plain-reach true q r n e f = absurd (cc)
+plain-reach false q r n e f = f
 
 went-same : (s t : State) (w : Window) (trace : Trace) (n : ℕ) → IsMachine s w → AreOctas w.hidden.stack → step s ≡ went t trace → is_reached (reach_of (Some trace)) n ≡ false → octa_shown t n ≡ octa_shown s n
 went-same s t w trace n m o e f =
     let k : IsTraced s t trace = step-traced s t trace e in
-    let reach : is_reached (written_reach trace.writes) n ≡ false = plain-reach (is_trap (operation_of_word trace.word)) (written_reach trace.writes) n k.plain f in
+    let reach : is_reached (written_reach trace.writes) n ≡ false = plain-reach (is_trap (operation_of_word trace.word)) _ (written_reach trace.writes) n k.plain f in
     let store : is_reached (written_reach (option_map store_touch (deed s).effect.store)) n ≡ false = sym (ap (λ (x : Trace). is_reached (written_reach x.writes) n) k.traced) ∙ reach in
     ap (λ (u : State). octa_shown u n) k.state ∙ shown-same s (after s (deed s)) n (stores-same s (after s (deed s)) (deed s).effect.store n (went-memory s (deed s) (notable s t w trace m o e)) store)
 
 -- TURNS
-
--- a trap reaches all of them
-all-reached : (b : Bool) (r : Reach) (n : ℕ) → b ≡ true → is_reached (cond b All r) n ≡ false → ⊥
-all-reached true r n e f = absurd (cc)
-all-reached false r n e f = absurd (cc)
 
 -- what a turn does not reach, with the trace as the turn has it
 abbrev SameUnreached : State → State → Option Trace → Type 0
@@ -134,23 +133,35 @@ SameUnreached s t trace = (n : ℕ) → is_reached (reach_of trace) n ≡ false 
 abbrev TurnSame : State → Turn → Type 0
 TurnSame s x = SameUnreached s (state_after x) (visits.trace_of x)
 
-trap-same : (touching : Bool) (call : TrapCall) (s u : State) (m : HostModel) (answer : TrapAnswer) → is_trap (operation_of_word call.word) ≡ true → TurnSame s (turn_with touching call u m answer)
-trap-same touching call s u m (trap.Value value) e n f = absurd (all-reached (is_trap (operation_of_word call.word)) _ n e f)
-trap-same touching call s u m trap.Halt e n f = absurd (cc)
-trap-same touching call s u m (trap.Stopped why) e n f = absurd (cc)
-trap-same touching call s u m trap.OutOfMemory e n f = absurd (cc)
+-- a trap reaches all of them where it reads a file
+reading-reached : (b c : Bool) (r : Reach) (n : ℕ) → b ≡ true → is_reached (cond b (cond c All Nothing) r) n ≡ false → c ≡ false
+reading-reached true true r n e f = absurd (cc)
+reading-reached true false r n e f = refl
+reading-reached false c r n e f = absurd (cc)
 
-stepped-same : (s : State) (w : Window) (m : HostModel) (x : Stepped) → IsMachine s w → AreOctas w.hidden.stack → step s ≡ x → TurnSame s (turn_of s m x)
-stepped-same s w m (went t trace) i o e = λ n f. went-same s t w trace n i o e f
-stepped-same s w m (calls call) i o e =
+trapped-octas : (u : State) (call : TrapCall) (value : ℕ) → (trapped u call value).octas ≡ u.octas
+unfolding trapped
+trapped-octas u call value = refl
+
+trap-same : (touching : Bool) (call : TrapCall) (s u : State) (m : HostModel) (answer : TrapAnswer) → is_trap (operation_of_word call.word) ≡ true → (reads_file call.word ≡ false → u ≡ s) → TurnSame s (turn_with touching call u m answer)
+trap-same touching call s u m (trap.Value value) e same n f =
+    shown-same s (trapped u call value) n (ap (λ (octas : ℕ → ℕ). octas (8 * n)) (trapped-octas u call value) ∙ ap (λ (v : State). v.octas (8 * n)) (same (reading-reached (is_trap (operation_of_word call.word)) (reads_file call.word) _ n e f)))
+trap-same touching call s u m trap.Halt e same n f = absurd (cc)
+trap-same touching call s u m (trap.Stopped why) e same n f = absurd (cc)
+trap-same touching call s u m trap.OutOfMemory e same n f = absurd (cc)
+
+stepped-same : (s : State) (w : Window) (m : HostModel) (x : Stepped) → IsMachine s w → AreOctas w.hidden.stack → IsWholeSpace s → step s ≡ x → TurnSame s (turn_of s m x)
+stepped-same s w m (went t trace) i o h e = λ n f. went-same s t w trace n i o e f
+stepped-same s w m (calls call) i o h e =
     let t : Leaves TrapAnswer State = trap_answer (machine_contents s) m call in
     trap-same (touches (machine_contents s).bytes call) call s (state_in t.1 area_size) t.2 t.0 (step-called s call e)
-stepped-same s w m (stopped reason) i o e = λ n f. absurd (cc)
+      (λ f. ap (λ (c : Contents State). state_in c area_size) (contents-kept (machine_contents s) m call f) ∙ told s h)
+stepped-same s w m (stopped reason) i o h e = λ n f. absurd (cc)
 
-turn-same : (s : State) (w : Window) (m : HostModel) → IsMachine s w → AreOctas w.hidden.stack → TurnSame s (turn s m)
+turn-same : (s : State) (w : Window) (m : HostModel) → IsMachine s w → AreOctas w.hidden.stack → IsWholeSpace s → TurnSame s (turn s m)
 unfolding turn
-turn-same s w m i o = stepped-same s w m (step s) i o refl
+turn-same s w m i o h = stepped-same s w m (step s) i o h refl
 
-pub turn-reaches : (s t : State) (w : Window) (trace : Option Trace) → IsMachine s w → AreOctas w.hidden.stack → ComesByTurn s t trace → SameUnreached s t trace
-turn-reaches s t w trace i o h n f =
-    ap (λ (u : State). octa_shown u n) h.state ∙ turn-same s w h.host i o n (sym (ap (λ (x : Option Trace). is_reached (reach_of x) n) h.traced) ∙ f)
+pub turn-reaches : (s t : State) (w : Window) (trace : Option Trace) → IsMachine s w → AreOctas w.hidden.stack → IsWholeSpace s → ComesByTurn s t trace → SameUnreached s t trace
+turn-reaches s t w trace i o p h n f =
+    ap (λ (u : State). octa_shown u n) h.state ∙ turn-same s w h.host i o p n (sym (ap (λ (x : Option Trace). is_reached (reach_of x) n) h.traced) ∙ f)

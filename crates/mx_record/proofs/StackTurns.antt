@@ -89,7 +89,7 @@ trip-kept u i (Some t) b =
 
 -- MOVES
 
-is-still : (move : Move) → (move ≡ stays) ⊎ (move ≡ stays → ⊥)
+pub is-still : (move : Move) → (move ≡ stays) ⊎ (move ≡ stays → ⊥)
 is-still stays = inl refl
 is-still (pushes x) = inr (λ e. absurd (cc))
 is-still (pops x) = inr (λ e. absurd (cc))
@@ -98,7 +98,7 @@ is-still (unsaves i) = inr (λ e. absurd (cc))
 is-still (cuts l) = inr (λ e. absurd (cc))
 is-still (moves_globals g) = inr (λ e. absurd (cc))
 
-untripped : (u : State) (i : Instruction) (t : Option Tripping) → t ≡ None → (tripped u i t).stack ≡ u.stack
+pub untripped : (u : State) (i : Instruction) (t : Option Tripping) → t ≡ None → (tripped u i t).stack ≡ u.stack
 untripped u i None e = refl
 untripped u i (Some t) e = absurd (cc)
 
@@ -143,15 +143,15 @@ by-placed P operation s h = deed-placed P operation s (fetched s) h
 
 -- A STEP
 
-record IsLaid (s : State) : Type 0 where
-  notable : IsNotable s (deed s)
-  placed : IsRinged (with_result (deed s).here (unwrap_or (deed s).destination 0) (deed s).effect.result).stack
+pub record IsLaid (s : State) : Type 0 where
+  pub notable : IsNotable s (deed s)
+  pub placed : IsRinged (with_result (deed s).here (unwrap_or (deed s).destination 0) (deed s).effect.result).stack
 
-laid : (s t : State) (w : Window) (trace : Trace) → IsMachine s w → AreOctas w.hidden.stack → step s ≡ went t trace → IsLaid s
+pub laid : (s t : State) (w : Window) (trace : Trace) → IsMachine s w → AreOctas w.hidden.stack → step s ≡ went t trace → IsLaid s
 laid s t w trace m o e =
     step-notes (λ _. IsLaid s) s t w trace m o e (λ n q _. record { notable = q; placed = by-placed (s.touched ≡ false) (operation_in (fetched s)) s (sound-of s w m) n })
 
-in-bounds : (z : Stack) → IsRinged z → AreInBounds (visible z)
+pub in-bounds : (z : Stack) → IsRinged z → AreInBounds (visible z)
 in-bounds (listed r) h = absurd h
 in-bounds (windowed w) h = h.registers
 

@@ -22,7 +22,7 @@ use Rattle.mx_record.specs.Pictures.{all_registers, octa_of}
 
 -- OCTAS IN A LIST
 
-hidden-at : (z : Stack) (i : ℕ) → i < hidden_count z → octa_of (all_registers z) i ≡ octa_of (hidden_octas z) i
+pub hidden-at : (z : Stack) (i : ℕ) → i < hidden_count z → octa_of (all_registers z) i ≡ octa_of (hidden_octas z) i
 hidden-at z i l = get_or-append (hidden_octas z) (visible z).locals 0 i l
 
 local-at : (z : Stack) (i : ℕ) → hidden_count z ≤ i → octa_of (all_registers z) i ≡ octa_of (visible z).locals (i - hidden_count z)
@@ -61,7 +61,7 @@ same-kept : (y z : Stack) → hidden_octas z ≡ hidden_octas y → spilled_coun
 same-kept y z e l = record { count = ap length e; spilled = l; above = λ i _. ap (λ xs. octa_of xs i) e }
 
 -- a register gets a value
-listed-set : (z : Stack) (k x : ℕ) → hidden_octas (with_register (as_listed z) k x) ≡ hidden_octas (as_listed z)
+pub listed-set : (z : Stack) (k x : ℕ) → hidden_octas (with_register (as_listed z) k x) ≡ hidden_octas (as_listed z)
 unfolding with_register as_list
 listed-set (listed r) k x = cond_both (is_marginal r.visible k) _ _ (λ (y : Stack). hidden_octas y ≡ r.hidden) (λ _. refl) (λ _. refl)
 listed-set (windowed w) k x = cond_both (is_marginal w.visible k) _ _ (λ (y : Stack). hidden_octas y ≡ octas_of w.hidden) (λ _. refl) (λ _. refl)
@@ -174,12 +174,12 @@ popped-turned y z k e = record { above = λ i _ m.
 spilled-turned : (y z : Stack) → hidden_count z ≤ spilled_count z → Turned y z
 spilled-turned y z l = record { above = λ i m n. absurd (omega (arith, l, m, n)) }
 
-listed-pushed : (z : Stack) (x : ℕ) → hidden_octas (pushed (as_listed z) x) ≡ hidden_octas z ++ pushed_octas (visible z) (push_number (visible z) x)
+pub listed-pushed : (z : Stack) (x : ℕ) → hidden_octas (pushed (as_listed z) x) ≡ hidden_octas z ++ pushed_octas (visible z) (push_number (visible z) x)
 unfolding pushed as_list
 listed-pushed (listed r) x = refl
 listed-pushed (windowed w) x = refl
 
-listed-popped : (z : Stack) (x : ℕ) → (k : ℕ) × (hidden_octas (popped (as_listed z) x) ≡ take k (hidden_octas z))
+pub listed-popped : (z : Stack) (x : ℕ) → (k : ℕ) × (hidden_octas (popped (as_listed z) x) ≡ take k (hidden_octas z))
 unfolding popped as_list
 listed-popped (listed r) x = (_, refl)
 listed-popped (windowed w) x = (_, refl)

@@ -1,16 +1,27 @@
 -- The registers that are hidden before and after a turn stay, where it does not reach them.
-use Rattle.std.proofs.Common.{◌≡◌, ◌<◌, ℕ, ◌+◌, ◌-◌, ◌==◌, ◌||◌, Bool, true, false, cond, List, ◌++◌, length, take, Option, None, Some, arith, refl, sym, subst, ◌∙◌, ap, ⊎_elim}
+use Rattle.std.proofs.Common.{◌≡◌, ◌<◌, ℕ, ◌+◌, ◌-◌, ◌*◌, ◌/◌, ◌==◌, ◌||◌, Bool, true, false, cond, List, ◌++◌, length, take, Option, None, Some, arith, refl, sym, subst, ◌∙◌, ap, ⊎_elim}
 use Rattle.std.proofs.lemmas.Bool.{cond_both, cases_Bool}
 use Rattle.std.proofs.lemmas.Bool.Decides.{nat_tests}
 use Rattle.std.proofs.lemmas.List.{get_or-take, length-take}
 use Rattle.std.proofs.Math.ListN.{get_or-append}
 use Rattle.std.specs.Option.{option_map, unwrap_or}
+use Rattle.mx_host.specs.HostModel.{HostModel}
+use Rattle.mx_trip.specs.declared.call.TrapCall.{TrapCall}
+use Rattle.mx_trap.specs.FileTraps.{trap_answer}
+use Rattle.mx_trap.specs.Moves.{Leaves}
+use Rattle.mx_trap.specs.Touches.{touches}
+use Rattle.mx_trap.specs.declared.answer.TrapAnswer.{TrapAnswer}
+use Rattle.mx_trap.specs.declared.answer.TrapAnswer.TheVariants as trap
+use Rattle.mx_core.specs.MachineSpace.{machine_contents, state_in}
+use Rattle.mx_run.specs.Turns.{area_size, turn, turn_of, turn_with}
+use Rattle.mx_run.specs.WildRuns.{state_after}
+use Rattle.mx_replay.specs.Visits as visits
 use Rattle.mx_mem.specs.Parts.{size_of, with_part}
 use Rattle.mx_mem.specs.declared.part.Part.{Part}
 use Rattle.mx_mem.specs.declared.part.Part.TheVariants as part
 use Rattle.mx_word.specs.Ranges.{AreOctas}
 use Rattle.mx_registers.specs.Bounds.{AreInBounds}
-use Rattle.mx_registers.specs.Registers.{is_marginal, push_number}
+use Rattle.mx_registers.specs.Registers.{is_marginal, with_globals_from, with_locals_cut}
 use Rattle.mx_ring.specs.Frames.{frame}
 use Rattle.mx_ring.specs.Stack.{Stack, listed, windowed, as_listed, visible, hidden_octas, hidden_count, in_stack_area, stack_index, with_register, with_visible, pushed, pushed_octas, popped, saved, unsaved, cut_to, with_global_start}
 use Rattle.mx_ring.specs.Window.{Window, as_list}
@@ -29,7 +40,7 @@ use Rattle.mx_core.specs.Bounds.{IsMachine}
 use Rattle.mx_core.specs.Deeds.{Deed, applied, deed_for, deed_of, moved, trip_specials, tripped, with_destination, with_result, with_specials, with_store}
 use Rattle.mx_core.specs.Effects.{Effect, Move, Store, Tripping, effect_of, putting, stays, pushes, pops, saves, unsaves, cuts, moves_globals, z_operand}
 use Rattle.mx_core.specs.State.{State, global_start, locals, octa, special_register}
-use Rattle.mx_core.specs.Step.{after, fetched, step, store_touch, went}
+use Rattle.mx_core.specs.Step.{Stepped, after, calls, fetched, step, stopped, store_touch, went}
 use Rattle.mx_core.specs.Wild.{deed}
 use Rattle.mx_core.proofs.Choices.{chosen}
 use Rattle.mx_core.proofs.Kept.Applied.{Shape, plain, moving, before, before-stack, specials-stack}
@@ -38,11 +49,11 @@ use Rattle.mx_core.proofs.Kept.Shapes.{event-like}
 use Rattle.mx_core.proofs.Kept.Stages.{MoveFits, octa-on-page}
 use Rattle.mx_core.proofs.Same.Seen.{same-hidden}
 use Rattle.mx_core.proofs.Undone.Steps.{IsNotable}
-use Rattle.mx_record.specs.Following.{is_deep, operation_of_word, reaches_hidden, writes_area}
+use Rattle.mx_record.specs.Following.{ComesByTurn, is_deep, is_trap, operation_of_word, reaches_hidden, writes_area}
 use Rattle.mx_record.specs.Pictures.{all_registers, octa_of}
-use Rattle.mx_record.proofs.Reaching.{IsTraced, step-traced}
+use Rattle.mx_record.proofs.Reaching.{IsTraced, step-called, step-traced}
 use Rattle.mx_record.proofs.Stacks.{hidden-at, listed-popped, listed-pushed, listed-set}
-use Rattle.mx_record.proofs.StackTurns.{IsLaid, in-bounds, is-still, laid, store-shown, untripped}
+use Rattle.mx_record.proofs.StackTurns.{IsLaid, in-bounds, is-still, laid, untripped}
 
 -- those that are hidden in both are the same
 abbrev Under : Stack → Stack → Type 0
@@ -113,11 +124,11 @@ listed-saved (windowed w) x specials = refl
 
 cut-under : (z : Stack) (l : ℕ) → Under z (cut_to z l)
 unfolding cut_to
-cut-under z l = same-under z _ (shown-hidden z _)
+cut-under z l = same-under z (with_visible z (with_locals_cut (visible z) l)) (shown-hidden z (with_locals_cut (visible z) l))
 
 globals-under : (z : Stack) (g : ℕ) → Under z (with_global_start z g)
 unfolding with_global_start
-globals-under z g = same-under z _ (shown-hidden z _)
+globals-under z g = same-under z (with_visible z (with_globals_from (visible z) g)) (shown-hidden z (with_globals_from (visible z) g))
 
 moved-under : (u : State) (z : Stack) (move : Move) → u.stack ≡ z → IsRinged z → MoveFits z move → NotRead move → Under z (moved u move).stack
 moved-under u z stays e r f n = subst (Under z) (sym e) (same-under z z refl)
@@ -181,8 +192,40 @@ went-under s t w trace m o e f =
     let not : NotRead (deed s).effect.move = deed-not (operation_in (fetched s)) s (fetched s) (sym (ap (λ (x : Trace). is_deep (operation_of_word x.word)) k.traced) ∙ parts.0) in
     let outside : writes_area (option_map store_touch (deed s).effect.store) ≡ false = sym (ap (λ (x : Trace). writes_area x.writes) k.traced) ∙ parts.1 in
     subst (λ (u : State). Under s.stack u.stack) (sym k.state)
-      (⊎_elim (λ p. same-under s.stack _ (plain-hidden s (deed s) r l.notable l.placed outside p)) (λ n. moving-under s (deed s) r l.notable l.notable.shape n not) (is-still (deed s).effect.move))
+      (⊎_elim (λ p. same-under s.stack (after s (deed s)).stack (plain-hidden s (deed s) r l.notable l.placed outside p)) (λ n. moving-under s (deed s) r l.notable l.notable.shape n not) (is-still (deed s).effect.move))
 
 -- all registers of the stack below both numbers
 pub all-under : (y z : Stack) (i : ℕ) → Under y z → i < hidden_count y → i < hidden_count z → octa_of (all_registers z) i ≡ octa_of (all_registers y) i
 all-under y z i h l m = hidden-at z i m ∙ h i l m ∙ sym (hidden-at y i l)
+
+-- TURNS
+
+abbrev KeptUnder : State → State → Option Trace → Type 0
+KeptUnder s t trace = reaches_hidden trace ≡ false → Under s.stack t.stack
+
+trap-under : (touching : Bool) (call : TrapCall) (s u : State) (m : HostModel) (answer : TrapAnswer) → is_trap (operation_of_word call.word) ≡ true → KeptUnder s (state_after (turn_with touching call u m answer)) (visits.trace_of (turn_with touching call u m answer))
+trap-under touching call s u m (trap.Value value) e f = absurd (deep-trap (operation_of_word call.word) e (or-false _ _ f).0)
+  where
+    deep-trap : (operation : Operation) → is_trap operation ≡ true → is_deep operation ≡ false → ⊥
+    deep-trap op.Trap e f = absurd (cc)
+    deep-trap operation e f = absurd (cc)
+trap-under touching call s u m trap.Halt e f = absurd (cc)
+trap-under touching call s u m (trap.Stopped why) e f = absurd (cc)
+trap-under touching call s u m trap.OutOfMemory e f = absurd (cc)
+
+stepped-under : (s : State) (w : Window) (m : HostModel) (x : Stepped) → IsMachine s w → AreOctas w.hidden.stack → step s ≡ x → KeptUnder s (state_after (turn_of s m x)) (visits.trace_of (turn_of s m x))
+stepped-under s w m (went t trace) i o e = λ f. went-under s t w trace i o e f
+stepped-under s w m (calls call) i o e =
+    let t : Leaves TrapAnswer State = trap_answer (machine_contents s) m call in
+    trap-under (touches (machine_contents s).bytes call) call s (state_in t.1 area_size) t.2 t.0 (step-called s call e)
+stepped-under s w m (stopped reason) i o e = λ f. absurd (cc)
+
+turn-under : (s : State) (w : Window) (m : HostModel) → IsMachine s w → AreOctas w.hidden.stack → KeptUnder s (state_after (turn s m)) (visits.trace_of (turn s m))
+unfolding turn
+turn-under s w m i o = stepped-under s w m (step s) i o refl
+
+-- the registers of the stack below both numbers stay
+pub turn-keeps : (s t : State) (w : Window) (trace : Option Trace) → IsMachine s w → AreOctas w.hidden.stack → ComesByTurn s t trace → reaches_hidden trace ≡ false → (i : ℕ) → i < hidden_count s.stack → i < hidden_count t.stack →
+    octa_of (all_registers t.stack) i ≡ octa_of (all_registers s.stack) i
+turn-keeps s t w trace m o h f i =
+    all-under s.stack t.stack i (subst (λ (u : State). Under s.stack u.stack) (sym h.state) (turn-under s w h.host m o (sym (ap reaches_hidden h.traced) ∙ f)))

@@ -1,6 +1,7 @@
 -- How the code finds what a turn changed, in a bounded time where it can.
 use Rattle.std.specs.Prelude.{ℕ, ◌+◌, ◌-◌, ◌*◌, ◌/◌, ◌%◌, ◌^◌, ◌==◌, ◌||◌, ◌&&◌, ◌≡◌, ◌≤◌, ◌<◌, nat_le, nat_lt, not, min, if◌then◌else◌, Bool, true, false, List, [], Option, None, Some, length, Result, Ok, Err, bit_xor}
 use Rattle.mx_ring.specs.Stack.{Stack, hidden_count, spilled_count, local_count, register, stack_octa, in_stack_area}
+use Rattle.mx_trap.specs.Services.{y_of}
 use Rattle.mx_code.specs.Instructions.{instruction, operation_in}
 use Rattle.mx_code.specs.declared.operation.Operation.{Operation}
 use Rattle.mx_code.specs.declared.operation.Operation.TheVariants as op
@@ -54,14 +55,39 @@ is_reached All n = true
 abbrev pub operation_of_word : ℕ → Operation
 operation_of_word word = operation_in (instruction 0 word)
 
+-- Fread and Fgets
+abbrev pub reads_file : ℕ → Bool
+reads_file word = y_of word == 3 || y_of word == 4
+
 abbrev pub step_reach : Option Touch → ℕ → Reach
-step_reach writes word = if is_trap (operation_of_word word) then All else written_reach writes
+step_reach writes word =
+    if is_trap (operation_of_word word) then (if reads_file word then All else Nothing) else written_reach writes
 
 abbrev pub reach_of : Option Trace → Reach
 reach_of None = All
 reach_of (Some trace) = step_reach trace.writes trace.word
 
 -- THE REGISTER STACK
+
+-- whether a turn may change a register that is hidden before and after it: UNSAVE does, a step that RESUME inserts, a file trap
+-- and a store into the stack area may, and the last turn
+abbrev pub is_deep : Operation → Bool
+is_deep op.Unsave = true
+is_deep op.Resume = true
+is_deep op.Trap = true
+is_deep other = false
+
+abbrev pub writes_area : Option Touch → Bool
+writes_area None = false
+writes_area (Some t) = in_stack_area t.at
+
+abbrev pub reaches_hidden : Option Trace → Bool
+reaches_hidden None = true
+reaches_hidden (Some trace) = is_deep (operation_of_word trace.word) || writes_area trace.writes
+
+-- how many registers of the stack stay in front of those that a turn may change, where so many are hidden before and after
+abbrev pub kept_count : Option Trace → ℕ → ℕ → ℕ
+kept_count trace before after = if reaches_hidden trace then 0 else min before after
 
 -- what a hidden register has, where more are hidden than there were: PUSH hides the number of those below the last one, and
 -- else a register stays at its place

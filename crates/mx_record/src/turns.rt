@@ -8,10 +8,10 @@ ghost use Rattle.mx_record.specs.Records.{Leads};
 
 use crate::changes::Record;
 use crate::octas::octa_changes;
-use crate::reach::reach_of;
+use crate::reach::{kept_count, reach_of};
 use crate::registers::{global_changes, special_changes};
 use crate::stacked::{Stacked, hidden_count, stacked_changes};
-use mx_core::{Machine, Trace, machines_hold_octas};
+use mx_core::{Machine, Trace, machines_are_whole, machines_hold_octas};
 use mx_word::NoMemory;
 use std::alloc::Global;
 
@@ -30,13 +30,15 @@ pub(crate) fn turn_changes(
     ensures stack { OnOk result (HoldsStack stacked.new (state_of new.now).stack) }
 {
     machines_hold_octas(old);
+    machines_are_whole(old);
     machines_hold_octas(new);
     let before = hidden_count(old);
     let end = before + u64::from(old.l());
     let special = special_changes(alloc, old, new)?;
     let global = global_changes(alloc, old, new)?;
     let octas = octa_changes(alloc, old, new, reach_of(trace))?;
-    let stacked = stacked_changes(alloc, stacked, new, before, 0, end)?;
+    let kept = kept_count(trace, before, hidden_count(new));
+    let stacked = stacked_changes(alloc, stacked, new, before, kept, end)?;
     Ok(Record {
         next: old.pc() ^ new.pc(),
         special,
