@@ -7,4 +7,4 @@ mod parser;
 mod table;
 
 pub use choice::{Choice, choose, count_words};
-pub use table::Face;
+pub use table::{Face, VERSION};

@@ -1,19 +1,24 @@
 -- A recorder goes on along the steps of a run.
 use Rattle.std.proofs.Common.{◌≡◌, ◌≤◌, ◌<◌, ◌⊎◌, inl, inr, ℕ, ◌+◌, List, Option, Ok, Err, arith, refl, sym, subst, ◌∙◌, ap}
 use Rattle.std.proofs.lemmas.Bool.{cases_lt}
-use Rattle.std.specs.Prelude.{Result, false, true}
-use Rattle.mx_host.specs.HostModel.{HostModel}
+use Rattle.std.specs.Prelude.{Result, [], false, map, string_bytes, true}
+use Rattle.mx_host.specs.HostAnswer.{Then}
+use Rattle.mx_host.specs.HostModel.{HostModel, start_model}
+use Rattle.mx_host.specs.declared.files.StoredFile.{StoredFile}
+use Rattle.mx_words.specs.declared.order.Order.{Order}
+use Rattle.mx_begin.specs.Begun.{begun}
+use Rattle.mx_begin.specs.declared.images.Form.{Form}
 use Rattle.mx_word.specs.Results.{map_ok}
 use Rattle.mx_code.specs.declared.trace.Trace.{Trace}
 use Rattle.mx_core.specs.State.{State}
 use Rattle.mx_run.specs.Runs.{Ended, ended, no_flags, run}
 use Rattle.mx_run.specs.Turns.{Turn, went_on, halts, stops, turn}
-use Rattle.mx_run.specs.WildRuns.{state_after}
+use Rattle.mx_run.specs.WildRuns.{state_after, window_machine}
 use Rattle.mx_run.specs.declared.end.End.{End}
 use Rattle.mx_run.specs.declared.end.End.TheVariants.{Spent}
 use Rattle.mx_run.proofs.FreeRuns.{run-went}
 use Rattle.mx_outcome.specs.declared.outcome.Outcome.{Outcome}
-use Rattle.mx_replay.specs.Programs.{GoesOn, HasEnded, IsReached, is_over, step_of}
+use Rattle.mx_replay.specs.Programs.{GoesOn, HasEnded, IsReached, is_over, run_from, start_of, step_of, with_files}
 use Rattle.mx_replay.specs.Searches.{Replayed}
 use Rattle.mx_replay.specs.Visits.{trace_after, trace_of}
 use Rattle.mx_replay.specs.declared.program.Program.{Program}
@@ -21,7 +26,7 @@ use Rattle.mx_replay.proofs.RunEnds.{none-made, run-halts, run-stops}
 use Rattle.mx_replay.proofs.Steps.{step-before, step-from}
 use Rattle.mx_record.specs.Following.{ComesByTurn, HoldsStack}
 use Rattle.mx_record.specs.Pictures.{Picture, no_picture, picture, picture_at, picture_of}
-use Rattle.mx_record.specs.Recording.{HoldsStep, IsAt, IsRecordOf, Recorded}
+use Rattle.mx_record.specs.Recording.{AreAlike, HoldsStep, IsAt, IsReady, IsRecordOf, Recorded, SameRun}
 use Rattle.mx_record.specs.Records.{Leads}
 use Rattle.mx_record.specs.declared.changes.Record.{Record}
 
@@ -67,8 +72,21 @@ at-by p k a on r (inr l) = omega (arith, l, r.within)
 pub reached-next : (p : Program) (k a : ℕ) → GoesOn p k → IsReached p (k + 1) a → a ≡ k + 1
 reached-next p k a on r = at-by p k a on r (cases_lt a (k + 1))
 
-pub both-next : (old b c : Replayed) → c.program ≡ old.program → b.program ≡ old.program → b.at ≡ old.at + 1 → c.at ≡ old.at + 1 → c ≡ b
-both-next old b c e f g h = λ i. record { program = (e ∙ sym f) i; at = (h ∙ sym g) i }
+-- programs that are alike have the same run
+abbrev start_by : List (List ℕ) → Order → Form → List ℕ → List StoredFile → Then (Result State Outcome)
+start_by words order form input files = begun window_machine words order form (with_files (start_model input []) files)
+
+same-start : (p q : Program) → AreAlike p q → start_of q ≡ start_of p
+same-start p q h =
+    ap (λ words. start_by words q.order q.form q.input q.files) h.words
+    ∙ ap (λ order. start_by (map string_bytes p.words) order q.form q.input q.files) h.order
+    ∙ ap (λ form. start_by (map string_bytes p.words) p.order form q.input q.files) h.form
+    ∙ ap (λ input. start_by (map string_bytes p.words) p.order p.form input q.files) h.input
+    ∙ ap (λ files. start_by (map string_bytes p.words) p.order p.form p.input files) h.files
+
+same-run : (p q : Program) → AreAlike p q → SameRun p q
+unfolding step_of
+same-run p q h j = ap (run_from j) (same-start p q h)
 
 -- PICTURES
 
@@ -94,8 +112,8 @@ holds-step octas p k t e h s f = subst (λ (u : State). HoldsStack octas u.stack
 -- ONE GOES AHEAD
 
 pub record IsAhead (v : Recorded) (a : Replayed) (s t : State) (trace : Option Trace) : Type 0 where
-  pub program : a.program ≡ v.before.program
   pub at : a.at ≡ v.before.at + 1
+  pub same : SameRun v.before.program a.program
   pub state : map_ok (λ (e : Ended). e.state) (step_of v.before.program (v.before.at + 1)) ≡ Ok t
   pub traced : map_ok trace_after (step_of v.before.program v.before.at) ≡ Ok trace
   pub turn : ComesByTurn s t trace
@@ -103,22 +121,35 @@ pub record IsAhead (v : Recorded) (a : Replayed) (s t : State) (trace : Option T
 pub goes-ahead : (v : Recorded) (a : Replayed) (s t : State) (trace : Option Trace) → IsAt v v.before.program v.before.at → GoesOn v.before.program v.before.at → a.program ≡ v.after.program → IsReached v.after.program (v.after.at + 1) a.at →
     map_ok (λ (e : Ended). e.state) (step_of v.before.program v.before.at) ≡ Ok s → map_ok (λ (e : Ended). e.state) (step_of a.program a.at) ≡ Ok t → map_ok trace_after (step_of v.after.program v.after.at) ≡ Ok trace → IsAhead v a s t trace
 goes-ahead v a s t trace i on own reach f g h =
-    let program : a.program ≡ v.before.program = own ∙ ap (λ (x : Replayed). x.program) i.together in
-    let at : a.at ≡ v.before.at + 1 = reached-next v.before.program v.before.at a.at on (subst (λ (x : Replayed). IsReached x.program (x.at + 1) a.at) i.together reach) in
-    let next : map_ok (λ (e : Ended). e.state) (step_of v.before.program (v.before.at + 1)) ≡ Ok t = ap (map_ok (λ (e : Ended). e.state)) (sym (ap (λ q. step_of q a.at) program ∙ ap (step_of v.before.program) at)) ∙ g in
-    let told : map_ok trace_after (step_of v.before.program v.before.at) ≡ Ok trace = subst (λ (x : Replayed). map_ok trace_after (step_of x.program x.at) ≡ Ok trace) i.together h in
-    record { program = program; at = at; state = next; traced = told; turn = comes-next v.before.program v.before.at s t trace on f next told }
+    let p : Program = v.before.program in
+    let q : Program = v.after.program in
+    let k : ℕ = v.before.at in
+    let there : IsReached q (k + 1) a.at = subst (λ n. IsReached q (n + 1) a.at) i.together reach in
+    let still : GoesOn q k = ap (map_ok (λ (e : Ended). e.end)) (i.same k) ∙ on in
+    let at : a.at ≡ k + 1 = reached-next q k a.at still there in
+    let same : SameRun p a.program = λ j. ap (λ x. step_of x j) own ∙ i.same j in
+    let next : map_ok (λ (e : Ended). e.state) (step_of p (k + 1)) ≡ Ok t = ap (map_ok (λ (e : Ended). e.state)) (sym (same a.at ∙ ap (step_of p) at)) ∙ g in
+    let told : map_ok trace_after (step_of p k) ≡ Ok trace = ap (map_ok trace_after) (sym (ap (step_of q) i.together ∙ i.same k)) ∙ h in
+    record { at = at; same = same; state = next; traced = told; turn = comes-next p k s t trace on f next told }
 
 -- THE START
 
 pub leads-first : (v : Replayed) (p : Program) (s : State) (r : Record) → v ≡ record { program = p; at = 0 } → map_ok (λ (e : Ended). e.state) (step_of v.program v.at) ≡ Ok s → Leads r no_picture (picture s) → Leads r no_picture (picture_at p 0)
 leads-first v p s r e f h = subst (λ (q : Picture). Leads r no_picture q) (sym (picture-is p 0 s (sym (ap (λ (x : Replayed). map_ok (λ (e : Ended). e.state) (step_of x.program x.at)) e) ∙ f))) h
 
-pub begun-ready : (v a : Replayed) (p q : Program) (s : State) (octas : List ℕ) → q ≡ p → v ≡ record { program = p; at = 0 } → a ≡ record { program = q; at = 0 } → map_ok (λ (e : Ended). e.state) (step_of v.program v.at) ≡ Ok s → HoldsStack octas s.stack →
+-- at some step
+pub ready-of : (v : Recorded) (p : Program) (k : ℕ) → IsAt v p k → IsReady v
+ready-of v p k i = subst (λ q. IsAt v q v.before.at) (sym i.program) (subst (IsAt v p) (sym i.step) i)
+
+pub refused-alike : (p q : Program) (outcome : Outcome) → AreAlike p q → step_of q 0 ≡ Err outcome → step_of p 0 ≡ Err outcome
+refused-alike p q outcome h e = sym (same-run p q h 0) ∙ e
+
+pub begun-ready : (v a : Replayed) (p q : Program) (s : State) (octas : List ℕ) → AreAlike p q → v ≡ record { program = p; at = 0 } → a ≡ record { program = q; at = 0 } → map_ok (λ (e : Ended). e.state) (step_of v.program v.at) ≡ Ok s → HoldsStack octas s.stack →
     IsAt (record { before = v; after = a; stacked = octas }) p 0
 begun-ready v a p q s octas e f g h k = record {
   program = ap (λ (x : Replayed). x.program) f;
   step = ap (λ (x : Replayed). x.at) f;
-  together = g ∙ ap (λ x. record { program = x; at = 0 }) e ∙ sym f;
+  together = ap (λ (x : Replayed). x.at) g ∙ sym (ap (λ (x : Replayed). x.at) f);
+  same = λ j. ap (λ (x : Replayed). step_of x.program j) g ∙ same-run p q e j ∙ sym (ap (λ (x : Replayed). step_of x.program j) f);
   stacked = holds-step octas p 0 s (sym (ap (λ (x : Replayed). map_ok (λ (e : Ended). e.state) (step_of x.program x.at)) f) ∙ h) k;
 }

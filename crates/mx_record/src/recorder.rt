@@ -5,7 +5,7 @@ ghost use Rattle.mx_core.specs.Kept.{state_of};
 ghost use Rattle.mx_replay.specs.Programs.{GoesOn, NamesFile, step_of};
 ghost use Rattle.mx_record.specs.Pictures.{no_picture, picture_at};
 ghost use Rattle.mx_record.specs.Records.{Leads};
-ghost use Rattle.mx_record.specs.Recording.{IsAt, IsRecordOf};
+ghost use Rattle.mx_record.specs.Recording.{AreAlike, IsReady, IsRecordOf};
 ghost use Rattle.mx_word.specs.Results.{map_ok};
 
 use crate::changes::Record;
@@ -41,8 +41,8 @@ ghost use Rattle.mx_record.specs.Recording.{Recorded};
 }
 
 impl Recorder {
-    /// A program's run at its start, and the record that leads there from the picture in which everything is 0. It takes the
-    /// program twice.
+    /// A program's run at its start, and the record that leads there from the picture in which everything is 0. It takes two
+    /// programs that are alike.
     ///
     /// Errors: the outcome where no machine starts, as that of a source that is refused, and out of memory.
     pub fn begin(
@@ -50,9 +50,10 @@ impl Recorder {
         before: Program,
         after: Program,
     ) -> Result<(Recorder, Record), Outcome>
-        requires same { after ≡ before }
+        requires same { AreAlike before after }
         requires named { NamesFile before }
-        ensures ready { IfOk result (λ begun. IsAt begun.0 before 0) }
+        ensures ready { IfOk result (λ begun. IsReady begun.0) }
+        ensures start { IfOk result (λ begun. (begun.0.before.program ≡ before) × (begun.0.before.at ≡ 0)) }
         ensures record { IfOk result (λ begun. Leads begun.1 no_picture (picture_at before 0)) }
         ensures refused { IfErr result (λ outcome. outcome ≢ Outcome.OutOfMemory → step_of before 0 ≡ Err outcome) }
     {
@@ -111,9 +112,11 @@ impl Recorder {
     ///
     /// Errors: out of memory; then the recorder is at no step any more.
     pub fn next(&mut self) -> Result<(Record, Option<Trace>), NoMemory>
-        requires ready { IsAt self.old self.old.before.program self.old.before.at }
+        requires ready { IsReady self.old }
         requires on { GoesOn self.old.before.program self.old.before.at }
-        ensures ready { OnOk result (IsAt self.new self.old.before.program (self.old.before.at + 1)) }
+        ensures ready { OnOk result (IsReady self.new) }
+        ensures program { OnOk result (self.new.before.program ≡ self.old.before.program) }
+        ensures step { OnOk result (self.new.before.at ≡ self.old.before.at + 1) }
         ensures record { IfOk result (λ made. IsRecordOf self.old.before.program self.old.before.at made) }
     {
         let trace = self.after.step()?;

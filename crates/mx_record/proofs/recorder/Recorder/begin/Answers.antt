@@ -1,6 +1,6 @@
 use Rattle.mx_core.specs.Kept.{state_of}
 use Rattle.mx_record.proofs.Fresh.{start-none}
-use Rattle.mx_record.proofs.Recording.{begun-ready, leads-first}
+use Rattle.mx_record.proofs.Recording.{begun-ready, leads-first, ready-of, refused-alike}
 use Rattle.mx_record.proofs.recorder.Recorder.begin.Goals as goal
 
 pub start_changes-started-requires : goal.start_changes-started-requires
@@ -8,8 +8,11 @@ start_changes-started-requires c = start-none c.in-Ok.before c.args.before (stat
 
 pub returns-in-Ok-started-clause-ready : goal.returns-in-Ok-started-clause-ready
 returns-in-Ok-started-clause-ready c =
-    begun-ready c.in-Ok.before c.in-Ok-begin.after c.args.before c.args.after (state_of c.machine.result.now) c.in-Ok-started.stacked c.requires.same c.in-Ok.ensures.start c.in-Ok-begin.ensures.start c.machine.ensures c.in-Ok-started.ensures.stack
+    ready-of (record { before = c.in-Ok.before; after = c.in-Ok-begin.after; stacked = c.in-Ok-started.stacked }) c.args.before 0 (begun-ready c.in-Ok.before c.in-Ok-begin.after c.args.before c.args.after (state_of c.machine.result.now) c.in-Ok-started.stacked c.requires.same c.in-Ok.ensures.start c.in-Ok-begin.ensures.start c.machine.ensures c.in-Ok-started.ensures.stack)
 
 pub returns-in-Ok-started-clause-record : goal.returns-in-Ok-started-clause-record
 returns-in-Ok-started-clause-record c =
     leads-first c.in-Ok.before c.args.before (state_of c.machine.result.now) c.in-Ok-started.record c.in-Ok.ensures.start c.machine.ensures c.in-Ok-started.ensures.record
+
+pub returns-in-Err-begin-clause-refused : goal.returns-in-Err-begin-clause-refused
+returns-in-Err-begin-clause-refused c = λ ne. refused-alike c.args.before c.args.after _ c.requires.same (c.in-Err-begin.ensures.refused ne)
