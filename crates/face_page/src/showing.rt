@@ -1,14 +1,14 @@
 //! What the words after `page` order.
 
-ghost use Rattle.std.specs.Prelude.{◌<◌, ◌≤◌, IfErr, length};
+ghost use Rattle.std.specs.Prelude.{◌<◌, ◌≤◌, IfErr, IfOk, length};
 ghost use Rattle.mx_count.specs.Runs.{AreArguments};
 ghost use Rattle.mx_face.specs.Pages.{FaultsOnlyBy, IsOfView};
 
 use crate::data::{Call, Program, data};
 use crate::gather::{Gathered, gather};
-use crate::made::{Ending, Made, record_run, refused};
+use crate::made::{Ending, Made, of_memory, record_run, refused};
 use crate::parts::{END, FRONT};
-use crate::program::{copied, host_of, program_of};
+use crate::program::{host_of, program_of};
 use crate::words::{Ordered, Unread, order_in};
 use mx_begin::arguments;
 use mx_count::count_lines;
@@ -32,15 +32,9 @@ fn record(
     requires rest { order.now.rest ≤ length words.now }
     ensures { IfErr result IsOfView }
 {
-    let Ok(before) = program_of(alloc, words, order, gathered) else {
-        return Err(Outcome::OutOfMemory);
-    };
-    let Ok(after) = copied(alloc, &before) else {
-        return Err(Outcome::OutOfMemory);
-    };
-    match record_run(alloc, before, after, order.steps) {
-        Ok(made) => Ok(made),
-        Err(outcome) => Err(outcome),
+    match program_of(alloc, words, order, gathered) {
+        Ok(program) => record_run(alloc, program, order.steps),
+        Err(NoMemory) => Err(Outcome::OutOfMemory),
     }
 }
 
@@ -150,6 +144,7 @@ fn shown(
 ) -> Result<Page, NoMemory>
     requires file { ordered.now.order.file < length ordered.now.named.words.items }
     requires rest { ordered.now.order.rest ≤ length ordered.now.named.words.items }
+    ensures { IfOk result (λ page. IsOfView page.outcome) }
 {
     let words = ordered.named.words.as_slice();
     let program = match made.ending {
@@ -163,10 +158,11 @@ fn shown(
     };
     let source = gathered.source.as_slice();
     let data = data(alloc, call, source, is_object(source), &program, made)?;
+    let outcome = of_memory(made.outcome);
     Ok(Page {
         text: text_of(alloc, ordered.named.is_json, data)?,
-        remark: message(alloc, made.outcome)?,
-        outcome: made.outcome,
+        remark: message(alloc, outcome)?,
+        outcome,
     })
 }
 
@@ -181,7 +177,6 @@ fn show<H: Host>(
 ) -> Outcome
     requires file { ordered.now.order.file < length ordered.now.named.words.items }
     requires rest { ordered.now.order.rest ≤ length ordered.now.named.words.items }
-    requires view { IsOfView made.now.outcome }
     ensures { FaultsOnlyBy H.told H.faults host.old host.new result }
 {
     match shown(alloc, version, ordered, gathered, made) {
@@ -214,6 +209,7 @@ fn show_gathered<H: Host>(
 
 /// Does what the words after `page` order: the source or the object is run over a host in memory, turn by turn, and the page of
 /// the run is written, or, after `--json`, its data. It answers the outcome of the run, which its message tells.
+#[tactic(auto, using(crate::proofs::Parts::parts))]
 pub fn page<H: Host>(alloc: Global, host: &mut H, version: &str, words: &[String]) -> Outcome
     ensures causes { FaultsOnlyBy H.told H.faults host.old host.new result }
 {

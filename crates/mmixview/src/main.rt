@@ -6,8 +6,9 @@ use clap::error::ErrorKind;
 use face_check::{Form, check};
 use face_count::count;
 use face_explain::{show_list, show_word};
+use face_page::page;
 use face_source::{find_lines, list, read_address, refuse_address};
-use mx_menu::{Choice, Face, choose, count_words};
+use mx_menu::{Choice, Face, VERSION, choose, count_words, page_words};
 use mx_outcome::Outcome;
 use mx_real::{RealHost, StandIns};
 use std::alloc::Global;
@@ -44,6 +45,7 @@ fn carry_out(alloc: Global, host: &mut RealHost, choice: &Choice) -> Outcome {
             None => refuse_address(host),
         },
         Face::Count => count(alloc, host, &[]),
+        Face::Page => page(alloc, host, VERSION, &[]),
         Face::Explain => match choice.word {
             Some(word) => show_word(alloc, host, word),
             None => show_list(alloc, host),
@@ -74,6 +76,12 @@ fn obey(rt: HostRuntime, alloc: Global, all: &[String]) -> u8 {
     if let Some(words) = count_words(all) {
         return match RealHost::new(rt) {
             Some(mut host) => count(alloc, &mut host, words).status(),
+            None => OUT_OF_MEMORY,
+        };
+    }
+    if let Some(words) = page_words(all) {
+        return match RealHost::new(rt) {
+            Some(mut host) => page(alloc, &mut host, VERSION, words).status(),
             None => OUT_OF_MEMORY,
         };
     }

@@ -56,16 +56,26 @@ pub fn choose<'a>(alloc: Global, words: &'a [String]) -> Result<Option<Choice<'a
     Ok(chosen(&matches))
 }
 
-/// The words after `count`, which are not read by the table, unless they ask for its help.
-pub fn count_words(words: &[String]) -> Option<&[String]> {
+/// The words after a command whose words are not read by the table, unless they ask for its help.
+fn words_after<'a>(words: &'a [String], name: &str) -> Option<&'a [String]> {
     match words {
-        [_program, command, help] if command.as_str() == "count" => {
+        [_program, command, help] if command.as_str() == name => {
             if help.as_str() == "--help" || help.as_str() == "-h" {
                 return None;
             }
             Some(&words[2..])
         }
-        [_program, command, rest @ ..] if command.as_str() == "count" => Some(rest),
+        [_program, command, rest @ ..] if command.as_str() == name => Some(rest),
         _ => None,
     }
+}
+
+/// The words after `count`, which are not read by the table, unless they ask for its help.
+pub fn count_words(words: &[String]) -> Option<&[String]> {
+    words_after(words, "count")
+}
+
+/// The words after `page`, which are not read by the table, unless they ask for its help.
+pub fn page_words(words: &[String]) -> Option<&[String]> {
+    words_after(words, "page")
 }

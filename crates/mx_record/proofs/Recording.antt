@@ -1,6 +1,7 @@
 -- A recorder goes on along the steps of a run.
-use Rattle.std.proofs.Common.{◌≡◌, ◌≤◌, ◌<◌, ◌⊎◌, inl, inr, ℕ, ◌+◌, List, Option, Ok, Err, arith, refl, sym, subst, ◌∙◌, ap}
+use Rattle.std.proofs.Common.{◌≡◌, ◌≤◌, ◌<◌, ◌⊎◌, inl, inr, ℕ, ◌+◌, List, length, Option, Ok, Err, arith, refl, sym, subst, ◌∙◌, ap}
 use Rattle.std.proofs.lemmas.Bool.{cases_lt}
+use Rattle.std.proofs.lemmas.List.{length-map}
 use Rattle.std.specs.Prelude.{Result, [], false, map, string_bytes, true}
 use Rattle.mx_host.specs.HostAnswer.{Then}
 use Rattle.mx_host.specs.HostModel.{HostModel, start_model}
@@ -18,7 +19,7 @@ use Rattle.mx_run.specs.declared.end.End.{End}
 use Rattle.mx_run.specs.declared.end.End.TheVariants.{Spent}
 use Rattle.mx_run.proofs.FreeRuns.{run-went}
 use Rattle.mx_outcome.specs.declared.outcome.Outcome.{Outcome}
-use Rattle.mx_replay.specs.Programs.{GoesOn, HasEnded, IsReached, is_over, run_from, start_of, step_of, with_files}
+use Rattle.mx_replay.specs.Programs.{NamesFile, GoesOn, HasEnded, IsReached, is_over, run_from, start_of, step_of, with_files}
 use Rattle.mx_replay.specs.Searches.{Replayed}
 use Rattle.mx_replay.specs.Visits.{trace_after, trace_of}
 use Rattle.mx_replay.specs.declared.program.Program.{Program}
@@ -140,6 +141,17 @@ leads-first v p s r e f h = subst (λ (q : Picture). Leads r no_picture q) (sym 
 -- at some step
 pub ready-of : (v : Recorded) (p : Program) (k : ℕ) → IsAt v p k → IsReady v
 ready-of v p k i = subst (λ q. IsAt v q v.before.at) (sym i.program) (subst (IsAt v p) (sym i.step) i)
+
+-- a word that names the file is there in both
+pub alike-named : (p q : Program) → AreAlike p q → NamesFile p → NamesFile q
+alike-named p q h n =
+    let count : length q.words ≡ length p.words = sym (length-map q.words string_bytes) ∙ ap length h.words ∙ length-map p.words string_bytes in
+    record {
+      file = subst (λ (o : Order). o.file < length q.words) (sym h.order) (omega (arith, count, n.file));
+      rest = subst (λ (o : Order). o.rest ≤ length q.words) (sym h.order) (omega (arith, count, n.rest));
+    }
+
+pub ruleset naming = (alike-named)
 
 pub refused-alike : (p q : Program) (outcome : Outcome) → AreAlike p q → step_of q 0 ≡ Err outcome → step_of p 0 ≡ Err outcome
 refused-alike p q outcome h e = sym (same-run p q h 0) ∙ e

@@ -2,6 +2,7 @@
 #![tactic(auto)]
 
 mod changes;
+mod copying;
 mod laws;
 mod octas;
 mod reach;

@@ -5,10 +5,11 @@ ghost use Rattle.mx_core.specs.Kept.{state_of};
 ghost use Rattle.mx_replay.specs.Programs.{GoesOn, NamesFile, step_of};
 ghost use Rattle.mx_record.specs.Pictures.{no_picture, picture_at};
 ghost use Rattle.mx_record.specs.Records.{Leads};
-ghost use Rattle.mx_record.specs.Recording.{AreAlike, IsReady, IsRecordOf};
+ghost use Rattle.mx_record.specs.Recording.{IsReady, IsRecordOf};
 ghost use Rattle.mx_word.specs.Results.{map_ok};
 
 use crate::changes::Record;
+use crate::copying::copied;
 use crate::stacked::Stacked;
 use crate::start::start_changes;
 use crate::turns::turn_changes;
@@ -41,27 +42,24 @@ ghost use Rattle.mx_record.specs.Recording.{Recorded};
 }
 
 impl Recorder {
-    /// A program's run at its start, and the record that leads there from the picture in which everything is 0. It takes two
-    /// programs that are alike.
+    /// A program's run at its start, and the record that leads there from the picture in which everything is 0.
     ///
     /// Errors: the outcome where no machine starts, as that of a source that is refused, and out of memory.
-    pub fn begin(
-        alloc: Global,
-        before: Program,
-        after: Program,
-    ) -> Result<(Recorder, Record), Outcome>
-        requires same { AreAlike before after }
-        requires named { NamesFile before }
+    pub fn begin(alloc: Global, program: Program) -> Result<(Recorder, Record), Outcome>
+        requires { NamesFile program }
         ensures ready { IfOk result (λ begun. IsReady begun.0) }
-        ensures start { IfOk result (λ begun. (begun.0.before.program ≡ before) × (begun.0.before.at ≡ 0)) }
-        ensures record { IfOk result (λ begun. Leads begun.1 no_picture (picture_at before 0)) }
-        ensures refused { IfErr result (λ outcome. outcome ≢ Outcome.OutOfMemory → step_of before 0 ≡ Err outcome) }
+        ensures start { IfOk result (λ begun. (begun.0.before.program ≡ program) × (begun.0.before.at ≡ 0)) }
+        ensures record { IfOk result (λ begun. Leads begun.1 no_picture (picture_at program 0)) }
+        ensures refused { IfErr result (λ outcome. outcome ≢ Outcome.OutOfMemory → step_of program 0 ≡ Err outcome) }
     {
-        let before = match Replay::begin(alloc, before) {
+        let Ok(copy) = copied(alloc, &program) else {
+            return Err(Outcome::OutOfMemory);
+        };
+        let before = match Replay::begin(alloc, program) {
             Ok(before) => before,
             Err(outcome) => return Err(outcome),
         };
-        let after = match Replay::begin(alloc, after) {
+        let after = match Replay::begin(alloc, copy) {
             Ok(after) => after,
             Err(outcome) => return Err(outcome),
         };
