@@ -121,7 +121,7 @@ fn add_more_faults(alloc: Global, text: &mut Bytes, faults: &[ToldFault]) -> Res
 }
 
 /// Adds a list of faults.
-fn add_list(alloc: Global, text: &mut Bytes, faults: &[ToldFault]) -> Result<(), NoMemory>
+pub fn add_faults(alloc: Global, text: &mut Bytes, faults: &[ToldFault]) -> Result<(), NoMemory>
     ensures { OnOk result (text.new ≡ text.old ++ array spec.fault_json faults.now) }
 {
     match faults {
@@ -141,7 +141,7 @@ fn open_faults(alloc: Global, text: &mut Bytes, told: &ToldFaults) -> Result<(),
     ensures { OnOk result (text.new ≡ text.old ++ spec.faults_members told.now) }
 {
     text.extend(b"{\"faults\":")?;
-    add_list(alloc, text, told.faults.as_slice())?;
+    add_faults(alloc, text, told.faults.as_slice())?;
     add_flag(text, b",\"more\":", told.is_cut)
 }
 

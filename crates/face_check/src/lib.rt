@@ -10,4 +10,5 @@ mod warning_json;
 mod warning_lines;
 
 pub use faults::Form;
+pub use json::add_faults;
 pub use showing::check;

@@ -108,7 +108,7 @@ fn add_lines(alloc: Global, text: &mut Bytes, sheet: &Option<LineSheet>) -> Resu
 
 /// Adds the figures of all steps.
 #[tactic(auto, unfolding(crate::specs::CountJson::tally_json))]
-pub(crate) fn add_tally(text: &mut Bytes, tally: Tally) -> Result<(), NoMemory>
+pub fn add_tally(text: &mut Bytes, tally: Tally) -> Result<(), NoMemory>
     ensures { OnOk result (text.new ≡ text.old ++ spec.tally_json tally) }
 {
     add_number(text, b"{\"away\":", tally.away)?;

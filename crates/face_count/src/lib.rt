@@ -8,3 +8,4 @@ mod pages;
 mod words;
 
 pub use counting::count;
+pub use json::add_tally;

@@ -64,7 +64,7 @@ fn add_more_cells(text: &mut Bytes, cells: &[Cell]) -> Result<(), NoMemory>
 }
 
 /// Adds the tetras of a line.
-fn add_cells(text: &mut Bytes, cells: &[Cell]) -> Result<(), NoMemory>
+pub fn add_cells(text: &mut Bytes, cells: &[Cell]) -> Result<(), NoMemory>
     ensures { OnOk result (text.new ≡ text.old ++ array spec.cell_json cells.now) }
 {
     match cells {

@@ -10,4 +10,5 @@ mod reading;
 
 pub use address::{read_address, refuse_address};
 pub use holding::find_lines;
+pub use json::{add_cells, add_symbols};
 pub use listing::list;

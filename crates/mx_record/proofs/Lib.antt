@@ -1,0 +1,15 @@
+pub mod Telling
+pub mod Beyond
+pub mod Searching
+pub mod Stacking
+pub mod Unread
+pub mod Reaching
+pub mod Stacks
+pub mod StackTurns
+pub mod Under
+pub mod Turning
+pub mod Starting
+pub mod Fresh
+pub mod Recording
+pub mod Inverse
+pub mod States

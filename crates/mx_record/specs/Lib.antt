@@ -1,0 +1,5 @@
+pub mod Pictures
+pub mod Records
+pub mod Counts
+pub mod Following
+pub mod Recording

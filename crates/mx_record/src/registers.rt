@@ -1,0 +1,78 @@
+//! What changed of special and of global registers.
+
+ghost use Rattle.std.specs.Prelude.{◌≡◌, ◌<◌, IfOk};
+ghost use Rattle.mx_core.specs.Kept.{state_of};
+ghost use Rattle.mx_record.specs.Following.{TellsAll};
+ghost use Rattle.mx_record.specs.Pictures as spec;
+
+use crate::changes::{Change, note};
+use mx_core::{Machine, machines_keep_the_invariant};
+use mx_word::{NoMemory, Sequence};
+use std::alloc::Global;
+
+/// The code of rC.
+const RC: u8 = 8;
+
+/// What is shown of the special register with a code.
+pub(crate) fn special_shown(machine: &Machine, code: u8) -> u64
+    requires { code < 32 }
+    ensures { result ≡ spec.special_shown (state_of machine.now) code }
+{
+    if code == RC { 0 } else { machine.special(code) }
+}
+
+/// What is shown of the global register with a number.
+pub(crate) fn global_shown(machine: &Machine, k: u8) -> u64
+    ensures { result ≡ spec.global_shown (state_of machine.now) k }
+{
+    if k < machine.g() { 0 } else { machine.register(k) }
+}
+
+/// What changed of the special registers between two machines.
+#[tactic(auto, using(crate::proofs::Telling::telling))]
+pub(crate) fn special_changes(
+    alloc: Global,
+    old: &Machine,
+    new: &Machine,
+) -> Result<Sequence<Change>, NoMemory>
+    ensures { IfOk result (λ changes.
+        TellsAll changes (spec.special_shown (state_of old.now)) (spec.special_shown (state_of new.now))) }
+{
+    machines_keep_the_invariant(old);
+    machines_keep_the_invariant(new);
+    let mut changes = Sequence::new(alloc);
+    for code in 0..32u8 {
+        note(
+            &mut changes,
+            u64::from(code),
+            special_shown(old, code),
+            special_shown(new, code),
+        )?;
+    }
+    Ok(changes)
+}
+
+/// What changed of the global registers between two machines.
+#[tactic(auto, using(crate::proofs::Telling::telling))]
+pub(crate) fn global_changes(
+    alloc: Global,
+    old: &Machine,
+    new: &Machine,
+) -> Result<Sequence<Change>, NoMemory>
+    ensures { IfOk result (λ changes.
+        TellsAll changes (spec.global_shown (state_of old.now)) (spec.global_shown (state_of new.now))) }
+{
+    machines_keep_the_invariant(old);
+    machines_keep_the_invariant(new);
+    let mut changes = Sequence::new(alloc);
+    let first = u16::from(old.g().min(new.g()));
+    for k in first..256 {
+        note(
+            &mut changes,
+            u64::from(k),
+            global_shown(old, k as u8),
+            global_shown(new, k as u8),
+        )?;
+    }
+    Ok(changes)
+}

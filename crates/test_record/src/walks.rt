@@ -1,0 +1,74 @@
+//! Records that are applied one after another, forth and back.
+
+ghost use Rattle.std.specs.Prelude.{IfSome};
+ghost use Rattle.mx_record.specs.Recording.{IsReady};
+
+use crate::pictures::Picture;
+use crate::programs::{PROGRAMS, recorder};
+use mx_record::{Record, Recorder};
+use mx_run::End;
+use std::alloc::Global;
+use std::test::Fail;
+
+/// Makes the next turn, and adds its record, which leads to the picture of the machine. Nothing where it does not.
+fn walk_on(recorder: &mut Recorder, picture: &mut Picture, records: &mut Vec<Record>) -> Option<()>
+    requires { IsReady recorder.old }
+    ensures { IfSome result (λ _. IsReady recorder.new) }
+{
+    let End::Spent = recorder.end() else {
+        return Some(());
+    };
+    let (record, _trace) = recorder.next().ok()?;
+    picture.apply(&record).ok()?;
+    if !picture.is_of(recorder.machine()) {
+        return None;
+    }
+    records.push(record).ok()?;
+    Some(())
+}
+
+/// How many turns a run has; nothing where a record does not lead to the picture of the machine, or the records do not lead back.
+fn walk(alloc: Global, source: &str) -> Option<usize> {
+    let (mut recorder, start) = recorder(alloc, source)?;
+    let mut picture = Picture::new(alloc);
+    let mut records = Vec::new(alloc);
+    picture.apply(&start).ok()?;
+    if !picture.is_of(recorder.machine()) {
+        return None;
+    }
+    for _ in 0..1000u32 {
+        walk_on(&mut recorder, &mut picture, &mut records)?;
+    }
+    for record in records.iter().rev() {
+        picture.apply(record).ok()?;
+    }
+    picture.apply(&start).ok()?;
+    if picture.is_zero() {
+        Some(records.len())
+    } else {
+        None
+    }
+}
+
+/// How many turns the runs of the programs have.
+static TURNS: [usize; 5] = [21, 22, 565, 18, 15];
+
+/// The number of the first program whose run is not told by its records, and how many turns it has.
+fn first_wrong(alloc: Global) -> Option<(usize, Option<usize>)> {
+    for (number, (source, turns)) in PROGRAMS.iter().zip(TURNS.iter()).enumerate() {
+        let made = walk(alloc, source);
+        if made != Some(*turns) {
+            return Some((number, made));
+        }
+    }
+    None
+}
+
+#[test]
+fn records_lead_along_the_run_and_back(rt: HostRuntime) -> Result<(), Fail> {
+    let wrong = first_wrong(rt.alloc());
+    if wrong != None {
+        return Err(Fail::new(format_args!("{wrong:?}")));
+    }
+    Ok(())
+}
