@@ -41,9 +41,18 @@ fn is_register(symbol: &Symbol, k: u8) -> bool {
     }
 }
 
-/// The first symbol that is the register with this number.
+/// Whether one symbol alone is the register with this number.
+fn is_one_register(symbols: &[Symbol], k: u8) -> bool {
+    let named = symbols.iter().filter(|symbol| is_register(symbol, k));
+    named.count() == 1
+}
+
+/// The symbol that is the register with this number, if one alone is.
 pub(crate) fn register_symbol(book: &Book, k: u8) -> Option<&Symbol> {
     let symbols = book.symbols.as_slice();
+    if !is_one_register(symbols, k) {
+        return None;
+    }
     symbols.iter().find(|symbol| is_register(symbol, k))
 }
 
