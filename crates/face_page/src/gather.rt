@@ -88,7 +88,7 @@ fn add_file_at<H: Host>(
 }
 
 /// Reads the files that the words at some places name.
-#[tactic(auto, using(crate::proofs::Parts::parts))]
+#[tactic(auto, using(crate::proofs::Endings::endings))]
 fn files_at<H: Host>(
     alloc: Global,
     host: &mut H,

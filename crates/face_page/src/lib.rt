@@ -4,7 +4,6 @@
 mod data;
 mod gather;
 mod made;
-mod parts;
 mod program;
 mod records;
 mod rows;

@@ -7,7 +7,6 @@ ghost use Rattle.mx_face.specs.Pages.{FaultsOnlyBy, IsOfView};
 use crate::data::{Call, Program, data};
 use crate::gather::{Gathered, gather};
 use crate::made::{Ending, Made, of_memory, record_run, refused};
-use crate::parts::{END, FRONT};
 use crate::program::{host_of, program_of};
 use crate::words::{Ordered, Unread, order_in};
 use mx_begin::arguments;
@@ -19,6 +18,7 @@ use mx_outcome::{Outcome, message};
 use mx_view::{Wanted, list_source, tell_faults};
 use mx_word::{Bytes, NoMemory};
 use mx_words::Order;
+use page_parts::{end, front};
 use std::alloc::Global;
 
 /// Records the run of a program.
@@ -112,7 +112,7 @@ fn untold(alloc: Global, gathered: &Gathered) -> Result<Program, NoMemory> {
 
 /// The page around data: no `<` is in it, so nothing there ends its element.
 fn around(alloc: Global, data: &[u8]) -> Result<Bytes, NoMemory> {
-    let mut text = Bytes::copy(alloc, FRONT.as_bytes())?;
+    let mut text = Bytes::copy(alloc, front().as_bytes())?;
     for b in data {
         if *b == b'<' {
             text.extend(b"\\u003c")?;
@@ -120,7 +120,7 @@ fn around(alloc: Global, data: &[u8]) -> Result<Bytes, NoMemory> {
             text.push(*b)?;
         }
     }
-    text.extend(END.as_bytes())?;
+    text.extend(end().as_bytes())?;
     Ok(text)
 }
 
@@ -209,7 +209,7 @@ fn show_gathered<H: Host>(
 
 /// Does what the words after `page` order: the source or the object is run over a host in memory, turn by turn, and the page of
 /// the run is written, or, after `--json`, its data. It answers the outcome of the run, which its message tells.
-#[tactic(auto, using(crate::proofs::Parts::parts))]
+#[tactic(auto, using(crate::proofs::Endings::endings))]
 pub fn page<H: Host>(alloc: Global, host: &mut H, version: &str, words: &[String]) -> Outcome
     ensures causes { FaultsOnlyBy H.told H.faults host.old host.new result }
 {

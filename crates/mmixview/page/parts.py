@@ -1,7 +1,7 @@
 #!/usr/bin/env python3
 """Writes what is around the data of a page as constants of the program, or checks that they are what the files here give.
 
-usage: parts.py          writes crates/face_page/src/parts.rt
+usage: parts.py          writes crates/page_parts/src/parts.rt
        parts.py --check  ends with 1 where that file is another
 """
 import os
@@ -9,7 +9,7 @@ import sys
 
 from join import FOLDER, parts
 
-FILE = os.path.join(FOLDER, "..", "..", "face_page", "src", "parts.rt")
+FILE = os.path.join(FOLDER, "..", "..", "page_parts", "src", "parts.rt")
 HEAD = """//! What is around the data of a page. `crates/mmixview/page/parts.py` writes this file: change `page.html`, `style.css` or
 //! `script.js` there, and let it write the file again.
 
@@ -36,7 +36,7 @@ if __name__ == "__main__":
     if sys.argv[1:] == ["--check"]:
         with open(FILE, encoding="utf-8") as file:
             if file.read() != file_text():
-                sys.exit("crates/face_page/src/parts.rt is not what parts.py writes: call it")
+                sys.exit("crates/page_parts/src/parts.rt is not what parts.py writes: call it")
     elif sys.argv[1:]:
         sys.exit(__doc__.strip())
     else:

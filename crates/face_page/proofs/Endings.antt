@@ -38,4 +38,4 @@ part-lacked a b k m r kept of = part-ended a b k m r (faults-after a b b k m m r
 pub whole-kept : (a b : Option HostModel) (k m : ℕ) (r : Outcome) → Keeps a b k m → IsOfView r → FaultsBetween a b k m Broken NoFile r
 whole-kept a b k m r kept of = faults-after a b b k m m r kept (faults-nowhere b m r of)
 
-pub ruleset parts = (part-kept, part-nowhere, part-failed, part-after, part-lacked, whole-ended, faults-after, whole-kept)
+pub ruleset endings = (part-kept, part-nowhere, part-failed, part-after, part-lacked, whole-ended, faults-after, whole-kept)
