@@ -1,30 +1,56 @@
 -- The definitions on worked rows.
 use Rattle.std.proofs.Common.{◌≡◌, [], ◌∷◌, true, false, refl, codes}
-use Rattle.mx_marks.specs.Labels.{is_near}
+use Rattle.mx_marks.specs.Labels.{is_near, label_number}
 use Rattle.mx_marks.specs.Mending.{label_alone, line_text, lines_with}
 use Rattle.mx_marks.specs.Syntax.{scan, scan_from}
 use Rattle.mx_marks.specs.Tokens.{is_above}
 
 -- a letter that differs, one too many, one too few, two that are exchanged, and two that differ
-other-letter : is_near (codes "Loop") (codes "Lopp") ≡ true
+other-letter : is_near true (codes "Loop") (codes "Lopp") ≡ true
 unfolding is_near
 other-letter = refl
 
-letter-more : is_near (codes "ADDD") (codes "ADD") ≡ true
+letter-more : is_near true (codes "ADDD") (codes "ADD") ≡ true
 unfolding is_near
 letter-more = refl
 
-letter-less : is_near (codes "Lop") (codes "Loop") ≡ true
+letter-less : is_near true (codes "Lop") (codes "Loop") ≡ true
 unfolding is_near
 letter-less = refl
 
-letters-exchanged : is_near (codes "Lopo") (codes "Loop") ≡ true
+letters-exchanged : is_near true (codes "Lopo") (codes "Loop") ≡ true
 unfolding is_near
 letters-exchanged = refl
 
-two-letters : is_near (codes "Loop") (codes "Lamp") ≡ false
+two-letters : is_near true (codes "Loop") (codes "Lamp") ≡ false
 unfolding is_near
 two-letters = refl
+
+-- of short words: a letter at the end, a digit for a letter, and two that are no slips
+letter-behind : is_near false (codes "INC") (codes "INCL") ≡ true
+unfolding is_near
+letter-behind = refl
+
+digit-for-letter : is_near false (codes "ST0") (codes "STO") ≡ true
+unfolding is_near
+digit-for-letter = refl
+
+short-other : is_near false (codes "MOV") (codes "MOR") ≡ false
+unfolding is_near
+short-other = refl
+
+short-inside : is_near false (codes "JSR") (codes "SR") ≡ false
+unfolding is_near
+short-inside = refl
+
+-- the line of a label, what it stands in front of, and a label that is further down than is looked for
+label-line : label_number (codes "B") 2 1 (codes "A SWYM" ∷ codes "B BYTE 1" ∷ []) ≡ 2
+unfolding label_number
+label-line = refl
+
+label-below : label_number (codes "B") 1 1 (codes "A SWYM" ∷ codes "B BYTE 1" ∷ []) ≡ 0
+unfolding label_number
+label-below = refl
 
 -- numbers
 decimal-above : is_above 255 (codes "256,$1") ≡ true

@@ -1,5 +1,5 @@
 -- Which statement of a line and which of its fields a fault is about, and where they begin. A rule of this program.
-use Rattle.std.specs.Prelude.{ℕ, ◌-◌, List, [], ◌∷◌, take, drop, if◌then◌else◌, Option, None, Some, is_some, Result, Ok, Err}
+use Rattle.std.specs.Prelude.{ℕ, ◌+◌, ◌-◌, ◌==◌, Bool, not, List, [], ◌∷◌, length, take, drop, if◌then◌else◌, Option, None, Some, is_some, Result, Ok, Err}
 use Rattle.mx_line.specs.Bytes.{is_blank, is_name_byte, past, run}
 use Rattle.mx_line.specs.Cutting.{statement_of}
 use Rattle.mx_line.specs.declared.cutter.Cut.{Cut}
@@ -55,6 +55,13 @@ operands_by cut text = text
 
 abbrev pub operands_at : Line → ℕ → Line
 operands_at line place = operands_by (statement_of line place) (from_field Operands (drop place line))
+
+-- what follows the first comma of operands; no text where there is none: 44 is a comma
+abbrev pub is_no_comma : ℕ → Bool
+is_no_comma b = not (b == 44)
+
+abbrev pub behind_comma : Line → Line
+behind_comma operands = drop (length (run is_no_comma operands) + 1) operands
 
 -- ---- which statement
 

@@ -15,7 +15,7 @@ use Rattle.mx_marks.specs.declared.marks.Mark.{Mark}
 use Rattle.mx_marks.specs.declared.rooms.Room.{Room}
 use Rattle.mx_marks.specs.declared.rooms.Room.TheVariants.{Byte, Wyde, Tetra, DataByte, DataWyde}
 use Rattle.mx_marks.specs.declared.tokens.Wanted.{Wanted}
-use Rattle.mx_marks.specs.declared.tokens.Wanted.TheVariants.{Unknown, Ahead, Above}
+use Rattle.mx_marks.specs.declared.tokens.Wanted.TheVariants.{Unknown, Ahead, Above, Address}
 use Rattle.mx_marks.specs.Fields.{Line, from_field, operands_at, word}
 use Rattle.mx_marks.specs.Syntax.{Scan, scan}
 use Rattle.mx_marks.specs.Tokens.{from_part, marked_length}
@@ -75,13 +75,19 @@ abbrev pub early_part : List ℕ → ℕ → Line → Line → Line
 early_part source most operands [] = part_of Ahead source most operands
 early_part source most operands (b ∷ bs) = b ∷ bs
 
+-- a number that does not fit, or else a label of data, whose address does not fit into an instruction
+abbrev pub fit_part : List ℕ → Room → Line → Line → Line
+fit_part source Byte operands [] = part_of Address source 0 operands
+fit_part source Wyde operands [] = part_of Address source 0 operands
+fit_part source room operands part = part
+
 -- From the part on that a fault with this number is about, in a line with this number; no text where none is found. 10 is Syntax,
 -- 17 Future, 43 Fit, 80 UndefinedSymbol and 81 UndefinedLocal.
 abbrev pub faulty_part : ℕ → ℕ → List ℕ → Room → Line → Line
 faulty_part fault number source room operands =
     if fault == 10 then stopped_at operands (scan operands)
     else if fault == 17 then early_part source (number - 1) operands (part_of Unknown source (number - 1) operands)
-    else if fault == 43 then part_of (Above (limit_of room)) source 0 operands
+    else if fault == 43 then fit_part source room operands (part_of (Above (limit_of room)) source 0 operands)
     else if fault == 80 then part_of Unknown source 4294967295 operands
     else if fault == 81 then part_of Ahead source 0 operands
     else []

@@ -5,9 +5,9 @@ use Rattle.mx_line.specs.Bytes.{run}
 use Rattle.mx_line.specs.Lines.{lines_of}
 use Rattle.mx_ops.specs.Predefined.{predefined_value}
 use Rattle.mx_marks.specs.Fields.{word}
-use Rattle.mx_marks.specs.Labels.{is_label}
+use Rattle.mx_marks.specs.Labels.{is_label, labels_data}
 use Rattle.mx_marks.specs.declared.tokens.Wanted.{Wanted}
-use Rattle.mx_marks.specs.declared.tokens.Wanted.TheVariants.{Unknown, Ahead, Above}
+use Rattle.mx_marks.specs.declared.tokens.Wanted.TheVariants.{Unknown, Ahead, Above, Address}
 
 -- ---- parts
 
@@ -76,6 +76,7 @@ abbrev pub is_wanted : Wanted → List ℕ → ℕ → List ℕ → Bool
 is_wanted Unknown source most text = is_unknown source most text
 is_wanted Ahead source most text = is_ahead (word text)
 is_wanted (Above limit) source most text = is_above limit text
+is_wanted Address source most text = begins_name text && labels_data (word text) source
 
 -- a text from the first of its parts on, of so many at most, that is wanted
 unfoldable pub from_part : ℕ → Wanted → List ℕ → ℕ → List ℕ → List ℕ

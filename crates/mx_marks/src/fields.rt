@@ -44,6 +44,21 @@ pub fn statement_field(why: StmtFault) -> Field
     }
 }
 
+/// How many bytes of operands come before their first comma.
+fn first_length(operands: &[u8]) -> usize
+    ensures { result ≡ length (bytes.run spec.is_no_comma operands.now) }
+{
+    operands.iter().take_while(|b| **b != b',').count()
+}
+
+/// What follows the first comma of operands; no text where there is none.
+#[tactic(auto, using(crate::proofs::TokenTurns::lengths))]
+pub fn behind_comma(operands: &[u8]) -> &[u8]
+    ensures { result.now ≡ spec.behind_comma operands.now }
+{
+    parted(operands, first_length(operands).saturating_add(1)).1
+}
+
 /// The place behind the statements that are cut from a line.
 pub fn behind_cuts(line: &[u8]) -> usize
     ensures place { result ≡ spec.behind_cuts 0 (cuts_from line.now 0) }

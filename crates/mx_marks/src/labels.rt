@@ -7,6 +7,8 @@ ghost use Rattle.mx_marks.specs.Labels as spec;
 use crate::fields::{behind_word, word};
 use crate::under::parted;
 use mx_line::cut_line;
+use mx_ops::{Op, Pseudo, find};
+use mx_word::{is_digit, is_letter};
 
 /// How a label has to be like a name: the same; or alike, as where a letter differs.
 #[derive(Clone, Copy, Debug, PartialEq, Eq)]
@@ -43,6 +45,37 @@ fn is_slip(a: &[u8], b: &[u8]) -> bool
         || (are_exchanged(a, b) && parted(a, 2).1 == parted(b, 2).1)
 }
 
+/// Whether one of two bytes is a digit and the other a letter.
+fn is_digit_slip(x: u8, y: u8) -> bool
+    ensures { result ≡ spec.is_digit_slip x y }
+{
+    (is_digit(x) && is_letter(y)) || (is_letter(x) && is_digit(y))
+}
+
+/// Whether one of two texts is one letter and the other ends, or they are the same but for a digit in place of a letter.
+fn is_short_slip(a: &[u8], b: &[u8]) -> bool
+    ensures { result ≡ spec.is_short_slip a.now b.now }
+{
+    let [x, more @ ..] = a else {
+        return b.len() == 1;
+    };
+    let [y, others @ ..] = b else {
+        return more.is_empty();
+    };
+    is_digit_slip(*x, *y) && more == others
+}
+
+/// Whether two texts differ by a slip, in a long word or in a short one.
+fn is_slip_in(is_long: bool, a: &[u8], b: &[u8]) -> bool
+    ensures { result ≡ spec.is_slip_in is_long a.now b.now }
+{
+    if is_long {
+        is_slip(a, b)
+    } else {
+        is_short_slip(a, b)
+    }
+}
+
 /// Whether two texts begin with one byte.
 fn begin_alike(a: &[u8], b: &[u8]) -> bool
     ensures { result ≡ spec.begin_alike a.now b.now }
@@ -53,10 +86,10 @@ fn begin_alike(a: &[u8], b: &[u8]) -> bool
     }
 }
 
-/// Whether two words differ in one letter, one of them has one letter more, or two letters are exchanged.
+/// Whether two words differ by one slip; in short ones fewer differences are slips.
 #[tactic(auto, using(crate::proofs::LabelTurns::nears))]
-fn is_near(a: &[u8], b: &[u8]) -> bool
-    ensures { result ≡ spec.is_near a.now b.now }
+fn is_near(is_long: bool, a: &[u8], b: &[u8]) -> bool
+    ensures { result ≡ spec.is_near is_long a.now b.now }
 {
     let mut left = a;
     let mut right = b;
@@ -64,14 +97,15 @@ fn is_near(a: &[u8], b: &[u8]) -> bool
         left = without_first(left);
         right = without_first(right);
     }
-    is_slip(left, right)
+    is_slip_in(is_long, left, right)
 }
 
 /// Whether a word is like a name: they differ in capitals alone, or are near each other.
 fn is_alike(name: &[u8], other: &[u8]) -> bool
     ensures { result ≡ spec.is_alike name.now other.now }
 {
-    name.eq_ignore_ascii_case(other) || (name.len() >= 3 && is_near(name, other))
+    name.eq_ignore_ascii_case(other)
+        || (name.len() >= 3 && is_near(name.len() >= 4, name, other))
 }
 
 /// Whether a label is like a name in this way.
@@ -84,10 +118,10 @@ fn is_like(kind: Likeness, name: &[u8], other: &[u8]) -> bool
     }
 }
 
-/// The first label of so many lines of a source that is like a name; no text where none is.
+/// The first of so many lines of a source whose label is like a name; no text where none is.
 #[tactic(auto, using(crate::proofs::LabelTurns::labels))]
-pub fn first_label<'a>(kind: Likeness, name: &[u8], most: u32, source: &'a [u8]) -> &'a [u8]
-    ensures { result.now ≡ spec.first_label kind name.now most (lines_of source.now) }
+fn first_line<'a>(kind: Likeness, name: &[u8], most: u32, source: &'a [u8]) -> &'a [u8]
+    ensures { result.now ≡ spec.first_line kind name.now most (lines_of source.now) }
 {
     let mut rest = source;
     let mut left = most;
@@ -97,12 +131,74 @@ pub fn first_label<'a>(kind: Likeness, name: &[u8], most: u32, source: &'a [u8])
             return &[];
         }
         if is_like(kind, name, word(line)) {
-            return word(line);
+            return line;
         }
         left -= 1;
         rest = more;
     }
     &[]
+}
+
+/// The first label of so many lines of a source that is like a name; no text where none is.
+pub fn first_label<'a>(kind: Likeness, name: &[u8], most: u32, source: &'a [u8]) -> &'a [u8]
+    ensures { result.now ≡ spec.first_label kind name.now most (lines_of source.now) }
+{
+    word(first_line(kind, name, most, source))
+}
+
+/// The number of the first of so many lines of a source that has a label; 0 where none has it.
+#[tactic(auto, using(crate::proofs::LabelTurns::numbers))]
+pub fn label_number(name: &[u8], most: u32, source: &[u8]) -> u64
+    ensures { result ≡ spec.label_number name.now most 1 (lines_of source.now) }
+{
+    let mut number: u64 = 1;
+    let mut rest = source;
+    let mut left = most;
+    while !rest.is_empty() {
+        let (line, more) = cut_line(rest);
+        if left == 0 {
+            return 0;
+        }
+        if name == word(line) {
+            return number;
+        }
+        number += 1;
+        left -= 1;
+        rest = more;
+    }
+    0
+}
+
+/// The operation in the first line of a source that has a label.
+fn label_operation(name: &[u8], source: &[u8]) -> Option<Op>
+    ensures { result ≡ spec.label_operation name.now source.now }
+{
+    find(word(behind_word(first_line(
+        Likeness::Same,
+        name,
+        u32::MAX,
+        source,
+    ))))
+}
+
+/// Whether a name is a label of data.
+pub(crate) fn labels_data(name: &[u8], source: &[u8]) -> bool
+    ensures { result ≡ spec.labels_data name.now source.now }
+{
+    match label_operation(name, source) {
+        Some(Op::Pseudo(Pseudo::Byte | Pseudo::Wyde | Pseudo::Tetra | Pseudo::Octa)) => true,
+        _ => false,
+    }
+}
+
+/// Whether a name is a label of an instruction.
+pub fn labels_code(name: &[u8], source: &[u8]) -> bool
+    ensures { result ≡ spec.labels_code name.now source.now }
+{
+    match label_operation(name, source) {
+        Some(Op::Code(_) | Op::Lda | Op::Set) => true,
+        _ => false,
+    }
 }
 
 /// Whether a name is a label of so many lines of a source.

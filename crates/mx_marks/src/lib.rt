@@ -13,10 +13,12 @@ mod tokens;
 mod under;
 
 pub use fields::{
-    Field, behind_cuts, from_field, line_field, only_front, operands_at, statement_field,
-    unknown_place, word,
+    Field, behind_comma, behind_cuts, from_field, line_field, only_front, operands_at,
+    statement_field, unknown_place, word,
 };
-pub use labels::{Likeness, first_label, is_label, known_name, operation_name};
+pub use labels::{
+    Likeness, first_label, is_label, known_name, label_number, labels_code, operation_name,
+};
 pub use laws::{
     carets_count_characters, carets_stand_under_their_fields, marks_begin_within_their_fields,
 };

@@ -3,7 +3,7 @@
 ghost use Rattle.std.specs.Prelude.{◌≡◌, ◌<◌, ◌≤◌, ◌^◌, IfOk, length};
 ghost use Rattle.mx_marks.specs.Marks as spec;
 ghost use Rattle.mx_marks.specs.Syntax as syntax;
-ghost use Rattle.mx_marks.specs.declared.tokens.Wanted.TheVariants.{Unknown};
+ghost use Rattle.mx_marks.specs.declared.tokens.Wanted.TheVariants.{Above, Unknown};
 
 use crate::fields::{Field, from_field, operands_at, word};
 use crate::rooms::{Room, limit_of, room_of};
@@ -69,6 +69,24 @@ fn early_part<'a>(
     }
 }
 
+/// From the number on that does not fit, or else from the label of data on, whose address does not fit into an instruction.
+fn fit_part<'a>(
+    alloc: Global,
+    source: &[u8],
+    room: Room,
+    operands: &'a [u8],
+) -> Result<&'a [u8], NoMemory>
+    ensures { IfOk result (λ part. part.now
+        ≡ spec.fit_part source.now room operands.now (spec.part_of (Above (spec.limit_of room)) source.now 0 operands.now)) }
+{
+    let above = from_part(alloc, Wanted::Above(limit_of(room)), source, 0, operands)?;
+    if above.is_empty() && (room == Room::Byte || room == Room::Wyde) {
+        from_part(alloc, Wanted::Address, source, 0, operands)
+    } else {
+        Ok(above)
+    }
+}
+
 /// From the part of operands on that a fault is about; no text where none is found.
 fn faulty_part<'a>(
     alloc: Global,
@@ -83,7 +101,7 @@ fn faulty_part<'a>(
     match fault {
         10 => Ok(stopped_at(operands)),
         17 => early_part(alloc, number.saturating_sub(1), source, operands),
-        43 => from_part(alloc, Wanted::Above(limit_of(room)), source, 0, operands),
+        43 => fit_part(alloc, source, room, operands),
         80 => from_part(alloc, Wanted::Unknown, source, u32::MAX, operands),
         81 => from_part(alloc, Wanted::Ahead, source, 0, operands),
         _ => Ok(&[]),

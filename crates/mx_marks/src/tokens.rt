@@ -6,7 +6,7 @@ ghost use Rattle.mx_word.specs.Kinds as kinds;
 ghost use Rattle.mx_marks.specs.Tokens as spec;
 
 use crate::fields::word;
-use crate::labels::is_label;
+use crate::labels::{is_label, labels_data};
 use crate::under::parted;
 use mx_ops::predefined;
 use mx_word::{Bytes, NoMemory, is_digit, is_letter, is_name_byte};
@@ -15,12 +15,13 @@ use std::alloc::Global;
 /// The value from which on a number is not counted further.
 const LARGE: u64 = 1 << 40;
 
-/// A part of operands that is wanted: a name that is no label, a local label with `F`, or a number above this limit.
+/// A part of operands that is wanted: a name that is no label, a local label with `F`, a number above this limit, or a label of data.
 #[derive(Clone, Copy, Debug, PartialEq, Eq)]
 pub(crate) enum Wanted {
     Unknown,
     Ahead,
     Above(u64),
+    Address,
 }
 
 /// How many bytes of a string come before its closing quote.
@@ -175,6 +176,7 @@ fn is_wanted(
         Wanted::Unknown => is_unknown(alloc, source, most, text),
         Wanted::Ahead => Ok(is_ahead(word(text))),
         Wanted::Above(limit) => Ok(is_above(limit, text)),
+        Wanted::Address => Ok(begins_name(text) && labels_data(word(text), source)),
     }
 }
 

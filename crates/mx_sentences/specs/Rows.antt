@@ -102,7 +102,7 @@ end_row = row (codes "The operands end after ") (codes "their last part") (codes
 
 -- where a name is defined in a later line only
 unfoldable pub later_row : Row
-later_row = row [] (codes "A name") (codes " is defined further down, but its value is needed here.") (codes "Define it before this line. LDA can give way to GETA, which does not need the value.")
+later_row = row [] (codes "A name") (codes " is defined further down, but its value is needed here.") (codes "Define it before this line: data, with their GREG, go in front of the code.")
 
 -- where there is room for a wyde
 unfoldable pub wyde_row : Row
@@ -119,6 +119,38 @@ data_byte_row = row [] (codes "A number") (codes " does not fit: a byte is 0 to 
 -- where a WYDE has it
 unfoldable pub data_wyde_row : Row
 data_wyde_row = row [] (codes "A number") (codes " does not fit: a wyde is 0 to 65535.") (codes "Take TETRA or OCTA.")
+
+-- where LDA has the name of an instruction that is defined in a later line
+unfoldable pub later_code_row : Row
+later_code_row = row [] (codes "A name") (codes " is defined further down, but its value is needed here.") (codes "Define it before this line. LDA can give way to GETA, which does not need the value.")
+
+-- where a label is not in the first column
+unfoldable pub indented_row : Row
+indented_row = row [] (codes "This word") (codes " is not in the first column, so it is read as an operation.") (codes "A label begins in the first column of its line.")
+
+-- where a comment begins with ;
+unfoldable pub remark_row : Row
+remark_row = row (codes "There is no operation ") (codes "of this name") (codes ".") (codes "A ; begins the next statement. A comment behind the operands needs no mark, and a line of comment begins with *.")
+
+-- where a number below 0 is added or subtracted
+unfoldable pub sum_row : Row
+sum_row = row [] (codes "A number") (codes " does not fit: a number can be 0 to 255 here.") (codes "Take SUB in place of ADD, or ADD in place of SUB, and the number without its minus.")
+
+-- where a label of data is given for a number
+unfoldable pub address_row : Row
+address_row = row [] (codes "A number") (codes " is an address, which has no room in an instruction.") []
+
+-- where there is no such local label at all
+unfoldable pub nowhere_row : Row
+nowhere_row = row [] (codes "A local label") (codes " refers to a local label further down, and there is none.") (codes "Write its label in front of a later line, as 1H for 1F.")
+
+-- where Main has a colon
+unfoldable pub colon_row : Row
+colon_row = row [] (codes "There is no label Main, where a program starts.") [] (codes "The label Main: has a colon: remove it.")
+
+-- where another machine has the operation, and this is what MMIX has
+abbrev pub foreign_row : List ℕ → Row
+foreign_row advice = row (codes "There is no operation ") (codes "of this name") (codes ".") advice
 
 -- the sentence on a fault of this number
 abbrev pub row_of : ℕ → Row

@@ -1,5 +1,6 @@
 -- What is said of a fault: what is wrong, with the marked text, which name is meant perhaps, and what mends it. A rule of this program.
-use Rattle.std.specs.Prelude.{ℕ, ◌==◌, ◌||◌, Bool, if◌then◌else◌, List, [], ◌∷◌, ◌++◌, length, Option, None, Some, codes}
+use Rattle.std.specs.Prelude.{ℕ, ◌-◌, ◌==◌, ◌||◌, Bool, false, if◌then◌else◌, List, [], ◌∷◌, ◌++◌, length, Option, None, Some, codes, decimal}
+use Rattle.mx_word.specs.Kinds.{is_letter}
 use Rattle.mx_line.specs.Lines.{lines_of}
 use Rattle.mx_ops.specs.declared.op.Op.{Op}
 use Rattle.mx_ops.specs.declared.op.Op.TheVariants.{Pseudo as PseudoOp, Code, Lda, Set}
@@ -12,50 +13,14 @@ use Rattle.mx_asm.specs.Whole.{Line}
 use Rattle.mx_asm.specs.declared.faults.AsmFault.{AsmFault}
 use Rattle.mx_marks.specs.declared.labels.Likeness.TheVariants.{Alike}
 use Rattle.mx_marks.specs.declared.marks.Mark.{Mark}
-use Rattle.mx_marks.specs.declared.rooms.Room.{Room}
-use Rattle.mx_marks.specs.declared.rooms.Room.TheVariants.{Byte, Wyde, Tetra, DataByte, DataWyde}
+use Rattle.mx_sentences.specs.declared.choices.Unknown.{Unknown}
+use Rattle.mx_sentences.specs.declared.choices.Unknown.TheVariants.{Misspelled}
 use Rattle.mx_sentences.specs.declared.sentences.Remark.{Remark}
-use Rattle.mx_marks.specs.Fields.{operands_at}
-use Rattle.mx_marks.specs.Labels.{first_label, first_word, is_label, known_names, operation_names}
-use Rattle.mx_marks.specs.Marks.{marked_text, operation_at, room_at}
+use Rattle.mx_marks.specs.Labels.{first_label, first_word, known_names, label_number, operation_names}
+use Rattle.mx_marks.specs.Marks.{marked_text, operation_at}
 use Rattle.mx_sentences.specs.Places.{mark_of, statement_place}
-use Rattle.mx_sentences.specs.Rows.{Row, byte_row, data_byte_row, data_wyde_row, end_row, later_row, match_row, row_of, tetra_row, wyde_row}
-use Rattle.mx_marks.specs.Syntax.{is_read_through}
-
--- ---- the row
-
-abbrev pub room_row : Room → Row
-room_row Byte = byte_row
-room_row Wyde = wyde_row
-room_row Tetra = tetra_row
-room_row DataByte = data_byte_row
-room_row DataWyde = data_wyde_row
-
--- whether a name is a label of the source
-abbrev pub is_defined : List ℕ → Line → Bool
-is_defined source name = is_label name 4294967295 (lines_of source)
-
-abbrev pub read_row : Line → Row
-read_row [] = match_row
-read_row (b ∷ bs) = end_row
-
-abbrev pub syntax_row : Line → Line → Row
-syntax_row marked operands = if is_read_through operands then read_row marked else row_of 10
-
-abbrev pub early_row : List ℕ → Line → Row
-early_row source name = if is_defined source name then later_row else row_of 17
-
--- the row of a fault with this number, where this text is marked in the statement at a place: 10 is Syntax, 17 Future and 43 Fit
-abbrev pub row_at : ℕ → List ℕ → Line → Line → ℕ → Row
-row_at fault source marked line place =
-    if fault == 10 then syntax_row marked (operands_at line place)
-    else if fault == 17 then early_row source marked
-    else if fault == 43 then room_row (room_at line place)
-    else row_of fault
-
-abbrev pub row_with : ℕ → List ℕ → Line → Line → Option ℕ → Row
-row_with fault source marked line None = row_of fault
-row_with fault source marked line (Some place) = row_at fault source marked line place
+use Rattle.mx_sentences.specs.Choices.{has_colon, is_defined, like_main, row_with, unknown_kind, whole_row}
+use Rattle.mx_sentences.specs.Rows.{Row}
 
 -- ---- what is wrong
 
@@ -110,10 +75,39 @@ takes_text operation (b ∷ bs) = codes " " ++ operation ++ codes " takes " ++ (
 abbrev pub is_of_shape : ℕ → Bool
 is_of_shape fault = fault == 40 || fault == 41 || fault == 42
 
-abbrev pub more_help : ℕ → Line → Option ℕ → Line
-more_help fault line None = []
-more_help fault line (Some place) =
-    if is_of_shape fault then takes_text (operation_at line place) (operands_text (operation_of (operation_at line place))) else []
+-- what loads the address that a label of data has, and what is there
+abbrev pub begins_letter : Line → Bool
+begins_letter [] = false
+begins_letter (b ∷ bs) = is_letter b
+
+unfoldable pub into_text : Line → Line
+into_text name = codes "LDA $1," ++ name ++ codes " puts it into a register"
+
+unfoldable pub from_text : Line → Line
+from_text name = codes ", and LDO $1," ++ name ++ codes " loads the octa there."
+
+abbrev pub load_text : Line → Line
+load_text name = into_text name ++ from_text name
+
+abbrev pub address_text : Line → Line
+address_text marked = if begins_letter marked then load_text marked else []
+
+-- the line of a label that is defined already, if it is found
+abbrev pub defined_text : ℕ → Line
+defined_text number = if number == 0 then [] else codes " It is the label of line " ++ decimal number ++ codes "."
+
+-- 30 is Twice and 43 Fit
+abbrev pub more_at : ℕ → ℕ → List ℕ → Line → Line → ℕ → Line
+more_at fault number source marked line place =
+    if is_of_shape fault then takes_text (operation_at line place) (operands_text (operation_of (operation_at line place)))
+    else if fault == 43 then address_text marked
+    else if fault == 30 then defined_text (label_number marked (number - 1) 1 (lines_of source))
+    else []
+
+-- what is added where the statement is known
+abbrev pub more_help : ℕ → ℕ → List ℕ → Line → Line → Option ℕ → Line
+more_help fault number source marked line None = []
+more_help fault number source marked line (Some place) = more_at fault number source marked line place
 
 -- ---- which name is meant perhaps
 
@@ -128,18 +122,30 @@ meant_name source name = label_or_name name (first_label Alike name 4294967295 (
 abbrev pub meant_operation : Line → Line
 meant_operation name = first_word (length operation_names) name operation_names
 
--- a label that is like Main, where none is the same
-abbrev pub meant_main : List ℕ → Line
-meant_main source = if is_defined source (codes "Main") then [] else first_label Alike (codes "Main") 4294967295 (lines_of source)
+-- Only a misspelling may mean another operation.
+abbrev pub meant_of : Unknown → Line → Line
+meant_of Misspelled marked = meant_operation marked
+meant_of kind marked = []
 
--- 17 is Future, 39 UnknownOpcode, 80 UndefinedSymbol and 82 MainUndefined
-abbrev pub meant_by : ℕ → List ℕ → Line → Line
-meant_by fault source marked =
-    if fault == 39 then meant_operation marked
+abbrev pub meant_unknown : Line → Line → Option ℕ → Line
+meant_unknown marked line None = []
+meant_unknown marked line (Some place) = meant_of (unknown_kind marked line place) marked
+
+-- a label that is like Main, and not Main with a colon
+abbrev pub meant_main : List ℕ → Line
+meant_main source = if has_colon source then [] else like_main source
+
+-- 17 is Future, 39 UnknownOpcode and 80 UndefinedSymbol
+abbrev pub meant_by : ℕ → List ℕ → Line → Line → Option ℕ → Line
+meant_by fault source marked line place =
+    if fault == 39 then meant_unknown marked line place
     else if fault == 80 then meant_name source marked
     else if fault == 17 then (if is_defined source marked then [] else meant_name source marked)
-    else if fault == 82 then meant_main source
     else []
+
+-- 82 is MainUndefined
+abbrev pub meant_whole : ℕ → List ℕ → Line
+meant_whole fault source = if fault == 82 then meant_main source else []
 
 -- ---- the whole
 
@@ -150,18 +156,19 @@ part_text line (Some m) = if m.is_part then marked_text line m else []
 abbrev pub remark : Option Mark → Line → Line → Line → Remark
 remark mark what meant help = record { mark = mark; what = what; meant = meant; help = help }
 
-abbrev pub with_part : ℕ → List ℕ → Line → Option ℕ → Option Mark → Line → Remark
-with_part fault source line place mark marked =
-    remark mark (what_text (row_with fault source marked line place) marked) (meant_by fault source marked)
-    ((row_with fault source marked line place).help ++ more_help fault line place)
+abbrev pub with_part : ℕ → ℕ → List ℕ → Line → Option ℕ → Option Mark → Line → Remark
+with_part fault number source line place mark marked =
+    remark mark (what_text (row_with fault source marked line place) marked) (meant_by fault source marked line place)
+    ((row_with fault source marked line place).help ++ more_help fault number source marked line place)
 
-abbrev pub with_mark : AsmFault → List ℕ → Line → Option Mark → Remark
-with_mark why source line mark = with_part (fault_number why) source line (statement_place why line) mark (part_text line mark)
+abbrev pub with_mark : AsmFault → ℕ → List ℕ → Line → Option Mark → Remark
+with_mark why number source line mark =
+    with_part (fault_number why) number source line (statement_place why line) mark (part_text line mark)
 
 -- what is said of a fault in this line of a source, which has this number
 abbrev pub remark_of : AsmFault → ℕ → List ℕ → Line → Remark
-remark_of why number source line = with_mark why source line (mark_of why number source line)
+remark_of why number source line = with_mark why number source line (mark_of why number source line)
 
 -- what is said of a fault of the source as a whole
 abbrev pub remark_of_whole : ℕ → List ℕ → Remark
-remark_of_whole fault source = remark None (what_text (row_of fault) []) (meant_by fault source []) (row_of fault).help
+remark_of_whole fault source = remark None (what_text (whole_row fault source) []) (meant_whole fault source) (whole_row fault source).help

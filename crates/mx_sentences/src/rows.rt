@@ -14,7 +14,7 @@ pub(crate) struct Row {
 }
 
 /// A sentence of these parts.
-fn parts(before: &'static str, noun: &'static str, after: &'static str, help: &'static str) -> Row
+pub(crate) fn parts(before: &'static str, noun: &'static str, after: &'static str, help: &'static str) -> Row
     ensures { spec.shown result ≡ spec.row before.now noun.now after.now help.now }
 {
     Row {
@@ -338,110 +338,6 @@ fn source_row(number: u16) -> Row
         ),
         _ => no_row(),
     }
-}
-
-/// Where there is room for a byte.
-#[tactic(auto, unfolding(crate::specs::Rows::byte_row))]
-pub(crate) fn byte_row() -> Row
-    ensures { spec.shown result ≡ spec.byte_row }
-{
-    parts(
-        "",
-        "A number",
-        " does not fit: a number can be 0 to 255 here.",
-        "Put it into a register first: by SET up to 65535, by NEG below 0.",
-    )
-}
-
-/// Where parentheses do not match.
-#[tactic(auto, unfolding(crate::specs::Rows::match_row))]
-pub(crate) fn match_row() -> Row
-    ensures { spec.shown result ≡ spec.match_row }
-{
-    parts(
-        "",
-        "The parentheses do not match, or a string is a part of an expression.",
-        "",
-        "Close each ( by a ). A string is an operand of its own, with commas around it.",
-    )
-}
-
-/// Where operands end too early.
-#[tactic(auto, unfolding(crate::specs::Rows::end_row))]
-pub(crate) fn end_row() -> Row
-    ensures { spec.shown result ≡ spec.end_row }
-{
-    parts(
-        "The operands end after ",
-        "their last part",
-        ", where more has to follow.",
-        "No blanks are in operands: what follows a blank is a comment.",
-    )
-}
-
-/// Where a name is defined in a later line only.
-#[tactic(auto, unfolding(crate::specs::Rows::later_row))]
-pub(crate) fn later_row() -> Row
-    ensures { spec.shown result ≡ spec.later_row }
-{
-    parts(
-        "",
-        "A name",
-        " is defined further down, but its value is needed here.",
-        "Define it before this line. LDA can give way to GETA, which does not need the value.",
-    )
-}
-
-/// Where there is room for a wyde.
-#[tactic(auto, unfolding(crate::specs::Rows::wyde_row))]
-pub(crate) fn wyde_row() -> Row
-    ensures { spec.shown result ≡ spec.wyde_row }
-{
-    parts(
-        "",
-        "A number",
-        " does not fit: a number can be 0 to 65535 here.",
-        "Take SETML $0,x>>16 and INCL $0,x&#ffff for a large x, and NEG for a negative one.",
-    )
-}
-
-/// Where a TETRA has it.
-#[tactic(auto, unfolding(crate::specs::Rows::tetra_row))]
-pub(crate) fn tetra_row() -> Row
-    ensures { spec.shown result ≡ spec.tetra_row }
-{
-    parts(
-        "",
-        "A number",
-        " does not fit: a tetra is 0 to 4294967295.",
-        "Take OCTA, which has room for all numbers.",
-    )
-}
-
-/// Where a BYTE has it.
-#[tactic(auto, unfolding(crate::specs::Rows::data_byte_row))]
-pub(crate) fn data_byte_row() -> Row
-    ensures { spec.shown result ≡ spec.data_byte_row }
-{
-    parts(
-        "",
-        "A number",
-        " does not fit: a byte is 0 to 255.",
-        "Take WYDE, TETRA or OCTA.",
-    )
-}
-
-/// Where a WYDE has it.
-#[tactic(auto, unfolding(crate::specs::Rows::data_wyde_row))]
-pub(crate) fn data_wyde_row() -> Row
-    ensures { spec.shown result ≡ spec.data_wyde_row }
-{
-    parts(
-        "",
-        "A number",
-        " does not fit: a wyde is 0 to 65535.",
-        "Take TETRA or OCTA.",
-    )
 }
 
 /// The sentence on a fault of this number.

@@ -1,22 +1,25 @@
 //! What is said of a fault.
 
 ghost use Rattle.std.specs.Prelude.{◌≡◌, ◌≤◌, ◌++◌, [], IfOk, IfSome, OnOk, length};
+ghost use Rattle.mx_ops.specs.Opcodes.{operation_of};
 ghost use Rattle.mx_ops.specs.Shapes.{shapes_of};
+ghost use Rattle.mx_marks.specs.Marks.{operation_at};
 ghost use Rattle.mx_sentences.specs.Rows.{shown};
 ghost use Rattle.mx_sentences.specs.Sentences as spec;
 
-use crate::places::{mark_of, statement_place};
-use crate::rows::{
-    Row, byte_row, data_byte_row, data_wyde_row, end_row, later_row, match_row, row_of, tetra_row,
-    wyde_row,
+use crate::choices::{
+    Unknown, has_colon, is_defined, like_main, row_with, unknown_kind, whole_row,
 };
+use crate::places::{mark_of, statement_place};
+use crate::rows::Row;
 use mx_asm::AsmFault;
 use mx_marks::{
-    Likeness, Mark, Room, first_label, is_label, is_read_through, known_name, marked_text,
-    operands_at, operation_at, operation_name, room_at,
+    Likeness, Mark, first_label, known_name, label_number, marked_text, operation_at,
+    operation_name,
 };
 use mx_ops::{Op, Shape, find, shape_of};
-use mx_word::{Bytes, NoMemory};
+use mx_text::add_decimal;
+use mx_word::{Bytes, NoMemory, is_letter};
 use std::alloc::Global;
 
 /// What is said of a fault: the marked text of its line, if it is known; what is wrong; a name that is meant perhaps, or no text; and what
@@ -27,75 +30,6 @@ pub struct Remark {
     pub what: Bytes,
     pub meant: Bytes,
     pub help: Bytes,
-}
-
-/// The row for a number that has no room.
-fn room_row(room: Room) -> Row
-    ensures { shown result ≡ spec.room_row room }
-{
-    match room {
-        Room::Byte => byte_row(),
-        Room::Wyde => wyde_row(),
-        Room::Tetra => tetra_row(),
-        Room::DataByte => data_byte_row(),
-        Room::DataWyde => data_wyde_row(),
-    }
-}
-
-/// Whether a name is a label of a source.
-fn is_defined(source: &[u8], name: &[u8]) -> bool
-    ensures { result ≡ spec.is_defined source.now name.now }
-{
-    is_label(name, u32::MAX, source)
-}
-
-/// The row for operands whose parts can follow each other: they end too early, or parentheses do not match.
-fn read_row(marked: &[u8]) -> Row
-    ensures { shown result ≡ spec.read_row marked.now }
-{
-    if marked.is_empty() {
-        match_row()
-    } else {
-        end_row()
-    }
-}
-
-/// The row for operands that are no expressions, of which this text is marked.
-fn syntax_row(marked: &[u8], operands: &[u8]) -> Row
-    ensures { shown result ≡ spec.syntax_row marked.now operands.now }
-{
-    if is_read_through(operands) {
-        read_row(marked)
-    } else {
-        row_of(10)
-    }
-}
-
-/// The row for a name without a value.
-fn early_row(source: &[u8], name: &[u8]) -> Row
-    ensures { shown result ≡ spec.early_row source.now name.now }
-{
-    if is_defined(source, name) {
-        later_row()
-    } else {
-        row_of(17)
-    }
-}
-
-/// The row of a fault, where this text is marked in the statement at a place.
-fn row_with(fault: u16, source: &[u8], marked: &[u8], line: &[u8], place: Option<usize>) -> Row
-    requires { IfSome place (λ p. p ≤ length line.now) }
-    ensures { shown result ≡ spec.row_with fault source.now marked.now line.now place }
-{
-    let Some(place) = place else {
-        return row_of(fault);
-    };
-    match fault {
-        10 => syntax_row(marked, operands_at(line, place)),
-        17 => early_row(source, marked),
-        43 => room_row(room_at(line, place)),
-        _ => row_of(fault),
-    }
 }
 
 /// Adds the text that is marked, or the noun for it.
@@ -180,18 +114,101 @@ fn add_takes(text: &mut Bytes, operation: &[u8], operands: &[u8]) -> Result<(), 
     text.extend(b".")
 }
 
-/// Adds which operands the operation of the statement at a place takes, where a fault is about that.
-fn add_help(text: &mut Bytes, fault: u16, line: &[u8], place: Option<usize>) -> Result<(), NoMemory>
-    ensures { OnOk result (text.new ≡ text.old ++ spec.more_help fault line.now place) }
+/// Whether a text begins with a letter.
+fn begins_letter(text: &[u8]) -> bool
+    ensures { result ≡ spec.begins_letter text.now }
+{
+    match text {
+        [] => false,
+        [b, ..] => is_letter(*b),
+    }
+}
+
+/// Adds a name between two texts.
+fn add_between(text: &mut Bytes, front: &[u8], name: &[u8], back: &[u8]) -> Result<(), NoMemory>
+    ensures { OnOk result (text.new ≡ text.old ++ (front.now ++ name.now ++ back.now)) }
+{
+    text.extend(front)?;
+    text.extend(name)?;
+    text.extend(back)
+}
+
+/// Adds what puts the address of a label of data into a register.
+#[tactic(auto, unfolding(crate::specs::Sentences::into_text))]
+fn add_into(text: &mut Bytes, name: &[u8]) -> Result<(), NoMemory>
+    ensures { OnOk result (text.new ≡ text.old ++ spec.into_text name.now) }
+{
+    add_between(text, b"LDA $1,", name, b" puts it into a register")
+}
+
+/// Adds what loads the data at a label.
+#[tactic(auto, unfolding(crate::specs::Sentences::from_text))]
+fn add_from(text: &mut Bytes, name: &[u8]) -> Result<(), NoMemory>
+    ensures { OnOk result (text.new ≡ text.old ++ spec.from_text name.now) }
+{
+    add_between(text, b", and LDO $1,", name, b" loads the octa there.")
+}
+
+/// Adds what loads the address of a label of data, and what is there.
+fn add_load(text: &mut Bytes, name: &[u8]) -> Result<(), NoMemory>
+    ensures { OnOk result (text.new ≡ text.old ++ spec.load_text name.now) }
+{
+    add_into(text, name)?;
+    add_from(text, name)
+}
+
+/// Adds what loads an address where a label of data is marked, and nothing where it is a number.
+fn add_address(text: &mut Bytes, marked: &[u8]) -> Result<(), NoMemory>
+    ensures { OnOk result (text.new ≡ text.old ++ spec.address_text marked.now) }
+{
+    if begins_letter(marked) {
+        return add_load(text, marked);
+    }
+    Ok(())
+}
+
+/// Adds in which line a label is defined already, if that is found.
+fn add_defined(text: &mut Bytes, number: u64) -> Result<(), NoMemory>
+    ensures { OnOk result (text.new ≡ text.old ++ spec.defined_text number) }
+{
+    if number == 0 {
+        return Ok(());
+    }
+    text.extend(b" It is the label of line ")?;
+    add_decimal(text, number)?;
+    text.extend(b".")
+}
+
+/// Adds which operands the operation of the statement at a place takes.
+fn add_shape(text: &mut Bytes, line: &[u8], place: usize) -> Result<(), NoMemory>
+    ensures { OnOk result (text.new ≡ text.old
+        ++ spec.takes_text (operation_at line.now place) (spec.operands_text (operation_of (operation_at line.now place)))) }
+{
+    let operation = operation_at(line, place);
+    add_takes(text, operation, operands_text(find(operation)))
+}
+
+/// Adds what more helps, where the statement is known.
+fn add_help(
+    text: &mut Bytes,
+    fault: u16,
+    number: u32,
+    source: &[u8],
+    marked: &[u8],
+    line: &[u8],
+    place: Option<usize>,
+) -> Result<(), NoMemory>
+    ensures { OnOk result (text.new ≡ text.old ++ spec.more_help fault number source.now marked.now line.now place) }
 {
     let Some(place) = place else {
         return Ok(());
     };
-    if fault != 40 && fault != 41 && fault != 42 {
-        return Ok(());
+    match fault {
+        40 | 41 | 42 => add_shape(text, line, place),
+        43 => add_address(text, marked),
+        30 => add_defined(text, label_number(marked, number.saturating_sub(1), source)),
+        _ => Ok(()),
     }
-    let operation = operation_at(line, place);
-    add_takes(text, operation, operands_text(find(operation)))
 }
 
 /// What mends a fault.
@@ -199,13 +216,16 @@ fn help_text(
     alloc: Global,
     row: Row,
     fault: u16,
+    number: u32,
+    source: &[u8],
+    marked: &[u8],
     line: &[u8],
     place: Option<usize>,
 ) -> Result<Bytes, NoMemory>
-    ensures { IfOk result (λ text. text ≡ (shown row).help ++ spec.more_help fault line.now place) }
+    ensures { IfOk result (λ text. text ≡ (shown row).help ++ spec.more_help fault number source.now marked.now line.now place) }
 {
     let mut text = Bytes::copy(alloc, row.help.as_bytes())?;
-    add_help(&mut text, fault, line, place)?;
+    add_help(&mut text, fault, number, source, marked, line, place)?;
     Ok(text)
 }
 
@@ -221,23 +241,40 @@ fn meant_name<'a>(source: &'a [u8], name: &[u8]) -> &'a [u8]
     }
 }
 
-/// A label that is like Main, where none is the same; else no text.
-fn meant_main(source: &[u8]) -> &[u8]
-    ensures { result.now ≡ spec.meant_main source.now }
+/// The operation that is meant perhaps by a word of this kind; no text where none is known.
+fn meant_of(kind: Unknown, marked: &[u8]) -> &'static [u8]
+    ensures { result.now ≡ spec.meant_of kind marked.now }
 {
-    if is_defined(source, b"Main") {
-        &[]
-    } else {
-        first_label(Likeness::Alike, b"Main", u32::MAX, source)
+    match kind {
+        Unknown::Misspelled => operation_name(marked),
+        _ => b"",
+    }
+}
+
+/// The operation that is meant perhaps in the statement at a place.
+fn meant_unknown(marked: &[u8], line: &[u8], place: Option<usize>) -> &'static [u8]
+    requires { IfSome place (λ p. p ≤ length line.now) }
+    ensures { result.now ≡ spec.meant_unknown marked.now line.now place }
+{
+    match place {
+        None => b"",
+        Some(place) => meant_of(unknown_kind(marked, line, place), marked),
     }
 }
 
 /// The name that is meant perhaps where this text is marked under a fault; no text where none is known.
-fn meant_by<'a>(fault: u16, source: &'a [u8], marked: &[u8]) -> &'a [u8]
-    ensures { result.now ≡ spec.meant_by fault source.now marked.now }
+fn meant_by<'a>(
+    fault: u16,
+    source: &'a [u8],
+    marked: &[u8],
+    line: &[u8],
+    place: Option<usize>,
+) -> &'a [u8]
+    requires { IfSome place (λ p. p ≤ length line.now) }
+    ensures { result.now ≡ spec.meant_by fault source.now marked.now line.now place }
 {
     match fault {
-        39 => operation_name(marked),
+        39 => meant_unknown(marked, line, place),
         80 => meant_name(source, marked),
         17 => {
             if is_defined(source, marked) {
@@ -246,8 +283,18 @@ fn meant_by<'a>(fault: u16, source: &'a [u8], marked: &[u8]) -> &'a [u8]
                 meant_name(source, marked)
             }
         }
-        82 => meant_main(source),
         _ => &[],
+    }
+}
+
+/// The label that is meant perhaps for Main, where a fault of the source as a whole is that there is none.
+fn meant_whole(fault: u16, source: &[u8]) -> &[u8]
+    ensures { result.now ≡ spec.meant_whole fault source.now }
+{
+    if fault != 82 || has_colon(source) {
+        &[]
+    } else {
+        like_main(source)
     }
 }
 
@@ -278,8 +325,8 @@ pub fn remark_on(
     let place = statement_place(why, line);
     let row = row_with(why.number(), source, marked, line, place);
     let what = what_text(alloc, row, marked)?;
-    let meant = Bytes::copy(alloc, meant_by(why.number(), source, marked))?;
-    let help = help_text(alloc, row, why.number(), line, place)?;
+    let meant = Bytes::copy(alloc, meant_by(why.number(), source, marked, line, place))?;
+    let help = help_text(alloc, row, why.number(), number, source, marked, line, place)?;
     Ok(Remark {
         mark,
         what,
@@ -294,9 +341,9 @@ pub fn remark_on(
 pub fn remark_on_whole(alloc: Global, fault: u16, source: &[u8]) -> Result<Remark, NoMemory>
     ensures { IfOk result (λ remark. remark ≡ spec.remark_of_whole fault source.now) }
 {
-    let row = row_of(fault);
+    let row = whole_row(fault, source);
     let what = what_text(alloc, row, &[])?;
-    let meant = Bytes::copy(alloc, meant_by(fault, source, &[]))?;
+    let meant = Bytes::copy(alloc, meant_whole(fault, source))?;
     let help = Bytes::copy(alloc, row.help.as_bytes())?;
     Ok(Remark {
         mark: None,

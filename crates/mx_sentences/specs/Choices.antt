@@ -1,0 +1,128 @@
+-- Which sentence is said of a fault, where its number has several. A rule of this program.
+use Rattle.std.specs.Prelude.{ℕ, ◌==◌, ◌&&◌, ◌||◌, not, nat_le, Bool, false, if◌then◌else◌, List, [], ◌∷◌, length, drop, Option, None, Some, is_some, bytes_eq, codes}
+use Rattle.mx_word.specs.Kinds.{is_letter}
+use Rattle.mx_line.specs.Lines.{lines_of}
+use Rattle.mx_ops.specs.Opcodes.{operation_of}
+use Rattle.mx_foreign.specs.Foreign.{advice_of}
+use Rattle.mx_asm.specs.Whole.{Line}
+use Rattle.mx_marks.specs.declared.fields.Field.TheVariants.{Operands}
+use Rattle.mx_marks.specs.declared.labels.Likeness.TheVariants.{Alike}
+use Rattle.mx_marks.specs.declared.rooms.Room.{Room}
+use Rattle.mx_marks.specs.declared.rooms.Room.TheVariants.{Byte, Wyde, Tetra, DataByte, DataWyde}
+use Rattle.mx_sentences.specs.declared.choices.Unknown.{Unknown}
+use Rattle.mx_sentences.specs.declared.choices.Unknown.TheVariants.{Indented, Remark, Foreign, Misspelled}
+use Rattle.mx_marks.specs.Fields.{behind_comma, from_field, operands_at, word}
+use Rattle.mx_marks.specs.Labels.{first_label, is_label, labels_code}
+use Rattle.mx_marks.specs.Marks.{operation_at, room_at}
+use Rattle.mx_marks.specs.Syntax.{is_read_through}
+use Rattle.mx_sentences.specs.Rows.{Row, address_row, byte_row, colon_row, data_byte_row, data_wyde_row, end_row, foreign_row, indented_row, later_code_row, later_row, match_row, nowhere_row, remark_row, row_of, sum_row, tetra_row, wyde_row}
+
+-- whether a name is a label of the source
+abbrev pub is_defined : List ℕ → Line → Bool
+is_defined source name = is_label name 4294967295 (lines_of source)
+
+-- ---- operands that are no expressions
+
+abbrev pub read_row : Line → Row
+read_row [] = match_row
+read_row (b ∷ bs) = end_row
+
+abbrev pub syntax_row : Line → Line → Row
+syntax_row marked operands = if is_read_through operands then read_row marked else row_of 10
+
+-- ---- a name without a value
+
+-- GETA does where LDA has a register and the label of an instruction, and nothing else.
+abbrev pub gives_way : List ℕ → Line → Line → ℕ → Bool
+gives_way source name line place =
+    bytes_eq (operation_at line place) (codes "LDA") && bytes_eq (behind_comma (operands_at line place)) name && labels_code name source
+
+abbrev pub early_row : List ℕ → Line → Line → ℕ → Row
+early_row source name line place =
+    if is_defined source name then (if gives_way source name line place then later_code_row else later_row) else row_of 17
+
+-- ---- an unknown operation
+
+-- what it is: a label that is not in the first column, the first word of a comment, an operation of other machines, or a misspelling
+abbrev pub begins_capital : Line → Bool
+begins_capital [] = false
+begins_capital (b ∷ bs) = nat_le 65 b && nat_le b 90
+
+-- behind a ; of its line, and with no capital
+abbrev pub is_remark : Line → ℕ → Bool
+is_remark marked place = not (place == 0) && not (begins_capital marked)
+
+-- without a label in front of it, and with an operation behind it
+abbrev pub is_indented : Line → ℕ → Bool
+is_indented line place = length (word (drop place line)) == 0 && is_some (operation_of (word (from_field Operands (drop place line))))
+
+abbrev pub unknown_kind : Line → Line → ℕ → Unknown
+unknown_kind marked line place =
+    if is_remark marked place then Remark
+    else if is_indented line place then Indented
+    else if length (advice_of marked) == 0 then Misspelled
+    else Foreign
+
+abbrev pub operation_row : Unknown → Line → Row
+operation_row Indented marked = indented_row
+operation_row Remark marked = remark_row
+operation_row Foreign marked = foreign_row (advice_of marked)
+operation_row Misspelled marked = row_of 39
+
+-- ---- a number without room
+
+abbrev pub room_row : Room → Row
+room_row Byte = byte_row
+room_row Wyde = wyde_row
+room_row Tetra = tetra_row
+room_row DataByte = data_byte_row
+room_row DataWyde = data_wyde_row
+
+abbrev pub is_sum : Line → Bool
+is_sum operation =
+    bytes_eq operation (codes "ADD") || bytes_eq operation (codes "SUB") || bytes_eq operation (codes "ADDU") || bytes_eq operation (codes "SUBU")
+
+-- A label of data is marked by its name, and a number below 0 with its minus, which is 45.
+abbrev pub fit_row : Line → Line → ℕ → Row
+fit_row [] line place = room_row (room_at line place)
+fit_row (b ∷ bs) line place =
+    if is_letter b then address_row
+    else if b == 45 && is_sum (operation_at line place) then sum_row
+    else room_row (room_at line place)
+
+-- ---- a local label that is nowhere further down
+
+-- whether there is one further up: 1F refers to the label 1H, and 72 is H
+abbrev pub local_row : List ℕ → Line → Row
+local_row source [] = row_of 81
+local_row source (d ∷ ds) = if is_defined source (d ∷ 72 ∷ []) then row_of 81 else nowhere_row
+
+-- ---- a source without Main
+
+-- a label that is like Main, where none is the same
+abbrev pub like_main : List ℕ → Line
+like_main source = if is_defined source (codes "Main") then [] else first_label Alike (codes "Main") 4294967295 (lines_of source)
+
+abbrev pub has_colon : List ℕ → Bool
+has_colon source = bytes_eq (like_main source) (codes "Main:")
+
+-- ---- the row
+
+-- that of a fault with this number, where this text is marked in the statement at a place: 10 is Syntax, 17 Future, 39 UnknownOpcode,
+-- 43 Fit and 81 UndefinedLocal
+abbrev pub row_at : ℕ → List ℕ → Line → Line → ℕ → Row
+row_at fault source marked line place =
+    if fault == 10 then syntax_row marked (operands_at line place)
+    else if fault == 17 then early_row source marked line place
+    else if fault == 39 then operation_row (unknown_kind marked line place) marked
+    else if fault == 43 then fit_row marked line place
+    else if fault == 81 then local_row source marked
+    else row_of fault
+
+abbrev pub row_with : ℕ → List ℕ → Line → Line → Option ℕ → Row
+row_with fault source marked line None = row_of fault
+row_with fault source marked line (Some place) = row_at fault source marked line place
+
+-- that of a fault of the source as a whole: 82 is MainUndefined
+abbrev pub whole_row : ℕ → List ℕ → Row
+whole_row fault source = if fault == 82 then (if has_colon source then colon_row else row_of 82) else row_of fault

@@ -1,0 +1,246 @@
+//! Which sentence is said of a fault, where its number has several.
+
+ghost use Rattle.std.specs.Prelude.{◌≡◌, ◌≤◌, IfSome, length};
+ghost use Rattle.mx_sentences.specs.Choices as spec;
+ghost use Rattle.mx_sentences.specs.Rows.{shown};
+
+use crate::chosen::{
+    address_row, byte_row, colon_row, data_byte_row, data_wyde_row, end_row, foreign_row,
+    indented_row, later_code_row, later_row, match_row, nowhere_row, remark_row, sum_row, tetra_row,
+    wyde_row,
+};
+use crate::rows::{Row, row_of};
+use mx_foreign::advice_on;
+use mx_marks::{
+    Field, Likeness, Room, behind_comma, first_label, from_field, is_label, is_read_through,
+    labels_code, operands_at, operation_at, room_at, word,
+};
+use mx_ops::find;
+use mx_word::is_letter;
+
+/// What a word is that is no operation.
+#[derive(Clone, Copy, Debug, PartialEq, Eq)]
+pub(crate) enum Unknown {
+    /// A label that is not in the first column.
+    Indented,
+    /// The first word of a comment behind a `;`.
+    Remark,
+    /// An operation of other machines.
+    Foreign,
+    /// Any other word.
+    Misspelled,
+}
+
+/// Whether a name is a label of a source.
+pub(crate) fn is_defined(source: &[u8], name: &[u8]) -> bool
+    ensures { result ≡ spec.is_defined source.now name.now }
+{
+    is_label(name, u32::MAX, source)
+}
+
+/// The row for operands whose parts can follow each other: they end too early, or parentheses do not match.
+fn read_row(marked: &[u8]) -> Row
+    ensures { shown result ≡ spec.read_row marked.now }
+{
+    if marked.is_empty() {
+        match_row()
+    } else {
+        end_row()
+    }
+}
+
+/// The row for operands that are no expressions, of which this text is marked.
+fn syntax_row(marked: &[u8], operands: &[u8]) -> Row
+    ensures { shown result ≡ spec.syntax_row marked.now operands.now }
+{
+    if is_read_through(operands) {
+        read_row(marked)
+    } else {
+        row_of(10)
+    }
+}
+
+/// Whether GETA does where LDA has a name that is defined further down.
+fn gives_way(source: &[u8], name: &[u8], line: &[u8], place: usize) -> bool
+    ensures { result ≡ spec.gives_way source.now name.now line.now place }
+{
+    operation_at(line, place) == b"LDA".as_slice()
+        && behind_comma(operands_at(line, place)) == name
+        && labels_code(name, source)
+}
+
+/// The row for a name without a value.
+fn early_row(source: &[u8], name: &[u8], line: &[u8], place: usize) -> Row
+    requires { place ≤ length line.now }
+    ensures { shown result ≡ spec.early_row source.now name.now line.now place }
+{
+    if !is_defined(source, name) {
+        row_of(17)
+    } else if gives_way(source, name, line, place) {
+        later_code_row()
+    } else {
+        later_row()
+    }
+}
+
+/// Whether a text begins with a capital.
+fn begins_capital(text: &[u8]) -> bool
+    ensures { result ≡ spec.begins_capital text.now }
+{
+    match text {
+        [] => false,
+        [b, ..] => *b >= b'A' && *b <= b'Z',
+    }
+}
+
+/// Whether a word is the first one of a comment behind a `;`.
+fn is_remark(marked: &[u8], place: usize) -> bool
+    ensures { result ≡ spec.is_remark marked.now place }
+{
+    place != 0 && !begins_capital(marked)
+}
+
+/// Whether the operation of the statement at a place is a label that is not in the first column.
+fn is_indented(line: &[u8], place: usize) -> bool
+    requires { place ≤ length line.now }
+    ensures { result ≡ spec.is_indented line.now place }
+{
+    let statement = &line[place..];
+    word(statement).is_empty() && find(word(from_field(Field::Operands, statement))).is_some()
+}
+
+/// What the word is that the statement at a place has for an operation.
+pub(crate) fn unknown_kind(marked: &[u8], line: &[u8], place: usize) -> Unknown
+    requires { place ≤ length line.now }
+    ensures { result ≡ spec.unknown_kind marked.now line.now place }
+{
+    if is_remark(marked, place) {
+        Unknown::Remark
+    } else if is_indented(line, place) {
+        Unknown::Indented
+    } else if advice_on(marked).as_bytes().is_empty() {
+        Unknown::Misspelled
+    } else {
+        Unknown::Foreign
+    }
+}
+
+/// The row for a word that is no operation.
+fn operation_row(kind: Unknown, marked: &[u8]) -> Row
+    ensures { shown result ≡ spec.operation_row kind marked.now }
+{
+    match kind {
+        Unknown::Indented => indented_row(),
+        Unknown::Remark => remark_row(),
+        Unknown::Foreign => foreign_row(advice_on(marked)),
+        Unknown::Misspelled => row_of(39),
+    }
+}
+
+/// The row for a number that has no room.
+fn room_row(room: Room) -> Row
+    ensures { shown result ≡ spec.room_row room }
+{
+    match room {
+        Room::Byte => byte_row(),
+        Room::Wyde => wyde_row(),
+        Room::Tetra => tetra_row(),
+        Room::DataByte => data_byte_row(),
+        Room::DataWyde => data_wyde_row(),
+    }
+}
+
+/// Whether an operation adds or subtracts.
+fn is_sum(operation: &[u8]) -> bool
+    ensures { result ≡ spec.is_sum operation.now }
+{
+    operation == b"ADD".as_slice()
+        || operation == b"SUB".as_slice()
+        || operation == b"ADDU".as_slice()
+        || operation == b"SUBU".as_slice()
+}
+
+/// The row for a value that has no room, where this text is marked.
+fn fit_row(marked: &[u8], line: &[u8], place: usize) -> Row
+    ensures { shown result ≡ spec.fit_row marked.now line.now place }
+{
+    let [b, ..] = marked else {
+        return room_row(room_at(line, place));
+    };
+    if is_letter(*b) {
+        address_row()
+    } else if *b == b'-' && is_sum(operation_at(line, place)) {
+        sum_row()
+    } else {
+        room_row(room_at(line, place))
+    }
+}
+
+/// The row for a local label with `F` that is nowhere further down.
+fn local_row(source: &[u8], marked: &[u8]) -> Row
+    ensures { shown result ≡ spec.local_row source.now marked.now }
+{
+    let [d, ..] = marked else {
+        return row_of(81);
+    };
+    if is_defined(source, &[*d, b'H']) {
+        row_of(81)
+    } else {
+        nowhere_row()
+    }
+}
+
+/// A label that is like Main, where none is the same; else no text.
+pub(crate) fn like_main(source: &[u8]) -> &[u8]
+    ensures { result.now ≡ spec.like_main source.now }
+{
+    if is_defined(source, b"Main") {
+        &[]
+    } else {
+        first_label(Likeness::Alike, b"Main", u32::MAX, source)
+    }
+}
+
+/// Whether this label is Main with a colon.
+pub(crate) fn has_colon(source: &[u8]) -> bool
+    ensures { result ≡ spec.has_colon source.now }
+{
+    like_main(source) == b"Main:".as_slice()
+}
+
+/// The row of a fault, where this text is marked in the statement at a place.
+pub(crate) fn row_with(
+    fault: u16,
+    source: &[u8],
+    marked: &[u8],
+    line: &[u8],
+    place: Option<usize>,
+) -> Row
+    requires { IfSome place (λ p. p ≤ length line.now) }
+    ensures { shown result ≡ spec.row_with fault source.now marked.now line.now place }
+{
+    let Some(place) = place else {
+        return row_of(fault);
+    };
+    match fault {
+        10 => syntax_row(marked, operands_at(line, place)),
+        17 => early_row(source, marked, line, place),
+        39 => operation_row(unknown_kind(marked, line, place), marked),
+        43 => fit_row(marked, line, place),
+        81 => local_row(source, marked),
+        _ => row_of(fault),
+    }
+}
+
+/// The row of a fault of the source as a whole.
+pub(crate) fn whole_row(fault: u16, source: &[u8]) -> Row
+    ensures { shown result ≡ spec.whole_row fault source.now }
+{
+    if fault != 82 {
+        row_of(fault)
+    } else if has_colon(source) {
+        colon_row()
+    } else {
+        row_of(82)
+    }
+}

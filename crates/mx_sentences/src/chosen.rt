@@ -1,0 +1,208 @@
+//! What is said of a fault, where its number has several sentences.
+
+ghost use Rattle.std.specs.Prelude.{◌≡◌};
+ghost use Rattle.mx_sentences.specs.Rows as spec;
+
+use crate::rows::{Row, parts};
+
+/// Where there is room for a byte.
+#[tactic(auto, unfolding(crate::specs::Rows::byte_row))]
+pub(crate) fn byte_row() -> Row
+    ensures { spec.shown result ≡ spec.byte_row }
+{
+    parts(
+        "",
+        "A number",
+        " does not fit: a number can be 0 to 255 here.",
+        "Put it into a register first: by SET up to 65535, by NEG below 0.",
+    )
+}
+
+/// Where parentheses do not match.
+#[tactic(auto, unfolding(crate::specs::Rows::match_row))]
+pub(crate) fn match_row() -> Row
+    ensures { spec.shown result ≡ spec.match_row }
+{
+    parts(
+        "",
+        "The parentheses do not match, or a string is a part of an expression.",
+        "",
+        "Close each ( by a ). A string is an operand of its own, with commas around it.",
+    )
+}
+
+/// Where operands end too early.
+#[tactic(auto, unfolding(crate::specs::Rows::end_row))]
+pub(crate) fn end_row() -> Row
+    ensures { spec.shown result ≡ spec.end_row }
+{
+    parts(
+        "The operands end after ",
+        "their last part",
+        ", where more has to follow.",
+        "No blanks are in operands: what follows a blank is a comment.",
+    )
+}
+
+/// Where a name is defined in a later line only.
+#[tactic(auto, unfolding(crate::specs::Rows::later_row))]
+pub(crate) fn later_row() -> Row
+    ensures { spec.shown result ≡ spec.later_row }
+{
+    parts(
+        "",
+        "A name",
+        " is defined further down, but its value is needed here.",
+        "Define it before this line: data, with their GREG, go in front of the code.",
+    )
+}
+
+/// Where there is room for a wyde.
+#[tactic(auto, unfolding(crate::specs::Rows::wyde_row))]
+pub(crate) fn wyde_row() -> Row
+    ensures { spec.shown result ≡ spec.wyde_row }
+{
+    parts(
+        "",
+        "A number",
+        " does not fit: a number can be 0 to 65535 here.",
+        "Take SETML $0,x>>16 and INCL $0,x&#ffff for a large x, and NEG for a negative one.",
+    )
+}
+
+/// Where a TETRA has it.
+#[tactic(auto, unfolding(crate::specs::Rows::tetra_row))]
+pub(crate) fn tetra_row() -> Row
+    ensures { spec.shown result ≡ spec.tetra_row }
+{
+    parts(
+        "",
+        "A number",
+        " does not fit: a tetra is 0 to 4294967295.",
+        "Take OCTA, which has room for all numbers.",
+    )
+}
+
+/// Where a BYTE has it.
+#[tactic(auto, unfolding(crate::specs::Rows::data_byte_row))]
+pub(crate) fn data_byte_row() -> Row
+    ensures { spec.shown result ≡ spec.data_byte_row }
+{
+    parts(
+        "",
+        "A number",
+        " does not fit: a byte is 0 to 255.",
+        "Take WYDE, TETRA or OCTA.",
+    )
+}
+
+/// Where a WYDE has it.
+#[tactic(auto, unfolding(crate::specs::Rows::data_wyde_row))]
+pub(crate) fn data_wyde_row() -> Row
+    ensures { spec.shown result ≡ spec.data_wyde_row }
+{
+    parts(
+        "",
+        "A number",
+        " does not fit: a wyde is 0 to 65535.",
+        "Take TETRA or OCTA.",
+    )
+}
+
+/// Where LDA has the name of an instruction that is defined in a later line.
+#[tactic(auto, unfolding(crate::specs::Rows::later_code_row))]
+pub(crate) fn later_code_row() -> Row
+    ensures { spec.shown result ≡ spec.later_code_row }
+{
+    parts(
+        "",
+        "A name",
+        " is defined further down, but its value is needed here.",
+        "Define it before this line. LDA can give way to GETA, which does not need the value.",
+    )
+}
+
+/// Where a label is not in the first column.
+#[tactic(auto, unfolding(crate::specs::Rows::indented_row))]
+pub(crate) fn indented_row() -> Row
+    ensures { spec.shown result ≡ spec.indented_row }
+{
+    parts(
+        "",
+        "This word",
+        " is not in the first column, so it is read as an operation.",
+        "A label begins in the first column of its line.",
+    )
+}
+
+/// Where a comment begins with ;.
+#[tactic(auto, unfolding(crate::specs::Rows::remark_row))]
+pub(crate) fn remark_row() -> Row
+    ensures { spec.shown result ≡ spec.remark_row }
+{
+    parts(
+        "There is no operation ",
+        "of this name",
+        ".",
+        "A ; begins the next statement. A comment behind the operands needs no mark, and a line of comment begins with *.",
+    )
+}
+
+/// Where a number below 0 is added or subtracted.
+#[tactic(auto, unfolding(crate::specs::Rows::sum_row))]
+pub(crate) fn sum_row() -> Row
+    ensures { spec.shown result ≡ spec.sum_row }
+{
+    parts(
+        "",
+        "A number",
+        " does not fit: a number can be 0 to 255 here.",
+        "Take SUB in place of ADD, or ADD in place of SUB, and the number without its minus.",
+    )
+}
+
+/// Where a label of data is given for a number.
+#[tactic(auto, unfolding(crate::specs::Rows::address_row))]
+pub(crate) fn address_row() -> Row
+    ensures { spec.shown result ≡ spec.address_row }
+{
+    parts(
+        "",
+        "A number",
+        " is an address, which has no room in an instruction.",
+        "",
+    )
+}
+
+/// Where there is no such local label at all.
+#[tactic(auto, unfolding(crate::specs::Rows::nowhere_row))]
+pub(crate) fn nowhere_row() -> Row
+    ensures { spec.shown result ≡ spec.nowhere_row }
+{
+    parts(
+        "",
+        "A local label",
+        " refers to a local label further down, and there is none.",
+        "Write its label in front of a later line, as 1H for 1F.",
+    )
+}
+
+/// Where Main has a colon.
+#[tactic(auto, unfolding(crate::specs::Rows::colon_row))]
+pub(crate) fn colon_row() -> Row
+    ensures { spec.shown result ≡ spec.colon_row }
+{
+    parts(
+        "",
+        "There is no label Main, where a program starts.",
+        "",
+        "The label Main: has a colon: remove it.",
+    )
+}
+
+/// Where another machine has the operation, and this is what MMIX has.
+pub(crate) fn foreign_row(advice: &'static str) -> Row
+    ensures { spec.shown result ≡ spec.foreign_row advice.now }
+{
+    parts("There is no operation ", "of this name", ".", advice)
+}
