@@ -135,6 +135,7 @@ fn ask<H: Host>(
 }
 
 /// Answers the lines of standard input.
+#[tactic(auto, using(crate::proofs::Parts::parts))]
 fn answer_input<H: Host>(
     alloc: Global,
     host: &mut H,
@@ -143,7 +144,7 @@ fn answer_input<H: Host>(
 ) -> Outcome
     ensures { FaultsOnlyBy H.told H.faults host.old host.new result }
 {
-    for _ in 0..u64::MAX {
+    for _turn in 0..u64::MAX {
         match ask(alloc, host, session, has_prompt) {
             Ok(Flow::GoOn) => {}
             Ok(Flow::Quit) => return Outcome::Done(0),
@@ -164,6 +165,7 @@ fn cut_line(bytes: &[u8]) -> (&[u8], &[u8]) {
 }
 
 /// Answers the lines that a file has.
+#[tactic(auto, using(crate::proofs::Parts::parts))]
 fn answer_lines<H: Host>(
     alloc: Global,
     host: &mut H,
