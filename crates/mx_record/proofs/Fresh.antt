@@ -5,6 +5,8 @@ use Rattle.std.proofs.lemmas.List.{length-append}
 use Rattle.std.specs.Prelude.{Result, map, string_bytes}
 use Rattle.mx_host.specs.HostAnswer.{Then}
 use Rattle.mx_host.specs.HostModel.{HostModel}
+use Rattle.mx_plan.specs.Calls.{host}
+use Rattle.mx_plan.specs.Plan.{end_after, end_of}
 use Rattle.mx_mmo.specs.Image.{Image}
 use Rattle.mx_word.specs.Results.{map_ok}
 use Rattle.mx_ring.specs.Stack.{Stack, hidden_count, in_stack_area, listed, stack_index, windowed, with_stack_octa}
@@ -13,16 +15,19 @@ use Rattle.mx_core.specs.State.{State, is_negative, is_page_refused, with_octa}
 use Rattle.mx_core.proofs.Kept.Stages.{octa-in-stack, octa-on-page}
 use Rattle.mx_run.specs.Runs.{Ended}
 use Rattle.mx_run.specs.WildRuns.{window_machine}
+use Rattle.mx_run.proofs.FreeTurns.{none-made}
 use Rattle.mx_start.specs.Start.{pool, pool_octas, loaded, start, with_octas}
 use Rattle.mx_outcome.specs.declared.outcome.Outcome.{Outcome}
 use Rattle.mx_words.specs.declared.order.Order.{Order}
+use Rattle.mx_files.specs.FilePlans.{on_ok}
 use Rattle.mx_begin.specs.Arguments.{Word}
-use Rattle.mx_begin.specs.Begun.{begun, begun_at, started_after}
+use Rattle.mx_begin.specs.BeginPlans.{start_plan}
+use Rattle.mx_begin.specs.Begun.{begun_at}
+use Rattle.mx_begin.proofs.Beginnings.{begin-by, start-end}
 use Rattle.mx_begin.specs.declared.images.Form.{Form}
 use Rattle.mx_replay.specs.Programs.{host_of, run_from, start_of, step_of}
 use Rattle.mx_replay.specs.Searches.{Replayed}
 use Rattle.mx_replay.specs.declared.program.Program.{Program}
-use Rattle.mx_replay.proofs.RunEnds.{none-made}
 
 abbrev IsFresh : Stack → Type 0
 IsFresh (listed r) = r.hidden ≡ []
@@ -68,12 +73,13 @@ begun-fresh : (pc : ℕ) (o : Option State) (m : HostModel) → MayBeFresh o →
 begun-fresh pc None m h = tt
 begun-fresh pc (Some s) m h = h
 
-started-fresh : (ring : ℕ) (arguments : List Word) (x : Then (Result Image Outcome)) → StartsFresh (started_after window_machine ring arguments x)
+started-fresh : (ring : ℕ) (arguments : List Word) (x : Then (Result Image Outcome)) → StartsFresh (end_after host (on_ok (start_plan window_machine ring arguments)) x)
+unfolding end_of
 started-fresh ring arguments (Err outcome, m) = tt
-started-fresh ring arguments (Ok image, m) = begun-fresh _ _ m (start-fresh image arguments ring)
+started-fresh ring arguments (Ok image, m) = subst StartsFresh (sym (start-end window_machine ring arguments image m)) (begun-fresh _ _ m (start-fresh image arguments ring))
 
 run-fresh : (p : Program) → StartsFresh (start_of p)
-run-fresh p = started-fresh _ _ _
+run-fresh p = subst StartsFresh (sym (begin-by window_machine (map string_bytes p.words) p.order p.form (host_of p))) (started-fresh _ _ _)
 
 same-ok : {A B : Type 0} (x y : A) → ◌≡◌ {A = Result A B} (Ok x) (Ok y) → x ≡ y
 same-ok x y e = cc

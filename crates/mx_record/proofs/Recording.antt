@@ -7,7 +7,9 @@ use Rattle.mx_host.specs.HostAnswer.{Then}
 use Rattle.mx_host.specs.HostModel.{HostModel, start_model}
 use Rattle.mx_host.specs.declared.files.StoredFile.{StoredFile}
 use Rattle.mx_words.specs.declared.order.Order.{Order}
-use Rattle.mx_begin.specs.Begun.{begun}
+use Rattle.mx_plan.specs.Calls.{host}
+use Rattle.mx_plan.specs.Plan.{end_of}
+use Rattle.mx_begin.specs.BeginPlans.{begin_plan}
 use Rattle.mx_begin.specs.declared.images.Form.{Form}
 use Rattle.mx_word.specs.Results.{map_ok}
 use Rattle.mx_code.specs.declared.trace.Trace.{Trace}
@@ -17,13 +19,12 @@ use Rattle.mx_run.specs.Turns.{Turn, went_on, halts, stops, turn}
 use Rattle.mx_run.specs.WildRuns.{state_after, window_machine}
 use Rattle.mx_run.specs.declared.end.End.{End}
 use Rattle.mx_run.specs.declared.end.End.TheVariants.{Spent}
-use Rattle.mx_run.proofs.FreeRuns.{run-went}
+use Rattle.mx_run.proofs.FreeTurns.{none-made, run-halts, run-stops, run-went}
 use Rattle.mx_outcome.specs.declared.outcome.Outcome.{Outcome}
 use Rattle.mx_replay.specs.Programs.{NamesFile, GoesOn, HasEnded, IsReached, is_over, run_from, start_of, step_of, with_files}
 use Rattle.mx_replay.specs.Searches.{Replayed}
 use Rattle.mx_replay.specs.Visits.{trace_after, trace_of}
 use Rattle.mx_replay.specs.declared.program.Program.{Program}
-use Rattle.mx_replay.proofs.RunEnds.{none-made, run-halts, run-stops}
 use Rattle.mx_replay.proofs.Steps.{step-before, step-from}
 use Rattle.mx_record.specs.Following.{ComesByTurn, HoldsStack}
 use Rattle.mx_record.specs.Pictures.{Picture, no_picture, picture, picture_at, picture_of}
@@ -75,7 +76,7 @@ reached-next p k a on r = at-by p k a on r (cases_lt a (k + 1))
 
 -- programs that are alike have the same run
 abbrev start_by : List (List ℕ) → Order → Form → List ℕ → List StoredFile → Then (Result State Outcome)
-start_by words order form input files = begun window_machine words order form (with_files (start_model input []) files)
+start_by words order form input files = end_of host (begin_plan window_machine words order form) (with_files (start_model input []) files)
 
 same-start : (p q : Program) → AreAlike p q → start_of q ≡ start_of p
 same-start p q h =
