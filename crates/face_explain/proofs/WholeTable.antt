@@ -3,10 +3,11 @@ use Rattle.std.proofs.Common.{◌≡◌, ◌≢◌, ℕ, Bool, true, false, ◌<
 use Rattle.std.proofs.lemmas.Grind.{flat_map-append}
 use Rattle.std.proofs.lemmas.List.Folds.{flat_map-map}
 use Rattle.std.specs.List.{flat_map}
+use Rattle.mx_foreign.specs.Foreign.{advice_of}
 use Rattle.mx_explain.specs.Topics.{Row, row}
 use Rattle.mx_explain.specs.Matching.{fits, found}
 use Rattle.mx_explain.specs.Texts.{row_text, head, front, sentences, part, back, label, kind_of}
-use Rattle.face_explain.specs.Answers.{fitting, section_fitting, offered, section_offered, near_names, texts, explanation, answer, answer_with, unknown_text}
+use Rattle.face_explain.specs.Answers.{fitting, section_fitting, offered, section_offered, near_names, texts, explanation, answer, answer_with, foreign_answer}
 use Rattle.face_explain.specs.declared.answer.Answer.TheVariants.{Explained, Unknown}
 use Rattle.face_explain.specs.Tables.{Part, table, part_of, seen_part, sections}
 use Rattle.face_explain.specs.declared.sections.Part.{Part as Seen}
@@ -64,7 +65,7 @@ row-some row =
 
 -- ---- the answer
 
-none-found : (word : List ℕ) (rows : List Row) → length (texts rows) ≡ 0 → answer_with word rows ≡ Unknown (unknown_text word)
+none-found : (word : List ℕ) (rows : List Row) → length (texts rows) ≡ 0 → answer_with word rows ≡ foreign_answer word (advice_of word)
 none-found word [] none = refl
 none-found word (row ∷ rows) none = absurd (omega (arith, none, longer (row_text row) (texts rows) (row-some row)))
 
@@ -72,7 +73,7 @@ some-found : (word : List ℕ) (rows : List Row) → length (texts rows) ≢ 0 �
 some-found word [] some = absurd (some refl)
 some-found word (row ∷ rows) some = refl
 
-pub answer-unknown : (word text : List ℕ) → text ≡ explanation word → length text ≡ 0 → answer word ≡ Unknown (unknown_text word)
+pub answer-unknown : (word text : List ℕ) → text ≡ explanation word → length text ≡ 0 → answer word ≡ foreign_answer word (advice_of word)
 unfolding answer explanation
 answer-unknown word text e none = none-found word (found word table) (rw (← e) none)
 

@@ -1,6 +1,8 @@
--- What is answered on a word: the texts of the rows of the table that it is about.
+-- What is answered on a word: the texts of the rows of the table that it is about, or what MMIX has in place of an operation of other
+-- machines.
 use Rattle.std.specs.Prelude.{ℕ, List, [], ◌∷◌, ◌++◌, codes, if◌then◌else◌}
 use Rattle.std.specs.List.{flat_map}
+use Rattle.mx_foreign.specs.Foreign.{advice_of}
 use Rattle.mx_explain.specs.Topics.{Row, name_of}
 use Rattle.mx_explain.specs.Matching.{fits, found}
 use Rattle.mx_explain.specs.Texts.{row_text}
@@ -44,8 +46,17 @@ advice (b ∷ bs) = codes "; near it:" ++ (b ∷ bs) ++ codes "\n"
 abbrev pub unknown_text : List ℕ → List ℕ
 unknown_text word = codes "error: " ++ word ++ codes " is not explained" ++ advice (near_names word)
 
+-- what is said of an operation of other machines, where this is what MMIX has
+unfoldable pub foreign_text : List ℕ → List ℕ → List ℕ
+foreign_text word advice = word ++ codes ": an operation of other machines\n  " ++ advice ++ codes "\n"
+
+-- of a word that no row is about, where this is what MMIX has, if it is such an operation
+abbrev pub foreign_answer : List ℕ → List ℕ → Answer
+foreign_answer word [] = Unknown (unknown_text word)
+foreign_answer word (b ∷ bs) = Explained (foreign_text word (b ∷ bs))
+
 abbrev pub answer_with : List ℕ → List Row → Answer
-answer_with word [] = Unknown (unknown_text word)
+answer_with word [] = foreign_answer word (advice_of word)
 answer_with word (row ∷ rows) = Explained (texts (row ∷ rows))
 
 -- what is answered

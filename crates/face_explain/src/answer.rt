@@ -3,15 +3,17 @@
 ghost use Rattle.std.specs.Prelude.{◌≡◌, ◌++◌, IfOk, OnOk};
 ghost use Rattle.std.specs.List.{flat_map};
 ghost use Rattle.mx_explain.specs.Topics.{row, seen};
+ghost use Rattle.mx_foreign.specs.Foreign.{advice_of};
 ghost use Rattle.face_explain.specs.Answers as spec;
 
 use crate::nearest::unknown_text;
 use crate::sections::{Section, all, part_of};
 use mx_explain::{Entry, Row, add_row, fits, row_of};
+use mx_foreign::advice_on;
 use mx_word::{Bytes, NoMemory};
 use std::alloc::Global;
 
-/// What is answered on a word: what it means; or, where no row is about it, that it is not known, in a line for standard error.
+/// What is answered on a word: what it means; or that it is not known, in a line for standard error.
 #[derive(Drop)]
 pub enum Answer {
     Explained(Bytes),
@@ -75,15 +77,38 @@ fn explanation(alloc: Global, word: &str) -> Result<Bytes, NoMemory>
     Ok(text)
 }
 
+/// What is said of an operation of other machines, where this is what MMIX has.
+#[tactic(auto, unfolding(crate::specs::Answers::foreign_text))]
+fn foreign_text(alloc: Global, word: &str, advice: &str) -> Result<Bytes, NoMemory>
+    ensures { IfOk result (λ text. text ≡ spec.foreign_text word.now advice.now) }
+{
+    let mut text = Bytes::copy(alloc, word.as_bytes())?;
+    text.extend(b": an operation of other machines\n  ")?;
+    text.extend(advice.as_bytes())?;
+    text.push(b'\n')?;
+    Ok(text)
+}
+
+/// What is answered on a word that no row is about.
+fn foreign_answer(alloc: Global, word: &str) -> Result<Answer, NoMemory>
+    ensures { IfOk result (λ given. given ≡ spec.foreign_answer word.now (advice_of word.now)) }
+{
+    let advice = advice_on(word.as_bytes());
+    if advice.is_empty() {
+        return Ok(Answer::Unknown(unknown_text(alloc, word)?));
+    }
+    Ok(Answer::Explained(foreign_text(alloc, word, advice)?))
+}
+
 /// What a word means: the texts of all rows of the table whose number or name it is, in their order; upper and lower case do not
-/// matter. It refuses only where it is out of memory.
+/// matter. Where there is none, what MMIX has in place of an operation of other machines. It refuses only where it is out of memory.
 #[tactic(auto, using(crate::proofs::WholeTable::answers), unfolding(crate::specs::Answers::answer))]
 pub fn explain(alloc: Global, word: &str) -> Result<Answer, NoMemory>
     ensures { IfOk result (λ given. given ≡ spec.answer word.now) }
 {
     let text = explanation(alloc, word)?;
     if text.as_slice().is_empty() {
-        return Ok(Answer::Unknown(unknown_text(alloc, word)?));
+        return foreign_answer(alloc, word);
     }
     Ok(Answer::Explained(text))
 }

@@ -32,42 +32,15 @@ pub(crate) static FOREIGN: [Row; 85] = [
         "RTS",
         "POP returns from a subroutine: POP 0,0, or POP 1,0 with a result in $0.",
     ),
-    (
-        "CALL",
-        "PUSHJ calls a subroutine: PUSHJ $2,Sub.",
-    ),
-    (
-        "JSR",
-        "PUSHJ calls a subroutine: PUSHJ $2,Sub.",
-    ),
-    (
-        "JAL",
-        "PUSHJ calls a subroutine: PUSHJ $2,Sub.",
-    ),
-    (
-        "BL",
-        "PUSHJ calls a subroutine: PUSHJ $2,Sub.",
-    ),
-    (
-        "B",
-        "JMP jumps: JMP Label.",
-    ),
-    (
-        "BR",
-        "JMP jumps: JMP Label.",
-    ),
-    (
-        "BRA",
-        "JMP jumps: JMP Label.",
-    ),
-    (
-        "J",
-        "JMP jumps: JMP Label.",
-    ),
-    (
-        "GOTO",
-        "JMP jumps: JMP Label.",
-    ),
+    ("CALL", "PUSHJ calls a subroutine: PUSHJ $2,Sub."),
+    ("JSR", "PUSHJ calls a subroutine: PUSHJ $2,Sub."),
+    ("JAL", "PUSHJ calls a subroutine: PUSHJ $2,Sub."),
+    ("BL", "PUSHJ calls a subroutine: PUSHJ $2,Sub."),
+    ("B", "JMP jumps: JMP Label."),
+    ("BR", "JMP jumps: JMP Label."),
+    ("BRA", "JMP jumps: JMP Label."),
+    ("J", "JMP jumps: JMP Label."),
+    ("GOTO", "JMP jumps: JMP Label."),
     (
         "BEQ",
         "CMP compares two, and BZ branches if the two are equal: CMP $0,$1,$2; BZ $0,Label.",
@@ -116,22 +89,10 @@ pub(crate) static FOREIGN: [Row; 85] = [
         "JGE",
         "CMP compares two, and BNN branches if the first is not less: CMP $0,$1,$2; BNN $0,Label.",
     ),
-    (
-        "JZ",
-        "BZ branches if a register is 0: BZ $0,Label.",
-    ),
-    (
-        "BEQZ",
-        "BZ branches if a register is 0: BZ $0,Label.",
-    ),
-    (
-        "JNZ",
-        "BNZ branches if a register is not 0: BNZ $0,Label.",
-    ),
-    (
-        "BNEZ",
-        "BNZ branches if a register is not 0: BNZ $0,Label.",
-    ),
+    ("JZ", "BZ branches if a register is 0: BZ $0,Label."),
+    ("BEQZ", "BZ branches if a register is 0: BZ $0,Label."),
+    ("JNZ", "BNZ branches if a register is not 0: BNZ $0,Label."),
+    ("BNEZ", "BNZ branches if a register is not 0: BNZ $0,Label."),
     (
         "LD",
         "LDO loads an octa, LDT a tetra, LDW a wyde and LDB a byte: LDO $0,$1,0.",
@@ -180,42 +141,21 @@ pub(crate) static FOREIGN: [Row; 85] = [
         "SW",
         "STT stores a tetra, which has 32 bits, and STO an octa: STT $0,$1,0.",
     ),
-    (
-        "SB",
-        "STB stores a byte: STB $0,$1,0.",
-    ),
-    (
-        "HALT",
-        "TRAP 0,Halt,0 ends the program.",
-    ),
-    (
-        "HLT",
-        "TRAP 0,Halt,0 ends the program.",
-    ),
-    (
-        "EXIT",
-        "TRAP 0,Halt,0 ends the program.",
-    ),
-    (
-        "STOP",
-        "TRAP 0,Halt,0 ends the program.",
-    ),
+    ("SB", "STB stores a byte: STB $0,$1,0."),
+    ("HALT", "TRAP 0,Halt,0 ends the program."),
+    ("HLT", "TRAP 0,Halt,0 ends the program."),
+    ("EXIT", "TRAP 0,Halt,0 ends the program."),
+    ("STOP", "TRAP 0,Halt,0 ends the program."),
     (
         "INC",
         "ADD adds 1 to a register: ADD $0,$0,1. INCL does so, too: INCL $0,1.",
     ),
-    (
-        "DEC",
-        "SUB subtracts 1 from a register: SUB $0,$0,1.",
-    ),
+    ("DEC", "SUB subtracts 1 from a register: SUB $0,$0,1."),
     (
         "PUSH",
         "STO stores on a stack of your own: SUB $254,$254,8; STO $0,$254,0. PUSHJ keeps registers by itself.",
     ),
-    (
-        "NOP",
-        "SWYM does nothing.",
-    ),
+    ("NOP", "SWYM does nothing."),
     (
         "SHL",
         "SL shifts to the left, and SLU does so without overflow: SL $0,$1,2.",
@@ -256,10 +196,7 @@ pub(crate) static FOREIGN: [Row; 85] = [
         "SRA",
         "SR shifts to the right and keeps the sign: SR $0,$1,2.",
     ),
-    (
-        "NOT",
-        "NOR with 0 turns each bit round: NOR $0,$1,0.",
-    ),
+    ("NOT", "NOR with 0 turns each bit round: NOR $0,$1,0."),
     (
         "MOD",
         "DIV leaves the remainder in rR: DIV $0,$1,$2; GET $0,rR.",
@@ -308,22 +245,10 @@ pub(crate) static FOREIGN: [Row; 85] = [
         "ORIG",
         "LOC says where the next bytes go: LOC #100, or LOC Data_Segment.",
     ),
-    (
-        "DB",
-        "BYTE places bytes and texts: BYTE \"text\",0.",
-    ),
-    (
-        "DEFB",
-        "BYTE places bytes and texts: BYTE \"text\",0.",
-    ),
-    (
-        "ASCII",
-        "BYTE places bytes and texts: BYTE \"text\",0.",
-    ),
-    (
-        "ASCIZ",
-        "BYTE places bytes and texts: BYTE \"text\",0.",
-    ),
+    ("DB", "BYTE places bytes and texts: BYTE \"text\",0."),
+    ("DEFB", "BYTE places bytes and texts: BYTE \"text\",0."),
+    ("ASCII", "BYTE places bytes and texts: BYTE \"text\",0."),
+    ("ASCIZ", "BYTE places bytes and texts: BYTE \"text\",0."),
     (
         "DW",
         "BYTE, WYDE, TETRA and OCTA place data of 1, 2, 4 and 8 bytes: OCTA 5.",

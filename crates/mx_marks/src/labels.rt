@@ -104,8 +104,7 @@ fn is_near(is_long: bool, a: &[u8], b: &[u8]) -> bool
 fn is_alike(name: &[u8], other: &[u8]) -> bool
     ensures { result ≡ spec.is_alike name.now other.now }
 {
-    name.eq_ignore_ascii_case(other)
-        || (name.len() >= 3 && is_near(name.len() >= 4, name, other))
+    name.eq_ignore_ascii_case(other) || (name.len() >= 3 && is_near(name.len() >= 4, name, other))
 }
 
 /// Whether a label is like a name in this way.
@@ -173,12 +172,7 @@ pub fn label_number(name: &[u8], most: u32, source: &[u8]) -> u64
 fn label_operation(name: &[u8], source: &[u8]) -> Option<Op>
     ensures { result ≡ spec.label_operation name.now source.now }
 {
-    find(word(behind_word(first_line(
-        Likeness::Same,
-        name,
-        u32::MAX,
-        source,
-    ))))
+    find(word(behind_word(first_line(Likeness::Same, name, u32::MAX, source))))
 }
 
 /// Whether a name is a label of data.

@@ -6,8 +6,8 @@ ghost use Rattle.mx_sentences.specs.Rows.{shown};
 
 use crate::chosen::{
     address_row, byte_row, colon_row, data_byte_row, data_wyde_row, end_row, foreign_row,
-    indented_row, later_code_row, later_row, match_row, nowhere_row, remark_row, sum_row, tetra_row,
-    wyde_row,
+    indented_row, later_code_row, later_row, match_row, nowhere_row, remark_row, sum_row,
+    tetra_row, wyde_row,
 };
 use crate::rows::{Row, row_of};
 use mx_foreign::advice_on;

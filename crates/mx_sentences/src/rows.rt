@@ -14,7 +14,12 @@ pub(crate) struct Row {
 }
 
 /// A sentence of these parts.
-pub(crate) fn parts(before: &'static str, noun: &'static str, after: &'static str, help: &'static str) -> Row
+pub(crate) fn parts(
+    before: &'static str,
+    noun: &'static str,
+    after: &'static str,
+    help: &'static str,
+) -> Row
     ensures { spec.shown result ≡ spec.row before.now noun.now after.now help.now }
 {
     Row {

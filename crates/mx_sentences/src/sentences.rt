@@ -326,7 +326,16 @@ pub fn remark_on(
     let row = row_with(why.number(), source, marked, line, place);
     let what = what_text(alloc, row, marked)?;
     let meant = Bytes::copy(alloc, meant_by(why.number(), source, marked, line, place))?;
-    let help = help_text(alloc, row, why.number(), number, source, marked, line, place)?;
+    let help = help_text(
+        alloc,
+        row,
+        why.number(),
+        number,
+        source,
+        marked,
+        line,
+        place,
+    )?;
     Ok(Remark {
         mark,
         what,

@@ -7,7 +7,7 @@ use std::alloc::Global;
 /// A word, and a part of what is answered.
 type Row = (&'static str, &'static str);
 
-static PARTS: [Row; 34] = [
+static PARTS: [Row; 37] = [
     // by number and by name, in any case
     ("43", "43 Fit: a fault of a source\n"),
     ("Fit", "43 Fit: a fault of a source\n"),
@@ -21,6 +21,19 @@ static PARTS: [Row; 34] = [
     ("3", "3 UnknownOption: a kind of faulty words\n"),
     ("Twice", "30 Twice: a fault of a source\n"),
     ("Twice", "73 Twice: a fault of an object\n"),
+    // operations of other machines
+    (
+        "BGT",
+        "BGT: an operation of other machines\n  CMP compares two, and BP branches if the first is greater: CMP $0,$1,$2; BP $0,Label.\n",
+    ),
+    (
+        "mov",
+        "mov: an operation of other machines\n  SET copies a register or makes a number: SET $0,$1 or SET $0,5.\n",
+    ),
+    (
+        "NOP",
+        "NOP: an operation of other machines\n  SWYM does nothing.\n",
+    ),
     // an example and what mends it
     ("80", "  Example:  Main JMP Later\n"),
     ("80", "  Mended:   Main JMP Later;Later TRAP 0,Halt,0\n"),

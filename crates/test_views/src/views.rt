@@ -146,7 +146,7 @@ line 6: 30 Twice
     Main SWYM 0
     ^~~~
     `Main` is defined already.
-    Take another name, or a local label as 2H, which can be defined again.
+    Take another name, or a local label as 2H, which can be defined again. It is the label of line 1.
 ";
 
 /// The label of a faulty line stays: an address, a register or a number. So what refers to it is not told, and Main is there.
@@ -163,7 +163,7 @@ static LABELLED_TOLD: &str = "line 1: 39 UnknownOpcode
     n IS $1; the number
              ^~~
     There is no operation `the`.
-    Operations are in capitals. A line of comment begins with *, and a ; begins the next statement.
+    A ; begins the next statement. A comment behind the operands needs no mark, and a line of comment begins with *.
 line 2: 10 Syntax
     size IS 5,
              ^
@@ -240,12 +240,12 @@ line 5: 17 Future
      SET $0,Late
             ^~~~
     `Late` is defined further down, but its value is needed here.
-    Define it before this line. LDA can give way to GETA, which does not need the value.
+    Define it before this line: data, with their GREG, go in front of the code.
 line 6: 81 UndefinedLocal
      BZ $0,1F
            ^~
     `1F` refers to a local label further down, and there is none.
-    To the one further up refers B in place of F, as 1B.
+    Write its label in front of a later line, as 1H for 1F.
 line 7: 10 Syntax
      SET $0,0x100
              ^~~~
@@ -255,8 +255,7 @@ line 8: 39 UnknownOpcode
      SWYM 0; set $0,1
              ^~~
     There is no operation `set`.
-    Did you mean `SET`?
-    Operations are in capitals. A line of comment begins with *, and a ; begins the next statement.
+    A ; begins the next statement. A comment behind the operands needs no mark, and a line of comment begins with *.
 line 9: 80 UndefinedSymbol
     Late OCTA Main,late
                    ^~~~

@@ -1,0 +1,116 @@
+//! What mends a fault, row by row: slips of readers who come from other machines, each with the lines that are to be said of it. The
+//! operations are those of TAOCP 1, Fascicle 1.
+
+use mx_view::faults;
+use mx_word::NoMemory;
+use std::alloc::Global;
+
+/// A source, and lines that are said of a fault of it.
+type Row = (&'static str, &'static str);
+
+static ROWS: [Row; 20] = [
+    // operations of other machines, in any case, and no question for another short name
+    (
+        "Main BEQ $0,$1,2\n",
+        "    There is no operation `BEQ`.\n    CMP compares two, and BZ branches if the two are equal: CMP $0,$1,$2; BZ $0,Label.\n",
+    ),
+    (
+        "Main mov $0,1\n",
+        "    There is no operation `mov`.\n    SET copies a register or makes a number: SET $0,$1 or SET $0,5.\n",
+    ),
+    (
+        "Main HALT\n",
+        "    There is no operation `HALT`.\n    TRAP 0,Halt,0 ends the program.\n",
+    ),
+    (
+        "Main JSR Sub\n",
+        "    There is no operation `JSR`.\n    PUSHJ calls a subroutine: PUSHJ $2,Sub.\n",
+    ),
+    // short words with a digit for a letter, and with a letter at the end; and one with another letter
+    (
+        "Main ST0 $0,$1,0\n",
+        "    There is no operation `ST0`.\n    Did you mean `STO`?\n",
+    ),
+    (
+        "Main ADDD $0,$1,0\n",
+        "    There is no operation `ADDD`.\n    Did you mean `ADD`?\n",
+    ),
+    (
+        "Main SEX $0,1\n",
+        "    There is no operation `SEX`.\n    Operations are in capitals.",
+    ),
+    // a label that is not in the first column; a comment behind a mark; and Main with a colon
+    (
+        " Main SET $0,5\n",
+        "    `Main` is not in the first column, so it is read as an operation.\n    A label begins in the first column of its line.\n",
+    ),
+    (
+        "Main SET $0,5 ; set it\n",
+        "    There is no operation `set`.\n    A ; begins the next statement. A comment behind the operands needs no mark,",
+    ),
+    (
+        "Main SET $0,5; ADDD $0,$0,1\n",
+        "    There is no operation `ADDD`.\n    Did you mean `ADD`?\n",
+    ),
+    (
+        "Main: SWYM 0\n",
+        "    There is no label Main, where a program starts.\n    The label Main: has a colon: remove it.\n",
+    ),
+    // names that are defined further down: data, a sum, and an instruction
+    (
+        "Main LDA $0,Buf\nBuf BYTE 0\n",
+        "    Define it before this line: data, with their GREG, go in front of the code.\n",
+    ),
+    (
+        "Main LDA $0,Sub+4\nSub POP 0,0\n",
+        "    Define it before this line: data, with their GREG, go in front of the code.\n",
+    ),
+    (
+        "Main LDA $0,Sub\nSub POP 0,0\n",
+        "    Define it before this line. LDA can give way to GETA, which does not need the value.\n",
+    ),
+    // addresses, and a number below 0
+    (
+        " LOC Data_Segment\nA OCTA 5\n LOC #100\nMain SET $1,A\n",
+        "    Main SET $1,A\n                ^\n    `A` is an address, which has no room in an instruction.\n    LDA $1,A puts it into a register, and LDO $1,A loads the octa there.\n",
+    ),
+    (
+        " LOC Data_Segment\nTable OCTA 5\n LOC #100\nMain ADD $0,$0,Table\n",
+        "    LDA $1,Table puts it into a register, and LDO $1,Table loads the octa there.\n",
+    ),
+    (
+        "sum IS $1\nMain ADD sum,sum,-1\n",
+        "                     ^~\n    `-1` does not fit: a number can be 0 to 255 here.\n    Take SUB in place of ADD, or ADD in place of SUB, and the number without its minus.\n",
+    ),
+    // local labels: one further up, and none at all; and a label that is defined already
+    (
+        "1H SWYM 0\nMain BZ $0,1F\n",
+        "    To the one further up refers B in place of F, as 1B.\n",
+    ),
+    (
+        "Main BZ $0,1F\n",
+        "    Write its label in front of a later line, as 1H for 1F.\n",
+    ),
+    (
+        "Main SWYM 0\nLoop SWYM 0\n SWYM 0\nLoop SWYM 0\n",
+        "    `Loop` is defined already.\n    Take another name, or a local label as 2H, which can be defined again. It is the label of line 2.\n",
+    ),
+];
+
+/// Whether a text has a part.
+fn has(text: &[u8], part: &str) -> bool {
+    let part = part.as_bytes();
+    text.windows(part.len().max(1)).any(|it| it == part)
+}
+
+/// Whether lines are said of the faults of a source.
+fn is_said(alloc: Global, source: &str, lines: &str) -> Result<bool, NoMemory> {
+    Ok(has(faults(alloc, source.as_bytes())?.text.as_slice(), lines))
+}
+
+#[test]
+fn advice(rt: HostRuntime) {
+    for (source, lines) in &ROWS {
+        assert!(rt; is_said(rt.alloc(), source, lines) == Ok(true), "{source}");
+    }
+}
