@@ -6,7 +6,7 @@ use Rattle.mx_host.specs.Keeping.{Keeps}
 use Rattle.mx_host.proofs.Keeping.{keeps-then, keeps-all}
 use Rattle.mx_plan.proofs.Standing.{only-behind, rose-on, stands-kept}
 use Rattle.mx_outcome.specs.declared.outcome.Outcome.{Outcome}
-use Rattle.mx_outcome.specs.declared.outcome.Outcome.TheVariants.{HostFault as Broken, NoFile, OutOfMemory}
+use Rattle.mx_outcome.specs.declared.outcome.Outcome.TheVariants.{Done, HostFault as Broken, NoFile, OutOfMemory}
 use Rattle.mx_face.specs.Pages.{FaultsBetween, IsOfView}
 use Rattle.mx_face.proofs.Faults.{faults-after, faults-nowhere, faults-said, faults-told, part-ended, whole-ended}
 
@@ -42,4 +42,23 @@ part-told a b c k m n said r part kept same = part-ended a c k n r (faults-told 
 pub whole-kept : (a b : Option HostModel) (k m : ℕ) (r : Outcome) → Keeps a b k m → IsOfView r → FaultsBetween a b k m Broken NoFile r
 whole-kept a b k m r kept of = faults-after a b b k m m r kept (faults-nowhere b m r of)
 
-pub ruleset parts = (part-kept, part-nowhere, part-failed, part-after, part-lacked, part-told, whole-kept, whole-ended, faults-after)
+-- what keeps, and then a part or a whole
+pub keeps-after : {A : Type 0} (a b c : Option HostModel) (k m n : ℕ) (broken absent x : A) → Keeps a b k m → FaultsBetween b c m n broken absent x → Keeps a c k n
+keeps-after a b c k m n broken absent x kept rest = keeps-then a b c k m n kept rest.keeps
+
+pub part-kept-after : {A B : Type 0} (a b c : Option HostModel) (k m n : ℕ) (x : Result A Outcome) (y : B) → Keeps a b k m → FaultsBetween {A = Result A Outcome} b c m n (Err Broken) (Err NoFile) x → FaultsBetween {A = Result B Outcome} a c k n (Err Broken) (Err NoFile) (Ok y)
+part-kept-after a b c k m n x y kept rest = part-kept a c k n y (keeps-then a b c k m n kept rest.keeps)
+
+pub part-failed-after : {A B : Type 0} (a b c : Option HostModel) (k m n : ℕ) (r : Outcome) → Keeps a b k m → FaultsBetween {A = Result A Outcome} b c m n (Err Broken) (Err NoFile) (Err r) → FaultsBetween {A = Result B Outcome} a c k n (Err Broken) (Err NoFile) (Err r)
+part-failed-after a b c k m n r kept rest = part-failed a c k n r (part-after a b c k m n (Err r) kept rest)
+
+pub whole-kept-after : {A : Type 0} (a b c : Option HostModel) (k m n : ℕ) (x : Result A Outcome) (status : ℕ) → Keeps a b k m → FaultsBetween {A = Result A Outcome} b c m n (Err Broken) (Err NoFile) x → FaultsBetween a c k n Broken NoFile (Done status)
+whole-kept-after a b c k m n x status kept rest = whole-kept a c k n (Done status) (keeps-then a b c k m n kept rest.keeps) (λ e. cc, λ e. cc)
+
+pub whole-failed-after : {A : Type 0} (a b c : Option HostModel) (k m n : ℕ) (r : Outcome) → Keeps a b k m → FaultsBetween {A = Result A Outcome} b c m n (Err Broken) (Err NoFile) (Err r) → FaultsBetween a c k n Broken NoFile r
+whole-failed-after a b c k m n r kept rest = faults-after a b c k m n r kept (whole-ended b c m n r rest)
+
+pub whole-done : (a b : Option HostModel) (k m status : ℕ) → Keeps a b k m → FaultsBetween a b k m Broken NoFile (Done status)
+whole-done a b k m status kept = whole-kept a b k m (Done status) kept (λ e. cc, λ e. cc)
+
+pub ruleset parts = (part-kept, part-nowhere, part-failed, part-after, part-lacked, part-told, whole-ended, faults-after, keeps-after, part-kept-after, part-failed-after, whole-kept-after, whole-failed-after, whole-done)

@@ -61,11 +61,12 @@ fn last_line(line: Bytes) -> Option<Bytes> {
 }
 
 /// Reads a line without its newline; nothing at the end of the input.
+#[tactic(auto, using(crate::proofs::Parts::parts))]
 fn line<H: Host>(alloc: Global, host: &mut H) -> Result<Option<Bytes>, Outcome>
     ensures { PartFaultsOnlyBy H.told H.faults host.old host.new result }
 {
     let mut line = Bytes::new(alloc);
-    for _ in 0..LONGEST {
+    for _turn in 0..LONGEST {
         match grow(host, &mut line) {
             Ok(More::Follows) => {}
             Ok(More::LineEnds) => return Ok(Some(line)),

@@ -90,6 +90,7 @@ fn add_file_at<H: Host>(
 }
 
 /// Reads the files that the words at some places name.
+#[tactic(auto, using(crate::proofs::Parts::parts))]
 fn files_at<H: Host>(
     alloc: Global,
     host: &mut H,
@@ -108,6 +109,55 @@ fn files_at<H: Host>(
     Ok(files)
 }
 
+/// Reads the lines, if the words name a file with some.
+fn gather_lines<H: Host>(
+    alloc: Global,
+    host: &mut H,
+    words: &[String],
+    named: &Named,
+    gathered: Gathered,
+) -> Result<Gathered, Outcome>
+    ensures { PartFaultsOnlyBy H.told H.faults host.old host.new result }
+{
+    match file_at(alloc, host, words, named.lines) {
+        Ok(lines) => Ok(Gathered { lines, ..gathered }),
+        Err(outcome) => Err(outcome),
+    }
+}
+
+/// Reads the files that the program is to find, and the lines.
+fn gather_files<H: Host>(
+    alloc: Global,
+    host: &mut H,
+    words: &[String],
+    named: &Named,
+    source: Bytes,
+    input: Bytes,
+) -> Result<Gathered, Outcome>
+    ensures { PartFaultsOnlyBy H.told H.faults host.old host.new result }
+{
+    match files_at(alloc, host, words, named.files.as_slice()) {
+        Ok(files) => {
+            let gathered = Gathered {
+                source,
+                input,
+                files,
+                lines: None,
+            };
+            gather_lines(alloc, host, words, named, gathered)
+        }
+        Err(outcome) => Err(outcome),
+    }
+}
+
+/// The bytes of a file, or none.
+fn bytes_in(alloc: Global, file: Option<Bytes>) -> Bytes {
+    match file {
+        Some(bytes) => bytes,
+        None => Bytes::new(alloc),
+    }
+}
+
 /// Reads what the words name beside the source: the input, the files and the lines.
 fn gather_beside<H: Host>(
     alloc: Global,
@@ -118,15 +168,10 @@ fn gather_beside<H: Host>(
 ) -> Result<Gathered, Outcome>
     ensures { PartFaultsOnlyBy H.told H.faults host.old host.new result }
 {
-    let input = file_at(alloc, host, words, named.input)?;
-    let files = files_at(alloc, host, words, named.files.as_slice())?;
-    let lines = file_at(alloc, host, words, named.lines)?;
-    Ok(Gathered {
-        source,
-        input: input.unwrap_or(Bytes::new(alloc)),
-        files,
-        lines,
-    })
+    match file_at(alloc, host, words, named.input) {
+        Ok(input) => gather_files(alloc, host, words, named, source, bytes_in(alloc, input)),
+        Err(outcome) => Err(outcome),
+    }
 }
 
 /// Reads all that the words name.

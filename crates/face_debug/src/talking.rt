@@ -1,5 +1,6 @@
 //! A session over a host: each line is answered before the next one is read.
 
+ghost use Rattle.std.specs.Prelude.{◌<◌, length};
 ghost use Rattle.mx_face.specs.Pages.{FaultsOnlyBy, PartFaultsOnlyBy};
 
 use crate::lines::read_line;
@@ -135,6 +136,7 @@ fn ask<H: Host>(
 }
 
 /// Answers the lines of standard input.
+#[tactic(auto, using(crate::proofs::Parts::parts))]
 fn answer_input<H: Host>(
     alloc: Global,
     host: &mut H,
@@ -143,7 +145,7 @@ fn answer_input<H: Host>(
 ) -> Outcome
     ensures { FaultsOnlyBy H.told H.faults host.old host.new result }
 {
-    for _ in 0..u64::MAX {
+    for _turn in 0..u64::MAX {
         match ask(alloc, host, session, has_prompt) {
             Ok(Flow::GoOn) => {}
             Ok(Flow::Quit) => return Outcome::Done(0),
@@ -154,7 +156,10 @@ fn answer_input<H: Host>(
 }
 
 /// The first line of some bytes, without its newline, and what follows it.
-fn cut_line(bytes: &[u8]) -> (&[u8], &[u8]) {
+fn cut_line(bytes: &[u8]) -> (&[u8], &[u8])
+    requires { 0 < length bytes.now }
+    ensures shorter { length result.1.now < length bytes.now }
+{
     let count = bytes.iter().take_while(|b| **b != b'\n').count();
     let (line, rest) = bytes.split_at(count);
     match rest {
@@ -164,6 +169,7 @@ fn cut_line(bytes: &[u8]) -> (&[u8], &[u8]) {
 }
 
 /// Answers the lines that a file has.
+#[tactic(auto, using(crate::proofs::Parts::parts))]
 fn answer_lines<H: Host>(
     alloc: Global,
     host: &mut H,

@@ -2,7 +2,7 @@
 
 use crate::sessions::{CALLS, CALLS_START, Row, first_wrong};
 
-static ROWS: [Row; 10] = [
+static ROWS: [Row; 11] = [
     Row {
         lines: "f\nrf\n",
         answer: "no call that has not returned
@@ -86,6 +86,15 @@ step 4  sum.mms:10  Inner  SET $0,5
 rJ = #118 <Outer+8>  (was #108 <Main+8>)
 break 1
 step 6  sum.mms:8  Outer+8  PUT rJ,$0
+",
+    },
+    Row {
+        lines: "g 5\nbt\n",
+        answer: "step 5  sum.mms:11  Inner+4  POP 0,0
+$0 = 5  (was 0)
+#0  Inner+4 in Inner () at sum.mms:11
+#1  Outer+4 in Outer () at sum.mms:7
+#2  Main+4 at sum.mms:3
 ",
     },
     Row {

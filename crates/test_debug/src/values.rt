@@ -2,7 +2,17 @@
 
 use crate::sessions::{Row, SUM, SUM_START, first_wrong};
 
-static VALUES: [Row; 16] = [
+static VALUES: [Row; 17] = [
+    Row {
+        lines: "g 18\nbt\n",
+        answer: "done
+step 18  sum.mms:20  Twice  GET $1,rJ
+$0 = 6
+rJ = #128 <Loop+32>  (was #0)
+#0  Twice in Twice (6) at sum.mms:20
+#1  Loop+28 at sum.mms:17
+",
+    },
     Row {
         lines: "g 16\nwho sum\nwho sum\nw sum\nw sum\n",
         answer: "done

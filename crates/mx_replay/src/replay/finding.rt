@@ -12,8 +12,19 @@ use crate::frames::{Frame, find_frames};
 use crate::marks::{Place, Sought, marks_start};
 use crate::searches::{find_last, find_next};
 use crate::stops::{Break, Watch};
+use mx_core::Machine;
 use mx_run::FlagMap;
 use mx_word::{NoMemory, Sequence};
+use std::alloc::Global;
+
+/// The local registers of a machine, from `$0` on.
+fn locals(alloc: Global, machine: &Machine) -> Result<Sequence<u64>, NoMemory> {
+    let mut locals = Sequence::new(alloc);
+    for k in 0..machine.l() {
+        locals.push(machine.register(k))?;
+    }
+    Ok(locals)
+}
 
 /// Whether no break, no watch and no depth is looked for.
 fn is_nothing(breaks: &[Break], watches: &[Watch], most: Option<u64>) -> bool
@@ -201,6 +212,16 @@ impl Replay {
     {
         let mut visit = self.visit_start()?;
         find_frames(self.alloc, &mut visit, self.here.at)
+    }
+
+    /// The local registers at step k, from `$0` on. It stays where it is.
+    ///
+    /// Errors: out of memory.
+    pub fn locals_at(&mut self, k: u64) -> Result<Sequence<u64>, NoMemory>
+        ensures same { self.new ≡ self.old }
+    {
+        let visit = self.visit(k)?;
+        locals(self.alloc, &visit.machine)
     }
 
     /// The greatest step up to `until` that has a mark. Looked for from one step that is kept to the next, backwards.
