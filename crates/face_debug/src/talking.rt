@@ -106,11 +106,7 @@ fn prompt<H: Host>(alloc: Global, host: &mut H, has_prompt: bool) -> Result<(), 
 }
 
 /// Answers the next line of standard input; its end ends the session.
-fn answer_next<H: Host>(
-    alloc: Global,
-    host: &mut H,
-    session: &mut Session,
-) -> Result<Flow, Outcome>
+fn answer_next<H: Host>(alloc: Global, host: &mut H, session: &mut Session) -> Result<Flow, Outcome>
     ensures { PartFaultsOnlyBy H.told H.faults host.old host.new result }
 {
     match read_line(alloc, host) {
