@@ -185,12 +185,7 @@ fn debug_ordered<H: Host>(
 /// Does what the words after `debug` order: the lines of standard input, or of the file that `--command` names, are answered, each
 /// before the next one is read, after a prompt where one is wanted. It answers the outcome: that the session was left, or why there
 /// was none.
-pub fn debug<H: Host>(
-    alloc: Global,
-    host: &mut H,
-    words: &[String],
-    has_prompt: bool,
-) -> Outcome
+pub fn debug<H: Host>(alloc: Global, host: &mut H, words: &[String], has_prompt: bool) -> Outcome
     ensures causes { FaultsOnlyBy H.told H.faults host.old host.new result }
 {
     match order_in(alloc, words) {

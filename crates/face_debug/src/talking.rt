@@ -1,5 +1,6 @@
 //! A session over a host: each line is answered before the next one is read.
 
+ghost use Rattle.std.specs.Prelude.{◌<◌, length};
 ghost use Rattle.mx_face.specs.Pages.{FaultsOnlyBy, PartFaultsOnlyBy};
 
 use crate::lines::read_line;
@@ -105,11 +106,7 @@ fn prompt<H: Host>(alloc: Global, host: &mut H, has_prompt: bool) -> Result<(), 
 }
 
 /// Answers the next line of standard input; its end ends the session.
-fn answer_next<H: Host>(
-    alloc: Global,
-    host: &mut H,
-    session: &mut Session,
-) -> Result<Flow, Outcome>
+fn answer_next<H: Host>(alloc: Global, host: &mut H, session: &mut Session) -> Result<Flow, Outcome>
     ensures { PartFaultsOnlyBy H.told H.faults host.old host.new result }
 {
     match read_line(alloc, host) {
@@ -155,7 +152,10 @@ fn answer_input<H: Host>(
 }
 
 /// The first line of some bytes, without its newline, and what follows it.
-fn cut_line(bytes: &[u8]) -> (&[u8], &[u8]) {
+fn cut_line(bytes: &[u8]) -> (&[u8], &[u8])
+    requires { 0 < length bytes.now }
+    ensures shorter { length result.1.now < length bytes.now }
+{
     let count = bytes.iter().take_while(|b| **b != b'\n').count();
     let (line, rest) = bytes.split_at(count);
     match rest {

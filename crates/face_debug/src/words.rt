@@ -81,13 +81,7 @@ impl Named {
     }
 
     /// Takes the value of an option.
-    fn set(
-        &mut self,
-        alloc: Global,
-        kind: Kind,
-        word: &str,
-        place: usize,
-    ) -> Result<(), NoMemory> {
+    fn set(&mut self, alloc: Global, kind: Kind, word: &str, place: usize) -> Result<(), NoMemory> {
         match kind {
             Kind::Lines => self.lines = Some(place),
             Kind::Input => self.input = Some(place),

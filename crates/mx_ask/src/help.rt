@@ -61,11 +61,7 @@ fn add_ambiguous(out: &mut Bytes, name: &[u8]) -> Result<(), NoMemory> {
 }
 
 /// Adds why no word is meant.
-pub fn add_unasked(
-    out: &mut Bytes,
-    name: &[u8],
-    is_ambiguous: bool,
-) -> Result<(), NoMemory> {
+pub fn add_unasked(out: &mut Bytes, name: &[u8], is_ambiguous: bool) -> Result<(), NoMemory> {
     if is_ambiguous {
         return add_ambiguous(out, name);
     }

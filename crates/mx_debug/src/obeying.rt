@@ -6,7 +6,7 @@ ghost use Rattle.mx_debug.specs.Words as spec;
 
 use crate::session::{Again, Session};
 use crate::showing::{info, print};
-use mx_ask::{Asked, Word, add_help, add_unasked, word_asked, cut_form, cut_word, without_end};
+use mx_ask::{Asked, Word, add_help, add_unasked, cut_form, cut_word, without_end, word_asked};
 use mx_word::{Bytes, NoMemory};
 
 /// Whether a session goes on after a line.

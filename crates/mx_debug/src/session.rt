@@ -148,9 +148,12 @@ impl Session {
         let since = Written::of(self.replay.host());
         let stops = &self.known.stops;
         let most = self.known.most;
-        let found = self
-            .replay
-            .next_stop(stops.breaks.as_slice(), stops.watches.as_slice(), depth, most)?;
+        let found = self.replay.next_stop(
+            stops.breaks.as_slice(),
+            stops.watches.as_slice(),
+            depth,
+            most,
+        )?;
         arrive_here(&mut self.replay, &self.known, since, out)?;
         Ok(found)
     }
@@ -170,18 +173,20 @@ impl Session {
         let found = self
             .replay
             .last_stop(stops.breaks.as_slice(), stops.watches.as_slice(), depth)?;
-        arrive_back(&mut self.replay, &self.known, since, found.unwrap_or(0), out)?;
+        arrive_back(
+            &mut self.replay,
+            &self.known,
+            since,
+            found.unwrap_or(0),
+            out,
+        )?;
         Ok(found)
     }
 
     /// Goes back to the step from which the turn leads on that made the value at a place: the greatest up to this one that
     /// changed it. Where it never changed, it stays where it is. It tells of the step.
     #[tactic(auto, using(crate::proofs::Reaching::reaching))]
-    pub fn go_to_maker(
-        &mut self,
-        place: Place,
-        out: &mut Bytes,
-    ) -> Result<Option<u64>, NoMemory>
+    pub fn go_to_maker(&mut self, place: Place, out: &mut Bytes) -> Result<Option<u64>, NoMemory>
         ensures program { KeepsProgram self.old self.new }
         ensures stops { KeepsStops self.old self.new }
         ensures last { IfOk result (IsLast self.old.program (changes place) self.old.at) }
@@ -190,7 +195,13 @@ impl Session {
         let since = Written::of(self.replay.host());
         let found = self.replay.maker(place)?;
         if let Some(k) = found {
-            arrive_back(&mut self.replay, &self.known, since, k.saturating_sub(1), out)?;
+            arrive_back(
+                &mut self.replay,
+                &self.known,
+                since,
+                k.saturating_sub(1),
+                out,
+            )?;
         }
         Ok(found)
     }

@@ -11,9 +11,7 @@ use mx_book::{Book, Thing};
 use mx_core::Machine;
 use mx_places::{named_thing, shown_thing};
 use mx_replay::Replay;
-use mx_tell::{
-    add_memory, add_output, add_registers, add_ring, add_shown, add_symbols, value_of,
-};
+use mx_tell::{add_memory, add_output, add_registers, add_ring, add_shown, add_symbols, value_of};
 use mx_text::Form;
 use mx_word::{Bytes, NoMemory};
 
@@ -40,11 +38,17 @@ pub(crate) fn print(
     rest: &[u8],
 ) -> Result<(), NoMemory> {
     let Some(form) = form_of(letters) else {
-        return add_said(out, b"? no such form: /d decimal, /x hexadecimal, /t as text");
+        return add_said(
+            out,
+            b"? no such form: /d decimal, /x hexadecimal, /t as text",
+        );
     };
     match shown_thing(&known.book, rest) {
         Some(thing) => add_shown(out, &known.book, replay.machine(), thing, form),
-        None => add_said(out, b"? nothing to show: a name, $K, rX, M#ADDRESS, a number"),
+        None => add_said(
+            out,
+            b"? nothing to show: a name, $K, rX, M#ADDRESS, a number",
+        ),
     }
 }
 

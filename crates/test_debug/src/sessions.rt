@@ -67,11 +67,8 @@ pub struct Row {
 pub fn host(alloc: Global, source: &str, lines: &str) -> Option<MemHost> {
     let input = Vec::from_slice(alloc, lines.as_bytes()).ok()?;
     let mut host = MemHost::new(alloc, input, Vec::new(alloc)).ok()?;
-    host.put_file(
-        b"sum.mms",
-        Vec::from_slice(alloc, source.as_bytes()).ok()?,
-    )
-    .ok()?;
+    host.put_file(b"sum.mms", Vec::from_slice(alloc, source.as_bytes()).ok()?)
+        .ok()?;
     host.put_file(b"lines", Vec::from_slice(alloc, b"s\nq\ns\n").ok()?)
         .ok()?;
     host.put_file(b"byte", Vec::from_slice(alloc, b"A").ok()?)

@@ -174,7 +174,10 @@ impl Replay {
         if is_nothing(breaks, watches, most) {
             return Ok(None);
         }
-        self.last_marked(Sought::Stops(breaks, watches, most), self.here.at.saturating_sub(1))
+        self.last_marked(
+            Sought::Stops(breaks, watches, most),
+            self.here.at.saturating_sub(1),
+        )
     }
 
     /// The step whose turn made the value that is at a place now: the greatest up to this one whose turn changed it.
