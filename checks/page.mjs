@@ -2,9 +2,10 @@
 //
 // usage: node checks/page.mjs DATA STEPS    DATA is a file with what `mmixview page --json` writes
 //
-// Its output is one line of JSON: `octas`, the addresses of the octas of memory that the records name, and `states`, for step 0,
-// for each multiple of STEPS and for the last step `step`, `written`, how many bytes of the output there were, and `dump`, the lines
-// of a dump, with rS and without octas that no record names. All states are visited on and back, which has to give the same.
+// Its output is one line of JSON: `octas`, the addresses of the octas of memory that the records name, and `states`, for
+// step 0, each multiple of STEPS and the last step: `step`; `written`, how many bytes of the output there were; `dump`,
+// the lines of a dump, with rS and without octas that no record names. All are visited on, back, and in another order,
+// which has to give the same.
 import assert from 'node:assert/strict';
 import fs from 'node:fs';
 import path from 'node:path';
@@ -15,7 +16,8 @@ const { runOf, SPECIALS, textOf, charactersOf } = new Function(
 )();
 
 assert.equal(textOf('h\xc3\xa9\xe2\x82\xac\xf0\x9f\x8d\x80\n'), 'hé€🍀\n');
-assert.equal(textOf('a\xff\xc3(\xe0\x80\x80\xed\xa0\x80\xf5\0\x1b['), 'a\\xff\\xc3(\\xe0\\x80\\x80\\xed\\xa0\\x80\\xf5\\x00\\x1b[');
+assert.equal(textOf('a\xff\xc3(\xe0\x80\x80\xed\xa0\x80'), 'a\\xff\\xc3(\\xe0\\x80\\x80\\xed\\xa0\\x80');
+assert.equal(textOf('\xf5\0\x1b[\r'), '\\xf5\\x00\\x1b[\\x0d');
 assert.equal(textOf('</script>&amp;\t\u00c2'), '</script>&amp;\t\\xc2');
 assert.equal(charactersOf(0x48656c6c6f2c0a7fn), 'Hello,..');
 
@@ -35,9 +37,14 @@ function dumpOf(run, octas) {
   const hidden = Number(run.value[10] & 0xffffffn) >> 3;
   assert.equal(hidden, run.hidden[run.at]);
   const lines = SPECIALS.map((name, code) => `${name}=${shown(code === 8 ? BigInt(run.at) : run.value[code])}`);
-  for (let k = 0; k < local; k++) lines.push(`$${k}=${shown(run.value[run.numbers.get(`l${(hidden + k).toString(16)}`)] ?? 0n)}`);
+  for (let k = 0; k < local; k++) {
+    const place = run.numbers.get('l' + (hidden + k).toString(16));
+    lines.push(`$${k}=${shown(run.value[place] ?? 0n)}`);
+  }
   for (let k = Number(run.value[19]); k < 256; k++) lines.push(`$${k}=${shown(register(k))}`);
-  for (const [address, place] of octas) if (run.value[place]) lines.push(`M${shown(address)}=${shown(run.value[place])}`);
+  for (const [address, place] of octas) {
+    if (run.value[place]) lines.push(`M${shown(address)}=${shown(run.value[place])}`);
+  }
   return lines;
 }
 
@@ -45,7 +52,8 @@ function dumpOf(run, octas) {
 function checkEnd(run) {
   const most = Number(run.value[20]) + run.hidden[run.at];
   for (const [name, place] of run.numbers) {
-    if (name[0] === 'l' && parseInt(name.slice(1), 16) >= most) assert.equal(run.value[place], 0n, `${name} at step ${run.at}`);
+    const isBeyond = name[0] === 'l' && parseInt(name.slice(1), 16) >= most;
+    assert(!isBeyond || run.value[place] === 0n, `${name} at step ${run.at}`);
   }
 }
 
@@ -75,7 +83,7 @@ for (let k = 0; k < length; k++) {
   assert.deepEqual(dumpOf(run, octas), state.dump);
 }
 // who made a value: the step changes it, and none between does
-for (let place = 0; place < run.names.length; place += 7) {
+for (let place = 0; place < run.value.length; place += 7) {
   const maker = run.makerOf(place, run.steps);
   run.goTo(run.steps);
   const value = run.value[place];

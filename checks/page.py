@@ -1,13 +1,14 @@
 #!/usr/bin/python3
 """Checks the page of a program and its run, and prints only what is wrong, and what is missing to look for it.
 
-- The data is that of the runs: all examples and random programs of checks/model. Node applies the records, by the page's own
-  script (checks/page.mjs), and states of each run are compared with `mmixware run --steps K --dump`.
+- The data is that of the runs: all examples and random programs of checks/model. Node applies the records, by the
+  page's own script (checks/page.mjs), and states of each run are compared with `mmixware run --steps K --dump`.
 - The page is what crates/mmixview/page/join.py makes of the data, and tidy finds nothing in it.
-- In chromium and firefox-esr the page is opened and used by keys and the mouse, and what it shows is compared with a dump.
+- In chromium and firefox-esr the page is opened and used by keys and the mouse, and what it shows is compared with a
+  dump.
 
-Where node, tidy, a browser or python3-selenium is not there, that is said, and the rest is checked. Firefox is asked by its own
-protocol, Marionette, since Debian has no geckodriver.
+Where node, tidy, a browser or python3-selenium is not there, that is said, and the rest is checked. Firefox is asked by
+its own protocol, Marionette, since Debian has no geckodriver.
 """
 import argparse
 import contextlib
@@ -59,8 +60,8 @@ class Program:
             for name, data in {**self.files, "given": self.given}.items():
                 with open(os.path.join(room, name), "wb") as file:
                     file.write(data)
-            return subprocess.run([*maker, *words, self.word, *self.arguments], cwd=room, input=self.given, capture_output=True,
-                                  check=False)
+            return subprocess.run([*maker, *words, self.word, *self.arguments], cwd=room, input=self.given,
+                                  capture_output=True, check=False)
 
     def data(self, maker, steps):
         named = [word for name in self.files if name != self.word for word in ("--file", name)]
@@ -93,7 +94,8 @@ def check_run(program, maker):
         file.write(text)
         file.flush()
         every = max(97, data["steps"] // MOST_STATES)
-        done = subprocess.run(["node", f"{TOP}/checks/page.mjs", file.name, str(every)], capture_output=True, text=True, check=False)
+        done = subprocess.run(["node", f"{TOP}/checks/page.mjs", file.name, str(every)], capture_output=True, text=True,
+                              check=False)
     if done.returncode:
         wrong(program.name, done.stderr)
         return
@@ -218,8 +220,8 @@ class Firefox:
         shutil.rmtree(self.profile, ignore_errors=True)
 
 
-KEYS = {"Shift": "\ue008", "End": "\ue010", "Home": "\ue011", "Left": "\ue012", "Up": "\ue013", "Right": "\ue014", "Down": "\ue015",
-        "Enter": "\ue007", "Tab": "\ue004"}
+KEYS = {"Shift": "\ue008", "End": "\ue010", "Home": "\ue011", "Left": "\ue012", "Up": "\ue013", "Right": "\ue014",
+        "Down": "\ue015", "Enter": "\ue007", "Back": "\ue003"}
 
 
 class Page:
@@ -232,21 +234,27 @@ class Page:
         """Presses keys, as in "Right Shift+Down 5"."""
         for word in words.split():
             keys = [KEYS.get(key, key) for key in word.split("+")]
-            strokes = [{"type": "keyDown", "value": key} for key in keys] + [{"type": "keyUp", "value": key} for key in reversed(keys)]
-            self.browser.act([{"type": "key", "id": "keys", "actions": strokes}])
+            strokes = [("keyDown", key) for key in keys] + [("keyUp", key) for key in reversed(keys)]
+            actions = [{"type": kind, "value": key} for kind, key in strokes]
+            self.browser.act([{"type": "key", "id": "keys", "actions": actions}])
 
     def click(self, selector, part=0.5):
         """Clicks into an element, at a part of its width."""
         box = self.browser.run(
-            "const e = document.querySelector(arguments[0]); e.scrollIntoView({block: 'center'}); const b = e.getBoundingClientRect();"
-            "return [b.left, b.width, b.top + b.height / 2]", selector)
+            "const element = document.querySelector(arguments[0]); element.scrollIntoView({ block: 'center' });"
+            "const { left, width, top, height } = element.getBoundingClientRect();"
+            "return [left, width, top + height / 2]", selector)
         x, y = round(box[0] + box[1] * part), round(box[2])
         self.browser.act([{"type": "pointer", "id": "mouse", "parameters": {"pointerType": "mouse"}, "actions": [
             {"type": "pointerMove", "x": x, "y": y, "duration": 0, "origin": "viewport"},
             {"type": "pointerDown", "button": 0}, {"type": "pointerUp", "button": 0}]}])
 
+    def all(self, selector, what):
+        """What an expression says of each element e."""
+        return self.browser.run(f"return [...document.querySelectorAll(arguments[0])].map((e) => {what})", selector)
+
     def text(self, selector):
-        return self.browser.run("return document.querySelector(arguments[0]).textContent", selector)
+        return self.all(selector, "e.textContent")[0]
 
     def step(self):
         return int(self.browser.run("return document.getElementById('step').value"))
@@ -262,21 +270,37 @@ class Page:
             return
         output, dump = self.program.dump(step)
         values = dict(line.split("=#") for line in dump if line[0] != "M")
-        rows = self.browser.run("return [...document.querySelectorAll('#locals tr, #globals tr, #specials tr')].map((row) => "
-                                "[row.cells[0].textContent.split(' ')[0], row.cells[2].textContent])")
-        found = dict(rows)
+        rows = self.all("#locals tr, #globals tr, #specials tr", "[e.cells[0].textContent, e.cells[2].textContent]")
+        found = {name.split()[0]: value for name, value in rows}
         wanted = {name: f"#{int(values[name], 16):x}" for name in values if name[0] == "$" or name in found}
         self.expect(f"registers at step {step}", {name: found[name] for name in found if name in values}, wanted)
+        octas = dict(line[1:].split("=#") for line in dump if line[0] == "M")
+        for address, value in self.all("#memory tr", "[e.title, e.cells[2].textContent]"):
+            wanted = octas.get(f"#{int(address[1:], 16):016x}", "0")
+            self.expect(f"{address} at step {step}", value, f"#{int(wanted, 16):x}")
         self.expect(f"output at step {step}", self.text("#output"), output.decode(errors="backslashreplace"))
+
+    def check_faults(self):
+        """A source that is refused is shown with its faults, each with what it is about."""
+        faults = self.data["faults"]
+        titles = [f"{fault['fault']} {fault['name']}" for fault in faults]
+        self.expect("faults", self.all(".note b", "e.textContent"), titles)
+        marks = [fault["text"][fault["caret"] - 1:][:fault["length"]] for fault in faults if fault["caret"]]
+        self.expect("marks", self.all("#lines mark", "e.textContent"), marks)
+        self.expect("steps", self.all("#controls", "e.hidden"), [True])
 
     def use(self):
         """Goes through the run by all that the page offers."""
         last = self.data["steps"]
         self.expect("title", self.browser.run("return document.title"),
                     " ".join([self.program.word, *self.program.arguments]) + ": a program and its run")
-        texts = self.browser.run("return [...document.querySelectorAll('#lines tr:not(.note) .text')].map((cell) => cell.textContent)")
+        texts = self.all("#lines tr:not(.note) .text", "e.textContent")
         self.expect("lines", texts[:len(self.data["lines"])], [line["text"] for line in self.data["lines"]])
-        for keys, step in ("Right Right Right", 3), ("Left", 2), ("End", last), ("Right", last), ("Home", 0), ("Left", 0):
+        if self.data["end"] == "refused":
+            self.check_faults()
+            return
+        presses = ("Right Right Right", 3), ("Left", 2), ("End", last), ("Right", last), ("Home", 0), ("Left", 0)
+        for keys, step in presses:
             self.press(keys)
             self.expect(keys, self.step(), min(step, last))
             self.check_state()
@@ -285,22 +309,28 @@ class Page:
             is_near = abs(self.step() - part * last) <= 0.1 * last + 1
             self.expect(f"slider at {part}", is_near, True)
             self.check_state()
-        for selector in ("#buttons [data-key=ArrowLeft]", "#buttons [data-key=ShiftArrowRight]", "#buttons [data-key=ShiftArrowUp]", "#buttons [data-key=ShiftArrowDown]"):
-            self.click(selector)
+        for key in ("ArrowLeft", "ShiftArrowRight", "ShiftArrowUp", "ShiftArrowDown"):
+            self.click(f"[data-key={key}]")
             self.check_state()
+        self.click("#step")
+        self.press("End Back Back Back Back Back 2 Enter")
+        self.expect("the field", self.step(), 2)
+        self.click("h1")
         self.press("Home Right Right Shift+Right Shift+Left Shift+Down Shift+Up End")
         self.expect("keys with Shift", self.step(), last)
         self.click("#globals tr:last-child button")
+        is_made = self.all("#globals tr:last-child", "e.className") == ["new"]
         step = self.step()
-        is_made = self.browser.run("return document.querySelector('#globals tr:last-child').className")
-        self.expect("the maker of $255", step == 0 or is_made == "new", True)
+        self.expect("the maker of $255", step == 0 or is_made, True)
         self.check_state()
+        self.press("End")
+        self.click("#globals tr:last-child .hexadecimal")
+        self.expect("the maker of $255, by its digits", self.step(), step)
         self.click("#lines th button")
-        self.expect("a click on a line", self.browser.run("return document.querySelector('#lines tr[aria-current] th button') !== null"), True)
+        self.expect("a click on a line", len(self.all("#lines tr[aria-current] th button", "1")), 1)
         self.check_state()
-        unnamed = self.browser.run("return [...document.querySelectorAll('button, input')].filter((e) => "
-                                   "!(e.textContent + e.ariaLabel + (e.labels?.[0]?.textContent ?? '')).trim()).length")
-        self.expect("elements without a name", unnamed, 0)
+        names = self.all("button, input", "e.textContent + (e.ariaLabel ?? '') + (e.labels?.[0]?.textContent ?? '')")
+        self.expect("elements without a name", [name for name in names if not name.strip()], [])
         self.expect("status", self.text("#told").startswith(f"Step {self.step()} of {last}."), True)
         self.expect("what came from the source", self.browser.run("return window.broken"), None)
 
@@ -343,14 +373,20 @@ def check_pages(maker):
     """Opens pages in each browser."""
     before, after = join.parts()
     programs = [Program("a hostile source", "hostile.mms", {"hostile.mms": HOSTILE})]
-    programs += [program for program in examples() if program.word in ("fibonacci.mms", "coroutines.mms", "hello.mms")]
+    names = ("fibonacci.mms", "coroutines.mms", "hello.mms", "primes.mms", "refused.mms")
+    programs += [program for program in examples() if program.word in names]
     with tempfile.TemporaryDirectory() as room:
         pages = []
         for program in programs:
             text = program.data(maker, MOST_STEPS)
+            if not text:
+                continue
+            page = before.encode() + text.strip() + after.encode()
+            if maker[-1] == "--json" and program.data(maker[:-1], MOST_STEPS) != page:
+                wrong(program.name, "the page is not what join.py makes of the data")
             path = f"{room}/{program.word}.html"
             with open(path, "wb") as file:
-                file.write(before.encode() + text.strip() + after.encode())
+                file.write(page)
             if shutil.which("tidy"):
                 done = subprocess.run(["tidy", "-q", "-e", path], capture_output=True, text=True, check=False)
                 if done.stderr:

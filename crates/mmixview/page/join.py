@@ -6,6 +6,7 @@ usage: join.py DATA >PAGE      DATA is a file with what `mmixview page --json` w
 import base64
 import hashlib
 import os
+import re
 import sys
 
 FOLDER = os.path.dirname(os.path.realpath(__file__))
@@ -15,10 +16,32 @@ DATA = '<script id="data" type="application/json">'
 
 
 def text_of(name):
-    """A file without what its readers alone need: blanks in front of lines, empty lines, and lines of comment."""
     with open(os.path.join(FOLDER, name), encoding="utf-8") as file:
-        lines = [line.strip() for line in file]
-    return "".join(line + "\n" for line in lines if line and not line.startswith("// "))
+        return file.read()
+
+
+def page_of(text):
+    """A page without the blanks in front of its lines, and without ends of lines between elements."""
+    return re.sub(r">\n<", "><", re.sub(r"\n +", "\n", text))
+
+
+def style_of(text):
+    """A style without blanks that part nothing."""
+    return re.sub(r";?\s*([{};,])\s*", r"\1", re.sub(r":\s+", ":", text)).strip()
+
+
+def script_of(text):
+    """A script without comments, and without blanks and ends of lines beside signs; what is quoted stays as it is. So
+    each statement has to end with ; or }."""
+    expression = r"(?:(?<=\()|(?<== ))/(?:[^/\\\n[]|\\.|\[(?:[^]\\]|\\.)*\])+/"
+    quoted = rf"""('(?:[^'\\\n]|\\.)*'|`(?:[^`\\]|\\.)*`|{expression}|//[^\n]*)"""
+    uncommented = "".join("" if part.startswith("//") else part for part in re.split(quoted, text))
+    parts = re.split(quoted, uncommented)
+    for index in range(0, len(parts), 2):
+        if re.search(r"[-+]\s+[-+]", parts[index]):
+            sys.exit("script.js must not have a sign after a sign and a blank")
+        parts[index] = re.sub(r"\s*([^\w\s$])\s*", r"\1", re.sub(r"\s+", " ", parts[index]))
+    return "".join(parts).strip()
 
 
 def hash_of(text):
@@ -33,11 +56,12 @@ def replaced(text, old, new):
 
 def parts():
     """What comes before the data of a page, and what comes after it."""
-    page, style, script = text_of("page.html"), text_of("style.css"), text_of("script.js")
+    page, style, script = page_of(text_of("page.html")), style_of(text_of("style.css")), script_of(text_of("script.js"))
     for text in style, script:
         if "</" in text or "<!--" in text:
             sys.exit("style.css and script.js must not have </ or <!-- in them")
-    page = replaced(page, "style-src 'self'; script-src 'self'", f"style-src {hash_of(style)}; script-src {hash_of(script)}")
+    page = replaced(page, "style-src 'self'", f"style-src {hash_of(style)}")
+    page = replaced(page, "script-src 'self'", f"script-src {hash_of(script)}")
     page = replaced(page, LINK, f"<style>{style}</style>")
     page = replaced(page, SCRIPT, f"<script>{script}</script>")
     before, after = page.split(DATA)

@@ -1,12 +1,11 @@
 'use strict';
 
-// A run, by its data as docs/PAGE.md describes it. Places are numbered: special registers 0 to 31, global ones 32 to 255,
-// and further ones as records name them. Record r leads to step r, and record 0 to the start.
+// A run, by its data as docs/PAGE.md describes it. Places are numbered: special registers 0 to 31, global ones 32 to
+// 255, and further ones as records name them. Record r leads to step r, and record 0 to the start.
 function runOf({ start, records, steps }) {
   const text = start + records;
   let changes = 0;
   for (let i = -1; (i = text.indexOf('=', i + 1)) >= 0; ) changes++;
-  const names = Array.from({ length: 256 }, () => 's');
   const numbers = new Map(); // of places by their names
   const first = new Uint32Array(steps + 2); // the first change of each record
   const place = new Uint32Array(changes);
@@ -18,7 +17,7 @@ function runOf({ start, records, steps }) {
 
   const numberOf = (kind, index, name) => {
     if (kind === 's' || kind === 'g') return index;
-    if (!numbers.has(name)) numbers.set(name, names.push(name) - 1);
+    if (!numbers.has(name)) numbers.set(name, 256 + numbers.size);
     return numbers.get(name);
   };
 
@@ -68,8 +67,8 @@ function runOf({ start, records, steps }) {
   first[steps + 1] = n;
 
   return {
-    ...{ steps, names, numbers, first, place, change, pc, hidden, call, written, errors },
-    value: new BigUint64Array(names.length),
+    ...{ steps, numbers, first, place, change, pc, hidden, call, written, errors },
+    value: new BigUint64Array(256 + numbers.size),
     at: -1,
     apply(r) {
       for (let n = first[r]; n < first[r + 1]; n++) this.value[place[n]] ^= change[n];
@@ -86,7 +85,7 @@ function runOf({ start, records, steps }) {
       while (step > 0 && first[step] > n) step--;
       return step;
     },
-    // the nearest step, on (1) or back (-1), with so many more registers hidden than now at most; or the last one that way
+    // the nearest step, on (1) or back (-1), with at most so many more registers hidden than now; or the last one
     nearest(by, more) {
       let step = this.at + by;
       while (step > 0 && step < steps && hidden[step] > hidden[this.at] + more) step += by;
@@ -124,7 +123,8 @@ function charactersOf(value) {
 // bytes, one a character, as UTF-8; what is none, and what controls a terminal, as \xNN
 function textOf(bytes) {
   const coded = (c, sign) => c.replace(/[^]/g, (b) => sign + b.charCodeAt(0).toString(16).padStart(2, '0'));
-  return bytes.replace(/[\xc2-\xdf][\x80-\xbf]|[\xe0-\xef][\x80-\xbf]{2}|[\xf0-\xf4][\x80-\xbf]{3}|[^\t\n -~]/g, (c) => {
+  const special = /[\xc2-\xdf][\x80-\xbf]|[\xe0-\xef][\x80-\xbf]{2}|[\xf0-\xf4][\x80-\xbf]{3}|[^\t\n -~]/g;
+  return bytes.replace(special, (c) => {
     try {
       if (c.length > 1) return decodeURIComponent(coded(c, '%'));
     } catch {}
@@ -143,22 +143,23 @@ const shownValue = (value) => (value >> 61n && !(value >> 63n) && labelOf(value)
 
 function endOfRun() {
   const { message, status } = data.outcome;
+  const cut = `The program went on; these are its first ${data.steps} steps.`;
   return {
     halted: `The program halted with status ${status}.`,
     stopped: `The program was stopped: ${message}.`,
-    steps: `The program went on; this page has its first ${data.steps} steps.`,
-    records: `The program went on; this page has its first ${data.steps} steps, for more would be too large.`,
+    steps: cut,
+    records: cut + ' There is no room for more.',
     refused: `The program is refused: ${message}.`,
   }[data.end];
 }
 
 // ---- the program
 
-const UNTOLD = 'rBB rO rS rL rWW rXX rYY rZZ'.split(' '); // what calls and traps change beside
+const UNTOLD = /^r([LOS]|(.)\2)$/; // special registers that calls and traps change beside, as rBB
 const [MOST_VALUES, MOST_BYTES, MOST_LINES] = [100, 20000, 3000]; // that are shown at once
 let data, run, specials, stop;
-let octas = []; // of memory, those that change: { name, place, address }
-let firstOcta = 0; // the first one that is shown
+const octas = []; // of memory, those that change: { name, place, address }
+const indices = new Map(); // of these, by their places
 const before = new Map(); // the values that the last step changed, as they were, by their places
 const labels = ['Data', 'Pool', 'Stack'].map((name, k) => ({ name: name + '_Segment', value: BigInt(k + 1) << 61n }));
 const registerNames = new Map();
@@ -166,7 +167,7 @@ const namesAt = new Map(); // the labels of loaded tetras, by their addresses
 const lines = []; // { line, addresses, tr, text }
 const lineAt = new Map(); // by the address
 
-const element = (id) => document.getElementById(id);
+const $ = (id) => document.getElementById(id);
 
 function add(parent, name, text = '', className = '') {
   const child = document.createElement(name);
@@ -193,7 +194,7 @@ function readSymbols() {
 }
 
 function showLine(line, heat) {
-  const tr = add(element('lines'), 'tr', '', line.times === 0 ? 'never' : '');
+  const tr = add($('lines'), 'tr', '', line.times === 0 ? 'never' : '');
   const addresses = line.cells.map(({ address }) => addressOf(address));
   const few = (texts) => texts.slice(0, 4).join('\n') + (texts.length > 4 ? '\n…' : '');
   const places = [line.line ?? '', few(addresses.map(hexadecimal))];
@@ -224,7 +225,7 @@ function showProgram() {
 
 // a row below a line: what is wrong with it, or why the run was stopped there
 function addNote(shown, title, texts) {
-  const tr = add(element('lines'), 'tr', '', 'note');
+  const tr = add($('lines'), 'tr', '', 'note');
   const cell = add(tr, 'td');
   cell.colSpan = 8;
   add(cell, 'b', title);
@@ -235,7 +236,8 @@ function addNote(shown, title, texts) {
 
 function showFault({ at, caret, fault, from_line, help, length, line, meant, name, what }) {
   const shown = lines[at - 1];
-  addNote(shown, `${fault} ${name}`, [from_line && `From line ${from_line}, to line ${line}.`, what, meant && `Is ${meant} meant?`, help]);
+  const other = from_line && `From line ${from_line}, to line ${line}.`;
+  addNote(shown, `${fault} ${name}`, [other, what, meant && `Is ${meant} meant?`, help]);
   if (!shown || !caret) return;
   const { bytes, text } = shown.line;
   const all = bytes ? Uint8Array.from(bytes.match(/../g), (b) => '0x' + b) : new TextEncoder().encode(text);
@@ -259,7 +261,7 @@ function lineName(step) {
 
 // fills a table with values, { name, place, address }, and calls, { name, step }
 function showValues(id, items) {
-  const body = element(id);
+  const body = $(id);
   body.closest('section').hidden = !items.length;
   items.forEach(({ name, place, step, address }, i) => {
     const row = body.rows[i] ?? addValue(body);
@@ -303,13 +305,11 @@ function callItems() {
 // as many octas as can be looked over, with the one that was changed last
 function octasShown() {
   if (octas.length <= MOST_VALUES) return octas;
-  const { place, names } = run;
   let n = run.first[run.at + 1] - 1;
-  while (n >= 0 && 'sl'.includes(names[place[n]][0])) n--;
-  const last = Math.max(0, octas.findIndex((octa) => octa.place === place[n]));
-  if (last < firstOcta || last >= firstOcta + MOST_VALUES) firstOcta = Math.max(0, last - MOST_VALUES / 2);
-  element('window').textContent = `${MOST_VALUES} octas of ${octas.length}, with the one that was changed last`;
-  return octas.slice(firstOcta, firstOcta + MOST_VALUES);
+  while (n >= 0 && !indices.has(run.place[n])) n--;
+  const from = Math.max(0, (indices.get(run.place[n]) ?? 0) - MOST_VALUES / 2);
+  $('window').textContent = `${MOST_VALUES} octas of ${octas.length}`;
+  return octas.slice(from, from + MOST_VALUES);
 }
 
 function showOutput() {
@@ -318,10 +318,9 @@ function showOutput() {
   const all = textOf(data.output.slice(start, to));
   let old = textOf(data.output.slice(start, Math.max(from, start)));
   while (!all.startsWith(old)) old = old.slice(0, -1);
-  const output = element('output');
+  const output = $('output');
   output.textContent = (start ? '…' : '') + old;
   add(output, 'mark', all.slice(old.length));
-  output.scrollTop = output.scrollHeight;
 }
 
 function showRing() {
@@ -334,15 +333,15 @@ function showRing() {
   };
   draw('hidden', spilled, hidden - spilled);
   draw('local', hidden, local);
-  element('ring-told').textContent = `Of ${size} registers ${local} are local (the broad part), ${hidden - spilled} hidden, and
-    ${size - local - hidden + spilled} free (the thin part). ${spilled} more hidden ones are in memory.`;
+  $('ring-told').textContent = `Of ${size} registers ${local} are local (broad), ${hidden - spilled} hidden, and the
+    rest free (thin). ${spilled} more hidden ones are in memory.`;
 }
 
 // the changes of registers and memory that are told, by the rows that show them
 function changesTold() {
   const rows = [...document.querySelectorAll('#state section:not(#calls) .new')];
-  const told = rows.map(({ cells }) => [...cells].map((cell) => cell.textContent)).filter(([name]) => !UNTOLD.includes(name));
-  return told.map(([name, value, , , was]) => `${name} = ${value}, ${was}`);
+  const texts = rows.map(({ cells }) => [0, 1, 4].map((k) => cells[k].textContent));
+  return texts.filter(([name]) => !UNTOLD.test(name)).map(([name, value, was]) => `${name} = ${value}, ${was}`);
 }
 
 function tellStep() {
@@ -351,7 +350,7 @@ function tellStep() {
   if (at) {
     const told = changesTold();
     if (told.length > 3) told.splice(3, told.length, `${told.length - 3} more`);
-    if (hidden[at] > hidden[at - 1]) told.unshift(`a call that hides ${hidden[at] - hidden[at - 1]} registers`);
+    if (hidden[at] > hidden[at - 1]) told.unshift('a call');
     if (hidden[at] < hidden[at - 1]) told.unshift('a return');
     const bytes = written[at] - written[at - 1];
     if (bytes) told.push(`${bytes} bytes written` + (errors.has(at) ? ' to standard error' : ''));
@@ -359,18 +358,23 @@ function tellStep() {
   }
   if (hasNext()) texts.push(`Next: ${lineName(at)}.`);
   if (at === steps) texts.push(endOfRun());
-  element('told').textContent = texts.join(' ');
+  $('told').textContent = texts.join(' ');
 }
 
+// marks the lines that are next and done, and gives the one to look at
 function markLines() {
   document.querySelector('.done')?.classList.remove('done');
   document.querySelector('[aria-current]')?.removeAttribute('aria-current');
-  const done = run.at ? lineAt.get(run.pc[run.at - 1])?.tr : null;
-  const now = hasNext() ? lineAt.get(run.pc[run.at])?.tr : null;
+  const done = lineAt.get(run.pc[run.at - 1])?.tr;
+  const now = hasNext() && lineAt.get(run.pc[run.at])?.tr;
   done?.classList.add('done');
-  now?.setAttribute('aria-current', 'step');
-  const box = element('program');
-  const top = ((now ?? done)?.offsetTop ?? 0) - box.scrollTop;
+  if (now) now.setAttribute('aria-current', 'step');
+  return now || done;
+}
+
+// scrolls a box to a row of it, if there is one
+function reveal(box, row) {
+  const top = row ? row.getBoundingClientRect().top - box.getBoundingClientRect().top : 30;
   if (top < 30 || top + 30 > box.clientHeight) box.scrollTop += top - box.clientHeight / 3;
 }
 
@@ -379,10 +383,10 @@ function goTo(step) {
   const { at, steps, place, change, first, value } = run;
   before.clear();
   for (let n = first[at]; at && n < first[at + 1]; n++) before.set(place[n], value[place[n]] ^ change[n]);
-  element('slider').value = element('step').value = at;
-  element('slider').setAttribute('aria-valuetext', `step ${at} of ${steps}`);
+  $('slider').value = $('step').value = at;
+  $('slider').setAttribute('aria-valuetext', `step ${at} of ${steps}`);
   if (stop) stop.hidden = at < steps;
-  markLines();
+  const line = markLines();
   showOutput();
   showValues('locals', registers(run.hidden[at], run.hidden[at] + special(RL), registerName, stacked));
   showValues('hidden', callItems());
@@ -390,7 +394,10 @@ function goTo(step) {
   showValues('globals', registers(special(RG), 256, (k) => registerName(k + special(RG)), (k) => k));
   showValues('specials', specials);
   tellStep();
-  if (element('ring').open) showRing();
+  if ($('ring').open) showRing();
+  // the layout is asked for once, after all that changes it
+  reveal($('program'), line);
+  for (const section of document.querySelectorAll('#state section')) reveal(section, section.querySelector('.new, mark'));
 }
 
 // ---- what is pressed
@@ -414,8 +421,10 @@ function onClick({ target }) {
   const [row, button] = [target.closest('tr'), target.closest('button')];
   const line = lines.find(({ tr }) => tr === row);
   if (button?.dataset.key) goTo(MOVES[button.dataset.key]());
-  else if (line && getSelection().isCollapsed) goToNext(line);
-  else if (row && button) row.step ? goTo(row.step) : goToMaker(row.place);
+  else if (!button && !getSelection().isCollapsed) return; // a text was marked
+  else if (line) goToNext(line);
+  else if (row?.step) goTo(row.step);
+  else if (row && 'place' in row) goToMaker(row.place);
 }
 
 function onKey(event) {
@@ -435,12 +444,14 @@ function showRun() {
     octas.push({ name: labelOf(address) || hexadecimal(address), place, address });
   }
   octas.sort((a, b) => (a.address < b.address ? -1 : 1));
-  if (data.end === 'stopped') stop = addNote(lineAt.get(run.pc[run.steps]), endOfRun(), [data.outcome.what, data.outcome.help]);
-  for (const id of ['controls', 'told', 'state', 'keys']) element(id).hidden = false;
-  element('output').parentNode.hidden = !data.output;
-  element('slider').max = element('step').max = element('steps').textContent = run.steps;
-  element('slider').oninput = element('step').onchange = ({ target }) => goTo(+target.value);
-  element('ring').ontoggle = showRing;
+  octas.forEach(({ place }, index) => indices.set(place, index));
+  const { what, help } = data.outcome;
+  if (data.end === 'stopped') stop = addNote(lineAt.get(run.pc[run.steps]), endOfRun(), [what, help]);
+  for (const id of ['controls', 'told', 'state', 'keys']) $(id).hidden = false;
+  $('output').parentNode.hidden = !data.output;
+  $('slider').max = $('step').max = $('steps').textContent = run.steps;
+  $('slider').oninput = $('step').onchange = ({ target }) => goTo(+target.value);
+  $('ring').ontoggle = showRing;
   document.onclick = onClick;
   document.onkeydown = onKey;
   window.onhashchange = () => goTo(+location.hash.slice(1) || 0); // run.html#57 is opened at step 57
@@ -448,20 +459,21 @@ function showRun() {
 }
 
 function showPage() {
-  data = JSON.parse(element('data').textContent);
-  element('name').textContent = [data.name.replace(/.*\//, ''), ...data.arguments].join(' ');
-  document.title = element('name').textContent + ': a program and its run';
-  element('about').textContent = endOfRun();
-  element('version').textContent = data.version;
+  data = JSON.parse($('data').textContent);
+  $('name').textContent = [data.name.replace(/.*\//, ''), ...data.arguments].join(' ');
+  document.title = $('name').textContent + ': a program and its run';
+  $('about').textContent = endOfRun();
+  $('version').textContent = data.version;
   readSymbols();
   showProgram();
   data.faults.forEach(showFault);
   if (data.more) addNote(null, 'There are more faults than these.', []);
-  const all = element('all');
+  const all = $('all');
   all.onchange = () => document.body.classList.toggle('all', all.checked);
   all.checked = innerWidth > 1400;
   all.onchange();
   if (data.start) showRun();
+  else $('program').style.maxHeight = 'none';
 }
 
 if (typeof document === 'object') showPage();
