@@ -21,9 +21,15 @@ use std::alloc::Global;
 #[derive(Drop)]
 pub enum Program {
     /// The lines and the symbols of a source, and what was counted of them.
-    Source { listed: Listed, sheet: LineSheet },
+    Source {
+        listed: Listed,
+        sheet: LineSheet,
+    },
     /// The tetras and the symbols of an object, and what was counted of them.
-    Object { symbols: Vec<Symbol>, sheet: ObjectSheet },
+    Object {
+        symbols: Vec<Symbol>,
+        sheet: ObjectSheet,
+    },
     /// The faults of a source.
     Faulty(ToldFaults),
     /// Nothing of an object.
@@ -42,7 +48,11 @@ pub struct Call<'a> {
 fn add_arguments(alloc: Global, text: &mut Bytes, words: &[String]) -> Result<(), NoMemory> {
     text.extend(b"{\"arguments\":[")?;
     for (at, word) in words.iter().enumerate() {
-        let front = if at == 0 { b"".as_slice() } else { b",".as_slice() };
+        let front = if at == 0 {
+            b"".as_slice()
+        } else {
+            b",".as_slice()
+        };
         add_string(alloc, text, front, word.as_bytes())?;
     }
     text.extend(b"]")
@@ -162,12 +172,7 @@ fn add_outcome(alloc: Global, text: &mut Bytes, outcome: Outcome) -> Result<(), 
 }
 
 /// Adds bytes as a text with a character for each of them.
-fn add_bytes(
-    alloc: Global,
-    text: &mut Bytes,
-    front: &[u8],
-    bytes: &[u8],
-) -> Result<(), NoMemory> {
+fn add_bytes(alloc: Global, text: &mut Bytes, front: &[u8], bytes: &[u8]) -> Result<(), NoMemory> {
     let mut characters = Bytes::new(alloc);
     for b in bytes {
         if *b < 0x80 {

@@ -33,8 +33,7 @@ fn copied_words(alloc: Global, words: &[String]) -> Result<Vec<String>, NoMemory
 }
 
 /// The same files once more.
-fn copied_files(alloc: Global, files: &[StoredFile]) -> Result<Sequence<StoredFile>, NoMemory>
-{
+fn copied_files(alloc: Global, files: &[StoredFile]) -> Result<Sequence<StoredFile>, NoMemory> {
     let mut copy = Sequence::new(alloc);
     for file in files {
         copy.push(StoredFile {

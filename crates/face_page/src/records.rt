@@ -59,12 +59,7 @@ fn segment_sign(address: u64) -> u8 {
 fn add_octas(text: &mut Bytes, changes: &[Change]) -> Result<(), NoMemory> {
     for change in changes {
         let address = change.at.wrapping_mul(8);
-        add_change(
-            text,
-            segment_sign(address),
-            address & IN_SEGMENT,
-            change.by,
-        )?;
+        add_change(text, segment_sign(address), address & IN_SEGMENT, change.by)?;
     }
     Ok(())
 }

@@ -91,13 +91,7 @@ impl Named {
     }
 
     /// Takes the value of an option.
-    fn set(
-        &mut self,
-        alloc: Global,
-        kind: Kind,
-        word: &str,
-        place: usize,
-    ) -> Result<(), NoMemory> {
+    fn set(&mut self, alloc: Global, kind: Kind, word: &str, place: usize) -> Result<(), NoMemory> {
         match kind {
             Kind::Input => self.input = Some(place),
             Kind::File => self.files.push(place)?,

@@ -14,10 +14,12 @@ HEAD = """//! What is around the data of a page. `crates/mmixview/page/parts.py`
 //! `script.js` there, and let it write the file again.
 
 /// What comes before the data.
-pub(crate) static FRONT: &str = %s;
+pub(crate) static FRONT: &str =
+    %s;
 
 /// What comes after it.
-pub(crate) static END: &str = %s;
+pub(crate) static END: &str =
+    %s;
 """
 
 

@@ -74,6 +74,6 @@ octa-beyond s n l = cond_both (nat_le (2 ^ 60) n || in_stack_area (8 * n)) 0 (s.
 pub octa-hidden : (s t : State) (n : ℕ) → octa s (8 * n) ≢ 0 → octa_shown s n ≡ 0 → octa_shown t n ≡ 0
 octa-hidden s t n ne e =
     cond_both (nat_le (2 ^ 60) n || in_stack_area (8 * n)) 0 (t.octas (8 * n)) (λ x. x ≡ 0) (λ _. refl)
-      (λ f. absurd (ne (octa-is s (8 * n) (or-second _ _ f) ∙ sym (ap (λ b. cond b 0 (s.octas (8 * n))) f) ∙ e)))
+    (λ f. absurd (ne (octa-is s (8 * n) (or-second _ _ f) ∙ sym (ap (λ b. cond b 0 (s.octas (8 * n))) f) ∙ e)))
 
 pub ruleset octa_showing = (octa-is)

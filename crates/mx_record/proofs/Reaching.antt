@@ -155,7 +155,7 @@ stepped-same s w m (went t trace) i o h e = λ n f. went-same s t w trace n i o 
 stepped-same s w m (calls call) i o h e =
     let t : Leaves TrapAnswer State = trap_answer (machine_contents s) m call in
     trap-same (touches (machine_contents s).bytes call) call s (state_in t.1 area_size) t.2 t.0 (step-called s call e)
-      (λ f. ap (λ (c : Contents State). state_in c area_size) (contents-kept (machine_contents s) m call f) ∙ told s h)
+    (λ f. ap (λ (c : Contents State). state_in c area_size) (contents-kept (machine_contents s) m call f) ∙ told s h)
 stepped-same s w m (stopped reason) i o h e = λ n f. absurd (cc)
 
 turn-same : (s : State) (w : Window) (m : HostModel) → IsMachine s w → AreOctas w.hidden.stack → IsWholeSpace s → TurnSame s (turn s m)

@@ -73,4 +73,5 @@ pub start-all : (t : State) (changes : List Change) (n : ℕ) → TellsWithin ch
 start-all t changes n h l = new-done changes (λ _. 0) (octa_shown t) n h (λ q m. behind-all t n q l m)
 
 pub ruleset searching = (old-all, new-all, new-first, none-old)
+
 pub ruleset starting = (start-first, start-all)

@@ -78,9 +78,9 @@ store-stored u None r = same-stored u.stack u.stack refl
 store-stored u (Some store) r =
     let x : ℕ = with_part store.part (octa u store.at) store.at store.value in
     ⊎_elim
-      (λ e. subst (Stored u.stack) (sym (ap (λ (v : State). v.stack) (octa-in-stack u store.at x e))) (octa-stored u.stack (stack_index store.at) x r))
-      (λ e. same-stored u.stack _ (ap (λ (v : State). v.stack) (octa-on-page u store.at x e)))
-      (cases_Bool (in_stack_area store.at))
+    (λ e. subst (Stored u.stack) (sym (ap (λ (v : State). v.stack) (octa-in-stack u store.at x e))) (octa-stored u.stack (stack_index store.at) x r))
+    (λ e. same-stored u.stack _ (ap (λ (v : State). v.stack) (octa-on-page u store.at x e)))
+    (cases_Bool (in_stack_area store.at))
 
 trip-kept : (u : State) (i : Instruction) (t : Option Tripping) → AreInBounds (visible u.stack) → KeptStack u.stack (tripped u i t).stack
 trip-kept u i None b = kept-itself u.stack
@@ -169,8 +169,8 @@ plain-kept s d r q p m =
     let bounds : AreInBounds (visible b.stack) = subst AreInBounds (sym (ap visible (specials-stack v d.effect.special) ∙ stored.shown)) (in-bounds u.stack p) in
     let trip : KeptStack b.stack (tripped b d.instruction d.effect.trip).stack = trip-kept b d.instruction d.effect.trip bounds in
     kept-through s.stack u.stack _ (given-kept s.stack u.stack _ r q.given)
-      (kept-through u.stack b.stack _ (subst (KeptStack u.stack) (sym (specials-stack v d.effect.special)) stored.kept)
-        (subst (λ (move : Move). KeptStack b.stack (tripped (moved b move) d.instruction d.effect.trip).stack) (sym m) trip))
+    (kept-through u.stack b.stack _ (subst (KeptStack u.stack) (sym (specials-stack v d.effect.special)) stored.kept)
+    (subst (λ (move : Move). KeptStack b.stack (tripped (moved b move) d.instruction d.effect.trip).stack) (sym m) trip))
 
 moving-turned : (s : State) (d : Deed) → IsRinged s.stack → IsNotable s d → Shape d.here.stack d.effect → (d.effect.move ≡ stays → ⊥) → Turned s.stack (after s d).stack
 unfolding applied
@@ -180,14 +180,14 @@ moving-turned s d r q (moving a b c f) n =
     let u : State = before d.here k d.effect in
     let own : u.stack ≡ s.stack = before-stack d.here k d.effect a b ∙ q.still n in
     subst (Turned s.stack) (sym (untripped (moved u d.effect.move) d.instruction d.effect.trip c))
-      (moved-turned u s.stack d.effect.move own r (subst (λ z. MoveFits z d.effect.move) (q.still n) f))
+    (moved-turned u s.stack d.effect.move own r (subst (λ z. MoveFits z d.effect.move) (q.still n) f))
 
 went-turned : (s t : State) (w : Window) (trace : Trace) → IsMachine s w → AreOctas w.hidden.stack → step s ≡ went t trace → Turned s.stack t.stack
 went-turned s t w trace m o e =
     let l : IsLaid s = laid s t w trace m o e in
     let r : IsRinged s.stack = subst IsRinged (sym m.over) m.ring in
     subst (λ (u : State). Turned s.stack u.stack) (sym (step-traced s t trace e).state)
-      (⊎_elim (λ p. kept-turned s.stack _ (plain-kept s (deed s) r l.notable l.placed p)) (λ n. moving-turned s (deed s) r l.notable l.notable.shape n) (is-still (deed s).effect.move))
+    (⊎_elim (λ p. kept-turned s.stack _ (plain-kept s (deed s) r l.notable l.placed p)) (λ n. moving-turned s (deed s) r l.notable l.notable.shape n) (is-still (deed s).effect.move))
 
 -- FILE TRAPS
 
@@ -236,4 +236,4 @@ turn-turned s w m i o = stepped-turned s w m (step s) i o refl
 pub turn-finds : (s t : State) (v w : Window) (trace : Option Trace) → IsMachine s v → AreOctas v.hidden.stack → IsMachine t w → ComesByTurn s t trace → AreFound (hidden_count s.stack) (octa_of (all_registers s.stack)) t.stack
 turn-finds s t v w trace m o n h =
     subst (AreFound (hidden_count s.stack) (octa_of (all_registers s.stack))) (sym n.over)
-      (all-found s.stack w n.ring (subst (Turned s.stack) n.over (subst (λ (u : State). Turned s.stack u.stack) (sym h.state) (turn-turned s v h.host m o))))
+    (all-found s.stack w n.ring (subst (Turned s.stack) n.over (subst (λ (u : State). Turned s.stack u.stack) (sym h.state) (turn-turned s v h.host m o))))

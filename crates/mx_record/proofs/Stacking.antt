@@ -68,4 +68,5 @@ zeros-behind z old end after i q zeros e l m =
     zeros q (omega (arith, l, m)) ∙ sym (get_or_past (all_registers z) q 0 most)
 
 pub ruleset placing = (zero-pushed)
+
 pub ruleset seeing = (area-seen)

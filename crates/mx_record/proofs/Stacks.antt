@@ -44,8 +44,10 @@ old-by : (before after old i : ℕ) → after ≤ before → old ≡ hidden_by b
 old-by before after old i l = cond_both ((i + 1 == after) && nat_lt before after) (after - before - 1) old (λ x. old ≡ x) (λ e. absurd (grind (arith, nat_tests))) (λ _. refl)
 
 pub kept-turned : (y z : Stack) → KeptStack y z → Turned y z
-kept-turned y z k = record { above = λ i l m.
-    k.above i l ∙ sym (hidden-at y i (omega (arith, m, k.count))) ∙ old-by (hidden_count y) (hidden_count z) (octa_of (all_registers y) i) i (omega (arith, k.count)) }
+kept-turned y z k = record {
+  above = λ i l m.
+      k.above i l ∙ sym (hidden-at y i (omega (arith, m, k.count))) ∙ old-by (hidden_count y) (hidden_count z) (octa_of (all_registers y) i) i (omega (arith, k.count));
+}
 
 pub kept-itself : (z : Stack) → KeptStack z z
 kept-itself z = record { count = refl; spilled = omega arith; above = λ i l. refl }
@@ -152,9 +154,9 @@ pushed-turned y z n e = record { above = λ i _ m. ap (λ xs. octa_of xs i) e �
     inner i m = ⊎_elim
         (λ l. get_or-append (hidden_octas y) (below ++ n ∷ []) 0 i l ∙ sym (hidden-at y i l))
         (λ l. get_or-append_right (hidden_octas y) (below ++ n ∷ []) i 0 l
-          ∙ get_or-append below (n ∷ []) 0 (i - hidden_count y) (omega (arith, m, l, count, below-count (visible y) n))
-          ∙ below-at (visible y).locals n (i - hidden_count y) (omega (arith, m, l, count))
-          ∙ sym (local-at y i l))
+        ∙ get_or-append below (n ∷ []) 0 (i - hidden_count y) (omega (arith, m, l, count, below-count (visible y) n))
+        ∙ below-at (visible y).locals n (i - hidden_count y) (omega (arith, m, l, count))
+        ∙ sym (local-at y i l))
         (cases_lt i (hidden_count y))
 
     at : (i : ℕ) → i < hidden_count z → octa_of (hidden_octas y ++ (below ++ n ∷ [])) i ≡ hidden_by (hidden_count y) (hidden_count z) (octa_of (all_registers y) i) i
@@ -165,10 +167,12 @@ pushed-turned y z n e = record { above = λ i _ m. ap (λ xs. octa_of xs i) e �
 
 -- POP
 popped-turned : (y z : Stack) (k : ℕ) → hidden_octas z ≡ take k (hidden_octas y) → Turned y z
-popped-turned y z k e = record { above = λ i _ m.
-    let few : hidden_count z ≤ k = omega (arith, ap length e, length-take k (hidden_octas y)) in
-    let less : hidden_count z ≤ hidden_count y = omega (arith, ap length e, length-take k (hidden_octas y)) in
-    ap (λ xs. octa_of xs i) e ∙ get_or-take k (hidden_octas y) i 0 (omega (arith, m, few)) ∙ sym (hidden-at y i (omega (arith, m, less))) ∙ old-by (hidden_count y) (hidden_count z) (octa_of (all_registers y) i) i less }
+popped-turned y z k e = record {
+  above = λ i _ m.
+      let few : hidden_count z ≤ k = omega (arith, ap length e, length-take k (hidden_octas y)) in
+      let less : hidden_count z ≤ hidden_count y = omega (arith, ap length e, length-take k (hidden_octas y)) in
+      ap (λ xs. octa_of xs i) e ∙ get_or-take k (hidden_octas y) i 0 (omega (arith, m, few)) ∙ sym (hidden-at y i (omega (arith, m, less))) ∙ old-by (hidden_count y) (hidden_count z) (octa_of (all_registers y) i) i less;
+}
 
 -- all of them are spilled
 spilled-turned : (y z : Stack) → hidden_count z ≤ spilled_count z → Turned y z
@@ -239,12 +243,12 @@ found-by before old w r t i = by-hidden (cases_lt i (hidden_count (windowed w)))
     in-hidden : i < hidden_count z → octa_of (all_registers z) i ≡ cond (nat_lt i (spilled_count z)) (stack_octa z i) (hidden_by before (hidden_count z) (old i) i)
     in-hidden l =
         hidden-at z i l ∙ cond_both (nat_lt i (spilled_count z)) (stack_octa z i) (hidden_by before (hidden_count z) (old i) i) (λ x. octa_of (hidden_octas z) i ≡ x)
-          (λ e. area-at w i r (grind (arith, nat_tests))) (λ e. t i (grind (arith, nat_tests)) l)
+        (λ e. area-at w i r (grind (arith, nat_tests))) (λ e. t i (grind (arith, nat_tests)) l)
 
     in-locals : hidden_count z ≤ i → octa_of (all_registers z) i ≡ cond (nat_lt (i - hidden_count z) (local_count z)) (register z (i - hidden_count z)) 0
     in-locals l =
         local-at z i l ∙ cond_both (nat_lt (i - hidden_count z) (local_count z)) (register z (i - hidden_count z)) 0 (λ x. octa_of (visible z).locals (i - hidden_count z) ≡ x)
-          (λ e. local-value z (i - hidden_count z) r.registers (grind (arith, nat_tests))) (λ e. get_or_past (visible z).locals (i - hidden_count z) 0 (grind (arith, nat_tests)))
+        (λ e. local-value z (i - hidden_count z) r.registers (grind (arith, nat_tests))) (λ e. get_or_past (visible z).locals (i - hidden_count z) 0 (grind (arith, nat_tests)))
 
     by-hidden : (i < hidden_count z) ⊎ (hidden_count z ≤ i) → octa_of (all_registers z) i ≡ stacked_by before (old i) z i
     by-hidden (inl l) = cond_both (nat_lt i (hidden_count z)) _ _ (λ x. octa_of (all_registers z) i ≡ x) (λ _. in-hidden l) (λ e. absurd (grind (arith, nat_tests)))

@@ -2,7 +2,6 @@
 use Rattle.std.proofs.lemmas.Bool.{cases_lt}
 use Rattle.std.proofs.Common.{◌≡◌, ◌≤◌, ◌<◌, ◌⊎◌, inl, inr, ℕ, ◌+◌, ◌==◌, ◌&&◌, ◌||◌, nat_le, nat_lt, not, Bool, true, false, cond, List, [], ◌∷◌, ◌++◌, arith, refl, sym, ◌∙◌, ap, bit_xor}
 use Rattle.std.proofs.lemmas.Bool.Decides.{nat_tests}
-
 use Rattle.std.specs.Int.Bits.{xor_assoc, xor_self, xor_zero_l, xor_zero_r}
 use Rattle.mx_record.specs.Following.{Tells, TellsAll, TellsWithin, is_between}
 use Rattle.mx_record.specs.Records.{difference, noted}
@@ -284,4 +283,5 @@ pub new-done : (changes : List Change) (old new : ℕ → ℕ) (n : ℕ) → Tel
 new-done changes old new n h zeros = record { at = new-done-at changes old new n h.at zeros }
 
 pub ruleset telling = (tells-noted, tells-none)
+
 pub ruleset reaching = (tells-one, tells-nothing)

@@ -151,7 +151,7 @@ moving-under s d r q (moving a b c f) n not =
     let u : State = before d.here k d.effect in
     let own : u.stack ≡ s.stack = before-stack d.here k d.effect a b ∙ q.still n in
     subst (Under s.stack) (sym (untripped (moved u d.effect.move) d.instruction d.effect.trip c))
-      (moved-under u s.stack d.effect.move own r (subst (λ z. MoveFits z d.effect.move) (q.still n) f) not)
+    (moved-under u s.stack d.effect.move own r (subst (λ z. MoveFits z d.effect.move) (q.still n) f) not)
 
 -- DEEDS
 
@@ -192,7 +192,7 @@ went-under s t w trace m o e f =
     let not : NotRead (deed s).effect.move = deed-not (operation_in (fetched s)) s (fetched s) (sym (ap (λ (x : Trace). is_deep (operation_of_word x.word)) k.traced) ∙ parts.0) in
     let outside : writes_area (option_map store_touch (deed s).effect.store) ≡ false = sym (ap (λ (x : Trace). writes_area x.writes) k.traced) ∙ parts.1 in
     subst (λ (u : State). Under s.stack u.stack) (sym k.state)
-      (⊎_elim (λ p. same-under s.stack (after s (deed s)).stack (plain-hidden s (deed s) r l.notable l.placed outside p)) (λ n. moving-under s (deed s) r l.notable l.notable.shape n not) (is-still (deed s).effect.move))
+    (⊎_elim (λ p. same-under s.stack (after s (deed s)).stack (plain-hidden s (deed s) r l.notable l.placed outside p)) (λ n. moving-under s (deed s) r l.notable l.notable.shape n not) (is-still (deed s).effect.move))
 
 -- all registers of the stack below both numbers
 pub all-under : (y z : Stack) (i : ℕ) → Under y z → i < hidden_count y → i < hidden_count z → octa_of (all_registers z) i ≡ octa_of (all_registers y) i

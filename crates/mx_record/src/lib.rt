@@ -13,5 +13,5 @@ mod start;
 mod turns;
 
 pub use changes::{Change, Record};
-pub use recorder::Recorder;
 pub use laws::{records_are_counted, records_are_their_own_inverse, states_follow_from_records};
+pub use recorder::Recorder;

@@ -42,11 +42,7 @@ fn note_octa(
 
 /// Notes each octa that was not 0.
 #[tactic(auto, using(crate::proofs::Searching::searching))]
-fn note_old(
-    changes: &mut Sequence<Change>,
-    old: &Machine,
-    new: &Machine,
-) -> Result<(), NoMemory>
+fn note_old(changes: &mut Sequence<Change>, old: &Machine, new: &Machine) -> Result<(), NoMemory>
     requires { changes.old ≡ [] }
     ensures { OnOk result (TellsWithin changes.new (spec.octa_shown (state_of old.now)) (spec.octa_shown (state_of new.now))
         (λ n. not (spec.octa_shown (state_of old.now) n == 0))) }
@@ -66,11 +62,7 @@ fn note_old(
 
 /// Notes each octa that was 0 and is not.
 #[tactic(auto, using(crate::proofs::Searching::searching))]
-fn note_new(
-    changes: &mut Sequence<Change>,
-    old: &Machine,
-    new: &Machine,
-) -> Result<(), NoMemory>
+fn note_new(changes: &mut Sequence<Change>, old: &Machine, new: &Machine) -> Result<(), NoMemory>
     requires { TellsWithin changes.old (spec.octa_shown (state_of old.now)) (spec.octa_shown (state_of new.now))
         (λ n. not (spec.octa_shown (state_of old.now) n == 0)) }
     ensures { OnOk result (TellsAll changes.new (spec.octa_shown (state_of old.now)) (spec.octa_shown (state_of new.now))) }

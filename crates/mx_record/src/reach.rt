@@ -82,7 +82,11 @@ fn reaches_hidden(trace: Option<Trace>) -> bool
 pub(crate) fn kept_count(trace: Option<Trace>, before: u64, after: u64) -> u64
     ensures { result ≡ spec.kept_count trace before after }
 {
-    if reaches_hidden(trace) { 0 } else { before.min(after) }
+    if reaches_hidden(trace) {
+        0
+    } else {
+        before.min(after)
+    }
 }
 
 /// What a turn may change, by its trace; the last turn has none.

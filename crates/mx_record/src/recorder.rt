@@ -33,8 +33,8 @@ pub struct Recorder {
 
 impl Model for Recorder {
     ghost use Rattle.mx_record.specs.Pictures.{no_picture, picture_at};
-ghost use Rattle.mx_record.specs.Records.{Leads};
-ghost use Rattle.mx_record.specs.Recording.{Recorded};
+    ghost use Rattle.mx_record.specs.Records.{Leads};
+    ghost use Rattle.mx_record.specs.Recording.{Recorded};
 
     ghost Value = { Recorded };
 

@@ -25,7 +25,11 @@ pub(crate) fn special_shown(machine: &Machine, code: u8) -> u64
 pub(crate) fn global_shown(machine: &Machine, k: u8) -> u64
     ensures { result ≡ spec.global_shown (state_of machine.now) k }
 {
-    if k < machine.g() { 0 } else { machine.register(k) }
+    if k < machine.g() {
+        0
+    } else {
+        machine.register(k)
+    }
 }
 
 /// What changed of the special registers between two machines.

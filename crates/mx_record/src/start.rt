@@ -24,7 +24,12 @@ fn special_values(alloc: Global, machine: &Machine) -> Result<Sequence<Change>, 
     machines_keep_the_invariant(machine);
     let mut changes = Sequence::new(alloc);
     for code in 0..32u8 {
-        note(&mut changes, u64::from(code), 0, special_shown(machine, code))?;
+        note(
+            &mut changes,
+            u64::from(code),
+            0,
+            special_shown(machine, code),
+        )?;
     }
     Ok(changes)
 }
@@ -37,7 +42,12 @@ fn global_values(alloc: Global, machine: &Machine) -> Result<Sequence<Change>, N
     machines_keep_the_invariant(machine);
     let mut changes = Sequence::new(alloc);
     for k in 0..256u16 {
-        note(&mut changes, u64::from(k), 0, global_shown(machine, k as u8))?;
+        note(
+            &mut changes,
+            u64::from(k),
+            0,
+            global_shown(machine, k as u8),
+        )?;
     }
     Ok(changes)
 }
@@ -63,10 +73,7 @@ fn octa_values(alloc: Global, machine: &Machine) -> Result<Sequence<Change>, NoM
 
 /// All that is shown of a machine that hides no register, as changes of nothing, and its registers.
 #[tactic(auto, using(crate::proofs::Starting::starting))]
-pub(crate) fn start_changes(
-    alloc: Global,
-    machine: &Machine,
-) -> Result<(Record, Stacked), NoMemory>
+pub(crate) fn start_changes(alloc: Global, machine: &Machine) -> Result<(Record, Stacked), NoMemory>
     requires { hidden_count (state_of machine.now).stack ≡ 0 }
     ensures record { IfOk result (λ r. Leads r.0 no_picture (picture (state_of machine.now))) }
     ensures stack { IfOk result (λ r. HoldsStack r.1 (state_of machine.now).stack) }

@@ -94,7 +94,8 @@ impl Picture {
     /// Whether it has the special registers of a machine.
     fn has_special(&self, machine: &Machine) -> bool {
         for code in 0..32u8 {
-            if code != 8 && octa(self.special.as_slice(), u64::from(code)) != machine.special(code)
+            if code != 8
+                && octa(self.special.as_slice(), u64::from(code)) != machine.special(code)
             {
                 return false;
             }

@@ -117,12 +117,7 @@ fn files(alloc: Global, source: &str) -> Option<Sequence<StoredFile>> {
 }
 
 /// The program of a source that words order, with the input `abc`.
-fn program(
-    alloc: Global,
-    words: Vec<String>,
-    order: Order,
-    source: &str,
-) -> Option<Program>
+fn program(alloc: Global, words: Vec<String>, order: Order, source: &str) -> Option<Program>
     requires file { order.file < length words.items }
     requires rest { order.rest ≤ length words.items }
     ensures { IfSome result NamesFile }

@@ -6,7 +6,7 @@ use Rattle.mx_record.proofs.octas.note_new.Goals as goal
 
 pub loop-n-preserved : goal.loop-n-preserved
 loop-n-preserved c = elim c.if-octa_shown-eq0.branch [
-    then-octa_shown-eq0+in_ok-note_octa-in-Some w ↦ new-next (state_of c.args.old.now) (state_of c.args.new.now) _ _ c.loop-n.n c.in-Some.at c.in-Some.field-0-1 c.loop-n.invariant c.in-Some.ensures (sym c.octa_shown.ensures ∙ w.if-octa_shown-eq0.true) (w.changes-is ∙ w.in_ok-note_octa-in-Some.ensures)
+  | then-octa_shown-eq0+in_ok-note_octa-in-Some w ↦ new-next (state_of c.args.old.now) (state_of c.args.new.now) _ _ c.loop-n.n c.in-Some.at c.in-Some.field-0-1 c.loop-n.invariant c.in-Some.ensures (sym c.octa_shown.ensures ∙ w.if-octa_shown-eq0.true) (w.changes-is ∙ w.in_ok-note_octa-in-Some.ensures)
   | else-octa_shown-eq0 w ↦ new-passed (state_of c.args.old.now) (state_of c.args.new.now) _ _ c.loop-n.n c.in-Some.at c.in-Some.field-0-1 c.loop-n.invariant c.in-Some.ensures (λ e. w.if-octa_shown-eq0.false (c.octa_shown.ensures ∙ e)) w.changes-is
 ]
 

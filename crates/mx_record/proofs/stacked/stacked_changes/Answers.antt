@@ -13,8 +13,7 @@ loop-i-init c = (tells-none _ _ _ c.args.from c.new-changes.ensures, followed-fi
 pub loop-i-preserved : goal.loop-i-preserved
 loop-i-preserved c =
     let here = c.get-old.ensures ∙ followed-here (octa_of c.loop-i.stacked) (octa_of c.args.stacked.now) (octa_of (all_registers (state_of c.args.machine.now).stack)) c.loop-i.i c.loop-i.invariant.1 in
-    let new = c.stacked_octa-new.ensures ∙ ap (λ x. stacked_by c.args.before x (state_of c.args.machine.now).stack c.loop-i.i) here ∙ sym (c.requires.found c.loop-i.i) in
-    (
+    let new = c.stacked_octa-new.ensures ∙ ap (λ x. stacked_by c.args.before x (state_of c.args.machine.now).stack c.loop-i.i) here ∙ sym (c.requires.found c.loop-i.i) in (
       tells-noted _ _ (octa_of c.args.stacked.now) (octa_of (all_registers (state_of c.args.machine.now).stack)) c.args.from c.loop-i.i c.loop-i.invariant.0 c.loop-i.auto.i (c.in_ok-note.ensures ∙ ap (λ x. noted c.loop-i.changes c.loop-i.i x c.stacked_octa-new.result) here ∙ ap (λ x. noted c.loop-i.changes c.loop-i.i (octa_of c.args.stacked.now c.loop-i.i) x) new),
       followed-next (octa_of c.loop-i.stacked) _ (octa_of c.args.stacked.now) (octa_of (all_registers (state_of c.args.machine.now).stack)) c.loop-i.i c.stacked_octa-new.result c.loop-i.invariant.1 c.in_ok-set.ensures new,
     )
@@ -22,11 +21,11 @@ loop-i-preserved c =
 pub returns-clause-changes : goal.returns-clause-changes
 returns-clause-changes c =
     tells-all _ (octa_of c.args.stacked.now) (octa_of (all_registers (state_of c.args.machine.now).stack)) c.args.from c.loop-i.i c.loop-i.invariant.0 (λ q l. sym (c.requires.kept q l))
-      (λ q l. zeros-behind (state_of c.args.machine.now).stack (octa_of c.args.stacked.now) c.args.end (c.hidden_count.result + c.from.result) c.loop-i.i q c.requires.zeros
-        (omega (arith, c.hidden_count.ensures, c.from.ensures, c.l.ensures)) (omega (arith, c.max-i-end.ensures, c.loop-i-test.false)) l)
+    (λ q l. zeros-behind (state_of c.args.machine.now).stack (octa_of c.args.stacked.now) c.args.end (c.hidden_count.result + c.from.result) c.loop-i.i q c.requires.zeros
+    (omega (arith, c.hidden_count.ensures, c.from.ensures, c.l.ensures)) (omega (arith, c.max-i-end.ensures, c.loop-i-test.false)) l)
 
 pub returns-clause-stack : goal.returns-clause-stack
 returns-clause-stack c =
     followed-all (octa_of c.loop-i.stacked) (octa_of c.args.stacked.now) (octa_of (all_registers (state_of c.args.machine.now).stack)) c.loop-i.i c.loop-i.invariant.1
-      (λ q l. zeros-behind (state_of c.args.machine.now).stack (octa_of c.args.stacked.now) c.args.end (c.hidden_count.result + c.from.result) c.loop-i.i q c.requires.zeros
-        (omega (arith, c.hidden_count.ensures, c.from.ensures, c.l.ensures)) (omega (arith, c.max-i-end.ensures, c.loop-i-test.false)) l)
+    (λ q l. zeros-behind (state_of c.args.machine.now).stack (octa_of c.args.stacked.now) c.args.end (c.hidden_count.result + c.from.result) c.loop-i.i q c.requires.zeros
+    (omega (arith, c.hidden_count.ensures, c.from.ensures, c.l.ensures)) (omega (arith, c.max-i-end.ensures, c.loop-i-test.false)) l)

@@ -17,7 +17,7 @@ stacked_changes-requires-clause-zeros c =
 pub returns-clause-record : goal.returns-clause-record
 returns-clause-record c =
     leads-on (state_of c.args.old.now) (state_of c.args.new.now) c.args.stacked.now _ (ap (λ x. bit_xor x c.pc-2.result) c.pc.ensures.value ∙ ap (bit_xor (state_of c.args.old.now).pc) c.pc-2.ensures.value)
-      c.in_ok-special.ensures c.in_ok-global.ensures c.requires.stack c.in_ok-stacked.ensures.changes c.in_ok-octas.ensures
+    c.in_ok-special.ensures c.in_ok-global.ensures c.requires.stack c.in_ok-stacked.ensures.changes c.in_ok-octas.ensures
 
 pub stacked_changes-requires-clause-kept : goal.stacked_changes-requires-clause-kept
 stacked_changes-requires-clause-kept c =

@@ -9,7 +9,7 @@ start_changes-started-requires c = start-none c.in-Ok-begin.before c.args.progra
 pub returns-in-Ok-started-clause-ready : goal.returns-in-Ok-started-clause-ready
 returns-in-Ok-started-clause-ready c =
     ready-of (record { before = c.in-Ok-begin.before; after = c.in-Ok-begin-2.after; stacked = c.in-Ok-started.stacked }) c.args.program 0
-      (begun-ready c.in-Ok-begin.before c.in-Ok-begin-2.after c.args.program c.in-Ok.copy (state_of c.machine.result.now) c.in-Ok-started.stacked c.in-Ok.ensures.alike c.in-Ok-begin.ensures.start c.in-Ok-begin-2.ensures.start c.machine.ensures c.in-Ok-started.ensures.stack)
+    (begun-ready c.in-Ok-begin.before c.in-Ok-begin-2.after c.args.program c.in-Ok.copy (state_of c.machine.result.now) c.in-Ok-started.stacked c.in-Ok.ensures.alike c.in-Ok-begin.ensures.start c.in-Ok-begin-2.ensures.start c.machine.ensures c.in-Ok-started.ensures.stack)
 
 pub returns-in-Ok-started-clause-record : goal.returns-in-Ok-started-clause-record
 returns-in-Ok-started-clause-record c =
