@@ -222,7 +222,7 @@ fn add_front(
     program: &Program,
     made: &Made,
 ) -> Result<(), NoMemory>
-    requires { call.entry.order.now.rest ≤ length call.entry.words.now }
+    requires { call.order.now.rest ≤ length call.words.now }
 {
     add_arguments(alloc, text, &call.words[call.order.rest..])?;
     add_quoted(text, b",\"end\":", ending_name(made.ending))?;
@@ -273,8 +273,8 @@ pub fn data(
     program: &Program,
     made: &Made,
 ) -> Result<Bytes, NoMemory>
-    requires file { call.entry.order.now.file < length call.entry.words.now }
-    requires rest { call.entry.order.now.rest ≤ length call.entry.words.now }
+    requires file { call.order.now.file < length call.words.now }
+    requires rest { call.order.now.rest ≤ length call.words.now }
 {
     let mut text = Bytes::new(alloc);
     let name = call.words[call.order.file].as_bytes();

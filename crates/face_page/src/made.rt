@@ -113,7 +113,7 @@ impl Made {
     fn add_turns(&mut self, recorder: &mut Recorder, most: u64) -> Result<(), NoMemory>
         requires ready { IsReady recorder.old }
     {
-        for _ in 0..most {
+        for _turn in 0..most {
             if self.records.as_slice().len() > MOST_BYTES {
                 self.ending = Ending::Records;
                 return Ok(());
