@@ -1,7 +1,6 @@
 -- At the start of a run no register is hidden.
-use Rattle.std.proofs.Common.{◌≡◌, ℕ, zero, ◌+◌, ◌||◌, Bool, true, false, cond, List, [], ◌∷◌, ◌++◌, length, take, Option, None, Some, Ok, Err, arith, refl, sym, subst, ◌∙◌, ap, ⊎_elim}
+use Rattle.std.proofs.Common.{◌≡◌, ℕ, ◌+◌, ◌||◌, List, [], ◌∷◌, ◌++◌, length, take, Option, None, Some, Ok, Err, refl, sym, subst, ◌∙◌, ap, ⊎_elim}
 use Rattle.std.proofs.lemmas.Bool.{cases_Bool, cond_both}
-use Rattle.std.proofs.lemmas.List.{length-append}
 use Rattle.std.specs.Prelude.{Result, map, string_bytes}
 use Rattle.mx_host.specs.HostAnswer.{Then}
 use Rattle.mx_host.specs.HostModel.{HostModel}
@@ -18,13 +17,11 @@ use Rattle.mx_run.specs.WildRuns.{window_machine}
 use Rattle.mx_run.proofs.FreeTurns.{none-made}
 use Rattle.mx_start.specs.Start.{pool, pool_octas, loaded, start, with_octas}
 use Rattle.mx_outcome.specs.declared.outcome.Outcome.{Outcome}
-use Rattle.mx_words.specs.declared.order.Order.{Order}
 use Rattle.mx_files.specs.FilePlans.{on_ok}
 use Rattle.mx_begin.specs.Arguments.{Word}
 use Rattle.mx_begin.specs.BeginPlans.{start_plan}
 use Rattle.mx_begin.specs.Begun.{begun_at}
 use Rattle.mx_begin.proofs.Beginnings.{begin-by, start-end}
-use Rattle.mx_begin.specs.declared.images.Form.{Form}
 use Rattle.mx_replay.specs.Programs.{host_of, run_from, start_of, step_of}
 use Rattle.mx_replay.specs.Searches.{Replayed}
 use Rattle.mx_replay.specs.declared.program.Program.{Program}

@@ -1,5 +1,5 @@
 -- A record leads back.
-use Rattle.std.proofs.Common.{◌≡◌, ℕ, List, refl, sym, ◌∙◌, ap, bit_xor}
+use Rattle.std.proofs.Common.{◌≡◌, ℕ, List, sym, ◌∙◌, ap, bit_xor}
 use Rattle.std.specs.Int.Bits.{xor_assoc, xor_self, xor_zero_r}
 use Rattle.mx_record.specs.Pictures.{Picture}
 use Rattle.mx_record.specs.Records.{Leads, applied, changed, difference}

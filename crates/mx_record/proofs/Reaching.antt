@@ -21,7 +21,6 @@ use Rattle.mx_code.specs.declared.operation.Operation.{Operation}
 use Rattle.mx_code.specs.declared.operation.Operation.TheVariants as op
 use Rattle.mx_code.specs.declared.reason.Reason.{Reason}
 use Rattle.mx_code.specs.declared.reason.Reason.TheVariants.{Negative}
-use Rattle.mx_code.specs.declared.trace.Touch.{Touch}
 use Rattle.mx_code.specs.declared.trace.Trace.{Trace}
 use Rattle.mx_core.specs.Bounds.{IsMachine}
 use Rattle.mx_core.specs.Deeds.{Deed, deed_for, deed_of, resumed}
@@ -36,7 +35,7 @@ use Rattle.mx_core.specs.Step.{Stepped, went, calls, stopped, after, call_of, co
 use Rattle.mx_core.specs.Wild.{deed}
 use Rattle.mx_core.proofs.Undone.Memory.{Stores, nothing, inside, outside, applied-memory, memory_of}
 use Rattle.mx_core.proofs.Undone.Steps.{IsNotable, step-notes}
-use Rattle.mx_run.specs.Turns.{Turn, area_size, halts, stops, turn, turn_of, turn_with, went_on}
+use Rattle.mx_run.specs.Turns.{Turn, area_size, turn, turn_of, turn_with}
 use Rattle.mx_run.specs.WildRuns.{state_after}
 use Rattle.mx_replay.specs.Visits as visits
 use Rattle.mx_record.specs.Following.{ComesByTurn, is_reached, is_trap, operation_of_word, reach_of, reads_file, written_reach}

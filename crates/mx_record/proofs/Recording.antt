@@ -17,18 +17,17 @@ use Rattle.mx_core.specs.State.{State}
 use Rattle.mx_run.specs.Runs.{Ended, ended, no_flags, run}
 use Rattle.mx_run.specs.Turns.{Turn, went_on, halts, stops, turn}
 use Rattle.mx_run.specs.WildRuns.{state_after, window_machine}
-use Rattle.mx_run.specs.declared.end.End.{End}
 use Rattle.mx_run.specs.declared.end.End.TheVariants.{Spent}
 use Rattle.mx_run.proofs.FreeTurns.{none-made, run-halts, run-stops, run-went}
 use Rattle.mx_outcome.specs.declared.outcome.Outcome.{Outcome}
-use Rattle.mx_replay.specs.Programs.{NamesFile, GoesOn, HasEnded, IsReached, is_over, run_from, start_of, step_of, with_files}
+use Rattle.mx_replay.specs.Programs.{NamesFile, GoesOn, IsReached, is_over, run_from, start_of, step_of, with_files}
 use Rattle.mx_replay.specs.Searches.{Replayed}
-use Rattle.mx_replay.specs.Visits.{trace_after, trace_of}
+use Rattle.mx_replay.specs.Visits.{trace_after}
 use Rattle.mx_replay.specs.declared.program.Program.{Program}
 use Rattle.mx_replay.proofs.Steps.{step-before, step-from}
 use Rattle.mx_record.specs.Following.{ComesByTurn, HoldsStack}
 use Rattle.mx_record.specs.Pictures.{Picture, no_picture, picture, picture_at, picture_of}
-use Rattle.mx_record.specs.Recording.{AreAlike, HoldsStep, IsAt, IsReady, IsRecordOf, Recorded, SameRun}
+use Rattle.mx_record.specs.Recording.{AreAlike, HoldsStep, IsAt, IsReady, Recorded, SameRun}
 use Rattle.mx_record.specs.Records.{Leads}
 use Rattle.mx_record.specs.declared.changes.Record.{Record}
 

@@ -1,5 +1,5 @@
 -- After a turn the registers of the register stack are found by what they had.
-use Rattle.std.proofs.Common.{◌≡◌, ◌≤◌, ◌⊎◌, inl, inr, ℕ, ◌+◌, ◌^◌, ◌==◌, not, Bool, true, false, cond, List, [], length, Option, None, Some, arith, refl, sym, subst, ◌∙◌, ap, ⊎_elim}
+use Rattle.std.proofs.Common.{◌≡◌, ◌⊎◌, inl, inr, ℕ, ◌^◌, ◌==◌, not, Bool, true, false, List, [], length, Option, None, Some, refl, sym, subst, ◌∙◌, ap, ⊎_elim}
 use Rattle.std.proofs.lemmas.Bool.{cases_Bool}
 use Rattle.std.proofs.lemmas.List.FromFn.{length-map-range_with_len}
 use Rattle.std.specs.Option.{unwrap_or}
@@ -8,8 +8,6 @@ use Rattle.mx_mem.specs.Parts.{with_part}
 use Rattle.mx_mem.specs.Space.{Contents}
 use Rattle.mx_word.specs.Ranges.{AreOctas}
 use Rattle.mx_registers.specs.Bounds.{AreInBounds}
-use Rattle.mx_registers.specs.Registers.{with_value}
-use Rattle.mx_registers.proofs.Values.{with_value-bounds}
 use Rattle.mx_ring.specs.Bounds.{IsRing}
 use Rattle.mx_ring.specs.Stack.{set_overfills, Stack, listed, windowed, visible, hidden_count, in_stack_area, stack_index, with_register, with_stack_octa}
 use Rattle.mx_ring.specs.Window.{Window}
@@ -40,19 +38,18 @@ use Rattle.mx_core.specs.Step.{fetched, Stepped, went, calls, stopped, after, st
 use Rattle.mx_core.specs.Traps.{trap_specials, trapped}
 use Rattle.mx_core.specs.Wild.{deed}
 use Rattle.mx_core.proofs.Kept.Applied.{ResultFits, Shape, plain, moving, before, before-stack, specials-stack}
-use Rattle.mx_core.proofs.Kept.Rings.{IsRinged, octa-ringed}
+use Rattle.mx_core.proofs.Kept.Rings.{IsRinged}
 use Rattle.mx_core.proofs.Kept.Destinations.{destination-sound, result-fits}
 use Rattle.mx_core.proofs.Kept.Stages.{IsSound, MoveFits, octa-in-stack, octa-on-page, result-sound}
 use Rattle.mx_core.proofs.Same.Quiet.{IsFree, free}
 use Rattle.mx_core.proofs.Same.Steps.{insertion-in, resumed-if, set-room, sound-of}
-use Rattle.mx_core.proofs.Results.Locals.{shown-set}
 use Rattle.mx_core.proofs.Undone.Stacks.{IsGiven}
 use Rattle.mx_core.proofs.Undone.Steps.{IsNotable, step-notes}
-use Rattle.mx_run.specs.Turns.{Turn, area_size, halts, stops, turn, turn_of, turn_with, went_on}
+use Rattle.mx_run.specs.Turns.{area_size, turn, turn_of, turn_with}
 use Rattle.mx_run.specs.WildRuns.{state_after}
 use Rattle.mx_record.specs.Following.{AreFound, ComesByTurn}
 use Rattle.mx_record.specs.Pictures.{all_registers, octa_of}
-use Rattle.mx_record.proofs.Reaching.{IsTraced, step-traced}
+use Rattle.mx_record.proofs.Reaching.{step-traced}
 use Rattle.mx_record.proofs.Stacks.{KeptStack, Turned, all-found, area-kept, kept-itself, kept-through, kept-turned, last-kept, moved-turned, octa-kept, register-kept}
 
 -- A STEP THAT DOES NOT MOVE THE STACK

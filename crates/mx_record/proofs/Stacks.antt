@@ -1,6 +1,6 @@
 -- What a turn does to the register stack.
-use Rattle.std.proofs.Common.{◌≡◌, ◌≤◌, ◌<◌, ◌⊎◌, inl, inr, ℕ, ◌+◌, ◌-◌, ◌%◌, ◌^◌, ◌==◌, ◌&&◌, nat_lt, nat_le, min, Bool, true, false, cond, List, [], ◌∷◌, ◌++◌, length, take, drop, replicate, slice_set, Option, None, Some, arith, refl, sym, subst, ◌∙◌, ap, ⊎_elim}
-use Rattle.std.proofs.lemmas.Bool.{cond_both, cases_lt, cases_Bool}
+use Rattle.std.proofs.Common.{◌≡◌, ◌≤◌, ◌<◌, ◌⊎◌, inl, inr, ℕ, ◌+◌, ◌-◌, ◌^◌, ◌==◌, ◌&&◌, nat_lt, nat_le, cond, List, [], ◌∷◌, ◌++◌, length, take, replicate, slice_set, arith, refl, sym, subst, ◌∙◌, ap, ⊎_elim}
+use Rattle.std.proofs.lemmas.Bool.{cond_both, cases_lt}
 use Rattle.std.proofs.lemmas.Bool.Decides.{nat_tests}
 use Rattle.std.proofs.lemmas.List.{get_or_past, get_or-replicate, get_or-take, length-append, length-replicate, length-set, length-take}
 use Rattle.std.proofs.Math.ListN.{get_or-append}

@@ -1,9 +1,9 @@
 -- The pictures that records lead to are those of the steps, and they are made at the same addresses.
-use Rattle.std.proofs.Common.{◌≡◌, ◌≤◌, ℕ, zero, suc, ◌+◌, List, [], ◌∷◌, length, take, arith, refl, sym, ◌∙◌, ap}
+use Rattle.std.proofs.Common.{◌≡◌, ◌≤◌, ℕ, zero, suc, ◌+◌, List, [], ◌∷◌, length, take, arith, refl, ◌∙◌, ap}
 use Rattle.mx_replay.specs.declared.program.Program.{Program}
 use Rattle.mx_record.specs.Counts.{one_at, records_at, turns_at}
-use Rattle.mx_record.specs.Pictures.{Picture, picture_at}
-use Rattle.mx_record.specs.Records.{AreRecords, all_applied, applied}
+use Rattle.mx_record.specs.Pictures.{picture_at}
+use Rattle.mx_record.specs.Records.{AreRecords, all_applied}
 use Rattle.mx_record.specs.declared.changes.Record.{Record}
 
 pub states-follow : (p : Program) (k i : ℕ) (records : List Record) → AreRecords p k records → i ≤ length records → all_applied (take i records) (picture_at p k) ≡ picture_at p (k + i)

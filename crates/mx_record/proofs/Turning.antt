@@ -1,12 +1,9 @@
 -- The record of a turn leads from one picture to the next.
-use Rattle.std.proofs.Common.{◌≡◌, ◌≤◌, ◌<◌, ℕ, ◌+◌, ◌^◌, min, Bool, true, false, cond, List, length, Option, arith, refl, subst, sym, ◌∙◌, ap, bit_xor}
+use Rattle.std.proofs.Common.{◌≡◌, ◌≤◌, ◌<◌, ℕ, ◌+◌, ◌^◌, min, Bool, true, false, cond, List, Option, arith, refl, subst, sym, ◌∙◌, ap, bit_xor}
 use Rattle.std.proofs.lemmas.List.{get_or_past, length-append}
 use Rattle.std.specs.Int.Bits.{xor_assoc, xor_self, xor_zero_l}
-use Rattle.mx_word.specs.Ranges.{AreOctas}
-use Rattle.mx_ring.specs.Stack.{Stack, visible, hidden_count, hidden_octas, local_count, windowed}
-use Rattle.mx_ring.specs.Window.{Window}
+use Rattle.mx_ring.specs.Stack.{Stack, visible, hidden_count, hidden_octas, local_count}
 use Rattle.mx_code.specs.declared.trace.Trace.{Trace}
-use Rattle.mx_core.specs.Bounds.{IsMachine}
 use Rattle.mx_core.specs.MachineSpace.{IsWholeSpace}
 use Rattle.mx_core.specs.Machines.{IsOverWindow}
 use Rattle.mx_core.specs.State.{State}

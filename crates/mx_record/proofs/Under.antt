@@ -1,6 +1,6 @@
 -- The registers that are hidden before and after a turn stay, where it does not reach them.
-use Rattle.std.proofs.Common.{◌≡◌, ◌<◌, ℕ, ◌+◌, ◌-◌, ◌*◌, ◌/◌, ◌==◌, ◌||◌, Bool, true, false, cond, List, ◌++◌, length, take, Option, None, Some, arith, refl, sym, subst, ◌∙◌, ap, ⊎_elim}
-use Rattle.std.proofs.lemmas.Bool.{cond_both, cases_Bool}
+use Rattle.std.proofs.Common.{◌≡◌, ◌<◌, ℕ, ◌*◌, ◌/◌, ◌==◌, ◌||◌, Bool, true, false, List, ◌++◌, length, take, Option, None, Some, arith, refl, sym, subst, ◌∙◌, ap, ⊎_elim}
+use Rattle.std.proofs.lemmas.Bool.{cond_both}
 use Rattle.std.proofs.lemmas.Bool.Decides.{nat_tests}
 use Rattle.std.proofs.lemmas.List.{get_or-take, length-take}
 use Rattle.std.proofs.Math.ListN.{get_or-append}
@@ -23,7 +23,7 @@ use Rattle.mx_word.specs.Ranges.{AreOctas}
 use Rattle.mx_registers.specs.Bounds.{AreInBounds}
 use Rattle.mx_registers.specs.Registers.{is_marginal, with_globals_from, with_locals_cut}
 use Rattle.mx_ring.specs.Frames.{frame}
-use Rattle.mx_ring.specs.Stack.{Stack, listed, windowed, as_listed, visible, hidden_octas, hidden_count, in_stack_area, stack_index, with_register, with_visible, pushed, pushed_octas, popped, saved, unsaved, cut_to, with_global_start}
+use Rattle.mx_ring.specs.Stack.{Stack, listed, windowed, as_listed, visible, hidden_octas, hidden_count, in_stack_area, with_register, with_visible, pushed, popped, saved, cut_to, with_global_start}
 use Rattle.mx_ring.specs.Window.{Window, as_list}
 use Rattle.mx_ring.specs.declared.saved.Saved.{Saved}
 use Rattle.mx_spec.specs.Puts.{put_of}
@@ -34,10 +34,9 @@ use Rattle.mx_code.specs.Instructions.{operation_in, x_of}
 use Rattle.mx_code.specs.declared.instruction.Instruction.{Instruction}
 use Rattle.mx_code.specs.declared.operation.Operation.{Operation}
 use Rattle.mx_code.specs.declared.operation.Operation.TheVariants as op
-use Rattle.mx_code.specs.declared.trace.Touch.{Touch}
 use Rattle.mx_code.specs.declared.trace.Trace.{Trace}
 use Rattle.mx_core.specs.Bounds.{IsMachine}
-use Rattle.mx_core.specs.Deeds.{Deed, applied, deed_for, deed_of, moved, trip_specials, tripped, with_destination, with_result, with_specials, with_store}
+use Rattle.mx_core.specs.Deeds.{Deed, applied, deed_for, moved, trip_specials, tripped, with_destination, with_result, with_specials, with_store}
 use Rattle.mx_core.specs.Effects.{Effect, Move, Store, Tripping, effect_of, putting, stays, pushes, pops, saves, unsaves, cuts, moves_globals, z_operand}
 use Rattle.mx_core.specs.State.{State, global_start, locals, octa, special_register}
 use Rattle.mx_core.specs.Step.{Stepped, after, calls, fetched, step, stopped, store_touch, went}

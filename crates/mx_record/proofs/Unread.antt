@@ -1,17 +1,17 @@
 -- A file trap that reads no file leaves the space as it is.
-use Rattle.std.proofs.Common.{◌≡◌, ℕ, ◌==◌, ◌||◌, Bool, true, false, Ok, Err, arith, refl, ◌∙◌, ap}
+use Rattle.std.proofs.Common.{◌≡◌, ℕ, ◌==◌, ◌||◌, false, Ok, Err, arith, ◌∙◌, ap}
 use Rattle.std.proofs.lemmas.Bool.{cond_both}
 use Rattle.std.proofs.lemmas.Bool.Decides.{nat_tests}
 use Rattle.std.specs.Prelude.{Result}
 use Rattle.mx_host.specs.HostModel.{HostModel}
 use Rattle.mx_mem.specs.Space.{Contents}
 use Rattle.mx_word.specs.Results.{map_ok}
-use Rattle.mx_plan.specs.Plan.{bind, end_after, end_of}
+use Rattle.mx_plan.specs.Plan.{end_after, end_of}
 use Rattle.mx_plan.specs.Calls.{Both, HostPlan, both, look, on_host}
 use Rattle.mx_plan.proofs.Plans.{end_bind, end_look, end_on_host, end_returns}
 use Rattle.mx_trip.specs.declared.call.TrapCall.{TrapCall}
 use Rattle.mx_trap.specs.FileTraps.{answer_to, trap_answer, trap_plan}
-use Rattle.mx_trap.specs.Requests.{arguments, buffer, most_bytes, opening_with, request_after, request_by, request_of, text_length}
+use Rattle.mx_trap.specs.Requests.{arguments, buffer, most_bytes, opening_with, request_after, request_of, text_length}
 use Rattle.mx_trap.specs.Services.{service_numbered, service_of, x_of, y_of, z_of}
 use Rattle.mx_trap.specs.declared.answer.TrapAnswer.{TrapAnswer}
 use Rattle.mx_trap.specs.declared.answer.TrapStop.{TrapStop}

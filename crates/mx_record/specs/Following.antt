@@ -1,5 +1,5 @@
 -- How the code finds what a turn changed, in a bounded time where it can.
-use Rattle.std.specs.Prelude.{ℕ, ◌+◌, ◌-◌, ◌*◌, ◌/◌, ◌%◌, ◌^◌, ◌==◌, ◌||◌, ◌&&◌, ◌≡◌, ◌≤◌, ◌<◌, nat_le, nat_lt, not, min, if◌then◌else◌, Bool, true, false, List, [], Option, None, Some, length, Result, Ok, Err, bit_xor}
+use Rattle.std.specs.Prelude.{ℕ, ◌+◌, ◌-◌, ◌/◌, ◌==◌, ◌||◌, ◌&&◌, ◌≡◌, nat_le, nat_lt, min, if◌then◌else◌, Bool, true, false, List, Option, None, Some, bit_xor}
 use Rattle.mx_ring.specs.Stack.{Stack, hidden_count, spilled_count, local_count, register, stack_octa, in_stack_area}
 use Rattle.mx_trap.specs.Services.{y_of}
 use Rattle.mx_code.specs.Instructions.{instruction, operation_in}

@@ -8,7 +8,7 @@ use Rattle.mx_replay.specs.Searches.{Replayed}
 use Rattle.mx_replay.specs.Visits.{trace_after}
 use Rattle.mx_replay.specs.declared.program.Program.{Program}
 use Rattle.mx_record.specs.Following.{HoldsStack}
-use Rattle.mx_record.specs.Pictures.{no_picture, picture_at}
+use Rattle.mx_record.specs.Pictures.{picture_at}
 use Rattle.mx_record.specs.Records.{Leads}
 use Rattle.mx_record.specs.declared.changes.Record.{Record}
 

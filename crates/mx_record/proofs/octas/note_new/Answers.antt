@@ -1,4 +1,4 @@
-use Rattle.std.proofs.Common.{rules, sym, ◌∙◌}
+use Rattle.std.proofs.Common.{sym, ◌∙◌}
 use Rattle.mx_core.specs.Kept.{state_of}
 use Rattle.mx_record.proofs.Searching.{new-next, new-none, new-passed}
 use Rattle.mx_record.proofs.octas.note_new.Goals.{then-octa_shown-eq0+in_ok-note_octa-in-Some, else-octa_shown-eq0}

@@ -1,6 +1,5 @@
 use Rattle.std.proofs.Common.{rules, arith}
 use Rattle.mx_core.specs.Kept.{state_of}
-use Rattle.mx_record.specs.Pictures.{special_shown}
 use Rattle.mx_record.proofs.Beyond.{specials-beyond}
 use Rattle.mx_record.proofs.Telling.{tells-all}
 use Rattle.mx_record.proofs.registers.special_changes.Goals as goal

@@ -1,6 +1,6 @@
 use Rattle.std.proofs.Common.{◌≡◌, ℕ, nat_lt, cond}
 use Rattle.mx_core.specs.Kept.{state_of}
-use Rattle.mx_record.specs.Following.{Tells, stacked_by}
+use Rattle.mx_record.specs.Following.{Tells}
 use Rattle.mx_record.specs.Pictures.{all_registers, octa_of}
 use Rattle.mx_record.proofs.stacked.stacked_changes.Given as goal
 

@@ -2,7 +2,7 @@ use Rattle.std.proofs.Common.{ap, subst, sym, ◌∙◌, ◌+◌}
 use Rattle.mx_core.specs.Kept.{state_of}
 use Rattle.mx_replay.specs.Programs.{GoesOn, step_of}
 use Rattle.mx_record.specs.Recording.{IsAt, IsRecordOf, Recorded}
-use Rattle.mx_record.proofs.Recording.{IsAhead, goes-ahead, holds-step, leads-next, reached-next, ready-of}
+use Rattle.mx_record.proofs.Recording.{goes-ahead, holds-step, leads-next, reached-next, ready-of}
 use Rattle.mx_record.proofs.recorder.Recorder.next.Goals as goal
 
 pub turn_changes-requires-clause-turn : goal.turn_changes-requires-clause-turn
