@@ -27,27 +27,48 @@ fn walk_on(recorder: &mut Recorder, picture: &mut Picture, records: &mut Vec<Rec
     Some(())
 }
 
-/// How many turns a run has; nothing where a record does not lead to the picture of the machine, or the records do not lead back.
-fn walk(alloc: Global, source: &str) -> Option<usize> {
-    let (mut recorder, start) = recorder(alloc, source)?;
-    let mut picture = Picture::new(alloc);
-    let mut records = Vec::new(alloc);
-    picture.apply(&start).ok()?;
-    if !picture.is_of(recorder.machine()) {
-        return None;
-    }
+/// Makes up to 1,000 turns.
+fn walk_along(recorder: &mut Recorder, picture: &mut Picture, records: &mut Vec<Record>) -> Option<()>
+    requires { IsReady recorder.old }
+{
     for _ in 0..1000u32 {
-        walk_on(&mut recorder, &mut picture, &mut records)?;
+        walk_on(recorder, picture, records)?;
     }
+    Some(())
+}
+
+/// Whether records lead back to the picture in which everything is 0.
+fn leads_back(picture: &mut Picture, records: &[Record], start: &Record) -> Option<bool> {
     for record in records.iter().rev() {
         picture.apply(record).ok()?;
     }
-    picture.apply(&start).ok()?;
-    if picture.is_zero() {
+    picture.apply(start).ok()?;
+    Some(picture.is_zero())
+}
+
+/// How many turns a run has that begins so; nothing where a record does not lead to the picture of the machine, or the records do not
+/// lead back.
+fn walk_from(alloc: Global, recorder: &mut Recorder, start: &Record) -> Option<usize>
+    requires { IsReady recorder.old }
+{
+    let mut picture = Picture::new(alloc);
+    let mut records = Vec::new(alloc);
+    picture.apply(start).ok()?;
+    if !picture.is_of(recorder.machine()) {
+        return None;
+    }
+    walk_along(recorder, &mut picture, &mut records)?;
+    if leads_back(&mut picture, records.as_slice(), start)? {
         Some(records.len())
     } else {
         None
     }
+}
+
+/// The same of the run of a source.
+fn walk(alloc: Global, source: &str) -> Option<usize> {
+    let (mut recorder, start) = recorder(alloc, source)?;
+    walk_from(alloc, &mut recorder, &start)
 }
 
 /// How many turns the runs of the programs have.
