@@ -28,7 +28,11 @@ fn walk_on(recorder: &mut Recorder, picture: &mut Picture, records: &mut Vec<Rec
 }
 
 /// Makes up to 1,000 turns.
-fn walk_along(recorder: &mut Recorder, picture: &mut Picture, records: &mut Vec<Record>) -> Option<()>
+fn walk_along(
+    recorder: &mut Recorder,
+    picture: &mut Picture,
+    records: &mut Vec<Record>,
+) -> Option<()>
     requires { IsReady recorder.old }
 {
     for _ in 0..1000u32 {
