@@ -1,6 +1,6 @@
 //! A run that is recorded.
 
-ghost use Rattle.std.specs.Prelude.{OnOk, IfErr};
+ghost use Rattle.std.specs.Prelude.{OnOk, IfErr, IfOk};
 ghost use Rattle.mx_face.specs.Pages.{IsOfView};
 ghost use Rattle.mx_record.specs.Recording.{IsReady};
 ghost use Rattle.mx_replay.specs.Programs.{NamesFile};
@@ -8,7 +8,7 @@ ghost use Rattle.mx_replay.specs.Programs.{NamesFile};
 use crate::records::{Written, add_start, add_turn};
 use mx_host::MemHost;
 use mx_outcome::Outcome;
-use mx_record::Recorder;
+use mx_record::{Record, Recorder};
 use mx_replay::Program;
 use mx_run::End;
 use mx_word::{Bytes, NoMemory};
@@ -144,15 +144,15 @@ impl Made {
 /// Records a run that has begun.
 fn record_begun(
     alloc: Global,
-    recorder: &mut Recorder,
-    start: Bytes,
+    mut recorder: Recorder,
+    first: &Record,
     most: u64,
 ) -> Result<Made, NoMemory>
-    requires ready { IsReady recorder.old }
+    requires ready { IsReady recorder }
 {
     let mut made = Made::new(alloc);
-    made.start = start;
-    made.add_turns(recorder, most)?;
+    add_start(&mut made.start, first)?;
+    made.add_turns(&mut recorder, most)?;
     made.note_end(recorder.end());
     Ok(made)
 }
@@ -167,22 +167,29 @@ pub fn of_memory(outcome: Outcome) -> Outcome
     }
 }
 
+/// A run at its start, with the record that leads there.
+fn begin(alloc: Global, program: Program) -> Result<(Recorder, Record), Outcome>
+    requires { NamesFile program }
+    ensures ready { IfOk result (λ begun. IsReady begun.0) }
+    ensures outcome { IfErr result IsOfView }
+{
+    match Recorder::begin(alloc, program) {
+        Ok(begun) => Ok(begun),
+        Err(outcome) => Err(of_memory(outcome)),
+    }
+}
+
 /// Records a run of at most so many steps.
 pub fn record_run(alloc: Global, program: Program, most: u64) -> Result<Made, Outcome>
     requires { NamesFile program }
     ensures { IfErr result IsOfView }
 {
-    let (mut recorder, first) = match Recorder::begin(alloc, program) {
-        Ok(begun) => begun,
-        Err(outcome) => return Err(of_memory(outcome)),
-    };
-    let mut start = Bytes::new(alloc);
-    let Ok(()) = add_start(&mut start, &first) else {
-        return Err(Outcome::OutOfMemory);
-    };
-    match record_begun(alloc, &mut recorder, start, most) {
-        Ok(made) => Ok(made),
-        Err(NoMemory) => Err(Outcome::OutOfMemory),
+    match begin(alloc, program) {
+        Ok((recorder, first)) => match record_begun(alloc, recorder, &first, most) {
+            Ok(made) => Ok(made),
+            Err(NoMemory) => Err(Outcome::OutOfMemory),
+        },
+        Err(outcome) => Err(outcome),
     }
 }
 
