@@ -19,6 +19,7 @@ pub mod LastStates
 pub mod TakenBack
 pub mod WorkParts
 pub mod ProductEnds
+pub mod ProductCourses
 pub mod ListedWork
 pub mod ProgramHeld
 pub mod Saying

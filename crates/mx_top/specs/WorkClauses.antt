@@ -14,7 +14,7 @@ use Rattle.mx_outcome.specs.declared.outcome.Outcome.TheVariants.{OutOfMemory}
 use Rattle.mx_files.specs.Failing.{FailsOnlyBy}
 use Rattle.mx_top.specs.ProgramCalls.{program, ProgramPlan}
 use Rattle.mx_top.specs.WorkKinds.{answer_by}
-use Rattle.mx_top.specs.ProductPlan.{message_plan, reports_plan}
+use Rattle.mx_top.specs.Telling.{message_plan, reports_plan}
 
 -- Over a host that tells its contents, the plan is carried out: unless there was no memory, the outcome and the contents are its
 -- end; where there was none, the calls that were completed stay, of one that lacked it what it leaves then, and nothing else
