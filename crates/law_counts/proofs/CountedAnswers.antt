@@ -193,5 +193,3 @@ pub sheet-is : (kind : MachineKind) (words : List Word) (o : Order) (source : Li
     StartsWith kind words o source s m begun → ran kind o.steps s begun ≡ run_ended e → source_file kind words o (in_form Text) m
     ≡ came_to (record { outcome = outcome_of o.steps e.end; sheet = Some (sheet_of source (product_traces kind words m ++ halting_after e)) }) e.host
 sheet-is kind words o source s m begun e plain reports starts ended = sheet-with kind words o source s m begun starts plain reports e ended
-
-pub ruleset sheets = (sheet-is)

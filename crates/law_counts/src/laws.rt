@@ -37,7 +37,6 @@ pub fn counts_run_as_the_program()
 
 /// Its sheet is that of the traces that watchers of this run are told with `--report`, and of the step that halts: over a
 /// ring of registers, and, where the run meets nothing wild and so ends, over an unbounded list of them.
-#[tactic(auto, using(crate::proofs::CountedAnswers::sheets))]
 pub fn counts_go_by_the_traces_of_their_runs()
     ensures { (kind : MachineKind) (words : List Word) (o : Order) (source : List ℕ) (s : State) (m begun : HostModel)
         (e : Ended) → RunsPlainly words o Run → o.report ≡ true → StartsWith kind words o source s m begun →

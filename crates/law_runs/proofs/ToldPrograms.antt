@@ -161,13 +161,13 @@ unfolding read_pieces
 pieces-told zero got = returns-told (Ok got) tt
 pieces-told (suc left) got = then-told (read_next (read_pieces left)) (read_piece got) (piece-told got) (next-told (read_pieces left) (λ bytes. pieces-told left bytes))
 
-carried-told : (r : Result (Unit {0}) SlotFault) → ReadTold (carried r)
-carried-told (Ok u) = tt
-carried-told (Err why) = refl
+call-told : (r : Result (Unit {0}) SlotFault) → ReadTold (carried r)
+call-told (Ok u) = tt
+call-told (Err why) = refl
 
 close-told : (slot : ℕ) → IsTold (close_file slot)
 unfolding Gives close_file close_plan bind
-close-told slot = λ r t. carried-told r
+close-told slot = λ r t. call-told r
 
 bytes-told : (most : ℕ) → IsTold (read_open most)
 unfolding read_open
@@ -281,7 +281,7 @@ begun_run-told kind o (r, m) h = from-told kind o r m h
 
 write-told : (slot : ℕ) (piece : List ℕ) → IsTold (write_piece slot piece)
 unfolding Gives write_piece write_plan bind
-write-told slot piece = λ r t. carried-told r
+write-told slot piece = λ r t. call-told r
 
 text-told : (more slot : ℕ) (text : List ℕ) → IsTold (write_pieces more slot text)
 unfolding write_pieces
