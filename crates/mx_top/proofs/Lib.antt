@@ -20,6 +20,7 @@ pub mod TakenBack
 pub mod WorkParts
 pub mod ProductEnds
 pub mod ProductCourses
+pub mod ProductComes
 pub mod ListedWork
 pub mod ProgramHeld
 pub mod Saying

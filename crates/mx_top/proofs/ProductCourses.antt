@@ -270,7 +270,7 @@ ordered-course kind words o Show m = host-course kind (list_plan (word_at words 
 ordered-course kind words o Multi m =
     part-course kind (page.multi_file words o) (λ t. []) (after_schedule kind o (word_at words o.file)) (schedule_plan (word_at words o.schedule)) m (λ x n. refl) (multi-course kind words o)
 
-work-course : (kind : MachineKind) (words : List Word) (r : Result Order WordsFault) (m : HostModel) → course (program_goes kind) (page.work_plan words r) (m, []) ≡ told_with (carried_traces kind words r m) (carried_out kind words r m)
+pub work-course : (kind : MachineKind) (words : List Word) (r : Result Order WordsFault) (m : HostModel) → course (program_goes kind) (page.work_plan words r) (m, []) ≡ told_with (carried_traces kind words r m) (carried_out kind words r m)
 unfolding course
 work-course kind words (Err fault) m = refl
 work-course kind words (Ok o) m = ordered-course kind words o o.command m

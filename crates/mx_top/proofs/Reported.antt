@@ -61,6 +61,9 @@ pub none-due : (r : Result Order WordsFault) (told : List Trace) → due_reports
 none-due (Err fault) told = refl
 none-due (Ok o) told = no-text o.report
 
+pub none-ever : (r : Result Order WordsFault) → due_reports r [] ≡ (λ told. [])
+none-ever r = λ i told. none-due r told i
+
 none-written : (a : Answer) → with_reports [] a ≡ a
 unfolding reports_put
 none-written (answered outcome m) = refl

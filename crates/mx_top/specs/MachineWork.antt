@@ -1,20 +1,21 @@
 -- The work on a machine that was started: its runs and sessions, each one call, and what is looked at of it.
-use Rattle.std.specs.Prelude.{ℕ, ◌==◌, ◌&&◌, not, false, Bool, if◌then◌else◌, List, [], ◌∷◌, take, Result, Ok, Err}
+use Rattle.std.specs.Prelude.{ℕ, ◌≡◌, ◌⊎◌, ◌==◌, ◌&&◌, not, false, Bool, if◌then◌else◌, List, [], ◌∷◌, take, Result, Ok, Err}
 use Rattle.mx_host.specs.HostModel.{HostModel}
-use Rattle.mx_plan.specs.Plan.{Plan, returns, calls, bind}
+use Rattle.mx_plan.specs.Plan.{Plan, returns, calls, bind, Acts, Stops, end_of}
 use Rattle.mx_plan.specs.Calls.{HostCall, HostSays, HostPlan, host, need}
 use Rattle.mx_plan.specs.Wild.{Course, ends, meets_wild}
 use Rattle.mx_code.specs.declared.trace.Trace.{Trace}
 use Rattle.mx_core.specs.State.{State}
 use Rattle.mx_ring.specs.Stack.{register}
-use Rattle.mx_run.specs.RunPlans.{RunWorld}
-use Rattle.mx_run.specs.Runs.{no_flags}
-use Rattle.mx_run.specs.WildRuns.{MachineKind, run_course}
+use Rattle.mx_run.specs.AccompaniedRuns.{AfterSteps}
+use Rattle.mx_run.specs.RunPlans.{RunWorld, running, run_plan}
+use Rattle.mx_run.specs.Runs.{FlagsOf, no_flags}
+use Rattle.mx_run.specs.WildRuns.{MachineKind, window_machine, run_course}
 use Rattle.mx_run.specs.declared.end.End.{End}
 use Rattle.mx_back.specs.History.{states_kept}
 use Rattle.mx_back.specs.KeptRuns.{turns_of}
 use Rattle.mx_con.specs.Session.{session_course}
-use Rattle.mx_con.specs.SessionPlans.{SessionWorld}
+use Rattle.mx_con.specs.SessionPlans.{SessionWorld, conversing, session_plan}
 use Rattle.mx_con.specs.declared.end.SessionEnd.{SessionEnd}
 use Rattle.mx_watch.specs.Traces.{traces}
 use Rattle.mx_words.specs.declared.order.Order.{Order}
@@ -58,7 +59,47 @@ WorkSays (going_back last) = List Line
 WorkSays dumping = List Line
 WorkSays (summing blocks size) = Line
 
+-- ---- over a window of registers
+
 -- what a run and a session leave of it
+abbrev pub after_run : Work → End × RunWorld → End × Work
+after_run w t = (t.0, record w { machine = t.1.0; host = t.1.1 })
+
+abbrev pub after_session : Work → SessionEnd × SessionWorld → SessionEnd × Work
+after_session w t = (t.0, record w { machine = t.1.0.0; host = t.1.0.1 })
+
+abbrev pub work_act : (o : WorkCall) → Work → WorkSays o × Work
+work_act (of_host o) w = ((host.act o w.host).0, record w { host = (host.act o w.host).1 })
+work_act (stepping n) w = after_run w (end_of running (run_plan n no_flags false) (w.machine, w.host))
+work_act (reporting n) w = after_run (record w { told = traces window_machine n w.machine w.host }) (end_of running (run_plan n no_flags false) (w.machine, w.host))
+work_act (keeping n) w = after_run (record w { kept = states_kept (turns_of n w.machine w.host) [] }) (end_of running (run_plan n no_flags false) (w.machine, w.host))
+work_act (sitting n) w = after_session w (end_of conversing (session_plan n) ((w.machine, w.host), no_flags))
+work_act (going_back last) w = (state_lines (take last w.kept), record w { machine = reached w.machine (take last w.kept) })
+work_act dumping w = (dump_lines w.machine, w)
+work_act (summing blocks size) w = (summary blocks size w.machine.steps (register w.machine.stack 255), w)
+
+-- a session may stop with these flags
+pub record SessionLacks (n : ℕ) (w v : Work) : Type 0 where
+  pub flags : FlagsOf
+  pub stops : Stops conversing ((v.machine, v.host), flags) (session_plan n) ((w.machine, w.host), no_flags)
+
+-- A run that watchers are told of, or whose states are kept, may also stop behind a step, where a watcher, a report or what is kept
+-- lacks memory. A look lacks none.
+abbrev pub WorkLacks : WorkCall → Work → Work → Type 0
+WorkLacks (of_host o) w v = (v ≡ record w { host = v.host }) × host.Lacks o w.host v.host
+WorkLacks (stepping n) w v = Stops running (v.machine, v.host) (run_plan n no_flags false) (w.machine, w.host)
+WorkLacks (reporting n) w v = Stops running (v.machine, v.host) (run_plan n no_flags false) (w.machine, w.host) ⊎ AfterSteps n (w.machine, w.host) (v.machine, v.host)
+WorkLacks (keeping n) w v = Stops running (v.machine, v.host) (run_plan n no_flags false) (w.machine, w.host) ⊎ AfterSteps n (w.machine, w.host) (v.machine, v.host)
+WorkLacks (sitting n) w v = SessionLacks n w v
+WorkLacks (going_back last) w v = ⊥
+WorkLacks dumping w v = ⊥
+WorkLacks (summing blocks size) w v = ⊥
+
+unfoldable pub working : Acts WorkCall WorkSays Work
+working = record { act = work_act; Lacks = WorkLacks }
+
+-- ---- by the kind of the machine
+
 abbrev pub ran : Work → Course End RunWorld → Course End Work
 ran w (ends end v) = ends end (record w { machine = v.0; host = v.1 })
 ran w (meets_wild v) = meets_wild (record w { machine = v.0; host = v.1 })
@@ -67,16 +108,13 @@ abbrev pub sat : Work → Course SessionEnd SessionWorld → Course SessionEnd W
 sat w (ends end v) = ends end (record w { machine = v.0.0; host = v.0.1 })
 sat w (meets_wild v) = meets_wild (record w { machine = v.0.0; host = v.0.1 })
 
--- what a call comes to, by the kind of the machine
+-- what a call comes to: over a list runs and sessions may meet something wild
 abbrev pub work_goes : MachineKind → (o : WorkCall) → Work → Course (WorkSays o) Work
-work_goes kind (of_host o) w = ends (host.act o w.host).0 (record w { host = (host.act o w.host).1 })
 work_goes kind (stepping n) w = ran w (run_course kind n no_flags false w.machine w.host)
 work_goes kind (reporting n) w = ran (record w { told = traces kind n w.machine w.host }) (run_course kind n no_flags false w.machine w.host)
 work_goes kind (keeping n) w = ran (record w { kept = states_kept (turns_of n w.machine w.host) [] }) (run_course kind n no_flags false w.machine w.host)
 work_goes kind (sitting n) w = sat w (session_course kind n w.machine no_flags w.host)
-work_goes kind (going_back last) w = ends (state_lines (take last w.kept)) (record w { machine = reached w.machine (take last w.kept) })
-work_goes kind dumping w = ends (dump_lines w.machine) w
-work_goes kind (summing blocks size) w = ends (summary blocks size w.machine.steps (register w.machine.stack 255)) w
+work_goes kind other w = ends (work_act other w).0 (work_act other w).1
 
 abbrev pub WorkPlan : Type 0 → Type 0
 WorkPlan A = Plan WorkCall WorkSays A

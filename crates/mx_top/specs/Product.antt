@@ -1,15 +1,18 @@
 -- What the program does, as one page: the calls that it makes of the host, with the work on a machine among them, up to its outcome.
 -- What comes of that over a register window or over an unbounded list of registers is the course of this plan.
-use Rattle.std.specs.Prelude.{ℕ, Bool, List, [], ◌∷◌, length, Result, Ok, Err, codes}
+use Rattle.std.specs.Prelude.{ℕ, ◌≡◌, Bool, List, [], ◌∷◌, length, Result, Ok, Err, codes}
 use Rattle.mx_host.specs.HostModel.{HostModel}
-use Rattle.mx_plan.specs.Plan.{Plan, returns, calls, bind}
+use Rattle.mx_plan.specs.Plan.{Plan, returns, calls, bind, Acts, Stops, end_of}
 use Rattle.mx_plan.specs.Calls.{HostCall, HostSays, HostPlan, host, need}
 use Rattle.mx_plan.specs.Wild.{Course, ends, meets_wild, course}
 use Rattle.mx_mmo.specs.Image.{Image}
 use Rattle.mx_code.specs.declared.trace.Trace.{Trace}
 use Rattle.mx_core.specs.State.{State}
-use Rattle.mx_run.specs.WildRuns.{MachineKind}
+use Rattle.mx_run.specs.WildRuns.{MachineKind, window_machine}
+use Rattle.mx_multi.specs.Joint.{Joint}
 use Rattle.mx_multi.specs.Joint as joint
+use Rattle.mx_multi.specs.JointTurns.{JointWorld}
+use Rattle.mx_multi.specs.MultiPlans.{multi, turns_plan}
 use Rattle.mx_multi.specs.Turns.{TurnsEnd, turns_ended, turns_wild, turns}
 use Rattle.mx_multi.specs.declared.end.MultiEnd.{MultiEnd}
 use Rattle.mx_words.specs.Orders.{order_of}
@@ -33,7 +36,7 @@ use Rattle.mx_begin.specs.declared.images.Form.{Form}
 use Rattle.mx_begin.specs.declared.images.Form.TheVariants.{Source, Object}
 use Rattle.mx_dump.specs.Dump.{Line}
 use Rattle.mx_top.specs.Processors.{multi_lines, multi_outcome, processors_named}
-use Rattle.mx_top.specs.MachineWork.{Work, WorkPlan, work_goes, calling, stepping, machine_plan, summed_plan}
+use Rattle.mx_top.specs.MachineWork.{Work, WorkPlan, working, work_goes, calling, stepping, machine_plan, summed_plan}
 use Rattle.mx_top.specs.Runs.{generator_steps, outcome_of}
 use Rattle.mx_top.specs.Telling.{telling, message_plan}
 
@@ -59,6 +62,54 @@ ProgramWorld = HostModel × List Trace
 abbrev pub at_start : State → ProgramWorld → Work
 at_start s w = record { machine = s; kept = []; told = w.1; host = w.0 }
 
+-- the processors of a schedule as they start, over windows or over lists
+abbrev pub joint_at_start : MachineKind → ℕ → Image → List ℕ → Joint
+joint_at_start kind ring image schedule = joint.started image (processors_named schedule) (stack_at_start kind ring)
+
+-- ---- over windows of registers
+
+abbrev pub after_work : Outcome × Work → Outcome × ProgramWorld
+after_work t = (t.0, (t.1.host, t.1.told))
+
+abbrev pub work_end : WorkPlan Outcome → Result State Outcome → ProgramWorld → Outcome × ProgramWorld
+work_end work (Err outcome) w = (outcome, w)
+work_end work (Ok s) w = after_work (end_of working work (at_start s w))
+
+-- how the processors ended, and the lines that tell it
+abbrev pub after_turns : Bool → List Trace → MultiEnd × JointWorld → (MultiEnd × List Line) × ProgramWorld
+after_turns dump told t = ((t.0, multi_lines dump t.0 t.1.0), (t.1.1, told))
+
+abbrev pub program_act : (o : ProgramCall) → ProgramWorld → ProgramSays o × ProgramWorld
+program_act (of_host o) w = ((host.act o w.0).0, ((host.act o w.0).1, w.1))
+program_act (on_machine ring image arguments work) w = work_end work (started window_machine ring image arguments) w
+program_act (taking_turns ring image schedule steps dump) w = after_turns dump w.1 (end_of multi (turns_plan schedule steps schedule) (joint_at_start window_machine ring image schedule, w.0))
+
+-- the work on a machine may stop with this host
+pub record WorkStops (work : WorkPlan Outcome) (s : State) (w : ProgramWorld) (v : HostModel) : Type 0 where
+  pub left : Work
+  pub stops : Stops working left work (at_start s w)
+  pub host : left.host ≡ v
+
+abbrev pub MayStop : WorkPlan Outcome → Result State Outcome → ProgramWorld → HostModel → Type 0
+MayStop work (Err outcome) w v = ⊥
+MayStop work (Ok s) w v = WorkStops work s w v
+
+-- turns may stop with this host
+pub record TurnsStop (n : ℕ) (schedule : List ℕ) (j : Joint) (m v : HostModel) : Type 0 where
+  pub processors : Joint
+  pub stops : Stops multi (processors, v) (turns_plan schedule n schedule) (j, m)
+
+-- where memory may run out, and which host that leaves; of the traces nothing is said there
+abbrev pub ProgramLacks : ProgramCall → ProgramWorld → ProgramWorld → Type 0
+ProgramLacks (of_host o) w v = host.Lacks o w.0 v.0
+ProgramLacks (on_machine ring image arguments work) w v = MayStop work (started window_machine ring image arguments) w v.0
+ProgramLacks (taking_turns ring image schedule steps dump) w v = TurnsStop steps schedule (joint_at_start window_machine ring image schedule) w.0 v.0
+
+unfoldable pub program : Acts ProgramCall ProgramSays ProgramWorld
+program = record { act = program_act; Lacks = ProgramLacks }
+
+-- ---- by the kind of the machines
+
 abbrev pub worked : Course Outcome Work → Course Outcome ProgramWorld
 worked (ends outcome w) = ends outcome (w.host, w.told)
 worked (meets_wild w) = meets_wild (w.host, w.told)
@@ -68,7 +119,6 @@ abbrev pub work_on : MachineKind → WorkPlan Outcome → Result State Outcome �
 work_on kind work (Err outcome) w = ends outcome w
 work_on kind work (Ok s) w = worked (course (work_goes kind) work (at_start s w))
 
--- how the processors ended, and the lines that tell it
 abbrev pub turned : Bool → List Trace → TurnsEnd → Course (MultiEnd × List Line) ProgramWorld
 turned dump told (turns_ended end j m) = ends (end, multi_lines dump end j) (m, told)
 turned dump told (turns_wild m) = meets_wild (m, told)
@@ -78,7 +128,7 @@ abbrev pub program_goes : MachineKind → (o : ProgramCall) → ProgramWorld →
 program_goes kind (of_host o) w = ends (host.act o w.0).0 ((host.act o w.0).1, w.1)
 program_goes kind (on_machine ring image arguments work) w = work_on kind work (started kind ring image arguments) w
 program_goes kind (taking_turns ring image schedule steps dump) w =
-    turned dump w.1 (turns kind schedule steps schedule (joint.started image (processors_named schedule) (stack_at_start kind ring)) w.0)
+    turned dump w.1 (turns kind schedule steps schedule (joint_at_start kind ring image schedule) w.0)
 
 abbrev pub ProgramPlan : Type 0 → Type 0
 ProgramPlan A = Plan ProgramCall ProgramSays A

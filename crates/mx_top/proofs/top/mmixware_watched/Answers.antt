@@ -7,6 +7,8 @@ use Rattle.mx_words.specs.Orders.{order_of}
 use Rattle.mx_outcome.specs.declared.outcome.Outcome.TheVariants.{OutOfMemory}
 use Rattle.mx_top.specs.Commands.{carried_out}
 use Rattle.mx_top.proofs.Heard.{found-due, from-none, left-of, unless-by}
+use Rattle.mx_top.specs.Product.{product_traces}
+use Rattle.mx_top.proofs.ProductComes.{work-comes}
 use Rattle.mx_top.proofs.ProductCourses.{product-is-course}
 use Rattle.mx_top.proofs.Reported.{reported, reported-goes, watched-so}
 use Rattle.mx_top.proofs.Told.{spoken-front}
@@ -33,7 +35,8 @@ returns-in-Ok-clause-product g c = record {
         outcome = c.carry_out-outcome.result;
         said = c.carry_out-outcome.result;
         texts = _;
-        works = said.plan t;
+        heard = product_traces window_machine (map string_bytes c.args.words.now) (contents (g.H.Host.told c.args.host.now));
+        works = work-comes (map string_bytes c.args.words.now) (contents (g.H.Host.told c.args.host.now)) _ _ (said.plan t);
         reports = inl (refl, λ ne. c.as_slice.ensures ∙ c.in-Ok.ensures ∙ found-due window_machine (map string_bytes c.args.words.now) _ _ _ (contents (g.H.Host.told c.args.host.now)) _ (many ∙ sym (length-map c.args.watchers.now.items _)) (from-none _ _ _ _ c.new-kept.ensures (said.heard.0 t ne)));
         few = few-found _ _ _ _ _ _ (c.as_slice.ensures ∙ c.in-Ok.ensures) (many ∙ sym (length-map c.args.watchers.now.items _));
         told = c.finish.ensures.plan there;
@@ -83,7 +86,8 @@ returns-clause-product g c = record {
         outcome = c.carry_out-outcome.result;
         said = OutOfMemory;
         texts = [];
-        works = said.plan t;
+        heard = product_traces window_machine (map string_bytes c.args.words.now) (contents (g.H.Host.told c.args.host.now));
+        works = work-comes (map string_bytes c.args.words.now) (contents (g.H.Host.told c.args.host.now)) _ _ (said.plan t);
         reports = inr (refl, refl);
         few = omega arith;
         told = record { between = _; spoken = c.tell.result; message = c.tell.ensures.plan there; behind = inl (alone _ _) };
