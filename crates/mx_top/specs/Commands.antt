@@ -1,5 +1,5 @@
 -- What each command comes to, one part after another: an outcome and the host's last model. The product is this
--- (`product-is-course` in proofs/ProductCourses), and the proofs of the parts go by it.
+-- (law `product_is_what_its_commands_come_to`), and the proofs of the parts go by it.
 use Rattle.std.specs.Prelude.{ℕ, ◌==◌, not, if◌then◌else◌, List, [], ◌∷◌, length, Result, Ok, Err, codes}
 use Rattle.mx_host.specs.HostModel.{HostModel}
 use Rattle.mx_host.specs.HostAnswer.{Then, write_answer}

@@ -1,4 +1,5 @@
--- What the program does, as a plan: the calls that it makes of the host, with its runs among them, up to its outcome.
+-- The plans of the parts of the work, each with the machine of a window as it stands then: the clauses of the functions below the top
+-- call are about these. What comes of them comes of the plan of the whole (`Product`), by `work-comes` in proofs/ProductComes.
 use Rattle.std.specs.Prelude.{ℕ, ◌==◌, ◌&&◌, not, Bool, true, false, if◌then◌else◌, List, [], ◌∷◌, length, take, Result, Ok, Err, codes}
 use Rattle.mx_plan.specs.Plan.{returns, bind}
 use Rattle.mx_plan.specs.Calls.{HostPlan, need}

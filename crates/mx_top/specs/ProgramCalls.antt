@@ -1,4 +1,4 @@
--- The calls of the program, over the host alone: a machine is made and dropped within. A run, a session, and turns by a
+-- The calls of the parts of the work, over the host alone: a machine is made and dropped within. A run, a session, and turns by a
 -- schedule are each one call: it answers how they ended with the machines as they then stand, and with the states that are
 -- kept, where some are; it leaves the host at their end, and lacks memory where they may stop.
 use Rattle.std.specs.Prelude.{ℕ, ◌≡◌, ◌⊎◌, false, List, []}
