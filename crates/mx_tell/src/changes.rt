@@ -155,9 +155,15 @@ fn add_given(
     Ok(())
 }
 
+/// Whether a special register goes with traps alone: rBB, rWW, rXX, rYY or rZZ.
+fn is_of_traps(code: u8) -> bool {
+    code == 7 || 28 <= code
+}
+
 /// Whether a special register is told where it changes.
 fn is_told(code: u8) -> bool {
-    code != CYCLES && code != HIDDEN && code != SPILLED && code != LOCALS
+    let is_counted = code == CYCLES || code == HIDDEN || code == SPILLED || code == LOCALS;
+    !is_counted && !is_of_traps(code)
 }
 
 /// Adds a special register, if it is told and has another value than before.
@@ -207,7 +213,7 @@ fn add_octa(
     text.push(b'\n')
 }
 
-/// Adds what a step changed, a line for each value: registers, special registers but those that count steps and registers,
+/// Adds what a step changed, a line for each value: registers, special registers but those that count steps and registers or go with traps,
 /// and the octa that was written. After a call its arguments are told, and after a return its results, since all registers have
 /// other numbers then.
 pub fn add_changes(
