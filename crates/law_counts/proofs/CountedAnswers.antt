@@ -29,8 +29,9 @@ use Rattle.mx_begin.specs.Begun.{assembled, loaded, started}
 use Rattle.mx_begin.proofs.Beginnings.{begins}
 use Rattle.mx_begin.specs.declared.images.Form.TheVariants.{Object, Source}
 use Rattle.mx_top.proofs.BegunRuns.{image_ran, file_ran, begun-ran}
-use Rattle.mx_top.specs.Product.{carried_out, ordered, product, with_message}
-use Rattle.mx_top.specs.Reports.{begun_traces, carried_traces, order_traces, ordered_traces, traces_from}
+use Rattle.mx_top.specs.Commands.{carried_out, ordered, with_message, begun_traces, carried_traces, order_traces, ordered_traces, traces_from}
+use Rattle.mx_top.specs.Product.{product, product_traces}
+use Rattle.mx_top.proofs.ProductCourses.{product-is-course, traces-are-told}
 use Rattle.mx_top.specs.Runs.{dumped, machine_ran, ran_to, run_from}
 use Rattle.mx_top.specs.Runs as top
 use Rattle.mx_top.proofs.TakenBack.{forward-run}
@@ -98,7 +99,8 @@ module _ {A : Type 0} (outcome_in : A → Outcome) (making : Making A) (has : Ha
 order-run : (kind : MachineKind) (words : List Word) (o : Order) (command : Command) (m : HostModel) → RunsPlainly words o command →
     product kind words m ≡ with_message (ordered kind words o command m)
 order-run kind words o command m h =
-    ap (λ r. with_message (carried_out kind words r m)) h.order
+    product-is-course kind words m
+    ∙ ap (λ r. with_message (carried_out kind words r m)) h.order
     ∙ ap (λ (c : Command). with_message (ordered kind words o c m)) h.command_is
 
 source-same : {A : Type 0} (outcome_in : A → Outcome) (making : List ℕ → Making A) → ((source : List ℕ) → HasOutcome outcome_in (making source)) →
@@ -181,13 +183,13 @@ module _ (kind : MachineKind) (words : List Word) (o : Order) (source : List ℕ
         ∙ plain-traces
 
     sheet-with : (e : Ended) → ran kind o.steps s begun ≡ run_ended e → source_file kind words o (in_form Text) m
-        ≡ came_to (record { outcome = outcome_of o.steps e.end; sheet = Some (sheet_of source (carried_traces kind words (order_of words) m ++ halting_after e)) }) e.host
+        ≡ came_to (record { outcome = outcome_of o.steps e.end; sheet = Some (sheet_of source (product_traces kind words m ++ halting_after e)) }) e.host
     sheet-with e ended =
         counted-is
         ∙ ap (λ r. counted_to o.steps (in_form Text source) (traces kind o.steps s begun) r) ended
-        ∙ ap (λ h. came_to (record { outcome = outcome_of o.steps e.end; sheet = Some (sheet_of source (h ++ halting_after e)) }) e.host) (sym traces-are)
+        ∙ ap (λ h. came_to (record { outcome = outcome_of o.steps e.end; sheet = Some (sheet_of source (h ++ halting_after e)) }) e.host) (sym (traces-are-told kind words m ∙ traces-are))
 
 pub sheet-is : (kind : MachineKind) (words : List Word) (o : Order) (source : List ℕ) (s : State) (m begun : HostModel) (e : Ended) → RunsPlainly words o Run → o.report ≡ true →
     StartsWith kind words o source s m begun → ran kind o.steps s begun ≡ run_ended e → source_file kind words o (in_form Text) m
-    ≡ came_to (record { outcome = outcome_of o.steps e.end; sheet = Some (sheet_of source (carried_traces kind words (order_of words) m ++ halting_after e)) }) e.host
+    ≡ came_to (record { outcome = outcome_of o.steps e.end; sheet = Some (sheet_of source (product_traces kind words m ++ halting_after e)) }) e.host
 sheet-is kind words o source s m begun e plain reports starts ended = sheet-with kind words o source s m begun starts plain reports e ended

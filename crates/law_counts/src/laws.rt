@@ -12,12 +12,11 @@ ghost use Rattle.mx_object.specs.declared.counted.CountedObject.{CountedObject};
 ghost use Rattle.mx_host.specs.HostModel.{HostModel};
 ghost use Rattle.mx_run.specs.Runs.{Ended};
 ghost use Rattle.mx_run.specs.WildRuns.{MachineKind, run_ended};
-ghost use Rattle.mx_words.specs.Orders.{order_of};
 ghost use Rattle.mx_words.specs.declared.order.Command.TheVariants.{Run, Sim};
 ghost use Rattle.mx_words.specs.declared.order.Order.{Order};
 ghost use Rattle.mx_begin.specs.Arguments.{Word};
-ghost use Rattle.mx_top.specs.Product.{product, with_message};
-ghost use Rattle.mx_top.specs.Reports.{carried_traces};
+ghost use Rattle.mx_top.specs.Product.{product, product_traces};
+ghost use Rattle.mx_top.specs.Commands.{with_message};
 ghost use Rattle.law_counts.specs.Counted.{RunsPlainly, StartsWith, answer_by, object_file, source_file};
 
 /// A source that is counted is run as the program runs it, and an object, too: the outcome, and all that the host then
@@ -44,7 +43,7 @@ pub fn counts_go_by_the_traces_of_their_runs()
         ran kind o.steps s begun ≡ run_ended e →
         source_file kind words o (in_form Text) m ≡ came_to (record {
           outcome = outcome_of o.steps e.end;
-          sheet = Some (sheet_of source (carried_traces kind words (order_of words) m ++ halting_after e));
+          sheet = Some (sheet_of source (product_traces kind words m ++ halting_after e));
         }) e.host }
 {}
 

@@ -31,7 +31,9 @@ use Rattle.mx_files.specs.Objects.{source_object}
 use Rattle.mx_files.specs.Objects as assembling
 use Rattle.mx_files.specs.Assembling.{refused_with, assembled_outcome}
 use Rattle.mx_files.proofs.FileEnds.{assembled-by}
-use Rattle.mx_top.specs.Product.{begun_run, summed, summed_from, generated_run, ordered, carried_out, with_message, product}
+use Rattle.mx_top.specs.Commands.{begun_run, summed, summed_from, generated_run, ordered, carried_out, with_message}
+use Rattle.mx_top.specs.Product.{product}
+use Rattle.mx_top.proofs.ProductCourses.{product-is-course}
 use Rattle.mx_top.specs.Runs.{ran, machine_ran, session_ran, states_back, taken_back, run_back, order_ran, dumped, run_from, image_run}
 use Rattle.mx_files.specs.Sources.{source_meaning, meaning_unless}
 use Rattle.mx_files.specs.declared.refusal.Refusal.{Refusal}
@@ -42,7 +44,8 @@ use Rattle.mx_outcome.specs.declared.outcome.Outcome.TheVariants.{Done}
 
 pub order-is : (kind : MachineKind) (words : List Word) (o : Order) (c : Command) (m : HostModel) → IsOrdered words o c → product kind words m ≡ with_message (ordered kind words o c m)
 order-is kind words o c m h =
-    ap (λ r. with_message (carried_out kind words r m)) h.order
+    product-is-course kind words m
+    ∙ ap (λ r. with_message (carried_out kind words r m)) h.order
     ∙ ap (λ d. with_message (ordered kind words o d m)) h.command
 
 pub source-run : (kind : MachineKind) (words : List Word) (o : Order) (image : Image) (m begun : HostModel) → HasSource words o image m begun →

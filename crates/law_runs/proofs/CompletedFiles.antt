@@ -33,8 +33,9 @@ use Rattle.mx_plan.specs.Plan.{end_of, end_after}
 use Rattle.mx_files.specs.Objects.{source_object}
 use Rattle.mx_files.specs.Assembling.{assembled_outcome}
 use Rattle.mx_files.specs.FilePlans.{on_ok, file_plan, lines_plan}
-use Rattle.mx_top.specs.Product.{generator_steps, with_message, product}
-use Rattle.mx_top.specs.Runs.{ran, ran_to, machine_ran, dumped, image_run}
+use Rattle.mx_top.specs.Commands.{with_message}
+use Rattle.mx_top.specs.Product.{product}
+use Rattle.mx_top.specs.Runs.{generator_steps, ran, ran_to, machine_ran, dumped, image_run}
 use Rattle.mx_files.specs.Source.{file_bytes}
 use Rattle.mx_outcome.specs.declared.outcome.Outcome.{Outcome}
 use Rattle.mx_outcome.specs.declared.outcome.Outcome.TheVariants.{Done}

@@ -49,7 +49,9 @@ use Rattle.mx_files.specs.Objects.{source_object}
 use Rattle.mx_files.specs.Assembling.{assembled_outcome}
 use Rattle.mx_files.proofs.FileEnds.{assembled-later}
 use Rattle.mx_top.proofs.BegunRuns.{image_ran, file_ran, begun-ran}
-use Rattle.mx_top.specs.Product.{carried_out, message_told, with_message, product}
+use Rattle.mx_top.specs.Commands.{carried_out, message_told, with_message}
+use Rattle.mx_top.specs.Product.{product}
+use Rattle.mx_top.proofs.ProductCourses.{product-is-course}
 use Rattle.mx_dump.specs.Dump.{dump_lines}
 use Rattle.mx_top.specs.Runs.{Ran, ran, ran_wild, ran_to, machine_ran, takes_back, states_back, state_lines, reached, lines_told, taken_back, played, order_ran, dumped, run_from, image_run}
 use Rattle.mx_begin.specs.Begun.{assembled, loaded, main_address, begun_at, stack_at_start}
@@ -83,7 +85,8 @@ run-is : (kind : MachineKind) (options : List Word) (source : Word) (rest : List
 run-is kind options source rest o m e f r =
     let words : List Word = run_words options source rest in
     let order : Order = record o { command = Run } in
-    ap (λ t. with_message (carried_out kind words t m)) e
+    product-is-course kind words m
+    ∙ ap (λ t. with_message (carried_out kind words t m)) e
     ∙ ap with_message (begun-ran kind words order Source m)
     ∙ ap (λ (w : Word). with_message (file_ran kind order (program_name w ∷ drop o.rest words) Source (file_bytes 1025 w m))) (file-behind (codes "run") options source rest o.file f)
     ∙ ap (λ (ws : List Word). with_message (file_ran kind order (program_name source ∷ ws) Source (file_bytes 1025 source m))) (rest-behind (codes "run") options source rest o.rest r)
@@ -94,7 +97,8 @@ sim-is : (kind : MachineKind) (options : List Word) (object : Word) (rest : List
 sim-is kind options object rest o m e f r =
     let words : List Word = sim_words options object rest in
     let order : Order = record o { command = Sim } in
-    ap (λ t. with_message (carried_out kind words t m)) e
+    product-is-course kind words m
+    ∙ ap (λ t. with_message (carried_out kind words t m)) e
     ∙ ap with_message (begun-ran kind words order Object m)
     ∙ ap (λ (w : Word). with_message (file_ran kind order (program_name w ∷ drop o.rest words) Object (file_bytes 16385 w m))) (file-behind (codes "sim") options object rest o.file f)
     ∙ ap (λ (ws : List Word). with_message (file_ran kind order (program_name object ∷ ws) Object (file_bytes 16385 object m))) (rest-behind (codes "sim") options object rest o.rest r)
@@ -126,7 +130,7 @@ asm-with kind source object fault n a false e = done-plain (end_of host (assembl
 
 asm-done : (kind : MachineKind) (source object : Word) (n a : HostModel) → product kind (asm_words source object) n ≡ answered (Done 0) a → end_of host (assemble_plan source object) n ≡ (Done 0, a)
 unfolding options_from
-asm-done kind source object n a e = asm-with kind source object (record { kind = 3; word = 1 }) n a (is_option source) e
+asm-done kind source object n a e = asm-with kind source object (record { kind = 3; word = 1 }) n a (is_option source) (sym (product-is-course kind (asm_words source object) n) ∙ e)
 
 -- ---- assembling
 

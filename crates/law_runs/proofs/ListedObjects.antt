@@ -40,7 +40,8 @@ use Rattle.mx_files.specs.Answers.{Answer, answered, plainly}
 use Rattle.mx_files.proofs.FileEnds.{listed-by}
 use Rattle.mx_begin.specs.Arguments.{Word, word_at}
 use Rattle.mx_outcome.specs.Messages.{message_of}
-use Rattle.mx_top.specs.Product.{message_told, with_message, product}
+use Rattle.mx_top.specs.Commands.{message_told, with_message}
+use Rattle.mx_top.specs.Product.{product}
 use Rattle.mx_files.specs.Source.{object_pieces}
 use Rattle.mx_files.specs.Typed.{Typed, shown, item_lines, tail_lines, trie_typed, tail_typed, unread, unread_trie, behind, walk_typed, typed}
 use Rattle.mx_outcome.specs.declared.outcome.Outcome.{Outcome}

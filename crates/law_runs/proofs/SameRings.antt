@@ -17,9 +17,11 @@ use Rattle.mx_words.specs.declared.order.Command.TheVariants.{Run, Asm, Sim, Gen
 use Rattle.mx_words.specs.declared.order.Order.{Order}
 use Rattle.mx_begin.specs.Arguments.{Word, word_at, arguments}
 use Rattle.law_gen.specs.Generator.{generated}
-use Rattle.mx_top.specs.Product.{begun_run, image_turned, after_schedule, generated_run, source_generated, summed_from, ordered, carried_out, with_message, product}
+use Rattle.mx_top.specs.Commands.{begun_run, image_turned, after_schedule, generated_run, source_generated, summed_from, ordered, carried_out, with_message, traces_from, begun_traces, ordered_traces, carried_traces}
+use Rattle.mx_top.specs.Product.{product, product_traces}
+use Rattle.mx_top.proofs.ProductCourses.{product-is-course, traces-are-told}
 use Rattle.law_runs.specs.Rings.{DifferInRing, HandsArguments, gen_ring_words, gen_words}
-use Rattle.mx_top.specs.Reports.{traces_from, begun_traces, ordered_traces, carried_traces, due_reports, with_reports, watched_product}
+use Rattle.mx_top.specs.Reports.{due_reports, with_reports, watched_product}
 use Rattle.mx_top.specs.Runs.{run_from}
 use Rattle.mx_begin.specs.BeginPlans.{image_file_plan, start_plan, begin_plan}
 use Rattle.mx_begin.specs.Begun.{stack_at_start, started}
@@ -84,9 +86,10 @@ module _ (kind : MachineKind) (words others : List Word) (o p : Order) (e : Diff
 
   same-product : (m : HostModel) → order_of words ≡ Ok o → order_of others ≡ Ok p → product kind words m ≡ product kind others m
   same-product m f g =
-      ap (λ r. with_message (carried_out kind words r m)) f
+      product-is-course kind words m
+      ∙ ap (λ r. with_message (carried_out kind words r m)) f
       ∙ ap with_message (same-ordered o.command m e.arguments e.schedule ∙ ap (λ c. ordered kind others p c m) e.command)
-      ∙ sym (ap (λ r. with_message (carried_out kind others r m)) g)
+      ∙ sym (product-is-course kind others m ∙ ap (λ r. with_message (carried_out kind others r m)) g)
 
   -- ---- what watchers are told
 
@@ -110,15 +113,16 @@ module _ (kind : MachineKind) (words others : List Word) (o p : Order) (e : Diff
     traced-all m = traced-ordered o.command m e.arguments ∙ ap (λ c. ordered_traces kind others p c m) e.command
 
     same-due : (ws : List Watching) (m : HostModel) → order_of words ≡ Ok o → order_of others ≡ Ok p →
-        due_reports kind words ws (order_of words) m ≡ due_reports kind others ws (order_of others) m
+        due_reports (order_of words) ws (product_traces kind words m) ≡ due_reports (order_of others) ws (product_traces kind others m)
     same-due ws m f g =
-        ap (λ r. due_reports kind words ws r m) f
+        ap (due_reports (order_of words) ws) (traces-are-told kind words m)
+        ∙ ap (λ r. due_reports r ws (carried_traces kind words r m)) f
         ∙ ap (λ (ts : List Trace). cond o.report (reports_on ts ws) []) (traced-all m) ∙ ap (λ b. cond b (reports_on (carried_traces kind others (Ok p) m) ws) []) asks
-        ∙ sym (ap (λ r. due_reports kind others ws r m) g)
+        ∙ sym (ap (due_reports (order_of others) ws) (traces-are-told kind others m) ∙ ap (λ r. due_reports r ws (carried_traces kind others r m)) g)
 
     same-watched : (ws : List Watching) (m : HostModel) → order_of words ≡ Ok o → order_of others ≡ Ok p → watched_product kind words ws m ≡ watched_product kind others ws m
     same-watched ws m f g =
-        ap (λ ts. with_reports ts (product kind words m)) (same-due ws m f g) ∙ ap (with_reports (due_reports kind others ws (order_of others) m)) (same-product m f g)
+        ap (λ ts. with_reports ts (product kind words m)) (same-due ws m f g) ∙ ap (with_reports (due_reports (order_of others) ws (product_traces kind others m))) (same-product m f g)
 
 -- ---- the laws
 

@@ -29,7 +29,8 @@ use Rattle.mx_files.specs.Writing.{lines_put}
 use Rattle.mx_outcome.specs.Messages.{message_of}
 use Rattle.mx_files.specs.Objects.{source_object}
 use Rattle.mx_files.specs.Assembling.{assembled_outcome}
-use Rattle.mx_top.specs.Product.{message_told, with_message, product}
+use Rattle.mx_top.specs.Commands.{message_told, with_message}
+use Rattle.mx_top.specs.Product.{product}
 use Rattle.mx_top.specs.Runs.{Ran, ran, played, session_ran, dumped, image_run}
 use Rattle.mx_files.specs.Source.{source_pieces, object_pieces}
 use Rattle.mx_outcome.specs.declared.outcome.Outcome.{Outcome}

@@ -1,6 +1,6 @@
 -- Where no call that is made fails, the program does and answers the same whatever the count of calls, and whatever the
 -- list of those that fail.
-use Rattle.std.proofs.Common.{◌≡◌, ◌≤◌, ℕ, zero, suc, List, [], ◌∷◌, Bool, true, false, cond, length, take, refl, sym, ◌∙◌, ap, Ok, Err}
+use Rattle.std.proofs.Common.{◌≡◌, ◌≤◌, ℕ, zero, suc, List, [], ◌∷◌, Bool, true, false, cond, length, take, refl, sym, ◌∙◌, ap, subst, Ok, Err}
 use Rattle.std.specs.Prelude.{Result, ◌&&◌, codes}
 use Rattle.mx_host.specs.HostModel.{HostModel}
 use Rattle.mx_host.specs.HostAnswer.{Then}
@@ -41,8 +41,10 @@ use Rattle.mx_files.specs.Writing.{lines_put}
 use Rattle.mx_files.specs.Sources.{source_meaning}
 use Rattle.mx_outcome.specs.Messages.{message_of}
 use Rattle.mx_files.specs.ObjectPlans.{assemble_plan, list_plan}
-use Rattle.mx_top.specs.Product.{begun_run, generator_steps, summed, summed_from, generated_run, image_turned, after_schedule, multi_ordered, ordered, carried_out, message_told, with_message, product}
-use Rattle.mx_top.specs.Runs.{ran, ran_to, outcome_of, takes_back, state_lines, reached, lines_told, taken_back, run_back, played, session_outcome, session_ran, dumped, run_from, image_run}
+use Rattle.mx_top.specs.Commands.{begun_run, summed, summed_from, generated_run, image_turned, after_schedule, multi_ordered, ordered, carried_out, message_told, with_message}
+use Rattle.mx_top.specs.Product.{product}
+use Rattle.mx_top.proofs.ProductCourses.{product-is-course}
+use Rattle.mx_top.specs.Runs.{generator_steps, ran, ran_to, outcome_of, takes_back, state_lines, reached, lines_told, taken_back, run_back, played, session_outcome, session_ran, dumped, run_from, image_run}
 use Rattle.mx_begin.specs.BeginPlans.{begin_plan, image_file_plan}
 use Rattle.mx_begin.specs.Begun.{stack_at_start, started}
 use Rattle.mx_begin.specs.declared.images.Form.{Form}
@@ -265,7 +267,9 @@ message-steady a b h = after with_message h (with-case a)
 
 pub product-steady : (kind : MachineKind) (words : List Word) (m : HostModel) → SparedAnswers m (product kind words m) (product kind words (still m))
 product-steady kind words m =
-    message-steady (carried_out kind words (order_of words) m) (carried_out kind words (order_of words) (still m)) (words-steady kind words (order_of words) m)
+    subst (λ (a : Answer). SparedAnswers m a (product kind words (still m))) (sym (product-is-course kind words m))
+    (subst (λ (a : Answer). SparedAnswers m (with_message (carried_out kind words (order_of words) m)) a) (sym (product-is-course kind words (still m)))
+    (message-steady (carried_out kind words (order_of words) m) (carried_out kind words (order_of words) (still m)) (words-steady kind words (order_of words) m)))
 
 -- ---- two models that differ in the number of calls and the list of those that fail
 

@@ -1,5 +1,5 @@
 -- By its definition the program does not lack memory: no file that is opened does, no run and no session.
-use Rattle.std.proofs.Common.{◌≡◌, ℕ, zero, suc, ◌-◌, ◌/◌, List, [], ◌∷◌, length, take, drop, Bool, true, false, cond, Option, None, Some, Result, Ok, Err, refl, sym, subst}
+use Rattle.std.proofs.Common.{◌≡◌, ℕ, zero, suc, ◌-◌, ◌/◌, List, [], ◌∷◌, length, take, drop, Bool, true, false, cond, Option, None, Some, Result, Ok, Err, refl, sym, ◌∙◌, ap, subst}
 use Rattle.std.specs.Prelude.{◌&&◌, codes, nat_lt, nat_le}
 use Rattle.mx_word.specs.declared.symbols.Symbol.{Symbol}
 use Rattle.mx_host.specs.HostModel.{HostModel, counted, is_failing, is_read_only, place_of}
@@ -47,8 +47,10 @@ use Rattle.mx_files.specs.Objects.{Assembled, source_object}
 use Rattle.mx_files.specs.FilePlans.{Part, on_ok, carried, close_file, input_opened, open_input, piece_added, read_piece, read_next, read_pieces, then_closed, read_open, file_plan, write_piece, write_pieces, text_plan, made_plan, lines_plan}
 use Rattle.mx_files.specs.ObjectPlans.{outcome_of, object_opened, open_object, assembled as assembled_answer, close_object, put_object, put_source, put_into, assemble_part, assemble_plan, whole_plan, typed_end, typed_plan, list_part, list_plan}
 use Rattle.mx_files.proofs.FileEnds.{whole-by}
-use Rattle.mx_top.specs.Product.{begun_run, image_turned, after_schedule, generator_steps, summed, summed_from, generated_run, ordered, carried_out, message_told, with_message, product}
-use Rattle.mx_top.specs.Runs.{Ran, ran, ran_wild, machine_ran, session_outcome, played, takes_back, states_back, state_lines, reached, lines_told, taken_back, order_ran, dumped, run_from}
+use Rattle.mx_top.specs.Commands.{begun_run, image_turned, after_schedule, summed, summed_from, generated_run, ordered, carried_out, message_told, with_message}
+use Rattle.mx_top.specs.Product.{product}
+use Rattle.mx_top.proofs.ProductCourses.{product-is-course}
+use Rattle.mx_top.specs.Runs.{generator_steps, Ran, ran, ran_wild, machine_ran, session_outcome, played, takes_back, states_back, state_lines, reached, lines_told, taken_back, order_ran, dumped, run_from}
 use Rattle.mx_begin.specs.BeginPlans.{image_plan, image_file_plan, start_plan, begin_plan}
 use Rattle.mx_begin.specs.Begun.{assembled, loaded, image_in, most_pieces, main_address, begun_at, stack_at_start, started}
 use Rattle.mx_begin.specs.declared.images.Form.{Form}
@@ -436,6 +438,6 @@ message-told (answered outcome m) h = told-told outcome (message_of outcome) m h
 message-told (wild m) h = refl
 
 pub programs-told : (kind : MachineKind) (words : List Word) (m : HostModel) → is_answer_told (product kind words m) ≡ true
-programs-told kind words m = message-told (carried_out kind words (order_of words) m) (carried-told kind words (order_of words) m)
+programs-told kind words m = ap is_answer_told (product-is-course kind words m) ∙ message-told (carried_out kind words (order_of words) m) (carried-told kind words (order_of words) m)
 
 pub ruleset unbroken_programs = (programs-told)

@@ -8,14 +8,14 @@ use Rattle.mx_words.specs.Orders.{order_of}
 use Rattle.mx_files.specs.Answers.{Answer, answered, wild}
 use Rattle.mx_outcome.specs.declared.outcome.Outcome.{Outcome}
 use Rattle.mx_begin.specs.Arguments.{Word}
-use Rattle.mx_top.specs.Product.{product}
+use Rattle.mx_top.specs.Product.{product, product_traces}
 use Rattle.mx_top.specs.Reports.{due_reports, reports_put, watched_product, with_reports}
 use Rattle.law_runs.specs.Called.{IsCalled, IsWatched}
 use Rattle.law_runs.specs.Detour.{host_of}
 
 pub reports-behind : (kind : MachineKind) (words : List Word) (ws : List Watching) (outcome : Outcome) (m n : HostModel) → product kind words m ≡ answered outcome n →
-    watched_product kind words ws m ≡ answered outcome (reports_put (due_reports kind words ws (order_of words) m) n)
-reports-behind kind words ws outcome m n e = ap (with_reports (due_reports kind words ws (order_of words) m)) e
+    watched_product kind words ws m ≡ answered outcome (reports_put (due_reports (order_of words) ws (product_traces kind words m)) n)
+reports-behind kind words ws outcome m n e = ap (with_reports (due_reports (order_of words) ws (product_traces kind words m))) e
 
 same-answer : (result : Outcome) (new : HostModel) (texts : List (List ℕ)) (due : Answer) → answered result new ≡ with_reports texts due → answered result (host_of due) ≡ due
 same-answer result new texts (answered outcome n) e = let same : result ≡ outcome = cc e in ap (λ o. answered o n) same
@@ -26,7 +26,7 @@ pub watched-called : (words : List Word) (ws : List Watching) (old new : Option 
 unfolding contents
 watched-called words ws old new result e = record {
   telling = e.telling;
-  answers = λ t ne. same-answer result (contents new) (due_reports window_machine words ws (order_of words) (contents old)) (product window_machine words (contents old)) (e.answers t ne);
+  answers = λ t ne. same-answer result (contents new) (due_reports (order_of words) ws (product_traces window_machine words (contents old))) (product window_machine words (contents old)) (e.answers t ne);
 }
 
 pub ruleset watched_calls = (reports-behind, watched-called)

@@ -20,8 +20,7 @@ use Rattle.law_gen.specs.Program.{generated_image}
 use Rattle.mx_files.specs.Objects.{source_object}
 use Rattle.mx_files.specs.Writing.{put_text}
 use Rattle.mx_files.specs.Assembling.{object_slot}
-use Rattle.mx_top.specs.Product.{generator_steps}
-use Rattle.mx_top.specs.Runs.{ran, machine_ran, session_ran}
+use Rattle.mx_top.specs.Runs.{generator_steps, ran, machine_ran, session_ran}
 use Rattle.mx_begin.specs.Begun.{started}
 use Rattle.mx_files.specs.Source.{file_bytes, source_pieces, object_pieces}
 use Rattle.mx_files.specs.Sources.{source_meaning}

@@ -11,7 +11,7 @@ ghost use Rattle.mx_words.specs.Orders.{order_of};
 ghost use Rattle.mx_words.specs.Values.{blocks_value, ring_value};
 ghost use Rattle.mx_words.specs.declared.order.Order.{Order};
 ghost use Rattle.mx_begin.specs.Arguments.{Word};
-ghost use Rattle.mx_top.specs.Product.{product};
+ghost use Rattle.mx_top.specs.Product.{product, product_traces};
 ghost use Rattle.mx_top.specs.Reports.{due_reports, reports_put, watched_product};
 ghost use Rattle.law_runs.specs.Called.{IsCalled, IsWatched};
 ghost use Rattle.law_runs.specs.Detour.{host_of};
@@ -46,7 +46,7 @@ pub fn reports_change_nothing_else()
         product kind words m ≡ product kind others m }
     ensures outcome { (kind : MachineKind) (words : List Word) (watchers : List Watching) (outcome : Outcome)
         (m n : HostModel) → product kind words m ≡ answered outcome n → watched_product kind words watchers m ≡
-        answered outcome (reports_put (due_reports kind words watchers (order_of words) m) n) }
+        answered outcome (reports_put (due_reports (order_of words) watchers (product_traces kind words m)) n) }
     ensures calls { (words : List Word) (watchers : List Watching) (old new : Option HostModel) (result : Outcome) →
         IsWatched words watchers old new result →
         IsCalled words old (Some (host_of (product window_machine words (contents old)))) result }

@@ -17,7 +17,7 @@ use Rattle.mx_begin.specs.BeginPlans.{image_plan, start_plan, begin_plan}
 use Rattle.mx_begin.specs.Begun.{image_in, most_pieces}
 use Rattle.mx_begin.specs.declared.images.Form.{Form}
 use Rattle.mx_begin.proofs.Beginnings.{begin-by, image-by, image-end, start-end}
-use Rattle.mx_top.specs.Product.{begun_run}
+use Rattle.mx_top.specs.Commands.{begun_run}
 use Rattle.mx_top.specs.Runs.{image_run}
 
 abbrev pub image_ran : MachineKind → Order → List Word → Result Image Outcome → HostModel → Answer

@@ -10,7 +10,8 @@ use Rattle.mx_watch.specs.declared.telling.Report.{Report}
 use Rattle.mx_words.specs.declared.order.Order.{Order}
 use Rattle.mx_words.specs.declared.order.WordsFault.{WordsFault}
 use Rattle.mx_outcome.specs.declared.outcome.Outcome.{Outcome}
-use Rattle.mx_top.specs.ProgramCalls.{ProgramPlan}
+use Rattle.mx_code.specs.declared.trace.Trace.{Trace}
+use Rattle.mx_top.specs.Product.{ProgramPlan}
 use Rattle.mx_top.specs.Reports.{found_reports}
 use Rattle.mx_top.specs.WorkClauses.{Doing}
 
@@ -42,7 +43,7 @@ pub few-found : (r : Result Order WordsFault) (count n : ℕ) (left : List Watch
 few-found r count n left kept texts e c = rw e (subst (λ (k : ℕ). length (found_reports r count left kept) ≤ k) c (few-of r count left kept))
 
 -- where nobody watches there is none
-pub unwatched-doing : {A : Type 0} (items : List A) (m n : HostModel) (result : Outcome) (work : ProgramPlan Outcome) (due : List (List ℕ)) → items ≡ [] → due ≡ [] → Doing m n result work (length items) due →
-    Doing m n result work 0 []
+pub unwatched-doing : {A : Type 0} (items : List A) (m n : HostModel) (result : Outcome) (work : ProgramPlan Outcome) (due : List Trace → List (List ℕ)) → items ≡ [] → due ≡ (λ told. []) → Doing m n result work (length items) due →
+    Doing m n result work 0 (λ told. [])
 unwatched-doing {A} items m n result work due none nothing d =
-    subst (λ (xs : List (List ℕ)). Doing m n result work 0 xs) nothing (subst (λ (xs : List A). Doing m n result work (length xs) due) none d)
+    subst (λ (f : List Trace → List (List ℕ)). Doing m n result work 0 f) nothing (subst (λ (xs : List A). Doing m n result work (length xs) due) none d)

@@ -1,5 +1,5 @@
 -- What watchers hear, and what is written of it.
-use Rattle.std.proofs.Common.{◌≡◌, ℕ, Bool, true, false, cond, List, [], length, refl, ◌∙◌, ap, Ok, Err, ◌&&◌}
+use Rattle.std.proofs.Common.{◌≡◌, ℕ, Bool, true, false, cond, List, [], length, refl, sym, ◌∙◌, ap, Ok, Err, ◌&&◌}
 use Rattle.std.specs.Prelude.{Result}
 use Rattle.std.specs.List.{range_with_len}
 use Rattle.mx_host.specs.HostModel.{HostModel}
@@ -14,6 +14,7 @@ use Rattle.mx_watch.specs.Watching.{Watching}
 use Rattle.mx_watch.specs.declared.telling.Report.{Report}
 use Rattle.mx_watch.proofs.AllReported.{all-reported}
 use Rattle.mx_watch.proofs.HeardBy.{by-hears, nothing-heard}
+use Rattle.mx_words.specs.Orders.{order_of}
 use Rattle.mx_words.specs.declared.order.Order.{Order}
 use Rattle.mx_words.specs.declared.order.WordsFault.{WordsFault}
 use Rattle.mx_files.specs.Answers.{Answer, answered, wild, after_lines}
@@ -22,7 +23,10 @@ use Rattle.mx_files.specs.Writing.{lines_put}
 use Rattle.mx_outcome.specs.declared.outcome.Outcome.{Outcome}
 use Rattle.mx_begin.specs.Arguments.{Word}
 use Rattle.mx_dump.specs.Dump.{dump_lines}
-use Rattle.mx_top.specs.Reports.{UnlessWild, carried_traces, due_reports, found_reports}
+use Rattle.mx_top.specs.Commands.{carried_traces}
+use Rattle.mx_top.specs.Reports.{UnlessWild, due_reports, found_reports}
+use Rattle.mx_top.specs.Product.{product_traces}
+use Rattle.mx_top.proofs.ProductCourses.{traces-are-told}
 use Rattle.mx_top.specs.Runs.{ran, ran_to, dumped, outcome_of}
 
 -- ---- what is heard
@@ -57,8 +61,10 @@ pub ruleset silence = (nothing-heard, nobody-listed)
 pub from-none : (h : List Trace) (ws : List Watching) (K : List Report) (x : List Watching × List Report) → K ≡ [] → x ≡ heard_by h ws K → x ≡ heard_by h ws []
 from-none h ws K x none e = e ∙ ap (heard_by h ws) none
 
-pub left-of : (h : List Trace) (ws left : List Watching) (K later : List Report) → K ≡ [] → (left, later) ≡ heard_by h ws K → left ≡ (heard_by h ws []).0
-left-of h ws left K later none e = ap (λ (p : List Watching × List Report). p.0) (from-none h ws K (left, later) none e)
+pub left-of : (kind : MachineKind) (words : List Word) (m : HostModel) (ws left : List Watching) (K later : List Report) → K ≡ [] → (left, later) ≡ heard_by (carried_traces kind words (order_of words) m) ws K →
+    left ≡ (heard_by (product_traces kind words m) ws []).0
+left-of kind words m ws left K later none e =
+    ap (λ (p : List Watching × List Report). p.0) (from-none (carried_traces kind words (order_of words) m) ws K (left, later) none e) ∙ ap (λ h. (heard_by h ws []).0) (sym (traces-are-told kind words m))
 
 -- ---- the reports
 
@@ -68,7 +74,12 @@ found-of : (b : Bool) (h : List Trace) (ws left : List Watching) (kept : List Re
 found-of true h ws left kept count long e = ap (λ n. in_places (range_with_len 0 n) kept (texts_now left)) long ∙ all-reported h ws left kept (by-hears h ws left [] kept e)
 found-of false h ws left kept count long e = refl
 
-pub found-due : (kind : MachineKind) (words : List Word) (ws left : List Watching) (kept : List Report) (r : Result Order WordsFault) (m : HostModel) (count : ℕ) → count ≡ length ws →
-    (left, kept) ≡ heard_by (carried_traces kind words r m) ws [] → found_reports r count left kept ≡ due_reports kind words ws r m
-found-due kind words ws left kept (Err fault) m count long e = refl
-found-due kind words ws left kept (Ok o) m count long e = found-of o.report (carried_traces kind words (Ok o) m) ws left kept count long e
+found-by : (r : Result Order WordsFault) (h : List Trace) (ws left : List Watching) (kept : List Report) (count : ℕ) → count ≡ length ws →
+    (left, kept) ≡ heard_by h ws [] → found_reports r count left kept ≡ due_reports r ws h
+found-by (Err fault) h ws left kept count long e = refl
+found-by (Ok o) h ws left kept count long e = found-of o.report h ws left kept count long e
+
+pub found-due : (kind : MachineKind) (words : List Word) (ws left : List Watching) (kept : List Report) (m : HostModel) (count : ℕ) → count ≡ length ws →
+    (left, kept) ≡ heard_by (carried_traces kind words (order_of words) m) ws [] → found_reports (order_of words) count left kept ≡ due_reports (order_of words) ws (product_traces kind words m)
+found-due kind words ws left kept m count long e =
+    found-by (order_of words) (carried_traces kind words (order_of words) m) ws left kept count long e ∙ ap (due_reports (order_of words) ws) (sym (traces-are-told kind words m))

@@ -19,6 +19,8 @@ pub mod LastStates
 pub mod TakenBack
 pub mod WorkParts
 pub mod ProductEnds
+pub mod ProductCourses
+pub mod ProductComes
 pub mod ListedWork
 pub mod ProgramHeld
 pub mod Saying

@@ -20,7 +20,7 @@ use Rattle.mx_outcome.specs.declared.outcome.Outcome.TheVariants.{OutOfMemory}
 use Rattle.mx_begin.specs.Arguments.{Word, word_at}
 use Rattle.mx_begin.specs.BeginPlans.{begin_plan}
 use Rattle.mx_begin.specs.declared.images.Form.{Form}
-use Rattle.mx_top.specs.Product.{after_schedule, begun_run, ordered}
+use Rattle.mx_top.specs.Commands.{after_schedule, begun_run, ordered}
 use Rattle.mx_top.specs.ProductPlan as plans
 use Rattle.mx_top.specs.WorkClauses.{CarriesOutBoth}
 use Rattle.mx_top.proofs.ProductEnds.{machine-end, generated-end, multi-end}

@@ -56,11 +56,12 @@ use Rattle.mx_begin.specs.declared.images.Form.{Form}
 use Rattle.mx_begin.specs.declared.images.Form.TheVariants.{Source, Object}
 use Rattle.mx_dump.specs.Dump.{dump_lines}
 use Rattle.mx_top.specs.Processors.{multi_lines, multi_outcome, processors_named, turns_told, joint_run, image_turns}
-use Rattle.mx_top.specs.Product.{generator_steps, summed, summed_from, generated_run, source_generated, begun_run, image_turned, after_schedule, ordered, carried_out, message_told}
+use Rattle.mx_top.specs.Commands.{summed, summed_from, generated_run, source_generated, begun_run, image_turned, after_schedule, ordered, carried_out, message_told}
 use Rattle.mx_top.specs.ProductPlan as plans
+use Rattle.mx_top.specs.Telling as tells
 use Rattle.mx_top.specs.ProgramCalls.{ProgramCall, of_host, stepping, reporting, keeping, sitting, turning, beside_end, beside_kept, program, ProgramPlan, on_host, steps_plan, reported_plan, keeping_plan, sitting_plan, turns_made}
 use Rattle.mx_top.specs.Reports.{report_put, reports_put}
-use Rattle.mx_top.specs.Runs.{Ran, ran, ran_wild, dumped, ran_to, machine_ran, session_ran, session_outcome, played, outcome_of, takes_back, state_lines, reached, lines_told, taken_back, run_back, run_from}
+use Rattle.mx_top.specs.Runs.{generator_steps, Ran, ran, ran_wild, dumped, ran_to, machine_ran, session_ran, session_outcome, played, outcome_of, takes_back, state_lines, reached, lines_told, taken_back, run_back, run_from}
 use Rattle.mx_begin.specs.Begun.{begun_at, main_address, started, stack_at_start}
 use Rattle.mx_top.specs.WorkKinds.{machine_by, joint_by, host_course, run_course, kept_course, session_course, turns_course, call_by, on_course, answer_by}
 use Rattle.mx_top.proofs.TakenBack.{faulted, no-last}
@@ -97,22 +98,22 @@ part-end {A} kind f g p m none some = part-by kind f p m (end_of host p m) refl 
 
 -- ---- lines behind an outcome
 
-written-end : (outcome : Outcome) (t : Then Bool) → plainly (end_after host (λ r. returns (plans.written_with outcome r)) (part_of t)) ≡ after_lines outcome t
+written-end : (outcome : Outcome) (t : Then Bool) → plainly (end_after host (λ r. returns (tells.written_with outcome r)) (part_of t)) ≡ after_lines outcome t
 unfolding end_of
 written-end outcome (true, m) = refl
 written-end outcome (false, m) = refl
 
-telling-end : (outcome : Outcome) (lines : List (List ℕ)) (m : HostModel) → plainly (end_of host (plans.telling outcome lines) m) ≡ after_lines outcome (lines_put lines m)
-unfolding plans.telling
+pub telling-end : (outcome : Outcome) (lines : List (List ℕ)) (m : HostModel) → plainly (end_of host (tells.telling outcome lines) m) ≡ after_lines outcome (lines_put lines m)
+unfolding tells.telling
 telling-end outcome lines m =
-    ap plainly (end_bind host (λ (r : Result (Unit {0}) Outcome). returns (plans.written_with outcome r)) (lines_plan lines) m
-    ∙ ap (end_after host (λ (r : Result (Unit {0}) Outcome). returns (plans.written_with outcome r))) (lines-end lines m)) ∙ written-end outcome (lines_put lines m)
+    ap plainly (end_bind host (λ (r : Result (Unit {0}) Outcome). returns (tells.written_with outcome r)) (lines_plan lines) m
+    ∙ ap (end_after host (λ (r : Result (Unit {0}) Outcome). returns (tells.written_with outcome r))) (lines-end lines m)) ∙ written-end outcome (lines_put lines m)
 
 dumped-end : (dump : Bool) (outcome : Outcome) (s : State) (m : HostModel) → plainly (end_of host (plans.dumped_plan dump outcome s) m) ≡ dumped dump (ran outcome s m)
 unfolding plans.dumped_plan
 dumped-end dump outcome s m = by (dump && leaves_machine outcome)
   where
-    by : (b : Bool) → plainly (end_of host (cond b (plans.telling outcome (dump_lines s)) (returns outcome)) m) ≡ cond b (after_lines outcome (lines_put (dump_lines s) m)) (answered outcome m)
+    by : (b : Bool) → plainly (end_of host (cond b (tells.telling outcome (dump_lines s)) (returns outcome)) m) ≡ cond b (after_lines outcome (lines_put (dump_lines s) m)) (answered outcome m)
     by true = telling-end outcome (dump_lines s) m
     by false = ap plainly (end_returns host outcome m)
 
@@ -252,8 +253,8 @@ generated-end kind o source m = taking-by kind (plans.generated_meaning o (lengt
 
 -- ---- `multi`
 
-turns-after : (kind : MachineKind) (o : Order) (x : TurnsEnd) → on_course (λ (y : MultiEnd × Joint) (h : HostModel). answer_by kind (on_host (plans.telling (multi_outcome o.steps y.0) (multi_lines o.dump y.0 y.1))) h) (turns_course x) ≡ turns_told o.dump o.steps x
-turns-after kind o (turns_ended end j m) = host-by kind (plans.telling (multi_outcome o.steps end) (multi_lines o.dump end j)) m ∙ telling-end (multi_outcome o.steps end) (multi_lines o.dump end j) m
+turns-after : (kind : MachineKind) (o : Order) (x : TurnsEnd) → on_course (λ (y : MultiEnd × Joint) (h : HostModel). answer_by kind (on_host (tells.telling (multi_outcome o.steps y.0) (multi_lines o.dump y.0 y.1))) h) (turns_course x) ≡ turns_told o.dump o.steps x
+turns-after kind o (turns_ended end j m) = host-by kind (tells.telling (multi_outcome o.steps end) (multi_lines o.dump end j)) m ∙ telling-end (multi_outcome o.steps end) (multi_lines o.dump end j) m
 turns-after kind o (turns_wild m) = refl
 
 joint-end : (kind : MachineKind) (o : Order) (schedule : List ℕ) (j : Joint) (m : HostModel) → answer_by kind (plans.joint_plan o schedule j) m ≡ joint_run kind o schedule (joint_by kind j) m
@@ -297,25 +298,25 @@ work-end words (Ok o) m = sym (window-answer (plans.ordered_plan words o o.comma
 
 -- ---- the message, and reports behind it
 
-message-if-end : (outcome : Outcome) (text : List ℕ) (m : HostModel) → plainly (end_of host (plans.message_if outcome text) m) ≡ message_told outcome text m
+message-if-end : (outcome : Outcome) (text : List ℕ) (m : HostModel) → plainly (end_of host (tells.message_if outcome text) m) ≡ message_told outcome text m
 unfolding bind need write_plan end_of host
 message-if-end outcome [] m = refl
 message-if-end outcome (b ∷ bs) m = refl
 
-report-end : (text : List ℕ) (m : HostModel) → (end_of host (plans.report_plan text) m).1 ≡ report_put text m
-unfolding plans.report_plan write_plan end_of host
+report-end : (text : List ℕ) (m : HostModel) → (end_of host (tells.report_plan text) m).1 ≡ report_put text m
+unfolding tells.report_plan write_plan end_of host
 report-end [] m = refl
 report-end (b ∷ bs) m = refl
 
-pub reports-end : (outcome : Outcome) (texts : List (List ℕ)) (m : HostModel) → plainly (end_of host (plans.reports_plan outcome texts) m) ≡ answered outcome (reports_put texts m)
-unfolding plans.reports_plan reports_put
+pub reports-end : (outcome : Outcome) (texts : List (List ℕ)) (m : HostModel) → plainly (end_of host (tells.reports_plan outcome texts) m) ≡ answered outcome (reports_put texts m)
+unfolding tells.reports_plan reports_put
 reports-end outcome [] m = ap plainly (end_returns host outcome m)
 reports-end outcome (text ∷ texts) m =
-    ap plainly (end_bind host (λ r. plans.reports_plan outcome texts) (plans.report_plan text) m)
-    ∙ reports-end outcome texts (end_of host (plans.report_plan text) m).1 ∙ ap (λ (n : HostModel). answered outcome (reports_put texts n)) (report-end text m)
+    ap plainly (end_bind host (λ r. tells.reports_plan outcome texts) (tells.report_plan text) m)
+    ∙ reports-end outcome texts (end_of host (tells.report_plan text) m).1 ∙ ap (λ (n : HostModel). answered outcome (reports_put texts n)) (report-end text m)
 
-pub message-end : (outcome : Outcome) (m : HostModel) → plainly (end_of host (plans.message_plan outcome) m) ≡ message_told outcome (message_of outcome) m
-unfolding plans.message_plan
+pub message-end : (outcome : Outcome) (m : HostModel) → plainly (end_of host (tells.message_plan outcome) m) ≡ message_told outcome (message_of outcome) m
+unfolding tells.message_plan
 message-end outcome m = message-if-end outcome (message_of outcome) m
 
 pub ruleset ends = (work-end)

@@ -4,6 +4,7 @@ use Rattle.std.specs.Prelude.{IsTrue, Option, Result}
 use Rattle.mx_host.specs.HostModel.{HostModel}
 use Rattle.mx_host.proofs.Keeping.{keeps-then}
 use Rattle.mx_run.specs.WildRuns.{MachineKind}
+use Rattle.mx_code.specs.declared.trace.Trace.{Trace}
 use Rattle.mx_watch.specs.Watching.{Watching}
 use Rattle.mx_word.specs.Lists.{IsFront}
 use Rattle.mx_word.proofs.Fronts.{front-through}
@@ -14,7 +15,9 @@ use Rattle.mx_files.specs.Answers.{Answer, answered, wild, GoesAs}
 use Rattle.mx_outcome.specs.Messages.{message_of}
 use Rattle.mx_outcome.specs.declared.outcome.Outcome.{Outcome}
 use Rattle.mx_begin.specs.Arguments.{Word}
-use Rattle.mx_top.specs.Product.{message_told, with_message, product}
+use Rattle.mx_top.specs.Commands.{carried_out, message_told, with_message}
+use Rattle.mx_top.specs.Product.{product, product_traces}
+use Rattle.mx_top.proofs.ProductCourses.{product-is-course}
 use Rattle.mx_top.specs.Reports.{UnlessWild, due_reports, reports_put, with_reports, watched_product}
 use Rattle.mx_top.specs.WorkClauses.{KeepsSaying}
 use Rattle.mx_top.proofs.Answering.{goes-as}
@@ -43,15 +46,23 @@ reported-goes outcome result here new (answered o m) texts dues e same said grow
     ∙ ap (λ n. with_reports dues (message_told o (message_of o) n)) e.1)
 reported-goes outcome result here new (wild m) texts dues e same said grows = front-through m.output here.output new.output e grows
 
+-- what is told of the work, with its message and the reports behind it, is what the program comes to
+pub watched-so : (kind : MachineKind) (words : List Word) (ws : List Watching) (m : HostModel) →
+    with_reports (due_reports (order_of words) ws (product_traces kind words m)) (with_message (carried_out kind words (order_of words) m)) ≡ watched_product kind words ws m
+watched-so kind words ws m = ap (with_reports (due_reports (order_of words) ws (product_traces kind words m))) (sym (product-is-course kind words m))
+
 -- ---- without watchers
 
 no-text : (b : Bool) → ◌≡◌ {A = List (List ℕ)} (cond b [] []) []
 no-text true = refl
 no-text false = refl
 
-pub none-due : (kind : MachineKind) (words : List Word) (r : Result Order WordsFault) (m : HostModel) → due_reports kind words [] r m ≡ []
-none-due kind words (Err fault) m = refl
-none-due kind words (Ok o) m = no-text o.report
+pub none-due : (r : Result Order WordsFault) (told : List Trace) → due_reports r [] told ≡ []
+none-due (Err fault) told = refl
+none-due (Ok o) told = no-text o.report
+
+pub none-ever : (r : Result Order WordsFault) → due_reports r [] ≡ (λ told. [])
+none-ever r = λ i told. none-due r told i
 
 none-written : (a : Answer) → with_reports [] a ≡ a
 unfolding reports_put
@@ -63,4 +74,4 @@ none-mean f xs e = ap (map f) e
 
 pub unwatched : (kind : MachineKind) (words : List Word) (ws : List Watching) (m : HostModel) → ws ≡ [] → watched_product kind words ws m ≡ product kind words m
 unwatched kind words ws m e =
-    ap (λ w. watched_product kind words w m) e ∙ ap (λ ts. with_reports ts (product kind words m)) (none-due kind words (order_of words) m) ∙ none-written (product kind words m)
+    ap (λ w. watched_product kind words w m) e ∙ ap (λ ts. with_reports ts (product kind words m)) (none-due (order_of words) (product_traces kind words m)) ∙ none-written (product kind words m)

@@ -14,8 +14,8 @@ use Rattle.mx_outcome.specs.Messages.{message_of}
 use Rattle.mx_outcome.specs.declared.outcome.Outcome.{Outcome}
 use Rattle.mx_outcome.specs.declared.outcome.Outcome.TheVariants.{OutOfMemory}
 use Rattle.mx_files.specs.Answers.{answered, plainly}
-use Rattle.mx_top.specs.Product.{message_told}
-use Rattle.mx_top.specs.ProductPlan.{said_plan, message_if, message_plan, report_plan, reports_plan}
+use Rattle.mx_top.specs.Commands.{message_told}
+use Rattle.mx_top.specs.Telling.{said_plan, message_if, message_plan, report_plan, reports_plan}
 use Rattle.mx_top.specs.Reports.{reports_put, with_reports}
 use Rattle.mx_top.specs.WorkClauses.{Tells, TellsBy, Telling, is_lacking}
 use Rattle.mx_top.proofs.ProductEnds.{message-end, reports-end}

@@ -27,8 +27,9 @@ use Rattle.mx_files.specs.Writing.{lines_put}
 use Rattle.mx_outcome.specs.declared.outcome.Outcome.{Outcome}
 use Rattle.mx_outcome.specs.declared.outcome.Outcome.TheVariants.{HostFault, OutOfMemory}
 use Rattle.mx_dump.specs.Dump.{Line, dump_lines}
+use Rattle.mx_top.specs.Commands.{order_traces}
 use Rattle.mx_top.specs.ProductPlan.{then_dumped, dumped_plan, back_plan}
-use Rattle.mx_top.specs.Reports.{UnlessWild, HearsAs, HearsAsList, order_traces}
+use Rattle.mx_top.specs.Reports.{UnlessWild, HearsAs, HearsAsList}
 use Rattle.mx_top.specs.Runs.{Ran, ran, ran_wild, machine_ran, session_ran, run_from, dumped, takes_back, state_lines, reached, lines_told, taken_back, run_back}
 use Rattle.mx_top.proofs.LastStates.{lines-listed, reached-listed, reached-untouched, take-untouched}
 use Rattle.mx_top.proofs.Dumped.{same-dumped}

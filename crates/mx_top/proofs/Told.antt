@@ -6,7 +6,7 @@ use Rattle.mx_word.specs.Lists.{IsFront}
 use Rattle.mx_word.proofs.Fronts.{front-self, front-through}
 use Rattle.mx_files.specs.Answers.{Answer, answered, wild, output_of}
 use Rattle.mx_outcome.specs.Messages.{message_of}
-use Rattle.mx_top.specs.Product.{message_told, with_message}
+use Rattle.mx_top.specs.Commands.{message_told, with_message}
 use Rattle.mx_outcome.specs.declared.outcome.Outcome.{Outcome}
 use Rattle.mx_outcome.specs.declared.outcome.Outcome.TheVariants.{Done, Usage, NoFile, HostFault, Refused, BadObject, BadSchedule, Stopped, StepsSpent, Quit, ConsoleLimit, OutOfMemory}
 

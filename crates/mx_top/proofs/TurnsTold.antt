@@ -6,7 +6,7 @@ use Rattle.mx_multi.specs.declared.end.MultiEnd.TheVariants as turning
 use Rattle.mx_outcome.specs.declared.outcome.Outcome.{Outcome}
 use Rattle.mx_outcome.specs.declared.outcome.Outcome.TheVariants.{OutOfMemory}
 use Rattle.mx_top.specs.Processors.{multi_lines, multi_outcome}
-use Rattle.mx_top.specs.ProductPlan.{telling}
+use Rattle.mx_top.specs.Telling.{telling}
 use Rattle.mx_top.proofs.SharedDumps.{same-lines}
 
 -- an end where there was memory has an outcome

@@ -1,7 +1,10 @@
 pub use Rattle.mx_word.specs.Results
 pub mod Runs
 pub mod Processors
+pub mod Telling
+pub mod MachineWork
 pub mod Product
+pub mod Commands
 pub mod Reports
 pub mod ProgramCalls
 pub mod ProductPlan

@@ -1,105 +1,209 @@
--- What the program answers and does, over a host that tells its contents: the outcome and the host's last model. The machine
--- is that over a ring of registers, or that over an unbounded list, which goes no further where it meets something wild.
-use Rattle.std.specs.Prelude.{ℕ, ◌^◌, List, [], ◌∷◌, length, Result, Ok, Err, codes}
+-- What the program does, as one page: the calls that it makes of the host, with the work on a machine among them, up to its outcome.
+-- What comes of that over a register window or over an unbounded list of registers is the course of this plan.
+use Rattle.std.specs.Prelude.{ℕ, ◌≡◌, Bool, List, [], ◌∷◌, length, Result, Ok, Err, codes}
 use Rattle.mx_host.specs.HostModel.{HostModel}
-use Rattle.mx_host.specs.HostAnswer.{Then, write_answer}
-use Rattle.mx_plan.specs.Calls.{host}
-use Rattle.mx_plan.specs.Plan.{end_of}
+use Rattle.mx_plan.specs.Plan.{Plan, returns, calls, bind, Acts, Stops, end_of}
+use Rattle.mx_plan.specs.Calls.{HostCall, HostSays, HostPlan, host, need}
+use Rattle.mx_plan.specs.Wild.{Course, ends, meets_wild, course}
 use Rattle.mx_mmo.specs.Image.{Image}
+use Rattle.mx_code.specs.declared.trace.Trace.{Trace}
 use Rattle.mx_core.specs.State.{State}
-use Rattle.mx_ring.specs.Stack.{register}
-use Rattle.mx_run.specs.WildRuns.{MachineKind}
+use Rattle.mx_run.specs.WildRuns.{MachineKind, window_machine}
+use Rattle.mx_multi.specs.Joint.{Joint}
+use Rattle.mx_multi.specs.Joint as joint
+use Rattle.mx_multi.specs.JointTurns.{JointWorld}
+use Rattle.mx_multi.specs.MultiPlans.{multi, turns_plan}
+use Rattle.mx_multi.specs.Turns.{TurnsEnd, turns_ended, turns_wild, turns}
+use Rattle.mx_multi.specs.declared.end.MultiEnd.{MultiEnd}
 use Rattle.mx_words.specs.Orders.{order_of}
 use Rattle.mx_words.specs.declared.order.Command.{Command}
 use Rattle.mx_words.specs.declared.order.Command.TheVariants.{Run, Asm, Sim, Gen, Show, Multi}
 use Rattle.mx_words.specs.declared.order.Order.{Order}
 use Rattle.mx_words.specs.declared.order.WordsFault.{WordsFault}
-use Rattle.mx_files.specs.Answers.{Answer, answered, wild, plainly, and_then, after_lines}
-use Rattle.mx_begin.specs.Arguments.{Word, word_at}
-use Rattle.law_gen.specs.Generator.{generated, summary}
-use Rattle.mx_files.specs.Writing.{lines_put}
-use Rattle.mx_outcome.specs.Messages.{message_of}
+use Rattle.law_gen.specs.Generator.{generated}
+use Rattle.mx_files.specs.Answers.{Answer, answered, wild}
 use Rattle.mx_files.specs.Assembling.{refused_with}
 use Rattle.mx_files.specs.ObjectPlans.{assemble_plan, list_plan}
-use Rattle.mx_top.specs.Runs.{Ran, ran, ran_wild, machine_ran, run_from}
-use Rattle.mx_begin.specs.BeginPlans.{image_file_plan, begin_plan}
-use Rattle.mx_begin.specs.Begun.{started}
-use Rattle.mx_begin.specs.declared.images.Form.TheVariants.{Source, Object}
-use Rattle.mx_top.specs.Processors.{image_turns}
-use Rattle.mx_files.specs.Schedules.{schedule_bytes}
+use Rattle.mx_files.specs.Schedules.{schedule_plan}
 use Rattle.mx_files.specs.Sources.{source_meaning}
 use Rattle.mx_files.specs.declared.refusal.Refusal.{Refusal}
 use Rattle.mx_outcome.specs.declared.outcome.Outcome.{Outcome}
-use Rattle.mx_outcome.specs.declared.outcome.Outcome.TheVariants.{Done, Usage}
+use Rattle.mx_outcome.specs.declared.outcome.Outcome.TheVariants.{Usage}
+use Rattle.mx_begin.specs.Arguments.{Word, word_at, arguments}
+use Rattle.mx_begin.specs.BeginPlans.{image_file_plan}
+use Rattle.mx_begin.specs.Begun.{started, stack_at_start}
+use Rattle.mx_begin.specs.declared.images.Form.{Form}
+use Rattle.mx_begin.specs.declared.images.Form.TheVariants.{Source, Object}
+use Rattle.mx_dump.specs.Dump.{Line}
+use Rattle.mx_top.specs.Processors.{multi_lines, multi_outcome, processors_named}
+use Rattle.mx_top.specs.MachineWork.{Work, WorkPlan, working, work_goes, calling, stepping, machine_plan, summed_plan}
+use Rattle.mx_top.specs.Runs.{generator_steps, outcome_of}
+use Rattle.mx_top.specs.Telling.{telling, message_plan}
 
--- ---- `run` and `sim`: a machine begins, and what has begun runs; or the outcome stands where none begins
+-- ---- THE CALLS
 
-abbrev pub begun_run : MachineKind → Order → Then (Result State Outcome) → Answer
-begun_run kind o (begun, m) = run_from kind o begun m
+-- A call of the host; or a machine starts on an image with arguments, over a ring of so many registers, and work on it is done; or
+-- the processors that a schedule names start on an image, and take turns by it, at most so many steps.
+pub data ProgramCall : Type 0 where
+  of_host : HostCall → ProgramCall
+  on_machine : ℕ → Image → List Word → WorkPlan Outcome → ProgramCall
+  taking_turns : ℕ → Image → List ℕ → ℕ → Bool → ProgramCall
 
--- ---- `gen`
+abbrev pub ProgramSays : ProgramCall → Type 0
+ProgramSays (of_host o) = HostSays o
+ProgramSays (on_machine ring image arguments work) = Outcome
+ProgramSays (taking_turns ring image schedule steps dump) = MultiEnd × List Line
 
--- a generated program makes at most so many steps
-abbrev pub generator_steps : ℕ
-generator_steps = 2 ^ 26
+-- the host, and the traces that watchers are told
+abbrev pub ProgramWorld : Type 0
+ProgramWorld = HostModel × List Trace
 
--- where it halts, one line tells what came of it
-abbrev pub summary_put : ℕ → ℕ → State → HostModel → Answer
-summary_put blocks size s m =
-    after_lines (Done 0) (lines_put (summary blocks size s.steps (register s.stack 255) ∷ []) m)
+-- a machine as it starts, over a host, with traces that were told
+abbrev pub at_start : State → ProgramWorld → Work
+at_start s w = record { machine = s; kept = []; told = w.1; host = w.0 }
 
-abbrev pub summed : ℕ → ℕ → Ran → Answer
-summed blocks size (ran_wild m) = wild m
-summed blocks size (ran (Done status) s m) = summary_put blocks size s m
-summed blocks size (ran outcome s m) = answered outcome m
+-- the processors of a schedule as they start, over windows or over lists
+abbrev pub joint_at_start : MachineKind → ℕ → Image → List ℕ → Joint
+joint_at_start kind ring image schedule = joint.started image (processors_named schedule) (stack_at_start kind ring)
 
-abbrev pub summed_from : MachineKind → ℕ → ℕ → Result State Outcome → HostModel → Answer
-summed_from kind blocks size (Err outcome) m = answered outcome m
-summed_from kind blocks size (Ok s) m = summed blocks size (machine_ran kind generator_steps s m)
+-- ---- over windows of registers
 
-abbrev pub generated_run : MachineKind → Order → ℕ → Result Image Refusal → HostModel → Answer
-generated_run kind o size (Err refusal) m = answered (refused_with refusal) m
-generated_run kind o size (Ok image) m = summed_from kind o.number size (started kind o.ring image (codes "gen" ∷ [])) m
+abbrev pub after_work : Outcome × Work → Outcome × ProgramWorld
+after_work t = (t.0, (t.1.host, t.1.told))
 
-abbrev pub source_generated : MachineKind → Order → List ℕ → HostModel → Answer
-source_generated kind o source m = generated_run kind o (length source) (source_meaning source) m
+abbrev pub work_end : WorkPlan Outcome → Result State Outcome → ProgramWorld → Outcome × ProgramWorld
+work_end work (Err outcome) w = (outcome, w)
+work_end work (Ok s) w = after_work (end_of working work (at_start s w))
 
--- ---- `multi`: an image is run by several processors
+-- how the processors ended, and the lines that tell it
+abbrev pub after_turns : Bool → List Trace → MultiEnd × JointWorld → (MultiEnd × List Line) × ProgramWorld
+after_turns dump told t = ((t.0, multi_lines dump t.0 t.1.0), (t.1.1, told))
 
-abbrev pub image_turned : MachineKind → Order → List ℕ → Then (Result Image Outcome) → Answer
-image_turned kind o schedule (Err outcome, m) = answered outcome m
-image_turned kind o schedule (Ok image, m) = image_turns kind o schedule image m
+abbrev pub program_act : (o : ProgramCall) → ProgramWorld → ProgramSays o × ProgramWorld
+program_act (of_host o) w = ((host.act o w.0).0, ((host.act o w.0).1, w.1))
+program_act (on_machine ring image arguments work) w = work_end work (started window_machine ring image arguments) w
+program_act (taking_turns ring image schedule steps dump) w = after_turns dump w.1 (end_of multi (turns_plan schedule steps schedule) (joint_at_start window_machine ring image schedule, w.0))
 
--- the object is read where the schedule is in order
-abbrev pub after_schedule : MachineKind → Order → Word → Then (Result (List ℕ) Outcome) → Answer
-after_schedule kind o name (Err outcome, m) = answered outcome m
-after_schedule kind o name (Ok schedule, m) = image_turned kind o schedule (end_of host (image_file_plan Object name) m)
+-- the work on a machine may stop with this host
+pub record WorkStops (work : WorkPlan Outcome) (s : State) (w : ProgramWorld) (v : HostModel) : Type 0 where
+  pub left : Work
+  pub stops : Stops working left work (at_start s w)
+  pub host : left.host ≡ v
 
--- ---- the words, and the message
+abbrev pub MayStop : WorkPlan Outcome → Result State Outcome → ProgramWorld → HostModel → Type 0
+MayStop work (Err outcome) w v = ⊥
+MayStop work (Ok s) w v = WorkStops work s w v
 
-abbrev pub multi_ordered : MachineKind → List Word → Order → HostModel → Answer
-multi_ordered kind words o m = after_schedule kind o (word_at words o.file) (schedule_bytes (word_at words o.schedule) m)
+-- turns may stop with this host
+pub record TurnsStop (n : ℕ) (schedule : List ℕ) (j : Joint) (m v : HostModel) : Type 0 where
+  pub processors : Joint
+  pub stops : Stops multi (processors, v) (turns_plan schedule n schedule) (j, m)
 
-abbrev pub ordered : MachineKind → List Word → Order → Command → HostModel → Answer
-ordered kind words o Run m = begun_run kind o (end_of host (begin_plan kind words o Source) m)
-ordered kind words o Sim m = begun_run kind o (end_of host (begin_plan kind words o Object) m)
-ordered kind words o Asm m = plainly (end_of host (assemble_plan (word_at words o.file) (word_at words o.rest)) m)
-ordered kind words o Gen m = source_generated kind o (generated o.number) m
-ordered kind words o Show m = plainly (end_of host (list_plan (word_at words o.file)) m)
-ordered kind words o Multi m = multi_ordered kind words o m
+-- where memory may run out, and which host that leaves; of the traces nothing is said there
+abbrev pub ProgramLacks : ProgramCall → ProgramWorld → ProgramWorld → Type 0
+ProgramLacks (of_host o) w v = host.Lacks o w.0 v.0
+ProgramLacks (on_machine ring image arguments work) w v = MayStop work (started window_machine ring image arguments) w v.0
+ProgramLacks (taking_turns ring image schedule steps dump) w v = TurnsStop steps schedule (joint_at_start window_machine ring image schedule) w.0 v.0
 
--- the outcome of the words before its message
-abbrev pub carried_out : MachineKind → List Word → Result Order WordsFault → HostModel → Answer
-carried_out kind words (Err fault) m = answered (Usage fault) m
-carried_out kind words (Ok o) m = ordered kind words o o.command m
+unfoldable pub program : Acts ProgramCall ProgramSays ProgramWorld
+program = record { act = program_act; Lacks = ProgramLacks }
 
--- the message line is written, if there is one; a write that fails changes nothing else
-abbrev pub message_told : Outcome → List ℕ → HostModel → Answer
-message_told outcome [] m = answered outcome m
-message_told outcome (b ∷ bs) m = answered outcome (write_answer m 260 (b ∷ bs)).1
+-- ---- by the kind of the machines
 
-abbrev pub with_message : Answer → Answer
-with_message = and_then (λ outcome m. message_told outcome (message_of outcome) m)
+abbrev pub worked : Course Outcome Work → Course Outcome ProgramWorld
+worked (ends outcome w) = ends outcome (w.host, w.told)
+worked (meets_wild w) = meets_wild (w.host, w.told)
 
-abbrev pub product : MachineKind → List Word → HostModel → Answer
-product kind words m = with_message (carried_out kind words (order_of words) m)
+-- the work on a machine that started, or the outcome where none did
+abbrev pub work_on : MachineKind → WorkPlan Outcome → Result State Outcome → ProgramWorld → Course Outcome ProgramWorld
+work_on kind work (Err outcome) w = ends outcome w
+work_on kind work (Ok s) w = worked (course (work_goes kind) work (at_start s w))
+
+abbrev pub turned : Bool → List Trace → TurnsEnd → Course (MultiEnd × List Line) ProgramWorld
+turned dump told (turns_ended end j m) = ends (end, multi_lines dump end j) (m, told)
+turned dump told (turns_wild m) = meets_wild (m, told)
+
+-- what a call comes to, by the kind of the machines: the window is seen here alone
+abbrev pub program_goes : MachineKind → (o : ProgramCall) → ProgramWorld → Course (ProgramSays o) ProgramWorld
+program_goes kind (of_host o) w = ends (host.act o w.0).0 ((host.act o w.0).1, w.1)
+program_goes kind (on_machine ring image arguments work) w = work_on kind work (started kind ring image arguments) w
+program_goes kind (taking_turns ring image schedule steps dump) w =
+    turned dump w.1 (turns kind schedule steps schedule (joint_at_start kind ring image schedule) w.0)
+
+abbrev pub ProgramPlan : Type 0 → Type 0
+ProgramPlan A = Plan ProgramCall ProgramSays A
+
+unfoldable pub on_host : {A : Type 0} → HostPlan A → ProgramPlan A
+on_host (returns a) = returns a
+on_host (calls o k) = calls (of_host o) (λ r. on_host (k r))
+
+-- memory is taken, and then this follows
+abbrev pub taking : ProgramPlan Outcome → ProgramPlan Outcome
+taking p = bind (λ u. p) (on_host need)
+
+-- a part on files is done, and then this follows what it gives; or it ends the work
+abbrev pub on_part : {A : Type 0} → (A → ProgramPlan Outcome) → Result A Outcome → ProgramPlan Outcome
+on_part more (Ok x) = more x
+on_part more (Err outcome) = returns outcome
+
+-- a machine takes memory to start
+abbrev pub run_on : ℕ → List Word → WorkPlan Outcome → Image → ProgramPlan Outcome
+run_on ring arguments work image = taking (calls (on_machine ring image arguments work) (λ outcome. returns outcome))
+
+-- ---- THE COMMANDS
+
+-- `run` and `sim`: a source is assembled or an object loaded, and its machine is run; its arguments take memory, too
+unfoldable pub run_file : List Word → Order → Form → ProgramPlan Outcome
+run_file words o form = taking (bind (on_part (run_on o.ring (arguments words o) (machine_plan o))) (on_host (image_file_plan form (word_at words o.file))))
+
+-- `gen`: a source that is made is assembled and run
+abbrev pub run_source : Order → ℕ → Result Image Refusal → ProgramPlan Outcome
+run_source o size (Err refusal) = returns (refused_with refusal)
+run_source o size (Ok image) =
+    run_on o.ring (codes "gen" ∷ []) (calling (stepping generator_steps) (λ end. summed_plan o.number size (outcome_of generator_steps end))) image
+
+-- `multi`: the object is read where the schedule is in order, and its processors run
+abbrev pub turns_on : Order → List ℕ → Image → ProgramPlan Outcome
+turns_on o schedule image =
+    taking (calls (taking_turns o.ring image schedule o.steps o.dump) (λ t. on_host (telling (multi_outcome o.steps t.0) t.1)))
+
+abbrev pub multi_file : List Word → Order → List ℕ → ProgramPlan Outcome
+multi_file words o schedule = bind (on_part (turns_on o schedule)) (on_host (image_file_plan Object (word_at words o.file)))
+
+unfoldable pub ordered_plan : List Word → Order → Command → ProgramPlan Outcome
+ordered_plan words o Run = run_file words o Source
+ordered_plan words o Sim = run_file words o Object
+ordered_plan words o Asm = on_host (assemble_plan (word_at words o.file) (word_at words o.rest))
+ordered_plan words o Gen = taking (taking (run_source o (length (generated o.number)) (source_meaning (generated o.number))))
+ordered_plan words o Show = on_host (list_plan (word_at words o.file))
+ordered_plan words o Multi = bind (on_part (multi_file words o)) (on_host (schedule_plan (word_at words o.schedule)))
+
+-- ---- THE WORDS, and the message of the outcome
+
+abbrev pub work_plan : List Word → Result Order WordsFault → ProgramPlan Outcome
+work_plan words (Err fault) = returns (Usage fault)
+work_plan words (Ok o) = ordered_plan words o o.command
+
+unfoldable pub product_plan : List Word → ProgramPlan Outcome
+product_plan words = bind (λ outcome. on_host (message_plan outcome)) (work_plan words (order_of words))
+
+-- ---- THE PRODUCT
+
+unfoldable pub product_course : MachineKind → List Word → HostModel → Course Outcome ProgramWorld
+product_course kind words m = course (program_goes kind) (product_plan words) (m, [])
+
+abbrev pub answer_of : Course Outcome ProgramWorld → Answer
+answer_of (ends outcome w) = answered outcome w.0
+answer_of (meets_wild w) = wild w.0
+
+-- the outcome, and the host; or the host where something wild was met
+unfoldable pub product : MachineKind → List Word → HostModel → Answer
+product kind words m = answer_of (product_course kind words m)
+
+-- the traces that watchers are told
+abbrev pub told_of : Course Outcome ProgramWorld → List Trace
+told_of (ends outcome w) = w.1
+told_of (meets_wild w) = w.1
+
+unfoldable pub product_traces : MachineKind → List Word → HostModel → List Trace
+product_traces kind words m = told_of (product_course kind words m)

@@ -1,8 +1,8 @@
--- What the program does, as a plan: the calls that it makes of the host, with its runs among them, up to its outcome.
+-- The plans of the parts of the work, each with the machine of a window as it stands then: the clauses of the functions below the top
+-- call are about these. What comes of them comes of the plan of the whole (`Product`), by `work-comes` in proofs/ProductComes.
 use Rattle.std.specs.Prelude.{ℕ, ◌==◌, ◌&&◌, not, Bool, true, false, if◌then◌else◌, List, [], ◌∷◌, length, take, Result, Ok, Err, codes}
-use Rattle.mx_host.specs.declared.faults.HostFault.{HostFault}
 use Rattle.mx_plan.specs.Plan.{returns, bind}
-use Rattle.mx_plan.specs.Calls.{HostPlan, need, write_plan}
+use Rattle.mx_plan.specs.Calls.{HostPlan, need}
 use Rattle.mx_mmo.specs.Image.{Image}
 use Rattle.mx_core.specs.State.{State}
 use Rattle.mx_ring.specs.Stack.{register}
@@ -20,7 +20,6 @@ use Rattle.law_gen.specs.Generator.{generated, summary}
 use Rattle.mx_outcome.specs.Kinds.{leaves_machine}
 use Rattle.mx_files.specs.Assembling.{refused_with}
 use Rattle.mx_files.specs.FilePlans.{lines_plan}
-use Rattle.mx_outcome.specs.Messages.{message_of}
 use Rattle.mx_files.specs.ObjectPlans.{assemble_plan, list_plan}
 use Rattle.mx_files.specs.Schedules.{schedule_plan}
 use Rattle.mx_files.specs.Sources.{source_meaning}
@@ -31,12 +30,12 @@ use Rattle.mx_begin.specs.Arguments.{Word, word_at}
 use Rattle.mx_begin.specs.BeginPlans.{begin_plan, image_file_plan}
 use Rattle.mx_begin.specs.declared.images.Form.{Form}
 use Rattle.mx_begin.specs.declared.images.Form.TheVariants.{Source, Object}
-use Rattle.mx_dump.specs.Dump.{Line, dump_lines}
+use Rattle.mx_dump.specs.Dump.{dump_lines}
 use Rattle.mx_top.specs.Processors.{multi_lines, multi_outcome, processors_named}
-use Rattle.mx_top.specs.Product.{generator_steps}
 use Rattle.mx_top.specs.ProgramCalls.{ProgramPlan, on_host, steps_plan, reported_plan, keeping_plan, sitting_plan, turns_made}
-use Rattle.mx_top.specs.Runs.{outcome_of, session_outcome, takes_back, state_lines, reached}
+use Rattle.mx_top.specs.Runs.{generator_steps, outcome_of, session_outcome, takes_back, state_lines, reached}
 use Rattle.mx_begin.specs.Begun.{started, stack_at_start}
+use Rattle.mx_top.specs.Telling.{telling}
 
 -- ---- PARTS
 
@@ -48,14 +47,6 @@ taking p = bind (λ u. p) (on_host need)
 abbrev pub on_part : {A : Type 0} → (A → ProgramPlan Outcome) → Result A Outcome → ProgramPlan Outcome
 on_part more (Ok x) = more x
 on_part more (Err outcome) = returns outcome
-
--- lines are written behind an outcome, which stays where all are
-abbrev pub written_with : Outcome → Result (Unit {0}) Outcome → Outcome
-written_with outcome (Ok u) = outcome
-written_with outcome (Err other) = other
-
-unfoldable pub telling : Outcome → List Line → HostPlan Outcome
-telling outcome lines = bind (λ r. returns (written_with outcome r)) (lines_plan lines)
 
 -- ---- A RUN, and the dump behind it
 
@@ -173,27 +164,3 @@ ordered_plan words o Multi = multi_plan o (word_at words o.schedule) (word_at wo
 abbrev pub work_plan : List Word → Result Order WordsFault → ProgramPlan Outcome
 work_plan words (Err fault) = returns (Usage fault)
 work_plan words (Ok o) = ordered_plan words o o.command
-
--- ---- THE MESSAGE, and reports behind it: a write that fails changes nothing else
-
--- a line is written, if there is one
-abbrev pub said_plan : Outcome → List ℕ → HostPlan Outcome
-said_plan outcome [] = returns outcome
-said_plan outcome (b ∷ bs) = bind (λ r. returns outcome) (write_plan 260 (b ∷ bs))
-
--- it takes memory to be made; where there is none, nothing does
-abbrev pub message_if : Outcome → List ℕ → HostPlan Outcome
-message_if outcome [] = returns outcome
-message_if outcome (b ∷ bs) = bind (λ u. said_plan outcome (b ∷ bs)) need
-
-unfoldable pub message_plan : Outcome → HostPlan Outcome
-message_plan outcome = message_if outcome (message_of outcome)
-
--- each report that is not empty is written by one call
-unfoldable pub report_plan : List ℕ → HostPlan (Result (Unit {0}) HostFault)
-report_plan [] = returns (Ok tt)
-report_plan (b ∷ bs) = write_plan 260 (b ∷ bs)
-
-unfoldable pub reports_plan : Outcome → List (List ℕ) → HostPlan Outcome
-reports_plan outcome [] = returns outcome
-reports_plan outcome (text ∷ texts) = bind (λ r. reports_plan outcome texts) (report_plan text)

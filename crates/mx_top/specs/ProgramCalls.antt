@@ -1,4 +1,4 @@
--- The calls of the program, over the host alone: a machine is made and dropped within. A run, a session, and turns by a
+-- The calls of the parts of the work, over the host alone: a machine is made and dropped within. A run, a session, and turns by a
 -- schedule are each one call: it answers how they ended with the machines as they then stand, and with the states that are
 -- kept, where some are; it leaves the host at their end, and lacks memory where they may stop.
 use Rattle.std.specs.Prelude.{ℕ, ◌≡◌, ◌⊎◌, false, List, []}
@@ -17,6 +17,7 @@ use Rattle.mx_con.specs.declared.end.SessionEnd.{SessionEnd}
 use Rattle.mx_multi.specs.Joint.{Joint}
 use Rattle.mx_multi.specs.MultiPlans.{multi, turns_plan}
 use Rattle.mx_multi.specs.declared.end.MultiEnd.{MultiEnd}
+use Rattle.mx_top.specs.Product.{TurnsStop}
 
 -- A call of the host; at most so many steps of a machine, without flags, in one run, in one that watchers are told of, in one
 -- whose last states are kept, or in a session of the console; or at most so many of several processors by a schedule.
@@ -69,10 +70,6 @@ pub record SessionStops (n : ℕ) (s : State) (m v : HostModel) : Type 0 where
   pub left : SessionWorld
   pub stops : Stops conversing left (session_plan n) ((s, m), no_flags)
   pub host : left.0.1 ≡ v
-
-pub record TurnsStop (n : ℕ) (schedule : List ℕ) (j : Joint) (m v : HostModel) : Type 0 where
-  pub processors : Joint
-  pub stops : Stops multi (processors, v) (turns_plan schedule n schedule) (j, m)
 
 abbrev pub ProgramLacks : ProgramCall → HostModel → HostModel → Type 0
 ProgramLacks (of_host o) m v = host.Lacks o m v

@@ -7,30 +7,29 @@ use Rattle.mx_words.specs.Orders.{order_of}
 use Rattle.mx_files.specs.Answers.{AnswersAs, AnswersAsList, WritesFrontOf}
 use Rattle.mx_outcome.specs.declared.outcome.Outcome.{Outcome}
 use Rattle.mx_begin.specs.Arguments.{Word}
-use Rattle.mx_top.specs.Product as spec
-use Rattle.mx_top.specs.ProductPlan.{work_plan}
-use Rattle.mx_top.specs.Reports.{LeavesWatchers, carried_traces, due_reports, watched_product}
+use Rattle.mx_top.specs.Product.{work_plan, product, product_traces}
+use Rattle.mx_top.specs.Reports.{LeavesWatchers, due_reports, watched_product}
 use Rattle.mx_top.specs.WorkClauses.{Does}
 
 -- What these words order is done: the work is its plan, and where memory runs out what was completed stays; unless it did, the
 -- outcome and the contents are the product's; and where it did, standard output has a front of what that writes, if slot 260 led
 -- to standard error.
 pub record Produces (old new : Option HostModel) (result : Outcome) (words : List Word) : Type 0 where
-  pub plan : Does old new result (work_plan words (order_of words)) 0 (λ m. [])
-  pub answer : AnswersAs old new result (λ m. spec.product window_machine words m)
-  pub written : slot_at (contents old) 260 ≡ to_errors → WritesFrontOf old new result (λ m. spec.product window_machine words m)
+  pub plan : Does old new result (work_plan words (order_of words)) 0 (λ told. [])
+  pub answer : AnswersAs old new result (λ m. product window_machine words m)
+  pub written : slot_at (contents old) 260 ≡ to_errors → WritesFrontOf old new result (λ m. product window_machine words m)
 
 -- The same with these watchers, of which some are left: their reports stand behind all else, where the words ask for them.
 pub record ProducesWatched (old new : Option HostModel) (result : Outcome) (words : List Word) (watchers left : List Watching) : Type 0 where
-  pub plan : Does old new result (work_plan words (order_of words)) (length watchers) (λ m. due_reports window_machine words watchers (order_of words) m)
+  pub plan : Does old new result (work_plan words (order_of words)) (length watchers) (due_reports (order_of words) watchers)
   pub answer : AnswersAs old new result (λ m. watched_product window_machine words watchers m)
-  pub left_over : LeavesWatchers old result watchers left (λ m. carried_traces window_machine words (order_of words) m)
-  pub written : slot_at (contents old) 260 ≡ to_errors → WritesFrontOf old new result (λ m. spec.product window_machine words m)
+  pub left_over : LeavesWatchers old result watchers left (λ m. product_traces window_machine words m)
+  pub written : slot_at (contents old) 260 ≡ to_errors → WritesFrontOf old new result (λ m. product window_machine words m)
 
 -- They are also the product's over an unbounded list of registers, up to what is wild: there standard output begins with what was
 -- written before.
 abbrev pub AnswersOverList : Option HostModel → Option HostModel → Outcome → List Word → Type 0
-AnswersOverList old new result words = AnswersAsList old new result (λ m. spec.product list_machine words m)
+AnswersOverList old new result words = AnswersAsList old new result (λ m. product list_machine words m)
 
 abbrev pub AnswersOverListWatched : Option HostModel → Option HostModel → Outcome → List Word → List Watching → Type 0
 AnswersOverListWatched old new result words watchers = AnswersAsList old new result (λ m. watched_product list_machine words watchers m)

@@ -1,62 +1,29 @@
--- The reports of watchers: the traces that those are told in a call of the program, and what is written of it.
-use Rattle.std.specs.Prelude.{ℕ, ◌≡◌, ◌≢◌, ◌==◌, not, IsTrue, if◌then◌else◌, List, [], ◌∷◌, Option, Result, Ok, Err}
+-- The reports of watchers: what is written of the traces that those are told in a call of the program.
+use Rattle.std.specs.Prelude.{ℕ, ◌≡◌, ◌≢◌, IsTrue, if◌then◌else◌, List, [], ◌∷◌, Option, Result, Ok, Err}
 use Rattle.std.specs.List.{range_with_len}
 use Rattle.mx_host.specs.HostModel.{HostModel, tells, contents}
-use Rattle.mx_host.specs.HostAnswer.{Then, write_answer}
-use Rattle.mx_plan.specs.Calls.{host}
-use Rattle.mx_plan.specs.Plan.{end_of}
-use Rattle.mx_core.specs.State.{State}
+use Rattle.mx_host.specs.HostAnswer.{write_answer}
 use Rattle.mx_code.specs.declared.trace.Trace.{Trace}
 use Rattle.mx_run.specs.WildRuns.{MachineKind, window_machine, list_machine}
 use Rattle.mx_watch.specs.Hearing.{heard_by}
 use Rattle.mx_watch.specs.Reporting.{in_places, reports_on, texts_now}
-use Rattle.mx_watch.specs.Traces.{traces}
 use Rattle.mx_watch.specs.Watching.{Watching}
 use Rattle.mx_watch.specs.declared.telling.Report.{Report}
 use Rattle.mx_words.specs.Orders.{order_of}
-use Rattle.mx_words.specs.declared.order.Command.{Command}
-use Rattle.mx_words.specs.declared.order.Command.TheVariants.{Run, Asm, Sim, Gen, Show, Multi}
 use Rattle.mx_words.specs.declared.order.Order.{Order}
 use Rattle.mx_words.specs.declared.order.WordsFault.{WordsFault}
 use Rattle.mx_files.specs.Answers.{Answer, answered, wild, and_then}
 use Rattle.mx_outcome.specs.declared.outcome.Outcome.{Outcome}
 use Rattle.mx_outcome.specs.declared.outcome.Outcome.TheVariants.{OutOfMemory}
 use Rattle.mx_begin.specs.Arguments.{Word}
-use Rattle.mx_top.specs.Product.{product}
-use Rattle.mx_begin.specs.BeginPlans.{begin_plan}
-use Rattle.mx_begin.specs.declared.images.Form.TheVariants.{Source, Object}
-
--- ---- the traces that watchers are told: those of the steps of the run, where the order asks for reports. A session has none, nor
--- has a run whose steps are taken back.
-
-abbrev pub order_traces : MachineKind → Order → State → HostModel → List Trace
-order_traces kind o s m = if o.interactive then [] else if not (o.last == 0) then [] else if o.report then traces kind o.steps s m else []
-
-abbrev pub traces_from : MachineKind → Order → Result State Outcome → HostModel → List Trace
-traces_from kind o (Err outcome) m = []
-traces_from kind o (Ok s) m = order_traces kind o s m
-
-abbrev pub begun_traces : MachineKind → Order → Then (Result State Outcome) → List Trace
-begun_traces kind o (begun, m) = traces_from kind o begun m
-
-abbrev pub ordered_traces : MachineKind → List Word → Order → Command → HostModel → List Trace
-ordered_traces kind words o Run m = begun_traces kind o (end_of host (begin_plan kind words o Source) m)
-ordered_traces kind words o Sim m = begun_traces kind o (end_of host (begin_plan kind words o Object) m)
-ordered_traces kind words o Asm m = []
-ordered_traces kind words o Gen m = []
-ordered_traces kind words o Show m = []
-ordered_traces kind words o Multi m = []
-
-abbrev pub carried_traces : MachineKind → List Word → Result Order WordsFault → HostModel → List Trace
-carried_traces kind words (Err fault) m = []
-carried_traces kind words (Ok o) m = ordered_traces kind words o o.command m
+use Rattle.mx_top.specs.Product.{product, product_traces}
 
 -- ---- the reports
 
 -- where the order asks for them, that of each watcher on what it hears of these traces
-abbrev pub due_reports : MachineKind → List Word → List Watching → Result Order WordsFault → HostModel → List (List ℕ)
-due_reports kind words watchers (Err fault) m = []
-due_reports kind words watchers (Ok o) m = if o.report then reports_on (carried_traces kind words (Ok o) m) watchers else []
+abbrev pub due_reports : Result Order WordsFault → List Watching → List Trace → List (List ℕ)
+due_reports (Err fault) watchers told = []
+due_reports (Ok o) watchers told = if o.report then reports_on told watchers else []
 
 -- each that is not empty goes to standard error by one write; one that is not written changes nothing else
 abbrev pub report_put : List ℕ → HostModel → HostModel
@@ -73,7 +40,7 @@ with_reports texts = and_then (λ outcome m. answered outcome (reports_put texts
 
 -- what the program comes to with these watchers
 abbrev pub watched_product : MachineKind → List Word → List Watching → HostModel → Answer
-watched_product kind words watchers m = with_reports (due_reports kind words watchers (order_of words) m) (product kind words m)
+watched_product kind words watchers m = with_reports (due_reports (order_of words) watchers (product_traces kind words m)) (product kind words m)
 
 -- as the code finds them: of the watchers that are left, and of those whose reports are kept
 abbrev pub found_reports : Result Order WordsFault → ℕ → List Watching → List Report → List (List ℕ)

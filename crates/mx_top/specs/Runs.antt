@@ -1,6 +1,6 @@
 -- How an image is run: the machine starts, makes its steps, all in one run or at the console, takes its last ones back where
 -- that is asked for, and is told at the end where a dump is.
-use Rattle.std.specs.Prelude.{ℕ, ◌&&◌, Bool, true, false, if◌then◌else◌, List, [], ◌∷◌, map, take, Result, Ok, Err}
+use Rattle.std.specs.Prelude.{ℕ, ◌^◌, ◌&&◌, Bool, true, false, if◌then◌else◌, List, [], ◌∷◌, map, take, Result, Ok, Err}
 use Rattle.mx_host.specs.HostModel.{HostModel}
 use Rattle.mx_host.specs.HostAnswer.{Then}
 use Rattle.mx_mmo.specs.Image.{Image}
@@ -44,6 +44,10 @@ ran_to steps (run_wild m) = ran_wild m
 
 abbrev pub machine_ran : MachineKind → ℕ → State → HostModel → Ran
 machine_ran kind steps s m = ran_to steps (run_by kind steps no_flags false s m)
+
+-- a generated program makes at most so many steps
+abbrev pub generator_steps : ℕ
+generator_steps = 2 ^ 26
 
 -- the outcome of a session of at most so many steps
 abbrev pub session_outcome : ℕ → SessionEnd → Outcome

@@ -7,14 +7,16 @@ use Rattle.mx_host.specs.declared.faults.HostFault.TheVariants as slot
 use Rattle.mx_plan.specs.Plan.{Comes, Stops, end_of}
 use Rattle.mx_plan.specs.Calls.{host, HostPlan}
 use Rattle.mx_plan.specs.Clauses.{CarriesOut}
+use Rattle.mx_code.specs.declared.trace.Trace.{Trace}
 use Rattle.mx_run.specs.WildRuns.{list_machine}
 use Rattle.mx_files.specs.Answers.{AnswersAsList}
 use Rattle.mx_outcome.specs.declared.outcome.Outcome.{Outcome}
 use Rattle.mx_outcome.specs.declared.outcome.Outcome.TheVariants.{OutOfMemory}
 use Rattle.mx_files.specs.Failing.{FailsOnlyBy}
+use Rattle.mx_top.specs.Product.{program as whole, ProgramPlan as WholePlan}
 use Rattle.mx_top.specs.ProgramCalls.{program, ProgramPlan}
 use Rattle.mx_top.specs.WorkKinds.{answer_by}
-use Rattle.mx_top.specs.ProductPlan.{message_plan, reports_plan}
+use Rattle.mx_top.specs.Telling.{message_plan, reports_plan}
 
 -- Over a host that tells its contents, the plan is carried out: unless there was no memory, the outcome and the contents are its
 -- end; where there was none, the calls that were completed stay, of one that lacked it what it leaves then, and nothing else
@@ -68,19 +70,20 @@ pub record Telling (left new : HostModel) (result said : Outcome) (texts : List 
 abbrev pub TellsAll : Option HostModel → Option HostModel → Outcome → Outcome → List (List ℕ) → Type 0
 TellsAll old new result said texts = IsTrue (tells old) → Telling (contents old) (contents new) result said texts
 
--- What the program does, where so many watch and these reports are due. The work comes to an outcome and leaves the host so, or
--- it stops for want of memory. Then the outcome is told, with reports behind it: those that are due, or, where the work found no
+-- What the program does, where so many watch and these reports are due by the traces that they are told. The work comes to an outcome
+-- and leaves the host and the traces so, or it stops for want of memory. Then the outcome is told, with reports behind it: those that are due, or, where the work found no
 -- memory, at most one for each that watches; or no memory was left to make them, which is then told alone.
-pub record Doing (old new : HostModel) (result : Outcome) (work : ProgramPlan Outcome) (watchers : ℕ) (due : List (List ℕ)) : Type 0 where
+pub record Doing (old new : HostModel) (result : Outcome) (work : WholePlan Outcome) (watchers : ℕ) (due : List Trace → List (List ℕ)) : Type 0 where
   pub left : HostModel
+  pub heard : List Trace
   pub outcome : Outcome
   pub said : Outcome
   pub texts : List (List ℕ)
-  pub works : Comes program old left OutOfMemory outcome work
-  pub reports : ((said ≡ outcome) × (outcome ≢ OutOfMemory → texts ≡ due)) ⊎ ((said ≡ OutOfMemory) × (texts ≡ []))
+  pub works : Comes whole (old, []) (left, heard) OutOfMemory outcome work
+  pub reports : ((said ≡ outcome) × (outcome ≢ OutOfMemory → texts ≡ due heard)) ⊎ ((said ≡ OutOfMemory) × (texts ≡ []))
   pub few : length texts ≤ watchers
   pub told : Telling left new result said texts
 
-abbrev pub Does : Option HostModel → Option HostModel → Outcome → ProgramPlan Outcome → ℕ → (HostModel → List (List ℕ)) → Type 0
+abbrev pub Does : Option HostModel → Option HostModel → Outcome → WholePlan Outcome → ℕ → (List Trace → List (List ℕ)) → Type 0
 Does old new result work watchers due =
-    IsTrue (tells old) → Doing (contents old) (contents new) result work watchers (due (contents old))
+    IsTrue (tells old) → Doing (contents old) (contents new) result work watchers due

@@ -12,7 +12,9 @@ ghost use Rattle.mx_files.specs.Answers.{plainly};
 ghost use Rattle.mx_files.specs.Schedules.{schedule_bytes};
 ghost use Rattle.mx_outcome.specs.declared.outcome.Outcome.{Outcome};
 ghost use Rattle.mx_begin.specs.Arguments.{Word};
-ghost use Rattle.mx_top.specs.Product.{after_schedule, carried_out, source_generated};
+ghost use Rattle.mx_words.specs.Orders.{order_of};
+ghost use Rattle.mx_top.specs.Commands.{after_schedule, carried_out, source_generated, with_message, carried_traces};
+ghost use Rattle.mx_top.specs.Product.{product, product_traces};
 ghost use Rattle.mx_top.specs.ProductPlan.{generated_plan, machine_plan, multi_plan, work_plan};
 ghost use Rattle.mx_top.specs.ProgramCalls.{ProgramPlan, program};
 ghost use Rattle.mx_top.specs.Runs.{run_from};
@@ -28,6 +30,15 @@ pub fn work_is_its_plan()
     ensures stopping { (p : ProgramPlan Outcome) (v m : HostModel) → Stops program v p m → KeepsStreams m v }
     ensures front { (p : ProgramPlan Outcome) (v m : HostModel) → Stops program v p m →
         OnlyAdds v (end_of program p m).1 }
+{}
+
+/// The product is, one part after another, what each command comes to, and the traces are those of the run.
+#[tactic(auto, using(crate::proofs::ProductCourses::courses))]
+pub fn product_is_what_its_commands_come_to()
+    ensures product { (kind : MachineKind) (words : List Word) (m : HostModel) →
+        product kind words m ≡ with_message (carried_out kind words (order_of words) m) }
+    ensures told { (kind : MachineKind) (words : List Word) (m : HostModel) →
+        product_traces kind words m ≡ carried_traces kind words (order_of words) m }
 {}
 
 /// What the plan of a part comes to over a window of registers, and over the list that this stands for, is what the

@@ -5,6 +5,7 @@ ghost use Rattle.mx_words.specs.Orders.{order_of};
 ghost use Rattle.mx_plan.specs.Calls.{write_plan};
 ghost use Rattle.mx_plan.specs.Clauses.{CarriesOut};
 ghost use Rattle.mx_top.specs.ProductPlan as plans;
+ghost use Rattle.mx_top.specs.Telling as tells;
 ghost use Rattle.mx_top.specs.Reports as spec;
 ghost use Rattle.mx_top.specs.WorkClauses.{KeepsSaying, TellsBy};
 ghost use Rattle.mx_top.specs.WorkClauses.{is_lacking as lacks_memory};
@@ -58,7 +59,7 @@ pub fn write_error<H: Host>(host: &mut H, text: &[u8]) -> Result<(), HostFault>
 /// Errors: those of the write.
 fn put_report<H: Host>(host: &mut H, text: &[u8]) -> Result<(), HostFault>
     ensures plan { CarriesOut (H.told host.old) (H.told host.new) (Err HostFault.OutOfMemory) result
-        (plans.report_plan text.now) }
+        (tells.report_plan text.now) }
     ensures keeps { KeepsSaying H.told H.faults host.old host.new }
 {
     if text.is_empty() {
@@ -81,7 +82,7 @@ pub fn is_lacking(written: Result<(), HostFault>) -> bool
 
 /// Writes reports, one write for each that is not empty, and answers the outcome, or that there was no memory.
 pub fn put_reports<H: Host>(host: &mut H, texts: &[Bytes], outcome: Outcome) -> Outcome
-    ensures plan { TellsBy (H.told host.old) (H.told host.new) result (plans.reports_plan outcome texts.now) }
+    ensures plan { TellsBy (H.told host.old) (H.told host.new) result (tells.reports_plan outcome texts.now) }
     ensures same { result ≢ Outcome.OutOfMemory → result ≡ outcome }
     ensures keeps { KeepsSaying H.told H.faults host.old host.new }
 {

@@ -4,7 +4,7 @@ ghost use Rattle.std.specs.Prelude.{◌≡◌, Ok, false, map};
 ghost use Rattle.mx_core.specs.Bounds.{as_list_state};
 ghost use Rattle.mx_core.specs.Kept.{state_of};
 ghost use Rattle.mx_run.specs.WildRuns.{window_machine, list_machine};
-ghost use Rattle.mx_top.specs.Reports as reports;
+ghost use Rattle.mx_top.specs.Commands as commands;
 ghost use Rattle.mx_top.specs.Reports.{HearsBoth};
 ghost use Rattle.mx_top.specs.Runs as spec;
 ghost use Rattle.mx_watch.specs.Traces.{traces};
@@ -100,9 +100,9 @@ pub fn run_machine<H: Host>(
         (plans.machine_plan order.now (state_of machine)) }
     ensures heard { HearsBoth (H.told host.old) result (map meaning watchers.old.items)
         (map meaning watchers.new.items) kept.old kept.new
-        (λ m. reports.order_traces window_machine order.now (state_of machine) m)
+        (λ m. commands.order_traces window_machine order.now (state_of machine) m)
         (λ m. spec.run_from list_machine order.now (Ok (as_list_state (state_of machine))) m)
-        (λ m. reports.order_traces list_machine order.now (as_list_state (state_of machine)) m) }
+        (λ m. commands.order_traces list_machine order.now (as_list_state (state_of machine)) m) }
 {
     if order.interactive {
         run_session(alloc, host, order, machine)

@@ -8,6 +8,7 @@ ghost use Rattle.mx_files.specs.Schedules.{AreEight};
 ghost use Rattle.mx_top.specs.Processors as spec;
 ghost use Rattle.mx_top.specs.Causes.{IsOfMachine};
 ghost use Rattle.mx_top.specs.ProductPlan as plans;
+ghost use Rattle.mx_top.specs.Telling as tells;
 ghost use Rattle.mx_top.specs.WorkClauses.{Follows, Performs};
 
 use crate::processors::put_all;
@@ -68,7 +69,7 @@ fn tell_turns<H: Host>(
 ) -> Outcome
     requires { processor_count multi.now ≡ count }
     ensures { Follows H.told H.faults host.old host.new (spec.multi_outcome order.now.steps end) result
-        (plans.telling (spec.multi_outcome order.now.steps end)
+        (tells.telling (spec.multi_outcome order.now.steps end)
         (spec.multi_lines order.now.dump end (joint_of multi.now))) }
 {
     if let MultiEnd::OutOfMemory = end {

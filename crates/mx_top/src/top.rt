@@ -7,13 +7,13 @@ ghost use Rattle.mx_run.specs.WildRuns.{list_machine};
 ghost use Rattle.mx_words.specs.Orders.{order_of};
 ghost use Rattle.mx_files.specs.Answers.{AnswersAsList};
 ghost use Rattle.mx_begin.specs.BeginPlans.{begin_plan};
-ghost use Rattle.mx_top.specs.Product as spec;
-ghost use Rattle.mx_top.specs.Reports as reports;
+ghost use Rattle.mx_top.specs.Commands as spec;
 ghost use Rattle.mx_top.specs.Reports.{HearsByKind};
 ghost use Rattle.mx_files.specs.Failing.{FailsOnlyBy};
 ghost use Rattle.mx_top.specs.Causes.{Causes};
 ghost use Rattle.mx_top.specs.ProgramClauses.{AnswersOverList, AnswersOverListWatched, Produces, ProducesWatched};
 ghost use Rattle.mx_top.specs.ProductPlan as plans;
+ghost use Rattle.mx_top.specs.Telling as tells;
 ghost use Rattle.mx_top.specs.WorkClauses.{CarriesOutWork, KeepsSaying, TellsAll, TellsBy};
 
 use crate::generation::generate;
@@ -52,7 +52,7 @@ fn run_ordered<H: Host>(
         (map meaning watchers.new.items) kept.old kept.new
         (λ kind m. spec.begun_run kind order.now
         (end_of calls.host (begin_plan kind (map string_bytes words.now) order.now form) m))
-        (λ kind m. reports.begun_traces kind order.now
+        (λ kind m. spec.begun_traces kind order.now
         (end_of calls.host (begin_plan kind (map string_bytes words.now) order.now form) m)) }
     ensures causes { FailsOnlyBy H.told H.faults host.old host.new result }
 {
@@ -84,7 +84,7 @@ fn carry_order<H: Host>(
     ensures heard { HearsByKind (H.told host.old) result (map meaning watchers.old.items)
         (map meaning watchers.new.items) kept.old kept.new
         (λ kind m. spec.ordered kind (map string_bytes words.now) order.now order.now.command m)
-        (λ kind m. reports.ordered_traces kind (map string_bytes words.now) order.now order.now.command m) }
+        (λ kind m. spec.ordered_traces kind (map string_bytes words.now) order.now order.now.command m) }
     ensures causes { FailsOnlyBy H.told H.faults host.old host.new result }
 {
     match order.command {
@@ -124,7 +124,7 @@ fn carry_out<H: Host>(
     ensures heard { HearsByKind (H.told host.old) result (map meaning watchers.old.items)
         (map meaning watchers.new.items) kept.old kept.new
         (λ kind m. spec.carried_out kind (map string_bytes words.now) (order_of (map string_bytes words.now)) m)
-        (λ kind m. reports.carried_traces kind (map string_bytes words.now)
+        (λ kind m. spec.carried_traces kind (map string_bytes words.now)
         (order_of (map string_bytes words.now)) m) }
     ensures causes { Causes H.told H.faults host.old host.new result (map string_bytes words.now) }
 {
@@ -137,7 +137,7 @@ fn carry_out<H: Host>(
 /// Writes the message line of an outcome to the tool's standard error. A write that fails changes
 /// nothing; where there is no memory for the line or its write, that is the outcome.
 fn tell<H: Host>(alloc: Global, host: &mut H, outcome: Outcome) -> Outcome
-    ensures plan { TellsBy (H.told host.old) (H.told host.new) result (plans.message_plan outcome) }
+    ensures plan { TellsBy (H.told host.old) (H.told host.new) result (tells.message_plan outcome) }
     ensures same { result ≢ Outcome.OutOfMemory → result ≡ outcome }
     ensures keeps { KeepsSaying H.told H.faults host.old host.new }
 {
@@ -149,7 +149,7 @@ fn tell<H: Host>(alloc: Global, host: &mut H, outcome: Outcome) -> Outcome
 
 /// Writes a line to the tool's standard error, if there is something in it.
 fn say<H: Host>(host: &mut H, outcome: Outcome, text: &[u8]) -> Outcome
-    ensures plan { TellsBy (H.told host.old) (H.told host.new) result (plans.said_plan outcome text.now) }
+    ensures plan { TellsBy (H.told host.old) (H.told host.new) result (tells.said_plan outcome text.now) }
     ensures same { result ≢ Outcome.OutOfMemory → result ≡ outcome }
     ensures keeps { KeepsSaying H.told H.faults host.old host.new }
 {

@@ -3,7 +3,7 @@ use Rattle.std.specs.Prelude.{IsTrue}
 use Rattle.mx_host.specs.HostModel.{contents}
 use Rattle.mx_core.specs.Kept.{Kept, state_of}
 use Rattle.mx_outcome.specs.declared.outcome.Outcome.TheVariants.{OutOfMemory}
-use Rattle.mx_top.specs.Product.{generator_steps}
+use Rattle.mx_top.specs.Runs.{generator_steps}
 use Rattle.mx_top.specs.ProductPlan.{summed_run, summed_plan}
 use Rattle.mx_top.proofs.Caused.{fails-behind}
 use Rattle.mx_top.proofs.Summed.{same-summed}

@@ -3,7 +3,7 @@ use Rattle.std.specs.Prelude.{IsTrue}
 use Rattle.mx_host.specs.HostModel.{contents, tells}
 use Rattle.mx_plan.specs.Calls.{host}
 use Rattle.mx_plan.specs.Plan.{IsRest}
-use Rattle.mx_top.specs.ProductPlan.{reports_plan}
+use Rattle.mx_top.specs.Telling.{reports_plan}
 use Rattle.mx_top.specs.WorkClauses.{KeepsSaying}
 use Rattle.mx_top.proofs.reports.put_reports.Given as goal
 

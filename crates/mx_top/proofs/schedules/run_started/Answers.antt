@@ -4,7 +4,8 @@ use Rattle.mx_host.specs.HostModel.{contents}
 use Rattle.mx_multi.specs.Joint.{joint_of}
 use Rattle.mx_multi.specs.declared.end.MultiEnd.TheVariants as turning
 use Rattle.mx_outcome.specs.declared.outcome.Outcome.TheVariants.{OutOfMemory}
-use Rattle.mx_top.specs.ProductPlan.{joint_plan, telling}
+use Rattle.mx_top.specs.ProductPlan.{joint_plan}
+use Rattle.mx_top.specs.Telling.{telling}
 use Rattle.mx_top.specs.Processors.{multi_lines, multi_outcome}
 use Rattle.mx_top.proofs.ListedPlans.{turns-listed}
 use Rattle.mx_top.proofs.MachinePlans.{turns-follow}

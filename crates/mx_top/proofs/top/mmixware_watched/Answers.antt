@@ -5,13 +5,16 @@ use Rattle.mx_host.specs.HostModel.{contents}
 use Rattle.mx_run.specs.WildRuns.{window_machine, list_machine}
 use Rattle.mx_words.specs.Orders.{order_of}
 use Rattle.mx_outcome.specs.declared.outcome.Outcome.TheVariants.{OutOfMemory}
-use Rattle.mx_top.specs.Product.{carried_out}
+use Rattle.mx_top.specs.Commands.{carried_out}
 use Rattle.mx_top.proofs.Heard.{found-due, from-none, left-of, unless-by}
-use Rattle.mx_top.proofs.Reported.{reported, reported-goes}
+use Rattle.mx_top.specs.Product.{product_traces}
+use Rattle.mx_top.proofs.ProductComes.{work-comes}
+use Rattle.mx_top.proofs.ProductCourses.{product-is-course}
+use Rattle.mx_top.proofs.Reported.{reported, reported-goes, watched-so}
 use Rattle.mx_top.proofs.Told.{spoken-front}
 use Rattle.mx_word.proofs.Fronts.{front-of}
 use Rattle.mx_word.specs.Lists.{IsFront}
-use Rattle.mx_files.specs.Answers.{Answer, plainly, output_of}
+use Rattle.mx_files.specs.Answers.{Answer, GoesAs, plainly, output_of}
 use Rattle.mx_top.specs.ProductPlan.{work_plan}
 use Rattle.mx_top.proofs.ProductEnds.{work-end}
 use Rattle.mx_top.proofs.ProgramHeld.{work-front}
@@ -32,8 +35,9 @@ returns-in-Ok-clause-product g c = record {
         outcome = c.carry_out-outcome.result;
         said = c.carry_out-outcome.result;
         texts = _;
-        works = said.plan t;
-        reports = inl (refl, λ ne. c.as_slice.ensures ∙ c.in-Ok.ensures ∙ found-due window_machine (map string_bytes c.args.words.now) _ _ _ (order_of (map string_bytes c.args.words.now)) (contents (g.H.Host.told c.args.host.now)) _ (many ∙ sym (length-map c.args.watchers.now.items _)) (from-none _ _ _ _ c.new-kept.ensures (said.heard.0 t ne)));
+        heard = product_traces window_machine (map string_bytes c.args.words.now) (contents (g.H.Host.told c.args.host.now));
+        works = work-comes (map string_bytes c.args.words.now) (contents (g.H.Host.told c.args.host.now)) _ _ (said.plan t);
+        reports = inl (refl, λ ne. c.as_slice.ensures ∙ c.in-Ok.ensures ∙ found-due window_machine (map string_bytes c.args.words.now) _ _ _ (contents (g.H.Host.told c.args.host.now)) _ (many ∙ sym (length-map c.args.watchers.now.items _)) (from-none _ _ _ _ c.new-kept.ensures (said.heard.0 t ne)));
         few = few-found _ _ _ _ _ _ (c.as_slice.ensures ∙ c.in-Ok.ensures) (many ∙ sym (length-map c.args.watchers.now.items _));
         told = c.finish.ensures.plan there;
       };
@@ -42,17 +46,18 @@ returns-in-Ok-clause-product g c = record {
       let there = subst IsTrue (sym said.causes.keeps.telling) t in
       let wanting : c.carry_out-outcome.result ≢ OutOfMemory = λ e. ne (c.finish.ensures.same ne ∙ e) in
       reported c.carry_out-outcome.result c.finish.result _ _ _ _ _ (ap plainly ((said.plan t).ending wanting) ∙ work-end (map string_bytes c.args.words.now) (order_of (map string_bytes c.args.words.now)) (contents (g.H.Host.told c.args.host.now)))
-      (c.as_slice.ensures ∙ c.in-Ok.ensures ∙ found-due window_machine (map string_bytes c.args.words.now) _ _ _ (order_of (map string_bytes c.args.words.now)) (contents (g.H.Host.told c.args.host.now)) _ (c.len-count.ensures ∙ c.args.watchers.now.ok.0 ∙ sym (length-map c.args.watchers.now.items _)) (from-none _ _ _ _ c.new-kept.ensures (said.heard.0 t wanting)))
-      (telling-told _ _ _ _ _ (c.finish.ensures.plan there) ne);
-  left_over = λ t ne. left-of _ _ _ _ _ c.new-kept.ensures (c.carry_out-outcome.ensures.heard.0 t (λ e. ne (c.finish.ensures.same ne ∙ e)));
+      (c.as_slice.ensures ∙ c.in-Ok.ensures ∙ found-due window_machine (map string_bytes c.args.words.now) _ _ _ (contents (g.H.Host.told c.args.host.now)) _ (c.len-count.ensures ∙ c.args.watchers.now.ok.0 ∙ sym (length-map c.args.watchers.now.items _)) (from-none _ _ _ _ c.new-kept.ensures (said.heard.0 t wanting)))
+      (telling-told _ _ _ _ _ (c.finish.ensures.plan there) ne) ∙ watched-so window_machine (map string_bytes c.args.words.now) _ (contents (g.H.Host.told c.args.host.now));
+  left_over = λ t ne. left-of window_machine (map string_bytes c.args.words.now) (contents (g.H.Host.told c.args.host.now)) _ _ _ _ c.new-kept.ensures (c.carry_out-outcome.ensures.heard.0 t (λ e. ne (c.finish.ensures.same ne ∙ e)));
   written = λ to_stderr t oom.
       let start = contents (g.H.Host.told c.args.host.now) in
       let here = contents (g.H.Host.told c.carry_out-outcome.new.host) in
       let said = c.carry_out-outcome.ensures in
       front-of here.output _ _ _ (c.finish.ensures.keeps.output (said.causes.keeps.errors t to_stderr) (subst IsTrue (sym said.causes.keeps.telling) t)) refl
+      (subst (λ (a : Answer). IsFront here.output (output_of a)) (sym (product-is-course window_machine (map string_bytes c.args.words.now) start))
       (spoken-front c.carry_out-outcome.result here (carried_out window_machine (map string_bytes c.args.words.now) (order_of (map string_bytes c.args.words.now)) start) (λ ne. ap plainly ((said.plan t).ending ne) ∙ work-end (map string_bytes c.args.words.now) (order_of (map string_bytes c.args.words.now)) start)
       (λ e. subst (λ (a : Answer). IsFront here.output (output_of a)) (work-end (map string_bytes c.args.words.now) (order_of (map string_bytes c.args.words.now)) start)
-      (work-front (work_plan (map string_bytes c.args.words.now) (order_of (map string_bytes c.args.words.now))) here start ((said.plan t).stopping e))));
+      (work-front (work_plan (map string_bytes c.args.words.now) (order_of (map string_bytes c.args.words.now))) here start ((said.plan t).stopping e)))));
 }
 
 pub returns-in-Ok-clause-headline : goal.returns-in-Ok-clause-headline
@@ -60,12 +65,13 @@ returns-in-Ok-clause-headline g c = λ t ne.
     let said = c.carry_out-outcome.ensures in
     let there = subst IsTrue (sym said.causes.keeps.telling) t in
     let wanting : c.carry_out-outcome.result ≢ OutOfMemory = λ e. ne (c.finish.ensures.same ne ∙ e) in
-    reported-goes c.carry_out-outcome.result c.finish.result _ _ (carried_out list_machine (map string_bytes c.args.words.now) (order_of (map string_bytes c.args.words.now)) (contents (g.H.Host.told c.args.host.now))) _ _
+    subst (λ (a : Answer). GoesAs a c.finish.result (contents (g.H.Host.told c.finish.new.host))) (watched-so list_machine (map string_bytes c.args.words.now) _ (contents (g.H.Host.told c.args.host.now)))
+    (reported-goes c.carry_out-outcome.result c.finish.result _ _ (carried_out list_machine (map string_bytes c.args.words.now) (order_of (map string_bytes c.args.words.now)) (contents (g.H.Host.told c.args.host.now))) _ _
     (said.listed t wanting)
     (unless-by (carried_out list_machine (map string_bytes c.args.words.now) (order_of (map string_bytes c.args.words.now)) (contents (g.H.Host.told c.args.host.now))) _ _
-    (λ e. c.as_slice.ensures ∙ c.in-Ok.ensures ∙ found-due list_machine (map string_bytes c.args.words.now) _ _ _ (order_of (map string_bytes c.args.words.now)) (contents (g.H.Host.told c.args.host.now)) _ (c.len-count.ensures ∙ c.args.watchers.now.ok.0 ∙ sym (length-map c.args.watchers.now.items _)) (from-none _ _ _ _ c.new-kept.ensures e))
+    (λ e. c.as_slice.ensures ∙ c.in-Ok.ensures ∙ found-due list_machine (map string_bytes c.args.words.now) _ _ _ (contents (g.H.Host.told c.args.host.now)) _ (c.len-count.ensures ∙ c.args.watchers.now.ok.0 ∙ sym (length-map c.args.watchers.now.items _)) (from-none _ _ _ _ c.new-kept.ensures e))
     (said.heard.1 t wanting))
-    (telling-told _ _ _ _ _ (c.finish.ensures.plan there) ne) (c.finish.ensures.keeps.keeps.growing there)
+    (telling-told _ _ _ _ _ (c.finish.ensures.plan there) ne) (c.finish.ensures.keeps.keeps.growing there))
 
 pub returns-in-Ok-clause-causes : goal.returns-in-Ok-clause-causes
 returns-in-Ok-clause-causes g c = causes-told g.H.Host.told g.H.Host.faults _ _ _ c.carry_out-outcome.result _ _ c.finish.ensures.same c.finish.ensures.keeps.keeps c.carry_out-outcome.ensures.causes
@@ -80,7 +86,8 @@ returns-clause-product g c = record {
         outcome = c.carry_out-outcome.result;
         said = OutOfMemory;
         texts = [];
-        works = said.plan t;
+        heard = product_traces window_machine (map string_bytes c.args.words.now) (contents (g.H.Host.told c.args.host.now));
+        works = work-comes (map string_bytes c.args.words.now) (contents (g.H.Host.told c.args.host.now)) _ _ (said.plan t);
         reports = inr (refl, refl);
         few = omega arith;
         told = record { between = _; spoken = c.tell.result; message = c.tell.ensures.plan there; behind = inl (alone _ _) };
@@ -92,9 +99,10 @@ returns-clause-product g c = record {
       let here = contents (g.H.Host.told c.carry_out-outcome.new.host) in
       let said = c.carry_out-outcome.ensures in
       front-of here.output _ _ _ (c.tell.ensures.keeps.output (said.causes.keeps.errors t to_stderr) (subst IsTrue (sym said.causes.keeps.telling) t)) refl
+      (subst (λ (a : Answer). IsFront here.output (output_of a)) (sym (product-is-course window_machine (map string_bytes c.args.words.now) start))
       (spoken-front c.carry_out-outcome.result here (carried_out window_machine (map string_bytes c.args.words.now) (order_of (map string_bytes c.args.words.now)) start) (λ ne. ap plainly ((said.plan t).ending ne) ∙ work-end (map string_bytes c.args.words.now) (order_of (map string_bytes c.args.words.now)) start)
       (λ e. subst (λ (a : Answer). IsFront here.output (output_of a)) (work-end (map string_bytes c.args.words.now) (order_of (map string_bytes c.args.words.now)) start)
-      (work-front (work_plan (map string_bytes c.args.words.now) (order_of (map string_bytes c.args.words.now))) here start ((said.plan t).stopping e))));
+      (work-front (work_plan (map string_bytes c.args.words.now) (order_of (map string_bytes c.args.words.now))) here start ((said.plan t).stopping e)))));
 }
 
 pub returns-clause-headline : goal.returns-clause-headline
