@@ -1,5 +1,5 @@
 -- What watchers hear, and what is written of it.
-use Rattle.std.proofs.Common.{◌≡◌, ℕ, Bool, true, false, cond, List, [], length, refl, sym, ◌∙◌, ap, Ok, Err, ◌&&◌}
+use Rattle.std.proofs.Common.{◌≡◌, ◌≢◌, ◌≤◌, ℕ, Bool, true, false, cond, List, [], ◌∷◌, length, refl, sym, ◌∙◌, ap, arith, Ok, Err, ◌&&◌}
 use Rattle.std.specs.Prelude.{Result}
 use Rattle.std.specs.List.{range_with_len}
 use Rattle.mx_host.specs.HostModel.{HostModel}
@@ -24,7 +24,7 @@ use Rattle.mx_outcome.specs.declared.outcome.Outcome.{Outcome}
 use Rattle.mx_begin.specs.Arguments.{Word}
 use Rattle.mx_dump.specs.Dump.{dump_lines}
 use Rattle.mx_top.specs.Commands.{carried_traces}
-use Rattle.mx_top.specs.Reports.{UnlessWild, due_reports, found_reports}
+use Rattle.mx_top.specs.Reports.{AreAsked, UnlessWild, due_reports, found_reports}
 use Rattle.mx_top.specs.Product.{product_traces}
 use Rattle.mx_top.proofs.ProductCourses.{traces-are-told}
 use Rattle.mx_top.specs.Runs.{ran, ran_to, dumped, outcome_of}
@@ -83,3 +83,25 @@ pub found-due : (kind : MachineKind) (words : List Word) (ws left : List Watchin
     (left, kept) ≡ heard_by (carried_traces kind words (order_of words) m) ws [] → found_reports (order_of words) count left kept ≡ due_reports (order_of words) ws (product_traces kind words m)
 found-due kind words ws left kept m count long e =
     found-by (order_of words) (carried_traces kind words (order_of words) m) ws left kept count long e ∙ ap (due_reports (order_of words) ws) (sym (traces-are-told kind words m))
+
+-- where nobody watches there is none to find
+unwatched-if : (b : Bool) (kept : List Report) (left : List (List ℕ)) → cond b (in_places (range_with_len 0 0) kept left) [] ≡ []
+unfolding in_places
+unwatched-if true kept left = refl
+unwatched-if false kept left = refl
+
+pub unwatched-found : (r : Result Order WordsFault) (count : ℕ) (left : List Watching) (kept : List Report) → count ≡ 0 → found_reports r count left kept ≡ []
+unwatched-found (Err fault) count left kept e = refl
+unwatched-found (Ok o) count left kept e = ap (λ n. cond o.report (in_places (range_with_len 0 n) kept (texts_now left)) []) e ∙ unwatched-if o.report kept (texts_now left)
+
+pub ruleset unwatched_found = unwatched-found
+
+-- where the words ask for reports, and somebody watches, some are due
+due-if : (b : Bool) (h : List Trace) (ws : List Watching) → b ≡ true → 1 ≤ length ws → cond b (reports_on h ws) [] ≢ []
+due-if true h [] e l = absurd (omega (arith, l))
+due-if true h (w ∷ ws) e l = λ n. absurd (cc)
+due-if false h ws e l = absurd (cc)
+
+pub some-due : (r : Result Order WordsFault) (h : List Trace) (ws : List Watching) → AreAsked r → 1 ≤ length ws → due_reports r ws h ≢ []
+some-due (Err fault) h ws a l = absurd a
+some-due (Ok o) h ws a l = due-if o.report h ws a l

@@ -24,5 +24,4 @@ pub mod ProductComes
 pub mod ListedWork
 pub mod ProgramHeld
 pub mod Saying
-pub mod FewReports
 pub mod Caused

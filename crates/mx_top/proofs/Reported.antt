@@ -16,10 +16,10 @@ use Rattle.mx_outcome.specs.Messages.{message_of}
 use Rattle.mx_outcome.specs.declared.outcome.Outcome.{Outcome}
 use Rattle.mx_begin.specs.Arguments.{Word}
 use Rattle.mx_top.specs.Commands.{carried_out, message_told, with_message}
-use Rattle.mx_top.specs.Product.{product, product_traces}
+use Rattle.mx_top.specs.Product.{ProgramPlan, product, product_traces}
 use Rattle.mx_top.proofs.ProductCourses.{product-is-course}
 use Rattle.mx_top.specs.Reports.{UnlessWild, due_reports, reports_put, with_reports, watched_product}
-use Rattle.mx_top.specs.WorkClauses.{KeepsSaying}
+use Rattle.mx_top.specs.WorkClauses.{Doing, KeepsSaying}
 use Rattle.mx_top.proofs.Answering.{goes-as}
 
 -- ---- the writes
@@ -75,3 +75,7 @@ none-mean f xs e = ap (map f) e
 pub unwatched : (kind : MachineKind) (words : List Word) (ws : List Watching) (m : HostModel) → ws ≡ [] → watched_product kind words ws m ≡ product kind words m
 unwatched kind words ws m e =
     ap (λ w. watched_product kind words w m) e ∙ ap (λ ts. with_reports ts (product kind words m)) (none-due (order_of words) (product_traces kind words m)) ∙ none-written (product kind words m)
+
+-- where nobody watches none is due
+pub unwatched-doing : (m n : HostModel) (result : Outcome) (work : ProgramPlan Outcome) (due : List Trace → List (List ℕ)) → due ≡ (λ told. []) → Doing m n result work due → Doing m n result work (λ told. [])
+unwatched-doing m n result work due nothing d = subst (λ (f : List Trace → List (List ℕ)). Doing m n result work f) nothing d

@@ -1,5 +1,5 @@
 -- The words of clauses over the work of the program. `old` and `new` are what the host told before and after.
-use Rattle.std.specs.Prelude.{ℕ, ◌≡◌, ◌≢◌, ◌≤◌, ◌⊎◌, IsTrue, Bool, true, false, List, [], length, Option, Result, Err}
+use Rattle.std.specs.Prelude.{ℕ, ◌≡◌, ◌≢◌, ◌⊎◌, IsTrue, Bool, true, false, List, [], Option, Result, Err}
 use Rattle.mx_host.specs.HostModel.{HostModel, tells, contents, slot_at, to_errors}
 use Rattle.mx_host.specs.Keeping.{Keeps, KeepsOutput}
 use Rattle.mx_host.specs.declared.faults.HostFault.{HostFault}
@@ -70,20 +70,24 @@ pub record Telling (left new : HostModel) (result said : Outcome) (texts : List 
 abbrev pub TellsAll : Option HostModel → Option HostModel → Outcome → Outcome → List (List ℕ) → Type 0
 TellsAll old new result said texts = IsTrue (tells old) → Telling (contents old) (contents new) result said texts
 
--- What the program does, where so many watch and these reports are due by the traces that they are told. The work comes to an outcome
--- and leaves the host and the traces so, or it stops for want of memory. Then the outcome is told, with reports behind it: those that are due, or, where the work found no
--- memory, at most one for each that watches; or no memory was left to make them, which is then told alone.
-pub record Doing (old new : HostModel) (result : Outcome) (work : WholePlan Outcome) (watchers : ℕ) (due : List Trace → List (List ℕ)) : Type 0 where
+-- What is told of an outcome, where these reports are due: the outcome, with the reports after it, and with none where the work found
+-- no memory. Only where some are due may there be no memory to make them; then that is told alone.
+abbrev pub IsTold : Outcome → List (List ℕ) → Outcome → List (List ℕ) → Type 0
+IsTold outcome due said texts =
+    ((said ≡ outcome) × ((outcome ≢ OutOfMemory → texts ≡ due) × (outcome ≡ OutOfMemory → texts ≡ [])))
+    ⊎ (((outcome ≢ OutOfMemory) × (due ≢ [])) × ((said ≡ OutOfMemory) × (texts ≡ [])))
+
+-- What the program does, where these reports are due by the traces that watchers are told: the work comes to an outcome and leaves
+-- the host and the traces so, or it stops for want of memory; and what it came to is told.
+pub record Doing (old new : HostModel) (result : Outcome) (work : WholePlan Outcome) (due : List Trace → List (List ℕ)) : Type 0 where
   pub left : HostModel
   pub heard : List Trace
   pub outcome : Outcome
   pub said : Outcome
   pub texts : List (List ℕ)
   pub works : Comes whole (old, []) (left, heard) OutOfMemory outcome work
-  pub reports : ((said ≡ outcome) × (outcome ≢ OutOfMemory → texts ≡ due heard)) ⊎ ((said ≡ OutOfMemory) × (texts ≡ []))
-  pub few : length texts ≤ watchers
+  pub reports : IsTold outcome (due heard) said texts
   pub told : Telling left new result said texts
 
-abbrev pub Does : Option HostModel → Option HostModel → Outcome → WholePlan Outcome → ℕ → (List Trace → List (List ℕ)) → Type 0
-Does old new result work watchers due =
-    IsTrue (tells old) → Doing (contents old) (contents new) result work watchers due
+abbrev pub Does : Option HostModel → Option HostModel → Outcome → WholePlan Outcome → (List Trace → List (List ℕ)) → Type 0
+Does old new result work due = IsTrue (tells old) → Doing (contents old) (contents new) result work due

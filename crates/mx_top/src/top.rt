@@ -196,7 +196,7 @@ pub fn mmixware_watched<H: Host>(
     let count = watchers.len();
     let mut kept = Reports::new(alloc);
     let outcome = carry_out(alloc, words, host, watchers, &mut kept);
-    match found_reports(alloc, words, count, watchers, &kept) {
+    match found_reports(alloc, words, outcome, count, watchers, &kept) {
         Ok(texts) => finish(alloc, host, outcome, texts.as_slice()),
         Err(_) => tell(alloc, host, Outcome::OutOfMemory),
     }
