@@ -15,11 +15,11 @@ use Rattle.mx_files.specs.Answers.{Answer, answered, wild, GoesAs}
 use Rattle.mx_outcome.specs.Messages.{message_of}
 use Rattle.mx_outcome.specs.declared.outcome.Outcome.{Outcome}
 use Rattle.mx_begin.specs.Arguments.{Word}
-use Rattle.mx_top.specs.Commands.{carried_out, message_told, with_message}
-use Rattle.mx_top.specs.Product.{ProgramPlan, product, product_traces}
-use Rattle.mx_top.proofs.ProductCourses.{product-is-course}
+use Rattle.mx_top.specs.Commands.{message_told, with_message}
+use Rattle.mx_top.specs.Product.{ProgramPlan, work_plan, product, product_traces}
+use Rattle.mx_top.proofs.Spoken.{product-is-said}
 use Rattle.mx_top.specs.Reports.{UnlessWild, due_reports, reports_put, with_reports, watched_product}
-use Rattle.mx_top.specs.WorkClauses.{Doing, KeepsSaying}
+use Rattle.mx_top.specs.WorkClauses.{Doing, KeepsSaying, answer_by}
 use Rattle.mx_top.proofs.Answering.{goes-as}
 
 -- ---- the writes
@@ -48,8 +48,8 @@ reported-goes outcome result here new (wild m) texts dues e same said grows = fr
 
 -- what is told of the work, with its message and the reports behind it, is what the program comes to
 pub watched-so : (kind : MachineKind) (words : List Word) (ws : List Watching) (m : HostModel) →
-    with_reports (due_reports (order_of words) ws (product_traces kind words m)) (with_message (carried_out kind words (order_of words) m)) ≡ watched_product kind words ws m
-watched-so kind words ws m = ap (with_reports (due_reports (order_of words) ws (product_traces kind words m))) (sym (product-is-course kind words m))
+    with_reports (due_reports (order_of words) ws (product_traces kind words m)) (with_message (answer_by kind (work_plan words (order_of words)) m)) ≡ watched_product kind words ws m
+watched-so kind words ws m = ap (with_reports (due_reports (order_of words) ws (product_traces kind words m))) (sym (product-is-said kind words m))
 
 -- ---- without watchers
 

@@ -4,7 +4,6 @@ ghost use Rattle.std.specs.Prelude.{◌≡◌, ◌≢◌, ◌≤◌, [], Err, If
 ghost use Rattle.mx_words.specs.Orders.{order_of};
 ghost use Rattle.mx_plan.specs.Calls.{write_plan};
 ghost use Rattle.mx_plan.specs.Clauses.{CarriesOut};
-ghost use Rattle.mx_top.specs.ProductPlan as plans;
 ghost use Rattle.mx_top.specs.Telling as tells;
 ghost use Rattle.mx_top.specs.Reports as spec;
 ghost use Rattle.mx_top.specs.Reports.{AreAsked};
