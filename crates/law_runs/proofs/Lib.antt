@@ -6,8 +6,6 @@ pub mod DumpLaws
 pub mod FaultyListings
 pub mod IdleFiles
 pub mod JoinedWrites
-pub mod KeptSessions
-pub mod KeptSlots
 pub mod ListedFaults
 pub mod ListedObjects
 pub mod LowBytes
@@ -16,6 +14,7 @@ pub mod SparedPrograms
 pub mod SteadyFiles
 pub mod SteadyProduct
 pub mod SteadyTurns
+pub mod SteadyWork
 pub mod ToldPrograms
 pub mod UnbrokenRuns
 pub mod UnbrokenTurns

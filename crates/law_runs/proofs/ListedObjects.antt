@@ -48,11 +48,11 @@ use Rattle.mx_outcome.specs.declared.outcome.Outcome.{Outcome}
 use Rattle.mx_outcome.specs.declared.outcome.Outcome.TheVariants.{Done, OutOfMemory}
 use Rattle.law_runs.specs.Called.{IsCalled, NoCallFails}
 use Rattle.law_runs.specs.Complete.{IsOrdered, IsThere, with_output}
-use Rattle.law_runs.specs.Detour.{answer_uncounted, answer_unscheduled}
+use Rattle.law_runs.specs.Detour.{answer_unscheduled}
 use Rattle.law_runs.proofs.Completed.{order-is}
 use Rattle.law_runs.proofs.CompletedFiles.{there-read, lines-still}
-use Rattle.law_runs.proofs.SparedPrograms.{Answers, carried-as, quiet-file, message-answers, called}
-use Rattle.law_runs.proofs.SteadyProduct.{SparedAnswers, message-steady, product-steady, answers-same}
+use Rattle.law_runs.proofs.SparedPrograms.{Answers, carried-as, message-answers, called}
+use Rattle.law_runs.proofs.SteadyProduct.{SparedAnswers, message-steady}
 
 -- ---- lines that are joined
 
@@ -223,19 +223,13 @@ still-listed kind words o bytes m h there =
     ∙ ap (λ t. with_message (plainly t))
     (listed-by (word_at words o.file) bytes (still m) (still m) (still (with_output m (concat (typed bytes).0))) (there-read (word_at words o.file) object_pieces bytes m there) (lines-still (typed bytes).0 m (slot_at-start_output m there.slots)))
 
-listed-there : (kind : MachineKind) (words : List Word) (o : Order) (bytes : List ℕ) (m : HostModel) → m.failing ≡ [] → IsOrdered words o Show → IsThere (word_at words o.file) object_pieces bytes m →
-    answer_uncounted (product kind words m) ≡ answer_uncounted (with_message (there-told bytes m))
-listed-there kind words o bytes m well h there =
-    let same : SparedAnswers (with_output m (concat (typed bytes).0)) (there-told bytes m) (still-told bytes m) = uncalled in
-    let a = steady-of (product-steady kind words m) well in
-    let b = steady-of (message-steady (there-told bytes m) (still-told bytes m) same) well in
-    answers-same (product kind words m) (with_message (there-told bytes m)) (a.0 ∙ still-listed kind words o bytes m h there ∙ sym b.0) (a.1 ∙ sym b.1)
-
 pub listed-spared : (kind : MachineKind) (words : List Word) (o : Order) (bytes : List ℕ) (m : HostModel) → IsOrdered words o Show → IsThere (word_at words o.file) object_pieces bytes m →
     NoCallFails kind words m → answer_unscheduled (product kind words m) ≡ answer_unscheduled (with_message (there-told bytes (unscheduled m)))
 listed-spared kind words o bytes m h there none =
-    carried-as kind words m (with_message (there-told bytes (unscheduled m))) none
-    (listed-there kind words o bytes (unscheduled m) refl h (quiet-file (word_at words o.file) object_pieces bytes m there))
+    let n : HostModel = with_output (unscheduled m) (concat (typed bytes).0) in
+    let same : SparedAnswers n (there-told bytes (unscheduled m)) (still-told bytes m) = uncalled in
+    carried-as kind words m n (with_message (there-told bytes (unscheduled m))) (with_message (still-told bytes m)) none (still-listed kind words o bytes m h there)
+    (message-steady (there-told bytes (unscheduled m)) (still-told bytes m) same) refl
 
 pub listed-called : (words : List Word) (o : Order) (bytes : List ℕ) (old new : Option HostModel) (result : Outcome) → IsCalled words old new result → IsOrdered words o Show →
     IsThere (word_at words o.file) object_pieces bytes (contents old) → NoCallFails window_machine words (contents old) → result ≢ OutOfMemory → result ≡ (typed bytes).1

@@ -1,29 +1,26 @@
 -- Where no call that the program makes fails, it does what it does over the host with no call counted and none that fails:
 -- what is there is run, or assembled, to its end.
-use Rattle.std.proofs.Common.{◌≡◌, ◌≢◌, ℕ, ◌%◌, ◌^◌, List, [], ◌∷◌, Bool, true, false, cond, refl, sym, ◌∙◌, ap, subst, Option, None}
+use Rattle.std.proofs.Common.{◌≡◌, ◌≢◌, ℕ, ◌%◌, ◌^◌, List, [], ◌∷◌, Bool, true, false, cond, refl, sym, ◌∙◌, ap, subst, Option, None, append-nil}
 use Rattle.std.specs.Prelude.{◌&&◌}
 use Rattle.std.specs.List.{concat}
 use Rattle.mx_host.specs.HostModel.{HostModel, HasStartSlots, contents}
 use Rattle.mx_host.specs.HostAnswer.{Then, with_file, write_answer}
-use Rattle.mx_host.proofs.Start.{slot_at-start_output}
+use Rattle.mx_host.proofs.Still.{still}
 use Rattle.mx_mmo.specs.Image.{Image}
 use Rattle.mx_asm.specs.Refusal.{refusal}
 use Rattle.mx_core.specs.State.{State}
 use Rattle.mx_ring.specs.Stack.{register}
-use Rattle.mx_plan.specs.Counts.{unscheduled, without_count}
-use Rattle.mx_plan.proofs.Spared.{steady-of}
-use Rattle.mx_run.specs.Runs.{no_flags}
+use Rattle.mx_plan.specs.Counts.{unscheduled}
+use Rattle.mx_plan.proofs.Spared.{uncalled, steady-of}
 use Rattle.mx_run.specs.WildRuns.{MachineKind, window_machine}
-use Rattle.mx_con.specs.Session.{SessionRun, session_ended, session_wild, session}
-use Rattle.mx_con.proofs.SteadySessions.{session_host, session-steady}
 use Rattle.mx_words.specs.declared.order.Command.TheVariants.{Asm}
 use Rattle.mx_words.specs.declared.order.Order.{Order}
-use Rattle.mx_files.specs.Answers.{Answer, answered, wild, after_lines}
+use Rattle.mx_files.specs.Answers.{Answer, answered, after_lines}
 use Rattle.mx_outcome.specs.Kinds.{leaves_machine}
 use Rattle.mx_begin.specs.Arguments.{Word, word_at, arguments}
 use Rattle.law_runs.specs.Called.{NoCallFails, IsCalled}
 use Rattle.law_runs.specs.Complete.{IsOrdered, IsStarted, IsThere, SourceIsThere, ObjectIsThere, IsHalted, IsPlayed, IsGenerated, with_output}
-use Rattle.law_runs.specs.Detour.{answer_uncounted, answer_unscheduled}
+use Rattle.law_runs.specs.Detour.{answer_unscheduled}
 use Rattle.mx_dump.specs.Dump.{dump_lines}
 use Rattle.mx_files.specs.Writing.{lines_put}
 use Rattle.mx_outcome.specs.Messages.{message_of}
@@ -31,46 +28,22 @@ use Rattle.mx_files.specs.Objects.{source_object}
 use Rattle.mx_files.specs.Assembling.{assembled_outcome}
 use Rattle.mx_top.specs.Commands.{message_told, with_message}
 use Rattle.mx_top.specs.Product.{product}
-use Rattle.mx_top.specs.Runs.{Ran, ran, played, session_ran, dumped, image_run}
-use Rattle.mx_files.specs.Source.{source_pieces, object_pieces}
+use Rattle.mx_top.specs.Runs.{Ran, ran, session_ran, dumped, generator_steps, image_run}
+use Rattle.mx_files.specs.Source.{source_pieces}
 use Rattle.mx_outcome.specs.declared.outcome.Outcome.{Outcome}
 use Rattle.mx_outcome.specs.declared.outcome.Outcome.TheVariants.{Done, OutOfMemory}
-use Rattle.law_runs.proofs.Completed.{sat-image}
-use Rattle.law_runs.proofs.CompletedFiles.{IsReady, LinesWritten, lines-written, source-there, object-there, run-plain, run-dumped, generated-there, object-told, assembled-there, file-left}
-use Rattle.law_runs.proofs.KeptSessions.{session_shows, session-kept}
-use Rattle.law_runs.proofs.KeptSlots.{Shows}
+use Rattle.law_runs.proofs.Completed.{sat-image, halted-run, plain-told, accepted-object, generated-told}
+use Rattle.law_runs.proofs.CompletedFiles.{LinesWritten, lines-written, lines-done, IsReady, halted-left, played-left, source-still, object-still, with_object, assembled-still, file-left}
 use Rattle.law_runs.proofs.LowBytes.{halts-low}
-use Rattle.law_runs.proofs.SteadyProduct.{product-same}
+use Rattle.law_runs.proofs.SteadyProduct.{SparedAnswers, image-steady, message-steady, product-steady, answer-unscheduled, product-same}
 
 -- ---- the host with no call counted and none that fails
 
-quiet-product : (kind : MachineKind) (words : List Word) (m : HostModel) → NoCallFails kind words m →
-    answer_unscheduled (product kind words m) ≡ answer_unscheduled (product kind words (unscheduled m))
-quiet-product kind words m none = product-same kind words m (unscheduled m) refl none (λ call from to. refl)
-
--- what holds but for the count holds but for the count and the list
-unlisted : (a b : Answer) → answer_uncounted a ≡ b → answer_unscheduled a ≡ answer_unscheduled b
-unlisted (answered outcome m) b e = ap answer_unscheduled e
-unlisted (wild m) b e = ap answer_unscheduled e
-
-carried : (kind : MachineKind) (words : List Word) (m : HostModel) (a : Answer) → NoCallFails kind words m → answer_uncounted (product kind words (unscheduled m)) ≡ a →
+-- what comes of the still model comes of each, but for the count and the list
+pub carried-as : (kind : MachineKind) (words : List Word) (m from : HostModel) (a b : Answer) → NoCallFails kind words m → product kind words (still m) ≡ b → SparedAnswers from a b → from.failing ≡ [] →
     answer_unscheduled (product kind words m) ≡ answer_unscheduled a
-carried kind words m a none e = quiet-product kind words m none ∙ unlisted (product kind words (unscheduled m)) a e
-
-pub carried-as : (kind : MachineKind) (words : List Word) (m : HostModel) (a : Answer) → NoCallFails kind words m → answer_uncounted (product kind words (unscheduled m)) ≡ answer_uncounted a →
-    answer_unscheduled (product kind words m) ≡ answer_unscheduled a
-carried-as kind words m a none e = carried kind words m (answer_uncounted a) none e ∙ sym (unlisted a (answer_uncounted a) refl)
-
-pub quiet-file : (name : Word) (most : ℕ) (text : List ℕ) (m : HostModel) → IsThere name most text m → IsThere name most text (unscheduled m)
-quiet-file name most text m h = record { slots = h.slots; place = h.place; found = h.found; bytes = h.bytes }
-
-quiet-source : (words : List Word) (o : Order) (image : Image) (m : HostModel) → SourceIsThere words o image m → SourceIsThere words o image (unscheduled m)
-quiet-source words o image m h =
-    record { ordered = h.ordered; text = h.text; there = quiet-file (word_at words o.file) source_pieces h.text m h.there; means = h.means }
-
-quiet-object : (words : List Word) (o : Order) (image : Image) (m : HostModel) → ObjectIsThere words o image m → ObjectIsThere words o image (unscheduled m)
-quiet-object words o image m h =
-    record { ordered = h.ordered; object = h.object; symbols = h.symbols; there = quiet-file (word_at words o.file) object_pieces h.object m h.there; loads = h.loads }
+carried-as kind words m from a b none e h well =
+    answer-unscheduled (product kind words m) ∙ ap answer_unscheduled ((product-steady kind words m).same none ∙ e ∙ sym (steady-of h well).0) ∙ sym (answer-unscheduled a)
 
 -- ---- `run` and `sim`
 
@@ -78,24 +51,29 @@ quiet-object words o image m h =
 abbrev pub RunsAs : MachineKind → List Word → Order → Image → HostModel → Type 0
 RunsAs kind words o image m = answer_unscheduled (product kind words m) ≡ answer_unscheduled (with_message (image_run kind o (arguments words o) image (unscheduled m)))
 
+runs-as : (kind : MachineKind) (words : List Word) (o : Order) (image : Image) (m : HostModel) → NoCallFails kind words m → product kind words (still m) ≡ with_message (image_run kind o (arguments words o) image (still m)) →
+    RunsAs kind words o image m
+runs-as kind words o image m none e =
+    carried-as kind words m (unscheduled m) (with_message (image_run kind o (arguments words o) image (unscheduled m))) (with_message (image_run kind o (arguments words o) image (still m))) none e
+    (message-steady (image_run kind o (arguments words o) image (unscheduled m)) (image_run kind o (arguments words o) image (still m)) (image-steady kind o (arguments words o) image (unscheduled m))) refl
+
 pub source-spared : (kind : MachineKind) (words : List Word) (o : Order) (image : Image) (m : HostModel) → SourceIsThere words o image m → NoCallFails kind words m → RunsAs kind words o image m
-source-spared kind words o image m h none =
-    carried-as kind words m (with_message (image_run kind o (arguments words o) image (unscheduled m))) none (source-there kind words o image (unscheduled m) refl (quiet-source words o image m h))
+source-spared kind words o image m h none = runs-as kind words o image m none (source-still kind words o image m h)
 
 pub object-spared : (kind : MachineKind) (words : List Word) (o : Order) (image : Image) (m : HostModel) → ObjectIsThere words o image m → NoCallFails kind words m → RunsAs kind words o image m
-object-spared kind words o image m h none =
-    carried-as kind words m (with_message (image_run kind o (arguments words o) image (unscheduled m))) none (object-there kind words o image (unscheduled m) refl (quiet-object words o image m h))
+object-spared kind words o image m h none = runs-as kind words o image m none (object-still kind words o image m h)
 
 pub halted-plain : (kind : MachineKind) (words : List Word) (o : Order) (image : Image) (status : ℕ) (ended : State) (m after : HostModel) → RunsAs kind words o image m →
     IsHalted kind words o image (unscheduled m) status ended after → o.dump ≡ false → answer_unscheduled (product kind words m) ≡ answered (Done status) (unscheduled after)
-halted-plain kind words o image status ended m after h k d = h ∙ ap answer_unscheduled (run-plain kind words o image status ended (unscheduled m) after k d)
+halted-plain kind words o image status ended m after h k d =
+    h ∙ ap answer_unscheduled (ap with_message (halted-run kind words o image (unscheduled m) status ended after k) ∙ plain-told o.dump status ended after d)
 
 pub halted-dumped : (kind : MachineKind) (words : List Word) (o : Order) (image : Image) (status : ℕ) (ended : State) (m after : HostModel) → HasStartSlots m → RunsAs kind words o image m →
     IsHalted kind words o image (unscheduled m) status ended after → o.dump ≡ true →
     answer_unscheduled (product kind words m) ≡ answered (Done status) (unscheduled (with_output after (concat (dump_lines ended))))
 halted-dumped kind words o image status ended m after slots h k d =
-    h ∙ unlisted (with_message (image_run kind o (arguments words o) image (unscheduled m))) (answered (Done status) (without_count (with_output after (concat (dump_lines ended)))))
-    (run-dumped kind words o image status ended (unscheduled m) after refl slots k d)
+    h ∙ ap (λ a. answer_unscheduled (with_message a)) (halted-run kind words o image (unscheduled m) status ended after k) ∙ ap (λ b. answer_unscheduled (with_message (dumped b (ran (Done status) ended after)))) d
+    ∙ lines-done (dump_lines ended) status after (halted-left kind o.steps k.machine (unscheduled m) (Done status) ended after refl slots k.halts)
 
 -- a session
 pub sat-spared : (kind : MachineKind) (words : List Word) (o : Order) (image : Image) (s : State) (m : HostModel) → RunsAs kind words o image m → o.interactive ≡ true → IsStarted kind words o image s →
@@ -107,19 +85,22 @@ sat-spared kind words o image s m h i k = h ∙ ap answer_unscheduled (sat-image
 pub told-spared : (kind : MachineKind) (words : List Word) (o : Order) (text : List ℕ) (m : HostModel) → IsOrdered words o Asm → IsThere (word_at words o.file) source_pieces text m → NoCallFails kind words m →
     answer_unscheduled (product kind words m) ≡ answer_unscheduled (with_message (answered (assembled_outcome (source_object text).1) (with_file (unscheduled m) (word_at words o.rest) (source_object text).0)))
 told-spared kind words o text m h there none =
-    carried-as kind words m (with_message (answered (assembled_outcome (source_object text).1) (with_file (unscheduled m) (word_at words o.rest) (source_object text).0))) none
-    (object-told kind words o text (unscheduled m) refl h (quiet-file (word_at words o.file) source_pieces text m there))
+    let outcome : Outcome = assembled_outcome (source_object text).1 in
+    let n : HostModel = with_object words o text (unscheduled m) in
+    let same : SparedAnswers n (answered outcome n) (answered outcome (still n)) = uncalled in
+    carried-as kind words m n (with_message (answered outcome n)) (with_message (answered outcome (still n))) none (assembled-still kind words o text m h there) (message-steady (answered outcome n) (answered outcome (still n)) same) refl
 
 pub assembled-spared : (kind : MachineKind) (words : List Word) (o : Order) (text : List ℕ) (m : HostModel) → IsOrdered words o Asm → IsThere (word_at words o.file) source_pieces text m → NoCallFails kind words m →
     refusal text ≡ None → answer_unscheduled (product kind words m) ≡ answered (Done 0) (unscheduled (with_file m (word_at words o.rest) (source_object text).0))
 assembled-spared kind words o text m h there none e =
-    carried kind words m (answered (Done 0) (without_count (with_file (unscheduled m) (word_at words o.rest) (source_object text).0))) none
-    (assembled-there kind words o text (unscheduled m) refl h (quiet-file (word_at words o.file) source_pieces text m there) e)
+    told-spared kind words o text m h there none ∙ ap (λ r. answer_unscheduled (with_message (answered (assembled_outcome r) (with_object words o text (unscheduled m))))) (accepted-object text e)
 
 pub generated-spared : (kind : MachineKind) (words : List Word) (m left : HostModel) (line : List ℕ) → HasStartSlots m → NoCallFails kind words m → IsGenerated kind words (unscheduled m) left line →
     answer_unscheduled (product kind words m) ≡ answered (Done 0) (unscheduled (with_output left line))
 generated-spared kind words m left line slots none h =
-    carried kind words m (answered (Done 0) (without_count (with_output left line))) none (generated-there kind words (unscheduled m) left line refl slots h)
+    product-same kind words m (unscheduled m) refl none (λ call from to. refl) ∙ ap answer_unscheduled (generated-told kind words (unscheduled m) left line h)
+    ∙ lines-done (line ∷ []) 0 left (halted-left kind generator_steps h.machine (unscheduled m) (Done h.status) h.ended left refl slots h.halts)
+    ∙ ap (λ text. answered (Done 0) (unscheduled (with_output left text))) (append-nil line)
 
 pub ruleset spared = (source-spared, object-spared, told-spared, assembled-spared, generated-spared, file-left)
 
@@ -135,19 +116,6 @@ halted-answers : (kind : MachineKind) (words : List Word) (o : Order) (image : I
 halted-answers kind words o image status ended m after slots h k true d =
     (unscheduled (with_output after (concat (dump_lines ended))), halted-dumped kind words o image status ended m after slots h k d)
 halted-answers kind words o image status ended m after slots h k false d = (unscheduled after, halted-plain kind words o image status ended m after h k d)
-
--- a session leaves no call that fails, and standard output where it leads
-sat-left : (steps : ℕ) (outcome : Outcome) (ended : State) (after : HostModel) (r : SessionRun) → played steps r ≡ ran outcome ended after → (session_host r).failing ≡ [] → session_shows r → IsReady after
-sat-left steps outcome ended after (session_ended e) h well shows =
-    let host : e.host ≡ after = cc in
-    (subst (λ (n : HostModel). n.failing ≡ []) host well, subst Shows host shows)
-sat-left steps outcome ended after (session_wild m) h well shows = absurd (cc)
-
-played-left : (kind : MachineKind) (steps : ℕ) (s : State) (m : HostModel) (outcome : Outcome) (ended : State) (after : HostModel) → m.failing ≡ [] → HasStartSlots m →
-    session_ran kind steps s m ≡ ran outcome ended after → IsReady after
-played-left kind steps s m outcome ended after well slots h =
-    sat-left steps outcome ended after (session kind steps s no_flags m) h (steady-of (session-steady kind steps s no_flags m) well).1
-    (session-kept kind steps s no_flags m (slot_at-start_output m slots))
 
 -- a message changes no outcome, nor do the lines of a dump that are written
 pub message-answers : (outcome : Outcome) (text : List ℕ) (m : HostModel) → Answers outcome (message_told outcome text m)

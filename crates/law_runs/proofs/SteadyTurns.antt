@@ -3,9 +3,9 @@
 use Rattle.std.proofs.Common.{ℕ, ◌&&◌, not, List, Bool, true, false, cond}
 use Rattle.mx_host.specs.HostModel.{HostModel}
 use Rattle.mx_host.proofs.Still.{still}
-use Rattle.mx_plan.specs.Wild.{Course, ends, meets_wild, world_of, course}
+use Rattle.mx_plan.specs.Wild.{Course, ends, meets_wild, course}
 use Rattle.mx_plan.proofs.Spared.{Spares, uncalled, after}
-use Rattle.mx_plan.proofs.WildLaws.{course_still, SparedCourse, course_spared}
+use Rattle.mx_plan.proofs.WildLaws.{SparedCourse, course_spared}
 use Rattle.mx_run.specs.Turns.{went_on, halts, stops, turn_answer, turn}
 use Rattle.mx_run.specs.Turns as run
 use Rattle.mx_run.specs.WildRuns.{MachineKind, ends_wild, host_after}
@@ -13,10 +13,9 @@ use Rattle.mx_run.proofs.SteadyRuns.{turn_still, turn-steady}
 use Rattle.mx_multi.specs.Joint.{Joint, has_halted, state_at}
 use Rattle.mx_multi.specs.JointTurns.{JointWorld, joined, turn_of}
 use Rattle.mx_multi.specs.MultiPlans.{MultiCall, starting, turning, looking, multi, turns_plan}
-use Rattle.mx_multi.specs.Turns.{multi_goes, TurnsEnd, turns_ended, turns_wild, of_course, turns}
+use Rattle.mx_multi.specs.Turns.{multi_goes}
 use Rattle.mx_multi.specs.declared.turn.Turn.{Turn}
 use Rattle.mx_multi.specs.declared.turn.Turn.TheVariants.{Idle}
-use Rattle.mx_multi.specs.declared.end.MultiEnd.{MultiEnd}
 
 -- one turn
 abbrev pub joint_still : Turn × JointWorld → Turn × JointWorld
@@ -42,44 +41,25 @@ turn_of-steady who j m =
 
 -- ---- turns by a schedule
 
-abbrev pub turns_host : TurnsEnd → HostModel
-turns_host (turns_ended end j m) = m
-turns_host (turns_wild m) = m
+abbrev pub still_joint : JointWorld → JointWorld
+still_joint w = (w.0, still w.1)
 
-abbrev pub turns_still : TurnsEnd → TurnsEnd
-turns_still (turns_ended end j m) = turns_ended end j (still m)
-turns_still (turns_wild m) = turns_wild (still m)
-
-abbrev pub SparedTurns : HostModel → TurnsEnd → TurnsEnd → Type 0
-SparedTurns m t u = Spares m (turns_host t) (turns_still t) u
-
--- ---- by their plan
-
-abbrev still-joint : JointWorld → JointWorld
-still-joint w = (w.0, still w.1)
-
-abbrev joint-host : JointWorld → HostModel
-joint-host w = w.1
+abbrev pub joint_host : JointWorld → HostModel
+joint_host w = w.1
 
 abbrev made : Turn × JointWorld → Course Turn JointWorld
 made t = ends t.0 t.1
 
-call-steady : (kind : MachineKind) (o : MultiCall) (w : JointWorld) → SparedCourse joint-host still-joint w (multi_goes kind o w) (multi_goes kind o (still-joint w))
+call-steady : (kind : MachineKind) (o : MultiCall) (w : JointWorld) → SparedCourse joint_host still_joint w (multi_goes kind o w) (multi_goes kind o (still_joint w))
 unfolding multi
 call-steady kind starting w = uncalled
 call-steady kind (turning who) w = by (not (has_halted w.0.halted who) && ends_wild kind (state_at w.0 who))
   where
-    by : (b : Bool) → SparedCourse joint-host still-joint w (cond b (meets_wild w) (made (turn_of who w))) (cond b (meets_wild (still-joint w)) (made (turn_of who (still-joint w))))
+    by : (b : Bool) → SparedCourse joint_host still_joint w (cond b (meets_wild w) (made (turn_of who w))) (cond b (meets_wild (still_joint w)) (made (turn_of who (still_joint w))))
     by true = uncalled
     by false = after made (turn_of-steady who w.0 w.1) uncalled
 call-steady kind looking w = uncalled
 
-end-case : (c : Course MultiEnd JointWorld) → Spares (joint-host (world_of c)) (turns_host (of_course c)) (turns_still (of_course c)) (of_course (course_still still-joint c))
-end-case (ends end w) = uncalled
-end-case (meets_wild w) = uncalled
-
-pub turns-steady : (kind : MachineKind) (schedule : List ℕ) (n : ℕ) (rest : List ℕ) (j : Joint) (m : HostModel) →
-    SparedTurns m (turns kind schedule n rest j m) (turns kind schedule n rest j (still m))
-unfolding turns
-turns-steady kind schedule n rest j m =
-    after of_course (course_spared joint-host still-joint (multi_goes kind) (call-steady kind) (turns_plan schedule n rest) (j, m)) (end-case (course (multi_goes kind) (turns_plan schedule n rest) (j, m)))
+pub turns-spared : (kind : MachineKind) (schedule : List ℕ) (n : ℕ) (rest : List ℕ) (w : JointWorld) →
+    SparedCourse joint_host still_joint w (course (multi_goes kind) (turns_plan schedule n rest) w) (course (multi_goes kind) (turns_plan schedule n rest) (still_joint w))
+turns-spared kind schedule n rest w = course_spared joint_host still_joint (multi_goes kind) (call-steady kind) (turns_plan schedule n rest) w

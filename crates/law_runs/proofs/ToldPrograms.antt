@@ -4,7 +4,7 @@ use Rattle.std.specs.Prelude.{◌&&◌, codes, nat_lt, nat_le}
 use Rattle.mx_word.specs.declared.symbols.Symbol.{Symbol}
 use Rattle.mx_host.specs.HostModel.{HostModel, counted, is_failing, is_read_only, place_of}
 use Rattle.mx_host.specs.HostAnswer.{Then, open_answer, opened}
-use Rattle.mx_plan.specs.Calls.{HostCall, HostSays, opening as opening_call, closing, reading, writing, seeking, telling, needing, host, open_plan, close_plan, read_plan, write_plan, need}
+use Rattle.mx_plan.specs.Calls.{HostCall, HostSays, opening as opening_call, host, open_plan, close_plan, read_plan, write_plan, need}
 use Rattle.mx_plan.specs.Plan.{returns, bind, end_of}
 use Rattle.mx_plan.proofs.Giving.{Gives, gives-bind, gives-end}
 use Rattle.mx_host.specs.declared.faults.HostFault.{HostFault as SlotFault}
@@ -63,7 +63,7 @@ use Rattle.mx_multi.specs.Turns.{TurnsEnd, turns_ended, turns_wild, turns}
 use Rattle.law_runs.proofs.UnbrokenTurns.{Told, turns-told}
 use Rattle.law_runs.specs.Unbroken.{is_outcome_told, is_told, is_answer_told}
 use Rattle.mx_outcome.specs.declared.outcome.Outcome.{Outcome}
-use Rattle.mx_outcome.specs.declared.outcome.Outcome.TheVariants.{Done, Usage, NoFile, HostFault, Refused, BadObject, BadSchedule, Stopped, StepsSpent, Quit, ConsoleLimit, OutOfMemory}
+use Rattle.mx_outcome.specs.declared.outcome.Outcome.TheVariants.{Done, HostFault}
 use Rattle.mx_files.specs.declared.refusal.Refusal.{Refusal}
 use Rattle.law_runs.proofs.UnbrokenRuns.{machines-told}
 
@@ -79,9 +79,13 @@ abbrev is_opened : Result (Unit {0}) OpenFault → Bool
 is_opened (Err opening.OutOfMemory) = false
 is_opened r = true
 
-either-open : (b : Bool) (x y : Then (Result (Unit {0}) OpenFault)) → is_opened x.0 ≡ true → is_opened y.0 ≡ true → is_opened (cond b x y).0 ≡ true
-either-open true x y h k = h
-either-open false x y h k = k
+either : {A : Type 0} (Such : A → Type 0) (b : Bool) (x y : A) → Such x → Such y → Such (cond b x y)
+either Such true x y h k = h
+either Such false x y h k = k
+
+-- an answer that is another than the want of memory
+abbrev OpensSo : Then (Result (Unit {0}) OpenFault) → Type 0
+OpensSo t = is_opened t.0 ≡ true
 
 by-mode : (reads : Bool) (m : HostModel) (slot : ℕ) (name : List ℕ) (mode : Mode) (at : Option ℕ) → is_opened (opened reads m slot name mode at).0 ≡ true
 by-mode true m slot name mode None = refl
@@ -91,7 +95,7 @@ by-mode false m slot name mode (Some at) = refl
 
 open-told : (m : HostModel) (slot : ℕ) (name : List ℕ) (mode : Mode) → is_opened (open_answer m slot name mode).0 ≡ true
 unfolding open_answer
-open-told m slot name mode = either-open (is_failing m) _ _ refl (by-mode (is_read_only mode) (counted m) slot name mode (place_of m.files name))
+open-told m slot name mode = either OpensSo (is_failing m) _ _ refl (by-mode (is_read_only mode) (counted m) slot name mode (place_of m.files name))
 
 -- an outcome in place of a value
 abbrev ReadTold : {A : Type 0} → Result A Outcome → Type 0
@@ -101,22 +105,12 @@ ReadTold (Err outcome) = OutcomeTold outcome
 -- a call that opens a file never lacks memory
 abbrev May : (o : HostCall) → HostSays o → Type 0
 May (opening_call slot name mode) r = is_opened r ≡ true
-May (closing slot) r = Unit {0}
-May (reading slot len) r = Unit {0}
-May (writing slot from) r = Unit {0}
-May (seeking slot to) r = Unit {0}
-May (telling slot) r = Unit {0}
-May needing r = Unit {0}
+May other r = Unit {0}
 
 may : (o : HostCall) (m : HostModel) → May o (host.act o m).0
 unfolding host
-may (opening_call slot name mode) m = either-open (nat_le slot 257) _ _ (open-told m slot name mode) refl
-may (closing slot) m = tt
-may (reading slot len) m = tt
-may (writing slot from) m = tt
-may (seeking slot to) m = tt
-may (telling slot) m = tt
-may needing m = tt
+may (opening_call slot name mode) m = either OpensSo (nat_le slot 257) _ _ (open-told m slot name mode) refl
+may other m = tt
 
 -- a part ends the work so, whatever its calls answer of what they may
 abbrev IsTold : {A : Type 0} → Part A → Type 0
@@ -189,20 +183,12 @@ read-told most name = then-told (λ u. read_open most) (open_input name) (input-
 
 -- ---- runs, sessions and dumps
 
-either-answer : (b : Bool) (x y : Answer) → AnswerTold x → AnswerTold y → AnswerTold (cond b x y)
-either-answer true x y h k = h
-either-answer false x y h k = k
-
-either-outcome : (b : Bool) (x y : Outcome) → OutcomeTold x → OutcomeTold y → OutcomeTold (cond b x y)
-either-outcome true x y h k = h
-either-outcome false x y h k = k
-
 lines-told : (outcome : Outcome) (t : Then Bool) → OutcomeTold outcome → AnswerTold (after_lines outcome t)
-lines-told outcome (written, m) h = either-outcome written outcome HostFault h refl
+lines-told outcome (written, m) h = either OutcomeTold written outcome HostFault h refl
 
 dump-told : (dump : Bool) (r : Ran) → is_told r ≡ true → AnswerTold (dumped dump r)
 dump-told dump (ran_wild m) h = refl
-dump-told dump (ran outcome s m) h = either-answer (dump && leaves_machine outcome) _ _ (lines-told outcome (lines_put (dump_lines s) m) h) h
+dump-told dump (ran outcome s m) h = either AnswerTold (dump && leaves_machine outcome) _ _ (lines-told outcome (lines_put (dump_lines s) m) h) h
 
 end-told : (steps : ℕ) (end : SessionEnd) → sessions.is_end_told end ≡ true → OutcomeTold (session_outcome steps end)
 end-told steps (sitting.Halted status) h = refl
@@ -217,9 +203,8 @@ played-told : (steps : ℕ) (r : SessionRun) → sessions.is_told r ≡ true →
 played-told steps (session_ended e) h = end-told steps e.end h
 played-told steps (session_wild m) h = refl
 
-either-ran : (b : Bool) (x y : Ran) → is_told x ≡ true → is_told y ≡ true → is_told (cond b x y) ≡ true
-either-ran true x y h k = h
-either-ran false x y h k = k
+abbrev RanTold : Ran → Type 0
+RanTold r = is_told r ≡ true
 
 lines-said : (outcome : Outcome) (s : State) (m : HostModel) (t : Then Bool) → is_told (ran outcome s m) ≡ true → is_told (lines_told outcome s t) ≡ true
 lines-said outcome s m (true, n) h = h
@@ -228,11 +213,11 @@ lines-said outcome s m (false, n) h = refl
 taken-told : (states : List State) (r : Ran) → is_told r ≡ true → is_told (taken_back states r) ≡ true
 taken-told states (ran_wild m) h = h
 taken-told states (ran outcome s m) h =
-    either-ran (takes_back outcome) _ _ (lines-said outcome (reached s states) m (lines_put (state_lines states) m) h) h
+    either RanTold (takes_back outcome) _ _ (lines-said outcome (reached s states) m (lines_put (state_lines states) m) h) h
 
 order-told : (kind : MachineKind) (o : Order) (s : State) (m : HostModel) → is_told (order_ran kind o s m) ≡ true
 order-told kind o s m =
-    either-ran o.interactive _ _ (played-told o.steps (session kind o.steps s no_flags m) (sessions-told kind o.steps s no_flags m))
+    either RanTold o.interactive _ _ (played-told o.steps (session kind o.steps s no_flags m) (sessions-told kind o.steps s no_flags m))
     (taken-told (states_back o.last o.steps s m) (machine_ran kind o.steps s m) (machines-told kind o.steps s m))
 
 begun-told : (pc : ℕ) (s : Option State) → ReadTold (begun_at pc s)
@@ -327,17 +312,7 @@ plainly-told (outcome, m) h = h
 summed-told : (blocks size : ℕ) (r : Ran) → is_told r ≡ true → AnswerTold (summed blocks size r)
 summed-told blocks size (ran_wild m) h = refl
 summed-told blocks size (ran (Done status) s m) h = lines-told (Done 0) (lines_put (summary blocks size s.steps (register s.stack 255) ∷ []) m) refl
-summed-told blocks size (ran (Usage fault) s m) h = refl
-summed-told blocks size (ran NoFile s m) h = refl
-summed-told blocks size (ran HostFault s m) h = refl
-summed-told blocks size (ran (Refused line fault from_line) s m) h = refl
-summed-told blocks size (ran (BadObject place fault) s m) h = refl
-summed-told blocks size (ran (BadSchedule place) s m) h = refl
-summed-told blocks size (ran (Stopped pc reason) s m) h = refl
-summed-told blocks size (ran (StepsSpent steps) s m) h = refl
-summed-told blocks size (ran Quit s m) h = refl
-summed-told blocks size (ran ConsoleLimit s m) h = refl
-summed-told blocks size (ran OutOfMemory s m) h = absurd (cc)
+summed-told blocks size (ran outcome s m) h = h
 
 summed_from-told : (kind : MachineKind) (blocks size : ℕ) (s : Result State Outcome) (m : HostModel) → ReadTold s → AnswerTold (summed_from kind blocks size s m)
 summed_from-told kind blocks size (Ok s) m h = summed-told blocks size (machine_ran kind generator_steps s m) (machines-told kind generator_steps s m)
@@ -361,13 +336,9 @@ end_typed-told : (r : Result Left MmoFault) → OutcomeTold (end_typed r).1
 end_typed-told (Ok left) = tail_typed-told (tail_of left.phase left.at left.rest)
 end_typed-told (Err fault) = refl
 
-either-typed : (b : Bool) (x y : Typed) → OutcomeTold x.1 → OutcomeTold y.1 → OutcomeTold (cond b x y).1
-either-typed true x y h k = h
-either-typed false x y h k = k
-
 typed-told : (object : List ℕ) → OutcomeTold (typed object).1
 unfolding typed
-typed-told object = either-typed (nat_lt limit (length object)) _ _ refl (end_typed-told (items_of Start 0 object).1)
+typed-told object = either (λ (t : Typed). OutcomeTold t.1) (nat_lt limit (length object)) _ _ refl (end_typed-told (items_of Start 0 object).1)
 
 lines_plan-told : (lines : List (List ℕ)) → IsTold (lines_plan lines)
 unfolding lines_plan made_plan

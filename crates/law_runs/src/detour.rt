@@ -16,18 +16,21 @@ ghost use Rattle.law_runs.specs.Called.{NoCallFails};
 ghost use Rattle.law_runs.specs.Detour.{AreOrdered, IsAssembled, run_words, sim_words};
 ghost use Rattle.law_runs.specs.Detour.{HasOutcome, answer_uncounted, answer_unscheduled, host_of};
 ghost use Rattle.mx_files.specs.Objects.{source_object};
-ghost use Rattle.mx_top.specs.Product.{product};
+ghost use Rattle.mx_top.specs.Product.{product, product_traces};
 ghost use Rattle.mx_files.specs.Sources.{source_meaning};
 ghost use Rattle.mx_outcome.specs.declared.outcome.Outcome.TheVariants.{BadObject, Refused};
 
 /// Where no call that the program makes fails, it does and answers the same whatever number of calls was made
 /// before, and whatever other calls are listed as failing; only that number and that list differ in what it
-/// leaves. It never changes that list.
+/// leaves. Watchers are told the same traces. It never changes that list.
 #[tactic(auto, using(crate::proofs::SteadyProduct::steady))]
 pub fn programs_go_by_no_count()
     ensures same { (kind : MachineKind) (words : List Word) (m n : HostModel) → unscheduled m ≡ unscheduled n →
         NoCallFails kind words m → NoCallFails kind words n →
         answer_unscheduled (product kind words m) ≡ answer_unscheduled (product kind words n) }
+    ensures told { (kind : MachineKind) (words : List Word) (m n : HostModel) → unscheduled m ≡ unscheduled n →
+        NoCallFails kind words m → NoCallFails kind words n →
+        product_traces kind words m ≡ product_traces kind words n }
     ensures list { (kind : MachineKind) (words : List Word) (m : HostModel) →
         (host_of (product kind words m)).failing ≡ m.failing }
 {}
