@@ -15,7 +15,7 @@ use Rattle.mx_outcome.specs.declared.outcome.Outcome.{Outcome}
 use Rattle.mx_outcome.specs.declared.outcome.Outcome.TheVariants.{HostFault, OutOfMemory}
 use Rattle.mx_dump.specs.Dump.{dump_lines}
 use Rattle.mx_top.specs.Telling.{written_with, telling}
-use Rattle.mx_top.specs.ProductPlan.{dumped_plan}
+use Rattle.mx_top.specs.Endings.{dumped_plan}
 use Rattle.mx_top.proofs.SameDumps.{same-dump}
 
 -- ---- lines behind an outcome

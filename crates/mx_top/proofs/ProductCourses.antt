@@ -252,10 +252,10 @@ turns-course : (kind : MachineKind) (o : Order) (schedule : List ℕ) (image : I
 unfolding course bind page.on_host need host
 turns-course kind o schedule image m = turned-course kind o (turns kind schedule o.steps schedule (joint.started image (processors_named schedule) (stack_at_start kind o.ring)) m)
 
-multi-course : (kind : MachineKind) (words : List Word) (o : Order) (schedule : List ℕ) (m : HostModel) →
-    course (program_goes kind) (page.multi_file words o schedule) (m, []) ≡ told_with [] (image_turned kind o schedule (end_of host (image_file_plan Object (word_at words o.file)) m))
-multi-course kind words o schedule m =
-    part-course kind (page.turns_on o schedule) (λ t. []) (image_turned kind o schedule) (image_file_plan Object (word_at words o.file)) m (λ x n. refl) (turns-course kind o schedule)
+object-course : (kind : MachineKind) (o : Order) (object : Word) (schedule : List ℕ) (m : HostModel) →
+    course (program_goes kind) (page.object_file o object schedule) (m, []) ≡ told_with [] (image_turned kind o schedule (end_of host (image_file_plan Object object) m))
+object-course kind o object schedule m =
+    part-course kind (page.turns_on o schedule) (λ t. []) (image_turned kind o schedule) (image_file_plan Object object) m (λ x n. refl) (turns-course kind o schedule)
 
 -- ---- the words
 
@@ -268,7 +268,7 @@ ordered-course kind words o Gen m =
     taking-course kind _ (m, []) ∙ taking-course kind (page.run_source o (length (generated o.number)) (source_meaning (generated o.number))) (m, []) ∙ source-course kind o (length (generated o.number)) (source_meaning (generated o.number)) m
 ordered-course kind words o Show m = host-course kind (list_plan (word_at words o.file)) (m, [])
 ordered-course kind words o Multi m =
-    part-course kind (page.multi_file words o) (λ t. []) (after_schedule kind o (word_at words o.file)) (schedule_plan (word_at words o.schedule)) m (λ x n. refl) (multi-course kind words o)
+    part-course kind (page.object_file o (word_at words o.file)) (λ t. []) (after_schedule kind o (word_at words o.file)) (schedule_plan (word_at words o.schedule)) m (λ x n. refl) (object-course kind o (word_at words o.file))
 
 pub work-course : (kind : MachineKind) (words : List Word) (r : Result Order WordsFault) (m : HostModel) → course (program_goes kind) (page.work_plan words r) (m, []) ≡ told_with (carried_traces kind words r m) (carried_out kind words r m)
 unfolding course

@@ -15,11 +15,11 @@ use Rattle.mx_files.specs.Answers.{Answer, answered, wild, GoesAs}
 use Rattle.mx_outcome.specs.Messages.{message_of}
 use Rattle.mx_outcome.specs.declared.outcome.Outcome.{Outcome}
 use Rattle.mx_begin.specs.Arguments.{Word}
-use Rattle.mx_top.specs.Commands.{carried_out, message_told, with_message}
-use Rattle.mx_top.specs.Product.{product, product_traces}
-use Rattle.mx_top.proofs.ProductCourses.{product-is-course}
+use Rattle.mx_top.specs.Commands.{message_told, with_message}
+use Rattle.mx_top.specs.Product.{ProgramPlan, work_plan, product, product_traces}
+use Rattle.mx_top.proofs.Spoken.{product-is-said}
 use Rattle.mx_top.specs.Reports.{UnlessWild, due_reports, reports_put, with_reports, watched_product}
-use Rattle.mx_top.specs.WorkClauses.{KeepsSaying}
+use Rattle.mx_top.specs.WorkClauses.{Doing, KeepsSaying, answer_by}
 use Rattle.mx_top.proofs.Answering.{goes-as}
 
 -- ---- the writes
@@ -48,8 +48,8 @@ reported-goes outcome result here new (wild m) texts dues e same said grows = fr
 
 -- what is told of the work, with its message and the reports behind it, is what the program comes to
 pub watched-so : (kind : MachineKind) (words : List Word) (ws : List Watching) (m : HostModel) →
-    with_reports (due_reports (order_of words) ws (product_traces kind words m)) (with_message (carried_out kind words (order_of words) m)) ≡ watched_product kind words ws m
-watched-so kind words ws m = ap (with_reports (due_reports (order_of words) ws (product_traces kind words m))) (sym (product-is-course kind words m))
+    with_reports (due_reports (order_of words) ws (product_traces kind words m)) (with_message (answer_by kind (work_plan words (order_of words)) m)) ≡ watched_product kind words ws m
+watched-so kind words ws m = ap (with_reports (due_reports (order_of words) ws (product_traces kind words m))) (sym (product-is-said kind words m))
 
 -- ---- without watchers
 
@@ -75,3 +75,7 @@ none-mean f xs e = ap (map f) e
 pub unwatched : (kind : MachineKind) (words : List Word) (ws : List Watching) (m : HostModel) → ws ≡ [] → watched_product kind words ws m ≡ product kind words m
 unwatched kind words ws m e =
     ap (λ w. watched_product kind words w m) e ∙ ap (λ ts. with_reports ts (product kind words m)) (none-due (order_of words) (product_traces kind words m)) ∙ none-written (product kind words m)
+
+-- where nobody watches none is due
+pub unwatched-doing : (m n : HostModel) (result : Outcome) (work : ProgramPlan Outcome) (due : List Trace → List (List ℕ)) → due ≡ (λ told. []) → Doing m n result work due → Doing m n result work (λ told. [])
+unwatched-doing m n result work due nothing d = subst (λ (f : List Trace → List (List ℕ)). Doing m n result work f) nothing d

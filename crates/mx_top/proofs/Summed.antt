@@ -6,7 +6,7 @@ use Rattle.mx_plan.specs.Calls.{host}
 use Rattle.mx_plan.specs.Clauses.{CarriesOut}
 use Rattle.mx_plan.specs.Plan.{returns}
 use Rattle.mx_plan.proofs.Plans.{end_returns}
-use Rattle.mx_top.specs.ProductPlan.{is_done, summed_plan}
+use Rattle.mx_top.specs.Endings.{is_done, summed_plan}
 use Rattle.mx_top.specs.Telling.{telling}
 use Rattle.mx_core.specs.Bounds.{as_list_state}
 use Rattle.mx_core.specs.State.{State}

@@ -14,22 +14,16 @@ use Rattle.mx_core.specs.Bounds.{as_list_state}
 use Rattle.mx_core.specs.State.{State}
 use Rattle.mx_core.specs.Undoing.{StateWas}
 use Rattle.mx_run.specs.AccompaniedRuns.{list_run}
-use Rattle.mx_run.specs.WildRuns.{MachineKind, window_machine, list_machine}
-use Rattle.mx_watch.specs.Hearing.{heard_by}
-use Rattle.mx_watch.specs.Traces.{traces}
-use Rattle.mx_watch.specs.Watching.{Watching}
-use Rattle.mx_watch.specs.declared.telling.Report.{Report}
+use Rattle.mx_run.specs.WildRuns.{MachineKind}
 use Rattle.mx_words.specs.declared.order.Order.{Order}
-use Rattle.mx_files.specs.Answers.{Answer, answered, after_lines}
+use Rattle.mx_files.specs.Answers.{answered, after_lines}
 use Rattle.mx_files.specs.Clauses.{WorksBetween}
 use Rattle.mx_files.specs.FilePlans.{lines_plan}
 use Rattle.mx_files.specs.Writing.{lines_put}
 use Rattle.mx_outcome.specs.declared.outcome.Outcome.{Outcome}
 use Rattle.mx_outcome.specs.declared.outcome.Outcome.TheVariants.{HostFault, OutOfMemory}
 use Rattle.mx_dump.specs.Dump.{Line, dump_lines}
-use Rattle.mx_top.specs.Commands.{order_traces}
-use Rattle.mx_top.specs.ProductPlan.{then_dumped, dumped_plan, back_plan}
-use Rattle.mx_top.specs.Reports.{UnlessWild, HearsAs, HearsAsList}
+use Rattle.mx_top.specs.Endings.{then_dumped, dumped_plan, back_plan}
 use Rattle.mx_top.specs.Runs.{Ran, ran, ran_wild, machine_ran, session_ran, run_from, dumped, takes_back, state_lines, reached, lines_told, taken_back, run_back}
 use Rattle.mx_top.proofs.LastStates.{lines-listed, reached-listed, reached-untouched, take-untouched}
 use Rattle.mx_top.proofs.Dumped.{same-dumped}
@@ -119,21 +113,6 @@ no-last kind last steps s m e = ap (λ k. run_back kind k steps s m) e ∙ none-
 pub forward-run : (kind : MachineKind) (o : Order) (s : State) (m : HostModel) → o.interactive ≡ false → o.last ≡ 0 → run_from kind o (Ok s) m ≡ dumped o.dump (machine_ran kind o.steps s m)
 forward-run kind o s m i none =
     ap (λ (b : Bool). dumped o.dump (cond b (session_ran kind o.steps s m) (run_back kind o.last o.steps s m))) i ∙ ap (dumped o.dump) (no-last kind o.last o.steps s m none)
-
--- the traces that watchers are told then
-asked : (kind : MachineKind) (o : Order) (s : State) (m : HostModel) → o.interactive ≡ false → o.last ≡ 0 → o.report ≡ true → order_traces kind o s m ≡ traces kind o.steps s m
-asked kind o s m i none e = rw (i, none, e) refl
-
-pub heard-so : (a : Option HostModel) (r : Outcome) (ws left : List Watching) (earlier later : List Report) (o : Order) (s : State) → o.interactive ≡ false → o.last ≡ 0 → o.report ≡ true →
-    HearsAs a r ws left earlier later (λ m. traces window_machine o.steps s m) → HearsAs a r ws left earlier later (λ m. order_traces window_machine o s m)
-heard-so a r ws left earlier later o s i none e h = λ t ne. h t ne ∙ ap (λ ts. heard_by ts ws earlier) (sym (asked window_machine o s (contents a) i none e))
-
-pub list-heard-so : (a : Option HostModel) (r : Outcome) (ws left : List Watching) (earlier later : List Report) (o : Order) (s : State) → o.interactive ≡ false → o.last ≡ 0 → o.report ≡ true →
-    HearsAsList a r ws left earlier later (λ m. dumped o.dump (machine_ran list_machine o.steps s m)) (λ m. traces list_machine o.steps s m) →
-    HearsAsList a r ws left earlier later (λ m. run_from list_machine o (Ok s) m) (λ m. order_traces list_machine o s m)
-list-heard-so a r ws left earlier later o s i none e h = λ t ne.
-    subst (λ (x : Answer). UnlessWild x ((left, later) ≡ heard_by (order_traces list_machine o s (contents a)) ws earlier)) (sym (forward-run list_machine o s (contents a) i none))
-    (subst (λ ts. UnlessWild (dumped o.dump (machine_ran list_machine o.steps s (contents a))) ((left, later) ≡ heard_by ts ws earlier)) (sym (asked list_machine o s (contents a) i none e)) (h t ne))
 
 -- ---- from no notes
 

@@ -1,180 +1,312 @@
 -- The parts of which the work of the program is made.
 use Rattle.std.proofs.Common.{◌≡◌, ◌≢◌, ◌⊎◌, inl, inr, ℕ, List, length, Bool, true, false, cond, Ok, Err, refl, sym, ◌∙◌, ap, subst, codes, []}
 use Rattle.std.specs.Prelude.{◌==◌, not, Option, Result, ◌∷◌}
-use Rattle.mx_host.specs.HostModel.{HostModel, tells}
+use Rattle.mx_host.specs.HostModel.{HostModel, tells, contents}
+use Rattle.mx_host.specs.HostAnswer.{Then}
+use Rattle.mx_plan.specs.Calls.{host, HostPlan, need}
 use Rattle.mx_plan.specs.Clauses.{CarriesOut}
-use Rattle.mx_plan.specs.Plan.{returns}
+use Rattle.mx_plan.specs.Plan.{returns, calls, bind, end_of, end_after, Stops, StopsAfter}
+use Rattle.mx_plan.specs.Wild.{Course, ends, meets_wild, then_on, course}
+use Rattle.mx_plan.proofs.Plans.{stops_after}
 use Rattle.mx_mmo.specs.Image.{Image}
+use Rattle.mx_core.specs.Bounds.{as_list_state}
 use Rattle.mx_core.specs.State.{State}
-use Rattle.mx_multi.specs.Joint.{Joint, started as joint_started}
-use Rattle.mx_run.specs.WildRuns.{window_machine}
+use Rattle.mx_run.specs.WildRuns.{MachineKind, window_machine, list_machine}
 use Rattle.mx_word.proofs.Comparisons.{other-test}
 use Rattle.mx_words.specs.declared.order.Command.{Command}
 use Rattle.mx_words.specs.declared.order.Command.TheVariants.{Run, Asm, Sim, Gen, Show, Multi}
 use Rattle.mx_words.specs.declared.order.Order.{Order}
 use Rattle.mx_words.specs.declared.order.WordsFault.{WordsFault}
 use Rattle.law_gen.specs.Generator.{generated}
+use Rattle.mx_files.specs.Answers.{GoesAs}
 use Rattle.mx_files.specs.Assembling.{refused_with}
+use Rattle.mx_files.specs.FilePlans.{on_ok}
 use Rattle.mx_files.specs.ObjectPlans.{assemble_plan, list_plan}
-use Rattle.mx_files.specs.Schedules.{schedule_plan}
 use Rattle.mx_files.specs.Sources.{source_meaning}
 use Rattle.mx_files.specs.declared.refusal.Refusal.{Refusal}
 use Rattle.mx_outcome.specs.declared.outcome.Outcome.{Outcome}
 use Rattle.mx_outcome.specs.declared.outcome.Outcome.TheVariants.{Usage, OutOfMemory}
-use Rattle.mx_begin.specs.Arguments.{Word, word_at}
-use Rattle.mx_begin.specs.BeginPlans.{begin_plan, image_file_plan}
+use Rattle.mx_begin.specs.Arguments.{Word, word_at, arguments}
+use Rattle.mx_begin.specs.BeginPlans.{begin_plan, image_file_plan, start_plan}
+use Rattle.mx_begin.specs.Begun.{started}
 use Rattle.mx_begin.specs.declared.images.Form.{Form}
 use Rattle.mx_begin.specs.declared.images.Form.TheVariants.{Source, Object}
-use Rattle.mx_top.specs.Processors.{processors_named}
-use Rattle.mx_top.specs.ProgramCalls.{ProgramPlan}
-use Rattle.mx_top.specs.ProductPlan as plans
-use Rattle.mx_begin.specs.Begun.{started, stack_at_start}
-use Rattle.mx_top.specs.WorkClauses.{CarriesOutBoth, CarriesOutWork}
+use Rattle.mx_begin.proofs.Beginnings.{begin-by, start-end}
+use Rattle.mx_top.specs.MachineWork as work
+use Rattle.mx_top.specs.MachineWork.{WorkPlan, WorkStops, working, work_goes, generated_work}
+use Rattle.mx_top.specs.Product as page
+use Rattle.mx_top.specs.Product.{ProgramPlan, ProgramWorld, program, program_goes, on_host, on_part, taking, run_on, run_file, run_source, run_text, ordered_plan, work_plan, work_on, worked, at_start, MayStop, answer_of}
+use Rattle.mx_top.specs.WorkClauses.{CarriesOutBoth, PlanStops, WorksBoth, host_of, left_of, work_by, answer_by}
 use Rattle.mx_top.proofs.Told.{wanting}
-use Rattle.mx_top.proofs.WorkPlans.{work-host, work-returns, work-then, work-ends, both-returns, both-lacks, both-taking, both-then, both-ends}
+use Rattle.mx_top.proofs.WindowCourses.{work-window, program-window}
+use Rattle.mx_top.proofs.WorkPlans.{both-host, both-returns, both-lacks, both-taking, goes-by, host-bind, part-ended, taking-course, tells-then}
 
--- ---- `run` and `sim`
+-- ---- a machine that starts, or does not
 
-unstarted : (a : Option HostModel) (r : Outcome) (start : Result State Outcome) (more : Result State Outcome → ProgramPlan Outcome) → ((e : Outcome) → more (Err e) ≡ returns e) → (r ≢ OutOfMemory → Err r ≡ start) →
-    (r ≡ OutOfMemory) ⊎ (r ≢ OutOfMemory) → CarriesOutBoth a a r (plans.taking (more start))
-unstarted a r start more ends is (inl e) = rw e (both-lacks a (more start))
-unstarted a r start more ends is (inr ne) =
-    both-taking a a r (more start) (subst (λ (x : Result State Outcome). CarriesOutBoth a a r (more x)) (is ne) (subst (λ (p : ProgramPlan Outcome). CarriesOutBoth a a r p) (sym (ends r)) (both-returns a r ne)))
+ends-alone : {A W : Type 0} (c : Course A W) → then_on (λ a w. ends a w) c ≡ c
+ends-alone (ends a w) = refl
+ends-alone (meets_wild w) = refl
 
--- a machine that has begun, or has not
-pub begun-work : (a b c : Option HostModel) (r : Outcome) (words : List Word) (o : Order) (form : Form) (s : State) → tells b ≡ tells a → CarriesOut a b (Err OutOfMemory) (Ok s) (begin_plan window_machine words o form) →
-    CarriesOutWork b c r (plans.machine_plan o s) → CarriesOutWork a c r (plans.begun_plan words o form)
-unfolding plans.begun_plan
-begun-work a b c r words o form s e first second = work-then a b c s r (plans.machine_plan o) (begin_plan window_machine words o form) e first second
+-- the work that is done on it
+pub run-on : (kind : MachineKind) (ring : ℕ) (args : List Word) (plan : WorkPlan Outcome) (image : Image) (w : ProgramWorld) → course (program_goes kind) (run_on ring args plan image) w ≡ work_on kind plan (started kind ring image args) w
+unfolding course bind on_host need host
+run-on kind ring args plan image w = ends-alone (work_on kind plan (started kind ring image args) w)
 
-pub unbegun-work : (a b : Option HostModel) (r : Outcome) (words : List Word) (o : Order) (form : Form) → CarriesOut a b (Err OutOfMemory) (Err r) (begin_plan window_machine words o form) → CarriesOutWork a b r (plans.begun_plan words o form)
-unfolding plans.begun_plan
-unbegun-work a b r words o form h = work-ends a b r (plans.machine_plan o) (begin_plan window_machine words o form) h
+-- over a window: what comes of it
+abbrev host-in : Course Outcome ProgramWorld → Outcome × HostModel
+host-in (ends outcome w) = (outcome, w.0)
+host-in (meets_wild w) = (OutOfMemory, w.0)
+
+host-by : (p : ProgramPlan Outcome) (m : HostModel) (c : Course Outcome ProgramWorld) → course (program_goes window_machine) p (m, []) ≡ c → host_of (end_of program p (m, [])) ≡ host-in c
+host-by p m c e = ap host-in (sym (program-window p (m, [])) ∙ e)
+
+left-by : (plan : WorkPlan Outcome) (s : State) (m : HostModel) → host-in (work_by window_machine plan s m) ≡ left_of (end_of working plan (at_start s (m, [])))
+left-by plan s m = ap (λ c. host-in (worked c)) (work-window plan (at_start s (m, [])))
+
+-- a machine that starts on an image
+start-stops : (ring : ℕ) (args : List Word) (plan : WorkPlan Outcome) (image : Image) (r : Result State Outcome) (m v : HostModel) → r ≡ started window_machine ring image args → MayStop plan r (m, []) v → Stops program (v, []) (run_on ring args plan image) (m, [])
+unfolding bind on_host need Stops program host end_of
+start-stops ring args plan image r m v is s = inr (inl (subst (λ (x : Result State Outcome). MayStop plan x (m, []) v) is s))
+
+pub machine-started : (a b : Option HostModel) (r : Outcome) (ring : ℕ) (image : Image) (args : List Word) (plan : WorkPlan Outcome) (s : State) → Ok s ≡ started window_machine ring image args → Ok (as_list_state s) ≡ started list_machine ring image args →
+    WorksBoth a b s r plan → CarriesOutBoth a b r (run_on ring args plan image)
+machine-started a b r ring image args plan s is listed h = record {
+  window = λ t. record {
+    ending = λ ne.
+        (h.window t).ending ne ∙ sym (left-by plan s (contents a))
+        ∙ sym (host-by (run_on ring args plan image) (contents a) (work_by window_machine plan s (contents a)) (run-on window_machine ring args plan image (contents a, []) ∙ ap (λ (x : Result State Outcome). work_on window_machine plan x (contents a, [])) (sym is)));
+    stopping = λ e. record { heard = []; stops = start-stops ring args plan image (Ok s) (contents a) (contents b) is ((h.window t).stopping e) };
+  };
+  list = λ t ne.
+      subst (λ (c : Course Outcome ProgramWorld). GoesAs (answer_of c) r (contents b))
+      (ap (λ (x : Result State Outcome). work_on list_machine plan x (contents a, [])) listed ∙ sym (run-on list_machine ring args plan image (contents a, []))) (h.list t ne);
+}
+
+unstarted-by : (a : Option HostModel) (r : Outcome) (ring : ℕ) (image : Image) (args : List Word) (plan : WorkPlan Outcome) → (r ≢ OutOfMemory → Err r ≡ started window_machine ring image args) → (r ≢ OutOfMemory → Err r ≡ started list_machine ring image args) →
+    (r ≡ OutOfMemory) ⊎ (r ≢ OutOfMemory) → CarriesOutBoth a a r (run_on ring args plan image)
+unstarted-by a r ring image args plan is listed (inl e) = rw e (both-lacks a (calls (page.on_machine ring image args plan) (λ outcome. returns outcome)))
+unstarted-by a r ring image args plan is listed (inr ne) = record {
+  window = λ t. record {
+    ending = λ no. sym (host-by (run_on ring args plan image) (contents a) (ends r (contents a, [])) (run-on window_machine ring args plan image (contents a, []) ∙ ap (λ (x : Result State Outcome). work_on window_machine plan x (contents a, [])) (sym (is ne))));
+    stopping = λ e. absurd (ne e);
+  };
+  list = λ t no.
+      goes-by (answer_by list_machine (run_on ring args plan image) (contents a)) r (contents a)
+      (ap answer_of (run-on list_machine ring args plan image (contents a, []) ∙ ap (λ (x : Result State Outcome). work_on list_machine plan x (contents a, [])) (sym (listed ne))));
+}
+
+pub machine-unstarted : (a : Option HostModel) (r : Outcome) (ring : ℕ) (image : Image) (args : List Word) (plan : WorkPlan Outcome) → (r ≢ OutOfMemory → Err r ≡ started window_machine ring image args) →
+    (r ≢ OutOfMemory → Err r ≡ started list_machine ring image args) → CarriesOutBoth a a r (run_on ring args plan image)
+machine-unstarted a r ring image args plan is listed = unstarted-by a r ring image args plan is listed (wanting r)
+
+-- ---- `run` and `sim`: a machine that has begun, or has not
+
+abbrev pub begun_by : MachineKind → WorkPlan Outcome → Then (Result State Outcome) → Course Outcome ProgramWorld
+begun_by kind plan t = work_on kind plan t.0 (t.1, [])
+
+returns-so : (kind : MachineKind) (outcome : Outcome) (n : HostModel) → course (program_goes kind) (returns outcome) (n, []) ≡ ends outcome (n, [])
+unfolding course
+returns-so kind outcome n = refl
+
+pub file-course : (kind : MachineKind) (words : List Word) (o : Order) (form : Form) (m : HostModel) →
+    course (program_goes kind) (run_file words o form) (m, []) ≡ begun_by kind (work.machine_plan o) (end_of host (begin_plan kind words o form) m)
+unfolding run_file end_of
+file-course kind words o form m =
+    taking-course kind _ (m, []) ∙ host-bind kind (on_part (run_on o.ring args plan)) (image_file_plan form (word_at words o.file)) (m, []) ∙ by (end_of host (image_file_plan form (word_at words o.file)) m)
+    ∙ ap (begun_by kind plan) (sym (begin-by kind words o form m))
+  where
+    args : List Word
+    args = arguments words o
+
+    plan : WorkPlan Outcome
+    plan = work.machine_plan o
+
+    by : (t : Then (Result Image Outcome)) → course (program_goes kind) (on_part (run_on o.ring args plan) t.0) (t.1, []) ≡ begun_by kind plan (end_after host (on_ok (start_plan kind o.ring args)) t)
+    by (Ok image, n) = run-on kind o.ring args plan image (n, []) ∙ ap (begun_by kind plan) (sym (start-end kind o.ring args image n))
+    by (Err outcome, n) = returns-so kind outcome n
+
+taken-stops : (p : ProgramPlan Outcome) (v m : HostModel) → Stops program (v, []) p (m, []) → Stops program (v, []) (taking p) (m, [])
+unfolding bind on_host need Stops program host end_of
+taken-stops p v m h = inr h
+
+abbrev state-err : Outcome → HostPlan (Result State Outcome)
+state-err outcome = returns (Err outcome)
+
+err-end : (outcome : Outcome) (n : HostModel) → end_of host (state-err outcome) n ≡ (Err outcome, n)
+unfolding end_of
+err-end outcome n = refl
+
+none-stops : (outcome : Outcome) (v k : HostModel) → ⊥ → Stops program (v, []) (returns outcome) (k, [])
+none-stops outcome v k h = absurd h
+
+-- where the work stops, the whole does
+begun-stops : (words : List Word) (o : Order) (form : Form) (m n v : HostModel) (r : Result State Outcome) → (r, n) ≡ end_of host (begin_plan window_machine words o form) m → MayStop (work.machine_plan o) r (n, []) v → PlanStops (run_file words o form) m v
+unfolding run_file
+begun-stops words o form m n v r is s = record { heard = []; stops = taken (by (end_of host (image_file_plan form name) m) refl) }
+  where
+    args : List Word
+    args = arguments words o
+
+    plan : WorkPlan Outcome
+    plan = work.machine_plan o
+
+    name : Word
+    name = word_at words o.file
+
+    taken : Stops program (v, []) (bind (on_part (run_on o.ring args plan)) (on_host (image_file_plan form name))) (m, []) → Stops program (v, []) (taking (bind (on_part (run_on o.ring args plan)) (on_host (image_file_plan form name)))) (m, [])
+    taken h = taken-stops (bind (on_part (run_on o.ring args plan)) (on_host (image_file_plan form name))) v m h
+
+    from : (t : Then (Result Image Outcome)) → (r, n) ≡ end_after host (on_ok (start_plan window_machine o.ring args)) t → Stops program (v, []) (on_part (run_on o.ring args plan) t.0) (t.1, [])
+    from (Ok image, k) e =
+        let at = e ∙ start-end window_machine o.ring args image k in
+        start-stops o.ring args plan image (started window_machine o.ring image args) k v refl (subst (λ (x : Then (Result State Outcome)). MayStop plan x.0 (x.1, []) v) at s)
+    from (Err outcome, k) e = none-stops outcome v k (subst (λ (x : Then (Result State Outcome)). MayStop plan x.0 (x.1, []) v) (e ∙ err-end outcome k) s)
+
+    by : (t : Then (Result Image Outcome)) → end_of host (image_file_plan form name) m ≡ t → Stops program (v, []) (bind (on_part (run_on o.ring args plan)) (on_host (image_file_plan form name))) (m, [])
+    by (x, k) e =
+        stops_after program (on_part (run_on o.ring args plan)) (on_host (image_file_plan form name)) (v, []) (m, [])
+        (subst (StopsAfter program (v, []) (on_part (run_on o.ring args plan))) (part-ended (image_file_plan form name) x m k (sym e))
+        (from (x, k) (is ∙ begin-by window_machine words o form m ∙ ap (end_after host (on_ok (start_plan window_machine o.ring args))) e)))
+
+-- where it does not begin
+image-stops : (o : Order) (args : List Word) (plan : WorkPlan Outcome) (r : Result Image Outcome) (v n : HostModel) → Stops host v (on_ok (start_plan window_machine o.ring args) r) n → Stops program (v, []) (on_part (run_on o.ring args plan) r) (n, [])
+unfolding start_plan bind need on_host Stops program host
+image-stops o args plan (Ok image) v n (inl e) = inl e
+image-stops o args plan (Ok image) v n (inr h) = absurd h
+image-stops o args plan (Err outcome) v n h = absurd h
+
+parts-stop : {A B : Type 0} (e : A → HostPlan B) (g : A → ProgramPlan Outcome) (p : HostPlan A) (v m : HostModel) → ((a : A) (n : HostModel) → Stops host v (e a) n → Stops program (v, []) (g a) (n, [])) → Stops host v (bind e p) m →
+    Stops program (v, []) (bind g (on_host p)) (m, [])
+unfolding bind on_host Stops program
+parts-stop e g (returns a) v m more h = more a m h
+parts-stop e g (calls o k) v m more (inl l) = inl l
+parts-stop e g (calls o k) v m more (inr h) = inr (parts-stop e g (k (host.act o m).0) v (host.act o m).1 more h)
+
+file-stops : (words : List Word) (o : Order) (form : Form) (m v : HostModel) → Stops host v (begin_plan window_machine words o form) m → Stops program (v, []) (run_file words o form) (m, [])
+unfolding begin_plan run_file bind need on_host Stops program host
+file-stops words o form m v (inl e) = inl e
+file-stops words o form m v (inr h) =
+    inr (parts-stop (on_ok (start_plan window_machine o.ring (arguments words o))) (on_part (run_on o.ring (arguments words o) (work.machine_plan o))) (image_file_plan form (word_at words o.file)) v m
+    (λ r n k. image-stops o (arguments words o) (work.machine_plan o) r v n k) h)
+
+pub begun-both : (a b c : Option HostModel) (r : Outcome) (words : List Word) (o : Order) (form : Form) (s : State) → tells b ≡ tells a → CarriesOut a b (Err OutOfMemory) (Ok s) (begin_plan window_machine words o form) →
+    CarriesOut a b (Err OutOfMemory) (Ok (as_list_state s)) (begin_plan list_machine words o form) → WorksBoth b c s r (work.machine_plan o) → CarriesOutBoth a c r (run_file words o form)
+begun-both a b c r words o form s e first listed h = record {
+  window = λ t.
+      let is = (first t).ending (λ x. absurd (cc)) in
+      let there = tells-then a b e t in
+      record {
+        ending = λ ne.
+            (h.window there).ending ne ∙ sym (left-by (work.machine_plan o) s (contents b))
+            ∙ sym (host-by (run_file words o form) (contents a) (work_by window_machine (work.machine_plan o) s (contents b)) (file-course window_machine words o form (contents a) ∙ ap (begun_by window_machine (work.machine_plan o)) (sym is)));
+        stopping = λ x. begun-stops words o form (contents a) (contents b) (contents c) (Ok s) is ((h.window there).stopping x);
+      };
+  list = λ t ne.
+      subst (λ (x : Course Outcome ProgramWorld). GoesAs (answer_of x) r (contents c))
+      (ap (begun_by list_machine (work.machine_plan o)) ((listed t).ending (λ x. absurd (cc))) ∙ sym (file-course list_machine words o form (contents a))) (h.list (tells-then a b e t) ne);
+}
+
+pub unbegun-both : (a b : Option HostModel) (r : Outcome) (words : List Word) (o : Order) (form : Form) → CarriesOut a b (Err OutOfMemory) (Err r) (begin_plan window_machine words o form) →
+    CarriesOut a b (Err OutOfMemory) (Err r) (begin_plan list_machine words o form) → CarriesOutBoth a b r (run_file words o form)
+unbegun-both a b r words o form first listed = record {
+  window = λ t. record {
+    ending = λ ne.
+        sym (host-by (run_file words o form) (contents a) (ends r (contents b, [])) (file-course window_machine words o form (contents a) ∙ ap (begun_by window_machine (work.machine_plan o)) (sym ((first t).ending (λ x. ne (cc))))));
+    stopping = λ e. record { heard = []; stops = file-stops words o form (contents a) (contents b) ((first t).stopping (ap Err e)) };
+  };
+  list = λ t ne.
+      goes-by (answer_by list_machine (run_file words o form) (contents a)) r (contents b)
+      (ap answer_of (file-course list_machine words o form (contents a) ∙ ap (begun_by list_machine (work.machine_plan o)) (sym ((listed t).ending (λ x. ne (cc))))));
+}
 
 -- ---- `gen`
 
-pub summed-started : (a b : Option HostModel) (r : Outcome) (o : Order) (size : ℕ) (image : Image) (arguments : List Word) (s : State) → arguments ≡ codes "gen" ∷ [] → Ok s ≡ started window_machine o.ring image arguments →
-    CarriesOutBoth a b r (plans.summed_run o.number size s) → CarriesOutBoth a b r (plans.generated_meaning o size (Ok image))
-summed-started a b r o size image arguments s is e h =
-    both-taking a b r (plans.summed_start o.number size (started window_machine o.ring image (codes "gen" ∷ [])))
-    (subst (λ (x : Result State Outcome). CarriesOutBoth a b r (plans.summed_start o.number size x)) (e ∙ ap (started window_machine o.ring image) is) h)
+pub summed-started : (a b : Option HostModel) (r : Outcome) (o : Order) (size : ℕ) (image : Image) (args : List Word) (s : State) → args ≡ codes "gen" ∷ [] → Ok s ≡ started window_machine o.ring image args → Ok (as_list_state s) ≡ started list_machine o.ring image args →
+    WorksBoth a b s r (generated_work o.number size) → CarriesOutBoth a b r (run_source o size (Ok image))
+summed-started a b r o size image args s is e listed h =
+    subst (λ (x : List Word). CarriesOutBoth a b r (run_on o.ring x (generated_work o.number size) image)) is (machine-started a b r o.ring image args (generated_work o.number size) s e listed h)
 
-pub summed-unstarted : (a : Option HostModel) (r : Outcome) (o : Order) (size : ℕ) (image : Image) (arguments : List Word) → arguments ≡ codes "gen" ∷ [] → (r ≢ OutOfMemory → Err r ≡ started window_machine o.ring image arguments) →
-    CarriesOutBoth a a r (plans.generated_meaning o size (Ok image))
-summed-unstarted a r o size image arguments e is =
-    unstarted a r (started window_machine o.ring image (codes "gen" ∷ [])) (plans.summed_start o.number size) (λ x. refl) (λ ne. is ne ∙ ap (started window_machine o.ring image) e) (wanting r)
+pub summed-unstarted : (a : Option HostModel) (r : Outcome) (o : Order) (size : ℕ) (image : Image) (args : List Word) → args ≡ codes "gen" ∷ [] → (r ≢ OutOfMemory → Err r ≡ started window_machine o.ring image args) → (r ≢ OutOfMemory → Err r ≡ started list_machine o.ring image args) →
+    CarriesOutBoth a a r (run_source o size (Ok image))
+summed-unstarted a r o size image args e is listed =
+    subst (λ (x : List Word). CarriesOutBoth a a r (run_on o.ring x (generated_work o.number size) image)) e (machine-unstarted a r o.ring image args (generated_work o.number size) is listed)
 
-pub generated-run : (a b : Option HostModel) (r : Outcome) (o : Order) (source : List ℕ) (size : ℕ) (image : Image) → size ≡ length source → Ok image ≡ source_meaning source →
-    CarriesOutBoth a b r (plans.generated_meaning o size (Ok image)) → CarriesOutBoth a b r (plans.generated_plan o source)
-unfolding plans.generated_plan
+pub generated-run : (a b : Option HostModel) (r : Outcome) (o : Order) (source : List ℕ) (size : ℕ) (image : Image) → size ≡ length source → Ok image ≡ source_meaning source → CarriesOutBoth a b r (run_source o size (Ok image)) → CarriesOutBoth a b r (run_text o source)
 generated-run a b r o source size image long e h =
-    both-taking a b r (plans.generated_meaning o (length source) (source_meaning source))
-    (subst (λ (x : Result Image Refusal). CarriesOutBoth a b r (plans.generated_meaning o (length source) x)) e (subst (λ (n : ℕ). CarriesOutBoth a b r (plans.generated_meaning o n (Ok image))) long h))
+    both-taking a b r (run_source o (length source) (source_meaning source))
+    (subst (λ (x : Result Image Refusal). CarriesOutBoth a b r (run_source o (length source) x)) e (subst (λ (n : ℕ). CarriesOutBoth a b r (run_source o n (Ok image))) long h))
 
-pub generated-refused : (a : Option HostModel) (r : Outcome) (o : Order) (source : List ℕ) (refusal : Refusal) → Err refusal ≡ source_meaning source → r ≡ refused_with refusal → CarriesOutBoth a a r (plans.generated_plan o source)
-unfolding plans.generated_plan
+pub generated-refused : (a : Option HostModel) (r : Outcome) (o : Order) (source : List ℕ) (refusal : Refusal) → Err refusal ≡ source_meaning source → r ≡ refused_with refusal → CarriesOutBoth a a r (run_text o source)
 generated-refused a r o source refusal e is =
-    both-taking a a r (plans.generated_meaning o (length source) (source_meaning source))
-    (subst (λ (x : Result Image Refusal). CarriesOutBoth a a r (plans.generated_meaning o (length source) x)) e (rw is (both-returns a (refused_with refusal) (λ n. absurd (cc)))))
+    both-taking a a r (run_source o (length source) (source_meaning source))
+    (subst (λ (x : Result Image Refusal). CarriesOutBoth a a r (run_source o (length source) x)) e (rw is (both-returns a (refused_with refusal) (λ n. absurd (cc)))))
 
-pub generated-lacks : (a : Option HostModel) (o : Order) (source : List ℕ) → CarriesOutBoth a a OutOfMemory (plans.generated_plan o source)
-unfolding plans.generated_plan
-generated-lacks a o source = both-lacks a (plans.generated_meaning o (length source) (source_meaning source))
+pub generated-named : (a b : Option HostModel) (r : Outcome) (o : Order) (source text : List ℕ) → text ≡ source → CarriesOutBoth a b r (run_text o text) → CarriesOutBoth a b r (taking (run_text o source))
+generated-named a b r o source text e h = both-taking a b r (run_text o source) (subst (λ (x : List ℕ). CarriesOutBoth a b r (run_text o x)) e h)
 
--- ---- `multi`
+-- ---- what is made of a machine
 
-pub turns-started : (a b : Option HostModel) (r : Outcome) (o : Order) (schedule : List ℕ) (image : Image) (count : ℕ) (j : Joint) → count ≡ processors_named schedule → j ≡ joint_started image count (stack_at_start window_machine o.ring) →
-    CarriesOutBoth a b r (plans.joint_plan o schedule j) → CarriesOutBoth a b r (plans.image_turns_plan o schedule image)
-unfolding plans.image_turns_plan
-turns-started a b r o schedule image count j c e h =
-    both-taking a b r (plans.joint_plan o schedule (joint_started image (processors_named schedule) (stack_at_start window_machine o.ring)))
-    (subst (λ (k : Joint). CarriesOutBoth a b r (plans.joint_plan o schedule k)) (e ∙ ap (λ (n : ℕ). joint_started image n (stack_at_start window_machine o.ring)) c) h)
+run-is : (o : Order) → o.interactive ≡ false → work.machine_plan o ≡ cond (not (o.last == 0)) (work.kept_plan o) (cond o.report (work.reported_plan o) (work.stepped_plan o))
+unfolding work.machine_plan
+run-is o e = ap (λ (b : Bool). cond b (work.session_plan_of o) (cond (not (o.last == 0)) (work.kept_plan o) (cond o.report (work.reported_plan o) (work.stepped_plan o)))) e
 
-pub turns-lack : (a : Option HostModel) (o : Order) (schedule : List ℕ) (image : Image) → CarriesOutBoth a a OutOfMemory (plans.image_turns_plan o schedule image)
-unfolding plans.image_turns_plan
-turns-lack a o schedule image = both-lacks a (plans.joint_plan o schedule (joint_started image (processors_named schedule) (stack_at_start window_machine o.ring)))
+pub session-is : (o : Order) → o.interactive ≡ true → work.machine_plan o ≡ work.session_plan_of o
+unfolding work.machine_plan
+session-is o e = ap (λ (b : Bool). cond b (work.session_plan_of o) (cond (not (o.last == 0)) (work.kept_plan o) (cond o.report (work.reported_plan o) (work.stepped_plan o)))) e
 
-pub turns-file : (a b c : Option HostModel) (image : Image) (r : Outcome) (o : Order) (name : Word) (schedule : List ℕ) → tells b ≡ tells a → CarriesOut a b (Err OutOfMemory) (Ok image) (image_file_plan Object name) →
-    CarriesOutBoth b c r (plans.image_turns_plan o schedule image) → CarriesOutBoth a c r (plans.turns_file_plan o name schedule)
-unfolding plans.turns_file_plan
-turns-file a b c image r o name schedule e first second = both-then a b c image r (plans.image_turns_plan o schedule) (image_file_plan Object name) e first second
+pub kept-is : (o : Order) → o.interactive ≡ false → o.last ≢ 0 → work.machine_plan o ≡ work.kept_plan o
+kept-is o i some = run-is o i ∙ ap (λ (b : Bool). cond (not b) (work.kept_plan o) (cond o.report (work.reported_plan o) (work.stepped_plan o))) (other-test o.last 0 some)
 
-pub turns-unread : (a b : Option HostModel) (r : Outcome) (o : Order) (name : Word) (schedule : List ℕ) → CarriesOut a b (Err OutOfMemory) (Err r) (image_file_plan Object name) → CarriesOutBoth a b r (plans.turns_file_plan o name schedule)
-unfolding plans.turns_file_plan
-turns-unread a b r o name schedule h = both-ends a b r (plans.image_turns_plan o schedule) (image_file_plan Object name) h
+forward-is : (o : Order) (b : Bool) → o.interactive ≡ false → o.last ≡ 0 → o.report ≡ b → work.machine_plan o ≡ cond b (work.reported_plan o) (work.stepped_plan o)
+forward-is o b i none e =
+    run-is o i ∙ ap (λ (n : ℕ). cond (not (n == 0)) (work.kept_plan o) (cond o.report (work.reported_plan o) (work.stepped_plan o))) none ∙ ap (λ (x : Bool). cond x (work.reported_plan o) (work.stepped_plan o)) e
 
-pub schedule-turns : (a b c : Option HostModel) (bytes text : List ℕ) (r : Outcome) (o : Order) (schedule object : Word) → tells b ≡ tells a → text ≡ bytes → CarriesOut a b (Err OutOfMemory) (Ok bytes) (schedule_plan schedule) →
-    CarriesOutBoth b c r (plans.turns_file_plan o object text) → CarriesOutBoth a c r (plans.multi_plan o schedule object)
-unfolding plans.multi_plan
-schedule-turns a b c bytes text r o schedule object e is first second =
-    both-then a b c bytes r (plans.turns_file_plan o object) (schedule_plan schedule) e first (subst (λ (x : List ℕ). CarriesOutBoth b c r (plans.turns_file_plan o object x)) is second)
+pub reported-is : (o : Order) → o.interactive ≡ false → o.last ≡ 0 → o.report ≡ true → work.machine_plan o ≡ work.reported_plan o
+reported-is o i none e = forward-is o true i none e
 
-pub schedule-unread : (a b : Option HostModel) (r : Outcome) (o : Order) (schedule object : Word) → CarriesOut a b (Err OutOfMemory) (Err r) (schedule_plan schedule) → CarriesOutBoth a b r (plans.multi_plan o schedule object)
-unfolding plans.multi_plan
-schedule-unread a b r o schedule object h = both-ends a b r (plans.turns_file_plan o object) (schedule_plan schedule) h
+pub stepped-is : (o : Order) → o.interactive ≡ false → o.last ≡ 0 → o.report ≡ false → work.machine_plan o ≡ work.stepped_plan o
+stepped-is o i none e = forward-is o false i none e
 
 -- ---- what is ordered
 
--- without the console, and where no step is taken back
-abbrev plain-plan : Order → State → ProgramPlan Outcome
-plain-plan o s = cond o.report (plans.watched_plan o s) (plans.stepped_plan o s)
+ordered : (a b : Option HostModel) (r : Outcome) (words : List Word) (o : Order) (command : Command) → o.command ≡ command → CarriesOutBoth a b r (ordered_plan words o command) → CarriesOutBoth a b r (ordered_plan words o o.command)
+ordered a b r words o command c h = subst (λ (x : Command). CarriesOutBoth a b r (ordered_plan words o x)) (sym c) h
 
-abbrev run-plan : Order → State → ProgramPlan Outcome
-run-plan o s = cond (not (o.last == 0)) (plans.kept_plan o s) (plain-plan o s)
+pub run-ordered : (a b : Option HostModel) (r : Outcome) (words : List Word) (o : Order) → o.command ≡ Run → CarriesOutBoth a b r (run_file words o Source) → CarriesOutBoth a b r (ordered_plan words o o.command)
+unfolding ordered_plan
+run-ordered a b r words o c h = ordered a b r words o Run c h
 
-pub session-chosen : (a b : Option HostModel) (r : Outcome) (o : Order) (s : State) → o.interactive ≡ true → CarriesOutBoth a b r (plans.session_played o s) → CarriesOutBoth a b r (plans.machine_plan o s)
-unfolding plans.machine_plan
-session-chosen a b r o s e h = subst (λ (x : Bool). CarriesOutBoth a b r (cond x (plans.session_played o s) (run-plan o s))) (sym e) h
-
-uninteractive : (a b : Option HostModel) (r : Outcome) (o : Order) (s : State) → o.interactive ≡ false → CarriesOutBoth a b r (run-plan o s) → CarriesOutBoth a b r (plans.machine_plan o s)
-unfolding plans.machine_plan
-uninteractive a b r o s e h = subst (λ (x : Bool). CarriesOutBoth a b r (cond x (plans.session_played o s) (run-plan o s))) (sym e) h
-
-pub back-chosen : (a b : Option HostModel) (r : Outcome) (o : Order) (s : State) → o.interactive ≡ false → o.last ≢ 0 → CarriesOutBoth a b r (plans.kept_plan o s) → CarriesOutBoth a b r (plans.machine_plan o s)
-back-chosen a b r o s i some h = uninteractive a b r o s i (subst (λ (x : Bool). CarriesOutBoth a b r (cond (not x) (plans.kept_plan o s) (plain-plan o s))) (sym (other-test o.last 0 some)) h)
-
-forward : (a b : Option HostModel) (r : Outcome) (o : Order) (s : State) → o.interactive ≡ false → o.last ≡ 0 → CarriesOutBoth a b r (plain-plan o s) → CarriesOutBoth a b r (plans.machine_plan o s)
-forward a b r o s i none h = uninteractive a b r o s i (subst (λ (n : ℕ). CarriesOutBoth a b r (cond (not (n == 0)) (plans.kept_plan o s) (plain-plan o s))) (sym none) h)
-
-pub watchers-chosen : (a b : Option HostModel) (r : Outcome) (o : Order) (s : State) → o.interactive ≡ false → o.last ≡ 0 → o.report ≡ true → CarriesOutBoth a b r (plans.watched_plan o s) → CarriesOutBoth a b r (plans.machine_plan o s)
-watchers-chosen a b r o s i none e h = forward a b r o s i none (subst (λ (x : Bool). CarriesOutBoth a b r (cond x (plans.watched_plan o s) (plans.stepped_plan o s))) (sym e) h)
-
-pub steps-chosen : (a b : Option HostModel) (r : Outcome) (o : Order) (s : State) → o.interactive ≡ false → o.last ≡ 0 → o.report ≡ false → CarriesOutBoth a b r (plans.stepped_plan o s) → CarriesOutBoth a b r (plans.machine_plan o s)
-steps-chosen a b r o s i none e h = forward a b r o s i none (subst (λ (x : Bool). CarriesOutBoth a b r (cond x (plans.watched_plan o s) (plans.stepped_plan o s))) (sym e) h)
-
-pub generated-named : (a b : Option HostModel) (r : Outcome) (o : Order) (source text : List ℕ) → text ≡ source → CarriesOutBoth a b r (plans.generated_plan o text) → CarriesOutBoth a b r (plans.taking (plans.generated_plan o source))
-generated-named a b r o source text e h = both-taking a b r (plans.generated_plan o source) (subst (λ (x : List ℕ). CarriesOutBoth a b r (plans.generated_plan o x)) e h)
-
-pub run-ordered : (a b : Option HostModel) (r : Outcome) (words : List Word) (o : Order) → o.command ≡ Run → CarriesOutWork a b r (plans.begun_plan words o Source) → CarriesOutWork a b r (plans.ordered_plan words o o.command)
-unfolding plans.ordered_plan
-run-ordered a b r words o c h = subst (λ (x : Command). CarriesOutWork a b r (plans.ordered_plan words o x)) (sym c) h
-
-pub sim-ordered : (a b : Option HostModel) (r : Outcome) (words : List Word) (o : Order) → o.command ≡ Sim → CarriesOutWork a b r (plans.begun_plan words o Object) → CarriesOutWork a b r (plans.ordered_plan words o o.command)
-unfolding plans.ordered_plan
-sim-ordered a b r words o c h = subst (λ (x : Command). CarriesOutWork a b r (plans.ordered_plan words o x)) (sym c) h
+pub sim-ordered : (a b : Option HostModel) (r : Outcome) (words : List Word) (o : Order) → o.command ≡ Sim → CarriesOutBoth a b r (run_file words o Object) → CarriesOutBoth a b r (ordered_plan words o o.command)
+unfolding ordered_plan
+sim-ordered a b r words o c h = ordered a b r words o Sim c h
 
 pub asm-ordered : (a b : Option HostModel) (r : Outcome) (words : List Word) (o : Order) (source object : Word) → o.command ≡ Asm → source ≡ word_at words o.file → object ≡ word_at words o.rest → CarriesOut a b OutOfMemory r (assemble_plan source object) →
-    CarriesOutWork a b r (plans.ordered_plan words o o.command)
-unfolding plans.ordered_plan
+    CarriesOutBoth a b r (ordered_plan words o o.command)
+unfolding ordered_plan
 asm-ordered a b r words o source object c e f h =
-    subst (λ (x : Command). CarriesOutWork a b r (plans.ordered_plan words o x)) (sym c) (work-host a b r (assemble_plan (word_at words o.file) (word_at words o.rest))
+    ordered a b r words o Asm c (both-host a b r (assemble_plan (word_at words o.file) (word_at words o.rest))
     (subst (λ (x : Word). CarriesOut a b OutOfMemory r (assemble_plan x (word_at words o.rest))) e (subst (λ (x : Word). CarriesOut a b OutOfMemory r (assemble_plan source x)) f h)))
 
-pub gen-ordered : (a b : Option HostModel) (r : Outcome) (words : List Word) (o : Order) → o.command ≡ Gen → CarriesOutWork a b r (plans.taking (plans.generated_plan o (generated o.number))) → CarriesOutWork a b r (plans.ordered_plan words o o.command)
-unfolding plans.ordered_plan
-gen-ordered a b r words o c h = subst (λ (x : Command). CarriesOutWork a b r (plans.ordered_plan words o x)) (sym c) h
+pub gen-ordered : (a b : Option HostModel) (r : Outcome) (words : List Word) (o : Order) → o.command ≡ Gen → CarriesOutBoth a b r (taking (run_text o (generated o.number))) → CarriesOutBoth a b r (ordered_plan words o o.command)
+unfolding ordered_plan
+gen-ordered a b r words o c h = ordered a b r words o Gen c h
 
-pub show-ordered : (a b : Option HostModel) (r : Outcome) (words : List Word) (o : Order) (name : Word) → o.command ≡ Show → name ≡ word_at words o.file → CarriesOut a b OutOfMemory r (list_plan name) → CarriesOutWork a b r (plans.ordered_plan words o o.command)
-unfolding plans.ordered_plan
-show-ordered a b r words o name c e h =
-    subst (λ (x : Command). CarriesOutWork a b r (plans.ordered_plan words o x)) (sym c) (work-host a b r (list_plan (word_at words o.file)) (subst (λ (x : Word). CarriesOut a b OutOfMemory r (list_plan x)) e h))
+pub show-ordered : (a b : Option HostModel) (r : Outcome) (words : List Word) (o : Order) (name : Word) → o.command ≡ Show → name ≡ word_at words o.file → CarriesOut a b OutOfMemory r (list_plan name) → CarriesOutBoth a b r (ordered_plan words o o.command)
+unfolding ordered_plan
+show-ordered a b r words o name c e h = ordered a b r words o Show c (both-host a b r (list_plan (word_at words o.file)) (subst (λ (x : Word). CarriesOut a b OutOfMemory r (list_plan x)) e h))
 
 pub multi-ordered : (a b : Option HostModel) (r : Outcome) (words : List Word) (o : Order) (schedule object : Word) → o.command ≡ Multi → schedule ≡ word_at words o.schedule → object ≡ word_at words o.file →
-    CarriesOutWork a b r (plans.multi_plan o schedule object) → CarriesOutWork a b r (plans.ordered_plan words o o.command)
-unfolding plans.ordered_plan
+    CarriesOutBoth a b r (page.multi_file o schedule object) → CarriesOutBoth a b r (ordered_plan words o o.command)
+unfolding ordered_plan
 multi-ordered a b r words o schedule object c e f h =
-    subst (λ (x : Command). CarriesOutWork a b r (plans.ordered_plan words o x)) (sym c)
-    (subst (λ (x : Word). CarriesOutWork a b r (plans.multi_plan o x (word_at words o.file))) e (subst (λ (x : Word). CarriesOutWork a b r (plans.multi_plan o schedule x)) f h))
+    ordered a b r words o Multi c (subst (λ (x : Word). CarriesOutBoth a b r (page.multi_file o x (word_at words o.file))) e (subst (λ (x : Word). CarriesOutBoth a b r (page.multi_file o schedule x)) f h))
 
-pub usage-plan : (a : Option HostModel) (words : List Word) (r : Result Order WordsFault) (fault : WordsFault) → Err fault ≡ r → CarriesOutWork a a (Usage fault) (plans.work_plan words r)
-usage-plan a words r fault e = subst (λ (x : Result Order WordsFault). CarriesOutWork a a (Usage fault) (plans.work_plan words x)) e (work-returns a (Usage fault) (λ n. absurd (cc)))
+pub usage-plan : (a : Option HostModel) (words : List Word) (r : Result Order WordsFault) (fault : WordsFault) → Err fault ≡ r → CarriesOutBoth a a (Usage fault) (work_plan words r)
+usage-plan a words r fault e = subst (λ (x : Result Order WordsFault). CarriesOutBoth a a (Usage fault) (work_plan words x)) e (both-returns a (Usage fault) (λ n. absurd (cc)))
+
+pub ordered-work : (a b : Option HostModel) (r : Outcome) (words : List Word) (x : Result Order WordsFault) (o : Order) → Ok o ≡ x → CarriesOutBoth a b r (ordered_plan words o o.command) → CarriesOutBoth a b r (work_plan words x)
+ordered-work a b r words x o e h = subst (λ (y : Result Order WordsFault). CarriesOutBoth a b r (work_plan words y)) e h
+
+-- by the bytes of a schedule
+pub object-of : (a b : Option HostModel) (r : Outcome) (o : Order) (object : Word) (bytes text : List ℕ) → text ≡ bytes → CarriesOutBoth a b r (page.object_file o object text) → CarriesOutBoth a b r (page.object_file o object bytes)
+object-of a b r o object bytes text e h = subst (λ (x : List ℕ). CarriesOutBoth a b r (page.object_file o object x)) e h

@@ -2,13 +2,11 @@ pub use Rattle.mx_word.specs.Results
 pub mod Runs
 pub mod Processors
 pub mod Telling
+pub mod Endings
 pub mod MachineWork
 pub mod Product
 pub mod Commands
 pub mod Reports
-pub mod ProgramCalls
-pub mod ProductPlan
-pub mod WorkKinds
 pub mod Causes
 pub mod WorkClauses
 pub mod ProgramClauses

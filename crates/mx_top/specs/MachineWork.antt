@@ -26,7 +26,7 @@ use Rattle.law_gen.specs.Generator.{summary}
 use Rattle.mx_files.specs.FilePlans.{lines_plan}
 use Rattle.mx_dump.specs.Dump.{Line, dump_lines}
 use Rattle.mx_top.specs.Telling.{telling}
-use Rattle.mx_top.specs.Runs.{outcome_of, session_outcome, takes_back, state_lines, reached}
+use Rattle.mx_top.specs.Runs.{generator_steps, outcome_of, session_outcome, takes_back, state_lines, reached}
 
 -- ---- the world and its calls
 
@@ -142,16 +142,37 @@ back_plan o outcome =
     if takes_back outcome then calling (going_back o.last) (λ lines. bind (then_dumped o.dump outcome) (on_host (lines_plan lines)))
     else dumped_plan o.dump outcome
 
--- the room for what is kept takes memory
+-- the user leads the machine through a session
+abbrev pub session_plan_of : Order → WorkPlan Outcome
+session_plan_of o = calling (sitting o.steps) (λ end. dumped_plan o.dump (session_outcome o.steps end))
+
+-- its last steps are taken back; the room for what is kept takes memory
+abbrev pub kept_plan : Order → WorkPlan Outcome
+kept_plan o = bind (λ u. calling (keeping o.steps) (λ end. back_plan o (outcome_of o.steps end))) (on_host need)
+
+-- watchers are told of its steps
+abbrev pub reported_plan : Order → WorkPlan Outcome
+reported_plan o = calling (reporting o.steps) (λ end. dumped_plan o.dump (outcome_of o.steps end))
+
+abbrev pub stepped_plan : Order → WorkPlan Outcome
+stepped_plan o = calling (stepping o.steps) (λ end. dumped_plan o.dump (outcome_of o.steps end))
+
 unfoldable pub machine_plan : Order → WorkPlan Outcome
-machine_plan o =
-    if o.interactive then calling (sitting o.steps) (λ end. dumped_plan o.dump (session_outcome o.steps end))
-    else if not (o.last == 0) then bind (λ u. calling (keeping o.steps) (λ end. back_plan o (outcome_of o.steps end))) (on_host need)
-    else if o.report then calling (reporting o.steps) (λ end. dumped_plan o.dump (outcome_of o.steps end))
-    else calling (stepping o.steps) (λ end. dumped_plan o.dump (outcome_of o.steps end))
+machine_plan o = if o.interactive then session_plan_of o else if not (o.last == 0) then kept_plan o else if o.report then reported_plan o else stepped_plan o
 
 -- ---- the work of `gen`: where the program halts, one line tells what came of it
 
 abbrev pub summed_plan : ℕ → ℕ → Outcome → WorkPlan Outcome
 summed_plan blocks size (Done status) = calling (summing blocks size) (λ line. on_host (telling (Done 0) (line ∷ [])))
 summed_plan blocks size outcome = returns outcome
+
+abbrev pub generated_work : ℕ → ℕ → WorkPlan Outcome
+generated_work blocks size = calling (stepping generator_steps) (λ end. summed_plan blocks size (outcome_of generator_steps end))
+
+-- ---- where memory runs out
+
+-- the work may stop with this host
+pub record WorkStops (work : WorkPlan Outcome) (w : Work) (v : HostModel) : Type 0 where
+  pub left : Work
+  pub stops : Stops working left work w
+  pub host : left.host ≡ v

@@ -1,6 +1,6 @@
 -- What the program does, as one page: the calls that it makes of the host, with the work on a machine among them, up to its outcome.
 -- What comes of that over a register window or over an unbounded list of registers is the course of this plan.
-use Rattle.std.specs.Prelude.{ℕ, ◌≡◌, Bool, List, [], ◌∷◌, length, Result, Ok, Err, codes}
+use Rattle.std.specs.Prelude.{ℕ, Bool, List, [], ◌∷◌, length, Result, Ok, Err, codes}
 use Rattle.mx_host.specs.HostModel.{HostModel}
 use Rattle.mx_plan.specs.Plan.{Plan, returns, calls, bind, Acts, Stops, end_of}
 use Rattle.mx_plan.specs.Calls.{HostCall, HostSays, HostPlan, host, need}
@@ -36,8 +36,7 @@ use Rattle.mx_begin.specs.declared.images.Form.{Form}
 use Rattle.mx_begin.specs.declared.images.Form.TheVariants.{Source, Object}
 use Rattle.mx_dump.specs.Dump.{Line}
 use Rattle.mx_top.specs.Processors.{multi_lines, multi_outcome, processors_named}
-use Rattle.mx_top.specs.MachineWork.{Work, WorkPlan, working, work_goes, calling, stepping, machine_plan, summed_plan}
-use Rattle.mx_top.specs.Runs.{generator_steps, outcome_of}
+use Rattle.mx_top.specs.MachineWork.{Work, WorkPlan, WorkStops, working, work_goes, machine_plan, generated_work}
 use Rattle.mx_top.specs.Telling.{telling, message_plan}
 
 -- ---- THE CALLS
@@ -84,15 +83,9 @@ program_act (of_host o) w = ((host.act o w.0).0, ((host.act o w.0).1, w.1))
 program_act (on_machine ring image arguments work) w = work_end work (started window_machine ring image arguments) w
 program_act (taking_turns ring image schedule steps dump) w = after_turns dump w.1 (end_of multi (turns_plan schedule steps schedule) (joint_at_start window_machine ring image schedule, w.0))
 
--- the work on a machine may stop with this host
-pub record WorkStops (work : WorkPlan Outcome) (s : State) (w : ProgramWorld) (v : HostModel) : Type 0 where
-  pub left : Work
-  pub stops : Stops working left work (at_start s w)
-  pub host : left.host ≡ v
-
 abbrev pub MayStop : WorkPlan Outcome → Result State Outcome → ProgramWorld → HostModel → Type 0
 MayStop work (Err outcome) w v = ⊥
-MayStop work (Ok s) w v = WorkStops work s w v
+MayStop work (Ok s) w v = WorkStops work (at_start s w) v
 
 -- turns may stop with this host
 pub record TurnsStop (n : ℕ) (schedule : List ℕ) (j : Joint) (m v : HostModel) : Type 0 where
@@ -159,24 +152,31 @@ run_file words o form = taking (bind (on_part (run_on o.ring (arguments words o)
 -- `gen`: a source that is made is assembled and run
 abbrev pub run_source : Order → ℕ → Result Image Refusal → ProgramPlan Outcome
 run_source o size (Err refusal) = returns (refused_with refusal)
-run_source o size (Ok image) =
-    run_on o.ring (codes "gen" ∷ []) (calling (stepping generator_steps) (λ end. summed_plan o.number size (outcome_of generator_steps end))) image
+run_source o size (Ok image) = run_on o.ring (codes "gen" ∷ []) (generated_work o.number size) image
+
+abbrev pub run_text : Order → List ℕ → ProgramPlan Outcome
+run_text o source = taking (run_source o (length source) (source_meaning source))
 
 -- `multi`: the object is read where the schedule is in order, and its processors run
-abbrev pub turns_on : Order → List ℕ → Image → ProgramPlan Outcome
-turns_on o schedule image =
-    taking (calls (taking_turns o.ring image schedule o.steps o.dump) (λ t. on_host (telling (multi_outcome o.steps t.0) t.1)))
+abbrev pub turns_from : Order → List ℕ → Image → ProgramPlan Outcome
+turns_from o schedule image = calls (taking_turns o.ring image schedule o.steps o.dump) (λ t. on_host (telling (multi_outcome o.steps t.0) t.1))
 
-abbrev pub multi_file : List Word → Order → List ℕ → ProgramPlan Outcome
-multi_file words o schedule = bind (on_part (turns_on o schedule)) (on_host (image_file_plan Object (word_at words o.file)))
+abbrev pub turns_on : Order → List ℕ → Image → ProgramPlan Outcome
+turns_on o schedule image = taking (turns_from o schedule image)
+
+abbrev pub object_file : Order → Word → List ℕ → ProgramPlan Outcome
+object_file o object schedule = bind (on_part (turns_on o schedule)) (on_host (image_file_plan Object object))
+
+abbrev pub multi_file : Order → Word → Word → ProgramPlan Outcome
+multi_file o schedule object = bind (on_part (object_file o object)) (on_host (schedule_plan schedule))
 
 unfoldable pub ordered_plan : List Word → Order → Command → ProgramPlan Outcome
 ordered_plan words o Run = run_file words o Source
 ordered_plan words o Sim = run_file words o Object
 ordered_plan words o Asm = on_host (assemble_plan (word_at words o.file) (word_at words o.rest))
-ordered_plan words o Gen = taking (taking (run_source o (length (generated o.number)) (source_meaning (generated o.number))))
+ordered_plan words o Gen = taking (run_text o (generated o.number))
 ordered_plan words o Show = on_host (list_plan (word_at words o.file))
-ordered_plan words o Multi = bind (on_part (multi_file words o)) (on_host (schedule_plan (word_at words o.schedule)))
+ordered_plan words o Multi = multi_file o (word_at words o.schedule) (word_at words o.file)
 
 -- ---- THE WORDS, and the message of the outcome
 

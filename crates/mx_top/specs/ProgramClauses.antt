@@ -1,5 +1,5 @@
 -- The words of the clauses of the program, over a host that tells its contents. `old` and `new` are what it told before and after.
-use Rattle.std.specs.Prelude.{◌≡◌, List, [], length, Option}
+use Rattle.std.specs.Prelude.{◌≡◌, List, [], Option}
 use Rattle.mx_host.specs.HostModel.{HostModel, contents, slot_at, to_errors}
 use Rattle.mx_run.specs.WildRuns.{window_machine, list_machine}
 use Rattle.mx_watch.specs.Watching.{Watching}
@@ -15,13 +15,13 @@ use Rattle.mx_top.specs.WorkClauses.{Does}
 -- outcome and the contents are the product's; and where it did, standard output has a front of what that writes, if slot 260 led
 -- to standard error.
 pub record Produces (old new : Option HostModel) (result : Outcome) (words : List Word) : Type 0 where
-  pub plan : Does old new result (work_plan words (order_of words)) 0 (λ told. [])
+  pub plan : Does old new result (work_plan words (order_of words)) (λ told. [])
   pub answer : AnswersAs old new result (λ m. product window_machine words m)
   pub written : slot_at (contents old) 260 ≡ to_errors → WritesFrontOf old new result (λ m. product window_machine words m)
 
 -- The same with these watchers, of which some are left: their reports stand behind all else, where the words ask for them.
 pub record ProducesWatched (old new : Option HostModel) (result : Outcome) (words : List Word) (watchers left : List Watching) : Type 0 where
-  pub plan : Does old new result (work_plan words (order_of words)) (length watchers) (due_reports (order_of words) watchers)
+  pub plan : Does old new result (work_plan words (order_of words)) (due_reports (order_of words) watchers)
   pub answer : AnswersAs old new result (λ m. watched_product window_machine words watchers m)
   pub left_over : LeavesWatchers old result watchers left (λ m. product_traces window_machine words m)
   pub written : slot_at (contents old) 260 ≡ to_errors → WritesFrontOf old new result (λ m. product window_machine words m)

@@ -1,5 +1,5 @@
 -- The reports of watchers: what is written of the traces that those are told in a call of the program.
-use Rattle.std.specs.Prelude.{ℕ, ◌≡◌, ◌≢◌, IsTrue, if◌then◌else◌, List, [], ◌∷◌, Option, Result, Ok, Err}
+use Rattle.std.specs.Prelude.{ℕ, ◌≡◌, ◌≢◌, IsTrue, true, if◌then◌else◌, List, [], ◌∷◌, Option, Result, Ok, Err}
 use Rattle.std.specs.List.{range_with_len}
 use Rattle.mx_host.specs.HostModel.{HostModel, tells, contents}
 use Rattle.mx_host.specs.HostAnswer.{write_answer}
@@ -41,6 +41,11 @@ with_reports texts = and_then (λ outcome m. answered outcome (reports_put texts
 -- what the program comes to with these watchers
 abbrev pub watched_product : MachineKind → List Word → List Watching → HostModel → Answer
 watched_product kind words watchers m = with_reports (due_reports (order_of words) watchers (product_traces kind words m)) (product kind words m)
+
+-- whether the words ask for them
+abbrev pub AreAsked : Result Order WordsFault → Type 0
+AreAsked (Err fault) = ⊥
+AreAsked (Ok o) = o.report ≡ true
 
 -- as the code finds them: of the watchers that are left, and of those whose reports are kept
 abbrev pub found_reports : Result Order WordsFault → ℕ → List Watching → List Report → List (List ℕ)

@@ -8,8 +8,10 @@ ghost use Rattle.mx_ring.specs.Stack.{stack_address};
 ghost use Rattle.law_gen.specs.Generator as generator;
 ghost use Rattle.mx_files.specs.Failing.{FailsOnlyBy};
 ghost use Rattle.mx_top.specs.Causes.{IsOfMachine};
-ghost use Rattle.mx_top.specs.ProductPlan as plans;
-ghost use Rattle.mx_top.specs.WorkClauses.{Follows, Performs};
+ghost use Rattle.mx_top.specs.Endings as plans;
+ghost use Rattle.mx_top.specs.MachineWork as work;
+ghost use Rattle.mx_top.specs.Product as page;
+ghost use Rattle.mx_top.specs.WorkClauses.{Follows, Performs, PerformsWork};
 ghost use Rattle.mx_plan.specs.Clauses.{CarriesOut};
 
 use crate::generator::{generated, summary};
@@ -85,8 +87,8 @@ fn run_summed<H: Host>(
     machine: Machine,
 ) -> Outcome
     requires { (state_of machine).touched ≡ false }
-    ensures { Performs H.told H.faults host.old host.new result
-        (plans.summed_run blocks size (state_of machine)) }
+    ensures { PerformsWork H.told H.faults host.old host.new (state_of machine) result
+        (work.generated_work blocks size) }
 {
     let mut runner = Runner::new(alloc, machine);
     let end = runner.go(host, STEP_BOUND, false);
@@ -120,7 +122,7 @@ fn run_generated<H: Host>(
     image: Image,
 ) -> Outcome
     ensures { Performs H.told H.faults host.old host.new result
-        (plans.generated_meaning order.now size (Ok (image_of image))) }
+        (page.run_source order.now size (Ok (image_of image))) }
 {
     let arguments = match generator_arguments(alloc) {
         Ok(arguments) => arguments,
@@ -134,7 +136,7 @@ fn run_generated<H: Host>(
 
 /// Runs a source that was generated.
 fn run_text<H: Host>(alloc: Global, host: &mut H, order: &Order, text: &[u8]) -> Outcome
-    ensures { Performs H.told H.faults host.old host.new result (plans.generated_plan order.now text.now) }
+    ensures { Performs H.told H.faults host.old host.new result (page.run_text order.now text.now) }
 {
     match load_source(alloc, text) {
         Ok(image) => run_generated(alloc, host, order, text.len() as u64, image),
@@ -147,7 +149,7 @@ fn run_text<H: Host>(alloc: Global, host: &mut H, order: &Order, text: &[u8]) ->
 pub fn generate<H: Host>(alloc: Global, host: &mut H, order: &Order) -> Outcome
     requires { order.now.number ≤ 10000 }
     ensures { Performs H.told H.faults host.old host.new result
-        (plans.taking (plans.generated_plan order.now (generator.generated order.now.number))) }
+        (page.taking (page.run_text order.now (generator.generated order.now.number))) }
 {
     match generated(alloc, order.number) {
         Ok(text) => run_text(alloc, host, order, text.as_slice()),

@@ -6,9 +6,10 @@ ghost use Rattle.mx_core.specs.Kept.{state_of};
 ghost use Rattle.mx_files.specs.Clauses.{Works};
 ghost use Rattle.mx_files.specs.FilePlans.{lines_plan};
 ghost use Rattle.mx_top.specs.Causes.{IsOfMachine};
-ghost use Rattle.mx_top.specs.ProductPlan as plans;
+ghost use Rattle.mx_top.specs.Endings as plans;
+ghost use Rattle.mx_top.specs.MachineWork as work;
 ghost use Rattle.mx_top.specs.Runs as spec;
-ghost use Rattle.mx_top.specs.WorkClauses.{Follows, Performs};
+ghost use Rattle.mx_top.specs.WorkClauses.{Follows, PerformsWork};
 
 use crate::ending::tell_end;
 use crate::run::outcome_of;
@@ -121,7 +122,7 @@ fn tell_back<H: Host>(
 /// Makes the steps of a machine that was started, in one run whose last steps are kept, and takes some of them back.
 pub fn run_back<H: Host>(alloc: Global, host: &mut H, order: &Order, machine: Machine) -> Outcome
     requires { (state_of machine).touched ≡ false }
-    ensures { Performs H.told H.faults host.old host.new result (plans.kept_plan order.now (state_of machine)) }
+    ensures { PerformsWork H.told H.faults host.old host.new (state_of machine) result (work.kept_plan order.now) }
 {
     let mut machine = machine;
     let mut back = match Back::new(alloc) {

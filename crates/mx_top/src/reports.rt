@@ -1,12 +1,12 @@
 //! The reports of watchers, behind the message.
 
-ghost use Rattle.std.specs.Prelude.{◌≡◌, ◌≢◌, Err, IfOk, map, string_bytes};
+ghost use Rattle.std.specs.Prelude.{◌≡◌, ◌≢◌, ◌≤◌, [], Err, IfErr, IfOk, map, string_bytes};
 ghost use Rattle.mx_words.specs.Orders.{order_of};
 ghost use Rattle.mx_plan.specs.Calls.{write_plan};
 ghost use Rattle.mx_plan.specs.Clauses.{CarriesOut};
-ghost use Rattle.mx_top.specs.ProductPlan as plans;
 ghost use Rattle.mx_top.specs.Telling as tells;
 ghost use Rattle.mx_top.specs.Reports as spec;
+ghost use Rattle.mx_top.specs.Reports.{AreAsked};
 ghost use Rattle.mx_top.specs.WorkClauses.{KeepsSaying, TellsBy};
 ghost use Rattle.mx_top.specs.WorkClauses.{is_lacking as lacks_memory};
 
@@ -19,16 +19,17 @@ use std::alloc::Global;
 
 /// The reports that the words ask for: of the watchers that are left of so many, and those that are kept.
 ///
-/// Errors: out of memory.
-pub fn found_reports(
+/// Errors: out of memory, where the words ask for some.
+fn asked_reports(
     alloc: Global,
     words: &[String],
     count: usize,
     watchers: &Vec<Box<dyn Watcher>>,
     kept: &Reports,
 ) -> Result<Texts, NoMemory>
-    ensures { IfOk result (λ texts. texts ≡ spec.found_reports (order_of (map string_bytes words.now)) count
+    ensures texts { IfOk result (λ texts. texts ≡ spec.found_reports (order_of (map string_bytes words.now)) count
         (map meaning watchers.now.items) kept.now) }
+    ensures asked { IfErr result (λ lack. AreAsked (order_of (map string_bytes words.now))) }
 {
     match read(words) {
         Ok(order) => {
@@ -40,6 +41,35 @@ pub fn found_reports(
         }
         Err(_) => Ok(Texts::new(alloc)),
     }
+}
+
+/// The reports that follow an outcome: those that the words ask for. There are none where the work found no memory, nor where
+/// nobody watches.
+///
+/// Errors: out of memory, where there are some.
+#[tactic(auto, using(crate::proofs::Heard::unwatched_found))]
+pub fn found_reports(
+    alloc: Global,
+    words: &[String],
+    after: Outcome,
+    count: usize,
+    watchers: &Vec<Box<dyn Watcher>>,
+    kept: &Reports,
+) -> Result<Texts, NoMemory>
+    ensures texts { after ≢ Outcome.OutOfMemory → IfOk result (λ texts.
+        texts ≡ spec.found_reports (order_of (map string_bytes words.now)) count (map meaning watchers.now.items) kept.now) }
+    ensures none { after ≡ Outcome.OutOfMemory → IfOk result (λ texts. texts ≡ []) }
+    ensures asked { IfErr result (λ lack. AreAsked (order_of (map string_bytes words.now))) }
+    ensures watched { IfErr result (λ lack. 1 ≤ count) }
+    ensures worked { IfErr result (λ lack. after ≢ Outcome.OutOfMemory) }
+{
+    if let Outcome::OutOfMemory = after {
+        return Ok(Texts::new(alloc));
+    }
+    if count == 0 {
+        return Ok(Texts::new(alloc));
+    }
+    asked_reports(alloc, words, count, watchers, kept)
 }
 
 /// Writes bytes to the tool's standard error.

@@ -1,16 +1,11 @@
 //! A machine that was started, and runs.
 
-ghost use Rattle.std.specs.Prelude.{◌≡◌, Ok, false, map};
-ghost use Rattle.mx_core.specs.Bounds.{as_list_state};
+ghost use Rattle.std.specs.Prelude.{◌≡◌, false, map};
 ghost use Rattle.mx_core.specs.Kept.{state_of};
-ghost use Rattle.mx_run.specs.WildRuns.{window_machine, list_machine};
-ghost use Rattle.mx_top.specs.Commands as commands;
-ghost use Rattle.mx_top.specs.Reports.{HearsBoth};
-ghost use Rattle.mx_top.specs.Runs as spec;
-ghost use Rattle.mx_watch.specs.Traces.{traces};
 ghost use Rattle.mx_top.specs.Causes.{IsOfMachine};
-ghost use Rattle.mx_top.specs.ProductPlan as plans;
-ghost use Rattle.mx_top.specs.WorkClauses.{Performs};
+ghost use Rattle.mx_top.specs.MachineWork as work;
+ghost use Rattle.mx_top.specs.Runs as spec;
+ghost use Rattle.mx_top.specs.WorkClauses.{HearsWork, PerformsWork};
 
 use crate::console::run_session;
 use crate::ending::tell_end;
@@ -40,8 +35,7 @@ pub fn outcome_of(steps: u64, end: End) -> Outcome
 /// Makes the steps of a machine that was started, in one run.
 fn run_steps<H: Host>(alloc: Global, host: &mut H, order: &Order, machine: Machine) -> Outcome
     requires { (state_of machine).touched ≡ false }
-    ensures { Performs H.told H.faults host.old host.new result
-        (plans.stepped_plan order.now (state_of machine)) }
+    ensures { PerformsWork H.told H.faults host.old host.new (state_of machine) result (work.stepped_plan order.now) }
 {
     let mut runner = Runner::new(alloc, machine);
     let end = runner.go(host, order.steps, false);
@@ -64,14 +58,10 @@ fn run_told<H: Host>(
     kept: &mut Reports,
 ) -> Outcome
     requires { (state_of machine).touched ≡ false }
-    ensures part { Performs H.told H.faults host.old host.new result
-        (plans.watched_plan order.now (state_of machine)) }
-    ensures heard { HearsBoth (H.told host.old) result (map meaning watchers.old.items)
-        (map meaning watchers.new.items) kept.old kept.new
-        (λ m. traces window_machine order.now.steps (state_of machine) m)
-        (λ m. spec.dumped order.now.dump
-        (spec.machine_ran list_machine order.now.steps (as_list_state (state_of machine)) m))
-        (λ m. traces list_machine order.now.steps (as_list_state (state_of machine)) m) }
+    ensures part { PerformsWork H.told H.faults host.old host.new (state_of machine) result
+        (work.reported_plan order.now) }
+    ensures heard { HearsWork (H.told host.old) (state_of machine) result (map meaning watchers.old.items)
+        (map meaning watchers.new.items) kept.old kept.new (work.reported_plan order.now) }
 {
     let mut machine = machine;
     let end = watched_run(alloc, &mut machine, host, order.steps, watchers, kept);
@@ -86,7 +76,6 @@ fn run_told<H: Host>(
 
 /// Runs a machine that was started. The last steps of a run are taken back where that is asked for, and else watchers are
 /// told of a run whose reports are.
-#[tactic(auto, using(crate::proofs::Heard::silence))]
 pub fn run_machine<H: Host>(
     alloc: Global,
     host: &mut H,
@@ -96,13 +85,10 @@ pub fn run_machine<H: Host>(
     kept: &mut Reports,
 ) -> Outcome
     requires { (state_of machine).touched ≡ false }
-    ensures part { Performs H.told H.faults host.old host.new result
-        (plans.machine_plan order.now (state_of machine)) }
-    ensures heard { HearsBoth (H.told host.old) result (map meaning watchers.old.items)
-        (map meaning watchers.new.items) kept.old kept.new
-        (λ m. commands.order_traces window_machine order.now (state_of machine) m)
-        (λ m. spec.run_from list_machine order.now (Ok (as_list_state (state_of machine))) m)
-        (λ m. commands.order_traces list_machine order.now (as_list_state (state_of machine)) m) }
+    ensures part { PerformsWork H.told H.faults host.old host.new (state_of machine) result
+        (work.machine_plan order.now) }
+    ensures heard { HearsWork (H.told host.old) (state_of machine) result (map meaning watchers.old.items)
+        (map meaning watchers.new.items) kept.old kept.new (work.machine_plan order.now) }
 {
     if order.interactive {
         run_session(alloc, host, order, machine)

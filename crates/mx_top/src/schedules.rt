@@ -2,12 +2,14 @@
 
 ghost use Rattle.std.specs.Prelude.{◌≡◌, ◌≤◌, ◌+◌};
 ghost use Rattle.mx_load.specs.Kept.{image_of};
+ghost use Rattle.mx_mmo.specs.Image as mmo;
+ghost use Rattle.mx_run.specs.WildRuns.{window_machine};
 ghost use Rattle.mx_multi.specs.Joint.{NoneTouched, joint_of, processor_count};
 ghost use Rattle.mx_multi.specs.Schedules.{AreNames};
 ghost use Rattle.mx_files.specs.Schedules.{AreEight};
 ghost use Rattle.mx_top.specs.Processors as spec;
 ghost use Rattle.mx_top.specs.Causes.{IsOfMachine};
-ghost use Rattle.mx_top.specs.ProductPlan as plans;
+ghost use Rattle.mx_top.specs.Product as page;
 ghost use Rattle.mx_top.specs.Telling as tells;
 ghost use Rattle.mx_top.specs.WorkClauses.{Follows, Performs};
 
@@ -93,8 +95,8 @@ fn run_started<H: Host>(
     requires count { processor_count multi ≡ count }
     requires names { AreNames count schedule.now }
     requires untouched { NoneTouched (joint_of multi).processors }
-    ensures { Performs H.told H.faults host.old host.new result
-        (plans.joint_plan order.now schedule.now (joint_of multi)) }
+    ensures { (image : mmo.Image) → joint_of multi ≡ page.joint_at_start window_machine order.now.ring image schedule.now →
+        Performs H.told H.faults host.old host.new result (page.turns_from order.now schedule.now image) }
 {
     let mut multi = multi;
     let end = run_turns(alloc, &mut multi, host, schedule, order.steps);
@@ -111,7 +113,7 @@ fn run_image<H: Host>(
 ) -> Outcome
     requires { AreEight schedule.now }
     ensures { Performs H.told H.faults host.old host.new result
-        (plans.image_turns_plan order.now schedule.now (image_of image)) }
+        (page.turns_on order.now schedule.now (image_of image)) }
 {
     let count = processors_named(schedule);
     match Multi::start(alloc, image, count, order.ring) {
@@ -130,7 +132,7 @@ fn object_file<H: Host>(
 ) -> Outcome
     requires { AreEight schedule.now }
     ensures { Performs H.told H.faults host.old host.new result
-        (plans.turns_file_plan order.now name.now schedule.now) }
+        (page.object_file order.now name.now schedule.now) }
 {
     match read_image(alloc, host, Form::Object, name) {
         Ok(image) => run_image(alloc, host, order, schedule, image),
@@ -147,7 +149,7 @@ pub fn multi_file<H: Host>(
     object: &[u8],
 ) -> Outcome
     ensures { Performs H.told H.faults host.old host.new result
-        (plans.multi_plan order.now schedule.now object.now) }
+        (page.multi_file order.now schedule.now object.now) }
 {
     match read_schedule(alloc, host, schedule) {
         Ok(bytes) => object_file(alloc, host, order, bytes.as_slice(), object),

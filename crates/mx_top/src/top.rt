@@ -1,20 +1,12 @@
 //! The top call.
 
 ghost use Rattle.std.specs.Prelude.{◌≡◌, ◌≢◌, ◌≤◌, ◌<◌, length, map, string_bytes};
-ghost use Rattle.mx_plan.specs.Calls as calls;
-ghost use Rattle.mx_plan.specs.Plan.{end_of};
-ghost use Rattle.mx_run.specs.WildRuns.{list_machine};
 ghost use Rattle.mx_words.specs.Orders.{order_of};
-ghost use Rattle.mx_files.specs.Answers.{AnswersAsList};
-ghost use Rattle.mx_begin.specs.BeginPlans.{begin_plan};
-ghost use Rattle.mx_top.specs.Commands as spec;
-ghost use Rattle.mx_top.specs.Reports.{HearsByKind};
-ghost use Rattle.mx_files.specs.Failing.{FailsOnlyBy};
 ghost use Rattle.mx_top.specs.Causes.{Causes};
 ghost use Rattle.mx_top.specs.ProgramClauses.{AnswersOverList, AnswersOverListWatched, Produces, ProducesWatched};
-ghost use Rattle.mx_top.specs.ProductPlan as plans;
+ghost use Rattle.mx_top.specs.Product as page;
 ghost use Rattle.mx_top.specs.Telling as tells;
-ghost use Rattle.mx_top.specs.WorkClauses.{CarriesOutWork, KeepsSaying, TellsAll, TellsBy};
+ghost use Rattle.mx_top.specs.WorkClauses.{CarriesOutBoth, HearsPlan, KeepsSaying, Performs, TellsAll, TellsBy};
 
 use crate::generation::generate;
 use crate::reports::{found_reports, is_lacking, put_reports, write_error};
@@ -31,7 +23,6 @@ use std::alloc::Global;
 
 /// Runs the source or the object that the words name, with the arguments behind it: a machine begins, and what has begun
 /// runs.
-#[tactic(auto, using(crate::proofs::Heard::silence))]
 fn run_ordered<H: Host>(
     alloc: Global,
     words: &[String],
@@ -43,18 +34,10 @@ fn run_ordered<H: Host>(
 ) -> Outcome
     requires file { order.now.file < length words.now }
     requires rest { order.now.rest ≤ length words.now }
-    ensures plan { CarriesOutWork (H.told host.old) (H.told host.new) result
-        (plans.begun_plan (map string_bytes words.now) order.now form) }
-    ensures listed { AnswersAsList (H.told host.old) (H.told host.new) result (λ m.
-        spec.begun_run list_machine order.now
-        (end_of calls.host (begin_plan list_machine (map string_bytes words.now) order.now form) m)) }
-    ensures heard { HearsByKind (H.told host.old) result (map meaning watchers.old.items)
-        (map meaning watchers.new.items) kept.old kept.new
-        (λ kind m. spec.begun_run kind order.now
-        (end_of calls.host (begin_plan kind (map string_bytes words.now) order.now form) m))
-        (λ kind m. spec.begun_traces kind order.now
-        (end_of calls.host (begin_plan kind (map string_bytes words.now) order.now form) m)) }
-    ensures causes { FailsOnlyBy H.told H.faults host.old host.new result }
+    ensures part { Performs H.told H.faults host.old host.new result
+        (page.run_file (map string_bytes words.now) order.now form) }
+    ensures heard { HearsPlan (H.told host.old) result (map meaning watchers.old.items) (map meaning watchers.new.items)
+        kept.old kept.new (page.run_file (map string_bytes words.now) order.now form) }
 {
     match begin(alloc, host, words, order, form) {
         Ok(machine) => run_machine(alloc, host, order, machine, watchers, kept),
@@ -63,7 +46,6 @@ fn run_ordered<H: Host>(
 }
 
 /// Does what the words order.
-#[tactic(auto, using(crate::proofs::PlainAnswers::plain, crate::proofs::Heard::silence))]
 fn carry_order<H: Host>(
     alloc: Global,
     words: &[String],
@@ -77,15 +59,10 @@ fn carry_order<H: Host>(
     requires schedule { order.now.schedule < length words.now }
     requires object { order.now.command ≡ Command.Asm → order.now.rest < length words.now }
     requires blocks { order.now.number ≤ 10000 }
-    ensures plan { CarriesOutWork (H.told host.old) (H.told host.new) result
-        (plans.ordered_plan (map string_bytes words.now) order.now order.now.command) }
-    ensures listed { AnswersAsList (H.told host.old) (H.told host.new) result
-        (λ m. spec.ordered list_machine (map string_bytes words.now) order.now order.now.command m) }
-    ensures heard { HearsByKind (H.told host.old) result (map meaning watchers.old.items)
-        (map meaning watchers.new.items) kept.old kept.new
-        (λ kind m. spec.ordered kind (map string_bytes words.now) order.now order.now.command m)
-        (λ kind m. spec.ordered_traces kind (map string_bytes words.now) order.now order.now.command m) }
-    ensures causes { FailsOnlyBy H.told H.faults host.old host.new result }
+    ensures part { Performs H.told H.faults host.old host.new result
+        (page.ordered_plan (map string_bytes words.now) order.now order.now.command) }
+    ensures heard { HearsPlan (H.told host.old) result (map meaning watchers.old.items) (map meaning watchers.new.items)
+        kept.old kept.new (page.ordered_plan (map string_bytes words.now) order.now order.now.command) }
 {
     match order.command {
         Command::Run => run_ordered(alloc, words, order, Form::Source, host, watchers, kept),
@@ -109,7 +86,6 @@ fn carry_order<H: Host>(
 }
 
 /// Does what the words order, if they order something, without the message.
-#[tactic(auto, using(crate::proofs::Heard::silence))]
 fn carry_out<H: Host>(
     alloc: Global,
     words: &[String],
@@ -117,15 +93,10 @@ fn carry_out<H: Host>(
     watchers: &mut Vec<Box<dyn Watcher>>,
     kept: &mut Reports,
 ) -> Outcome
-    ensures plan { CarriesOutWork (H.told host.old) (H.told host.new) result
-        (plans.work_plan (map string_bytes words.now) (order_of (map string_bytes words.now))) }
-    ensures listed { AnswersAsList (H.told host.old) (H.told host.new) result
-        (λ m. spec.carried_out list_machine (map string_bytes words.now) (order_of (map string_bytes words.now)) m) }
-    ensures heard { HearsByKind (H.told host.old) result (map meaning watchers.old.items)
-        (map meaning watchers.new.items) kept.old kept.new
-        (λ kind m. spec.carried_out kind (map string_bytes words.now) (order_of (map string_bytes words.now)) m)
-        (λ kind m. spec.carried_traces kind (map string_bytes words.now)
-        (order_of (map string_bytes words.now)) m) }
+    ensures both { CarriesOutBoth (H.told host.old) (H.told host.new) result
+        (page.work_plan (map string_bytes words.now) (order_of (map string_bytes words.now))) }
+    ensures heard { HearsPlan (H.told host.old) result (map meaning watchers.old.items) (map meaning watchers.new.items)
+        kept.old kept.new (page.work_plan (map string_bytes words.now) (order_of (map string_bytes words.now))) }
     ensures causes { Causes H.told H.faults host.old host.new result (map string_bytes words.now) }
 {
     match read(words) {
@@ -196,7 +167,7 @@ pub fn mmixware_watched<H: Host>(
     let count = watchers.len();
     let mut kept = Reports::new(alloc);
     let outcome = carry_out(alloc, words, host, watchers, &mut kept);
-    match found_reports(alloc, words, count, watchers, &kept) {
+    match found_reports(alloc, words, outcome, count, watchers, &kept) {
         Ok(texts) => finish(alloc, host, outcome, texts.as_slice()),
         Err(_) => tell(alloc, host, Outcome::OutOfMemory),
     }

@@ -4,15 +4,16 @@ use Rattle.mx_host.specs.HostModel.{contents}
 use Rattle.mx_core.specs.Kept.{Kept, state_of}
 use Rattle.mx_outcome.specs.declared.outcome.Outcome.TheVariants.{OutOfMemory}
 use Rattle.mx_top.specs.Runs.{generator_steps}
-use Rattle.mx_top.specs.ProductPlan.{summed_run, summed_plan}
+use Rattle.mx_top.specs.Endings as end
+use Rattle.mx_top.specs.MachineWork as work
 use Rattle.mx_top.proofs.Caused.{fails-behind}
 use Rattle.mx_top.proofs.Summed.{same-summed}
+use Rattle.mx_top.proofs.Followed.{to-summed}
 use Rattle.mx_top.proofs.ListedPlans.{run-listed}
 use Rattle.mx_top.proofs.MachinePlans.{run-follows}
 use Rattle.mx_top.proofs.generation.run_summed.Goals as goal
 
 pub returns : goal.returns
-unfolding summed_run
 returns g c =
     let after = state_of c.go-end.new.self.machine in
     let told = c.sum_up.ensures in
@@ -21,14 +22,14 @@ returns g c =
       both = record {
         window = λ t.
             run-follows generator_steps _ (state_of c.args.machine) after _ _ _ c.go-end.result c.outcome_of.result c.sum_up.result
-            (summed_plan c.args.blocks c.args.size) c.new-runner.ensures.flags c.outcome_of.ensures.value (rw c.new-runner.ensures.machine at (c.go-end.ensures.plan t))
+            (work.summed_plan c.args.blocks c.args.size) (λ o s kept. end.summed_plan c.args.blocks c.args.size o s) (to-summed c.args.blocks c.args.size) c.new-runner.ensures.flags c.outcome_of.ensures.value (rw c.new-runner.ensures.machine at (c.go-end.ensures.plan t))
             (λ e. let none = told.lacked e in (none.0, ap (λ h. contents (g.H.Host.told h)) none.1))
             (λ ne. rw c.machine.ensures at (told.plan ne (subst IsTrue (sym c.go-end.ensures.run.keeps.telling) t)));
         list = λ t ne.
             let there = subst IsTrue (sym c.go-end.ensures.run.keeps.telling) t in
             let untouched = subst (λ (k : Kept). (state_of k).touched ≡ false) (sym c.new-runner.ensures.machine) c.requires in
             run-listed generator_steps _ (state_of c.args.machine) after _ _ _ c.go-end.result c.outcome_of.result c.sum_up.result
-            (summed_plan c.args.blocks c.args.size) c.new-runner.ensures.flags c.outcome_of.ensures.value
+            (work.summed_plan c.args.blocks c.args.size) (λ o s kept. end.summed_plan c.args.blocks c.args.size o s) (to-summed c.args.blocks c.args.size) c.new-runner.ensures.flags c.outcome_of.ensures.value
             (rw c.new-runner.ensures.machine at (c.go-end.ensures.run.listed t (λ e. some ne (c.outcome_of.ensures.memory e)) untouched)) (told.causes.3.growing there)
             (λ u. same-summed c.args.blocks c.args.size c.outcome_of.result after) ((rw c.machine.ensures at (told.plan (some ne) there)).ending ne);
       };

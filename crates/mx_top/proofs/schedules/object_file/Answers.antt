@@ -1,16 +1,16 @@
 use Rattle.std.proofs.Common.{Err, ap}
 use Rattle.mx_top.proofs.Caused.{fails-behind}
-use Rattle.mx_top.proofs.WorkParts.{turns-file, turns-unread}
+use Rattle.mx_top.proofs.WorkPlans.{both-then, both-ends}
 use Rattle.mx_top.proofs.schedules.object_file.Goals as goal
 
 pub returns-in-Ok : goal.returns-in-Ok
 returns-in-Ok g c = record {
-  both = turns-file _ _ _ _ _ _ _ _ c.in-Ok.ensures.causes.3.telling c.in-Ok.ensures.plan c.run_image.ensures.both;
+  both = both-then _ _ _ _ _ _ _ c.in-Ok.ensures.causes.3.telling c.in-Ok.ensures.plan c.run_image.ensures.both;
   causes = fails-behind g.H.Host.told g.H.Host.faults _ _ _ _ c.in-Ok.ensures.causes.3 c.run_image.ensures.causes;
 }
 
 pub returns-in-Err : goal.returns-in-Err
 returns-in-Err g c = record {
-  both = turns-unread _ _ _ _ _ _ c.in-Err.ensures.plan;
+  both = both-ends _ _ _ _ _ c.in-Err.ensures.plan;
   causes = (λ had e. c.in-Err.ensures.causes.0 had (ap Err e), λ n e. c.in-Err.ensures.causes.1 n (ap Err e), c.in-Err.ensures.causes.2, c.in-Err.ensures.causes.3);
 }

@@ -1,33 +1,39 @@
-use Rattle.mx_top.proofs.ListedWork.{gen-listed, multi-listed}
+use Rattle.mx_top.proofs.Ordered.{run-heard, sim-heard, quiet-heard}
 use Rattle.mx_top.proofs.WorkParts.{run-ordered, sim-ordered, asm-ordered, gen-ordered, show-ordered, multi-ordered}
 use Rattle.mx_top.proofs.top.carry_order.Goals as goal
 
-pub returns-in-Asm-clause-plan : goal.returns-in-Asm-clause-plan
-returns-in-Asm-clause-plan g c = asm-ordered _ _ _ _ _ _ _ c.in-Asm.is c.word.ensures c.word-in-Asm.ensures c.assemble_file.ensures.plan
+pub returns-in-Run-clause-part : goal.returns-in-Run-clause-part
+returns-in-Run-clause-part g c = record { both = run-ordered _ _ _ _ _ c.in-Run.is c.run_ordered.ensures.part.both; causes = c.run_ordered.ensures.part.causes }
 
-pub returns-in-Gen-clause-plan : goal.returns-in-Gen-clause-plan
-returns-in-Gen-clause-plan g c = gen-ordered _ _ _ _ _ c.in-Gen.is c.generate.ensures.both.window
+pub returns-in-Sim-clause-part : goal.returns-in-Sim-clause-part
+returns-in-Sim-clause-part g c = record { both = sim-ordered _ _ _ _ _ c.in-Sim.is c.run_ordered-in-Sim.ensures.part.both; causes = c.run_ordered-in-Sim.ensures.part.causes }
 
-pub returns-in-Gen-clause-listed : goal.returns-in-Gen-clause-listed
-returns-in-Gen-clause-listed g c = gen-listed _ _ _ _ _ c.in-Gen.is c.generate.ensures.both
+pub returns-in-Asm-clause-part : goal.returns-in-Asm-clause-part
+returns-in-Asm-clause-part g c = record { both = asm-ordered _ _ _ _ _ _ _ c.in-Asm.is c.word.ensures c.word-in-Asm.ensures c.assemble_file.ensures.plan; causes = c.assemble_file.ensures.causes }
 
-pub returns-in-Show-clause-plan : goal.returns-in-Show-clause-plan
-returns-in-Show-clause-plan g c = show-ordered _ _ _ _ _ _ c.in-Show.is c.word-in-Show.ensures c.list_file.ensures.plan
+pub returns-in-Gen-clause-part : goal.returns-in-Gen-clause-part
+returns-in-Gen-clause-part g c = record { both = gen-ordered _ _ _ _ _ c.in-Gen.is c.generate.ensures.both; causes = c.generate.ensures.causes }
 
-pub returns-in-Multi-clause-plan : goal.returns-in-Multi-clause-plan
-returns-in-Multi-clause-plan g c = multi-ordered _ _ _ _ _ _ _ c.in-Multi.is c.word-in-Multi.ensures c.word-in-Multi-2.ensures c.multi_file.ensures.both.window
+pub returns-in-Show-clause-part : goal.returns-in-Show-clause-part
+returns-in-Show-clause-part g c = record { both = show-ordered _ _ _ _ _ _ c.in-Show.is c.word-in-Show.ensures c.list_file.ensures.plan; causes = c.list_file.ensures.causes }
 
-pub returns-in-Multi-clause-listed : goal.returns-in-Multi-clause-listed
-returns-in-Multi-clause-listed g c = multi-listed _ _ _ _ _ _ _ c.in-Multi.is c.word-in-Multi.ensures c.word-in-Multi-2.ensures c.multi_file.ensures.both
+pub returns-in-Multi-clause-part : goal.returns-in-Multi-clause-part
+returns-in-Multi-clause-part g c = record { both = multi-ordered _ _ _ _ _ _ _ c.in-Multi.is c.word-in-Multi.ensures c.word-in-Multi-2.ensures c.multi_file.ensures.both; causes = c.multi_file.ensures.causes }
 
-pub returns-in-Asm-clause-causes : goal.returns-in-Asm-clause-causes
-returns-in-Asm-clause-causes g c = c.assemble_file.ensures.causes
+pub returns-in-Run-clause-heard : goal.returns-in-Run-clause-heard
+returns-in-Run-clause-heard g c = run-heard _ _ _ _ _ _ _ _ c.in-Run.is c.run_ordered.ensures.heard
 
-pub returns-in-Show-clause-causes : goal.returns-in-Show-clause-causes
-returns-in-Show-clause-causes g c = c.list_file.ensures.causes
+pub returns-in-Sim-clause-heard : goal.returns-in-Sim-clause-heard
+returns-in-Sim-clause-heard g c = sim-heard _ _ _ _ _ _ _ _ c.in-Sim.is c.run_ordered-in-Sim.ensures.heard
 
-pub returns-in-Run-clause-plan : goal.returns-in-Run-clause-plan
-returns-in-Run-clause-plan g c = run-ordered _ _ _ _ _ c.in-Run.is c.run_ordered.ensures.plan
+pub returns-in-Asm-clause-heard : goal.returns-in-Asm-clause-heard
+returns-in-Asm-clause-heard g c = quiet-heard _ _ _ _ _ _ _ c.in-Asm.is tt
 
-pub returns-in-Sim-clause-plan : goal.returns-in-Sim-clause-plan
-returns-in-Sim-clause-plan g c = sim-ordered _ _ _ _ _ c.in-Sim.is c.run_ordered-in-Sim.ensures.plan
+pub returns-in-Gen-clause-heard : goal.returns-in-Gen-clause-heard
+returns-in-Gen-clause-heard g c = quiet-heard _ _ _ _ _ _ _ c.in-Gen.is tt
+
+pub returns-in-Show-clause-heard : goal.returns-in-Show-clause-heard
+returns-in-Show-clause-heard g c = quiet-heard _ _ _ _ _ _ _ c.in-Show.is tt
+
+pub returns-in-Multi-clause-heard : goal.returns-in-Multi-clause-heard
+returns-in-Multi-clause-heard g c = quiet-heard _ _ _ _ _ _ _ c.in-Multi.is tt

@@ -3,18 +3,16 @@ use Rattle.std.specs.Prelude.{string_bytes}
 use Rattle.mx_host.specs.HostModel.{contents}
 use Rattle.mx_run.specs.WildRuns.{window_machine, list_machine}
 use Rattle.mx_files.specs.Answers.{Answer, GoesAs}
-use Rattle.mx_top.proofs.Reported.{unwatched, none-mean, none-ever}
+use Rattle.mx_top.proofs.Reported.{unwatched, unwatched-doing, none-mean, none-ever}
 use Rattle.mx_words.specs.Orders.{order_of}
 use Rattle.mx_top.specs.Reports.{due_reports}
-use Rattle.mx_top.proofs.FewReports.{unwatched-doing}
 use Rattle.mx_top.proofs.top.mmixware.Goals as goal
 
 pub returns-clause-product : goal.returns-clause-product
 returns-clause-product g c = record {
   plan = λ t.
       let words = map string_bytes c.args.words.now in
-      unwatched-doing _ _ _ _ _ _ (none-mean _ _ c.new-nobody.ensures.items)
-      (ap (due_reports (order_of words)) (none-mean _ _ c.new-nobody.ensures.items) ∙ none-ever (order_of words)) (c.mmixware_watched.ensures.product.plan t);
+      unwatched-doing _ _ _ _ _ (ap (due_reports (order_of words)) (none-mean _ _ c.new-nobody.ensures.items) ∙ none-ever (order_of words)) (c.mmixware_watched.ensures.product.plan t);
   answer = λ t ne.
       c.mmixware_watched.ensures.product.answer t ne ∙ unwatched window_machine (map string_bytes c.args.words.now) _ (contents (g.H.Host.told c.args.host.now)) (none-mean _ _ c.new-nobody.ensures.items);
   written = c.mmixware_watched.ensures.product.written;

@@ -1,25 +1,20 @@
-use Rattle.std.proofs.Common.{◌≢◌, inl, inr, [], ap, refl, subst, sym, ◌∙◌, map, arith}
+use Rattle.std.proofs.Common.{◌≢◌, ◌≤◌, inl, inr, [], refl, subst, sym, ◌∙◌, map}
 use Rattle.std.specs.Prelude.{IsTrue, string_bytes}
 use Rattle.std.proofs.lemmas.List.{length-map}
 use Rattle.mx_host.specs.HostModel.{contents}
 use Rattle.mx_run.specs.WildRuns.{window_machine, list_machine}
 use Rattle.mx_words.specs.Orders.{order_of}
 use Rattle.mx_outcome.specs.declared.outcome.Outcome.TheVariants.{OutOfMemory}
-use Rattle.mx_top.specs.Commands.{carried_out}
-use Rattle.mx_top.proofs.Heard.{found-due, from-none, left-of, unless-by}
-use Rattle.mx_top.specs.Product.{product_traces}
-use Rattle.mx_top.proofs.ProductComes.{work-comes}
-use Rattle.mx_top.proofs.ProductCourses.{product-is-course}
+use Rattle.mx_top.proofs.Heard.{found-due, from-none, left-of, some-due, unless-by}
+use Rattle.mx_top.specs.Product.{product_traces, work_plan}
+use Rattle.mx_top.specs.WorkClauses.{answer_by}
+use Rattle.mx_top.proofs.Spoken.{product-is-said, traces-of, answer-is, front-is, plan-comes}
 use Rattle.mx_top.proofs.Reported.{reported, reported-goes, watched-so}
 use Rattle.mx_top.proofs.Told.{spoken-front}
 use Rattle.mx_word.proofs.Fronts.{front-of}
 use Rattle.mx_word.specs.Lists.{IsFront}
-use Rattle.mx_files.specs.Answers.{Answer, GoesAs, plainly, output_of}
-use Rattle.mx_top.specs.ProductPlan.{work_plan}
-use Rattle.mx_top.proofs.ProductEnds.{work-end}
-use Rattle.mx_top.proofs.ProgramHeld.{work-front}
+use Rattle.mx_files.specs.Answers.{Answer, GoesAs, output_of}
 use Rattle.mx_top.proofs.Saying.{telling-told, alone}
-use Rattle.mx_top.proofs.FewReports.{few-found}
 use Rattle.mx_top.proofs.Caused.{causes-told}
 use Rattle.mx_top.proofs.top.mmixware_watched.Goals as goal
 
@@ -36,17 +31,16 @@ returns-in-Ok-clause-product g c = record {
         said = c.carry_out-outcome.result;
         texts = _;
         heard = product_traces window_machine (map string_bytes c.args.words.now) (contents (g.H.Host.told c.args.host.now));
-        works = work-comes (map string_bytes c.args.words.now) (contents (g.H.Host.told c.args.host.now)) _ _ (said.plan t);
-        reports = inl (refl, λ ne. c.as_slice.ensures ∙ c.in-Ok.ensures ∙ found-due window_machine (map string_bytes c.args.words.now) _ _ _ (contents (g.H.Host.told c.args.host.now)) _ (many ∙ sym (length-map c.args.watchers.now.items _)) (from-none _ _ _ _ c.new-kept.ensures (said.heard.0 t ne)));
-        few = few-found _ _ _ _ _ _ (c.as_slice.ensures ∙ c.in-Ok.ensures) (many ∙ sym (length-map c.args.watchers.now.items _));
+        works = plan-comes (contents (g.H.Host.told c.args.host.now)) _ _ (work_plan (map string_bytes c.args.words.now) (order_of (map string_bytes c.args.words.now))) _ (traces-of window_machine (map string_bytes c.args.words.now) (contents (g.H.Host.told c.args.host.now))) (said.both.window t);
+        reports = inl (refl, (λ ne. c.as_slice.ensures ∙ c.in-Ok.ensures.texts ne ∙ found-due window_machine (map string_bytes c.args.words.now) _ _ _ (contents (g.H.Host.told c.args.host.now)) _ (many ∙ sym (length-map c.args.watchers.now.items _)) (from-none _ _ _ _ c.new-kept.ensures (said.heard.0 t ne)), λ e. c.as_slice.ensures ∙ c.in-Ok.ensures.none e));
         told = c.finish.ensures.plan there;
       };
   answer = λ t ne.
       let said = c.carry_out-outcome.ensures in
       let there = subst IsTrue (sym said.causes.keeps.telling) t in
       let wanting : c.carry_out-outcome.result ≢ OutOfMemory = λ e. ne (c.finish.ensures.same ne ∙ e) in
-      reported c.carry_out-outcome.result c.finish.result _ _ _ _ _ (ap plainly ((said.plan t).ending wanting) ∙ work-end (map string_bytes c.args.words.now) (order_of (map string_bytes c.args.words.now)) (contents (g.H.Host.told c.args.host.now)))
-      (c.as_slice.ensures ∙ c.in-Ok.ensures ∙ found-due window_machine (map string_bytes c.args.words.now) _ _ _ (contents (g.H.Host.told c.args.host.now)) _ (c.len-count.ensures ∙ c.args.watchers.now.ok.0 ∙ sym (length-map c.args.watchers.now.items _)) (from-none _ _ _ _ c.new-kept.ensures (said.heard.0 t wanting)))
+      reported c.carry_out-outcome.result c.finish.result _ _ _ _ _ (answer-is (contents (g.H.Host.told c.args.host.now)) _ _ (work_plan (map string_bytes c.args.words.now) (order_of (map string_bytes c.args.words.now))) (said.both.window t) wanting)
+      (c.as_slice.ensures ∙ c.in-Ok.ensures.texts wanting ∙ found-due window_machine (map string_bytes c.args.words.now) _ _ _ (contents (g.H.Host.told c.args.host.now)) _ (c.len-count.ensures ∙ c.args.watchers.now.ok.0 ∙ sym (length-map c.args.watchers.now.items _)) (from-none _ _ _ _ c.new-kept.ensures (said.heard.0 t wanting)))
       (telling-told _ _ _ _ _ (c.finish.ensures.plan there) ne) ∙ watched-so window_machine (map string_bytes c.args.words.now) _ (contents (g.H.Host.told c.args.host.now));
   left_over = λ t ne. left-of window_machine (map string_bytes c.args.words.now) (contents (g.H.Host.told c.args.host.now)) _ _ _ _ c.new-kept.ensures (c.carry_out-outcome.ensures.heard.0 t (λ e. ne (c.finish.ensures.same ne ∙ e)));
   written = λ to_stderr t oom.
@@ -54,10 +48,8 @@ returns-in-Ok-clause-product g c = record {
       let here = contents (g.H.Host.told c.carry_out-outcome.new.host) in
       let said = c.carry_out-outcome.ensures in
       front-of here.output _ _ _ (c.finish.ensures.keeps.output (said.causes.keeps.errors t to_stderr) (subst IsTrue (sym said.causes.keeps.telling) t)) refl
-      (subst (λ (a : Answer). IsFront here.output (output_of a)) (sym (product-is-course window_machine (map string_bytes c.args.words.now) start))
-      (spoken-front c.carry_out-outcome.result here (carried_out window_machine (map string_bytes c.args.words.now) (order_of (map string_bytes c.args.words.now)) start) (λ ne. ap plainly ((said.plan t).ending ne) ∙ work-end (map string_bytes c.args.words.now) (order_of (map string_bytes c.args.words.now)) start)
-      (λ e. subst (λ (a : Answer). IsFront here.output (output_of a)) (work-end (map string_bytes c.args.words.now) (order_of (map string_bytes c.args.words.now)) start)
-      (work-front (work_plan (map string_bytes c.args.words.now) (order_of (map string_bytes c.args.words.now))) here start ((said.plan t).stopping e)))));
+      (subst (λ (a : Answer). IsFront here.output (output_of a)) (sym (product-is-said window_machine (map string_bytes c.args.words.now) start))
+      (spoken-front c.carry_out-outcome.result here (answer_by window_machine (work_plan (map string_bytes c.args.words.now) (order_of (map string_bytes c.args.words.now))) start) (λ ne. answer-is start here _ (work_plan (map string_bytes c.args.words.now) (order_of (map string_bytes c.args.words.now))) (said.both.window t) ne) (λ e. front-is start here _ (work_plan (map string_bytes c.args.words.now) (order_of (map string_bytes c.args.words.now))) (said.both.window t) e)));
 }
 
 pub returns-in-Ok-clause-headline : goal.returns-in-Ok-clause-headline
@@ -66,10 +58,10 @@ returns-in-Ok-clause-headline g c = λ t ne.
     let there = subst IsTrue (sym said.causes.keeps.telling) t in
     let wanting : c.carry_out-outcome.result ≢ OutOfMemory = λ e. ne (c.finish.ensures.same ne ∙ e) in
     subst (λ (a : Answer). GoesAs a c.finish.result (contents (g.H.Host.told c.finish.new.host))) (watched-so list_machine (map string_bytes c.args.words.now) _ (contents (g.H.Host.told c.args.host.now)))
-    (reported-goes c.carry_out-outcome.result c.finish.result _ _ (carried_out list_machine (map string_bytes c.args.words.now) (order_of (map string_bytes c.args.words.now)) (contents (g.H.Host.told c.args.host.now))) _ _
-    (said.listed t wanting)
-    (unless-by (carried_out list_machine (map string_bytes c.args.words.now) (order_of (map string_bytes c.args.words.now)) (contents (g.H.Host.told c.args.host.now))) _ _
-    (λ e. c.as_slice.ensures ∙ c.in-Ok.ensures ∙ found-due list_machine (map string_bytes c.args.words.now) _ _ _ (contents (g.H.Host.told c.args.host.now)) _ (c.len-count.ensures ∙ c.args.watchers.now.ok.0 ∙ sym (length-map c.args.watchers.now.items _)) (from-none _ _ _ _ c.new-kept.ensures e))
+    (reported-goes c.carry_out-outcome.result c.finish.result _ _ (answer_by list_machine (work_plan (map string_bytes c.args.words.now) (order_of (map string_bytes c.args.words.now))) (contents (g.H.Host.told c.args.host.now))) _ _
+    (said.both.list t wanting)
+    (unless-by (answer_by list_machine (work_plan (map string_bytes c.args.words.now) (order_of (map string_bytes c.args.words.now))) (contents (g.H.Host.told c.args.host.now))) _ _
+    (λ e. c.as_slice.ensures ∙ c.in-Ok.ensures.texts wanting ∙ found-due list_machine (map string_bytes c.args.words.now) _ _ _ (contents (g.H.Host.told c.args.host.now)) _ (c.len-count.ensures ∙ c.args.watchers.now.ok.0 ∙ sym (length-map c.args.watchers.now.items _)) (from-none _ _ _ _ c.new-kept.ensures e))
     (said.heard.1 t wanting))
     (telling-told _ _ _ _ _ (c.finish.ensures.plan there) ne) (c.finish.ensures.keeps.keeps.growing there))
 
@@ -81,15 +73,16 @@ returns-clause-product g c = record {
   plan = λ t.
       let said = c.carry_out-outcome.ensures in
       let there = subst IsTrue (sym said.causes.keeps.telling) t in
+      let many = c.len-count.ensures ∙ c.args.watchers.now.ok.0 ∙ sym (length-map c.args.watchers.now.items _) in
+      let e = c.in-Err.ensures in
       record {
         left = contents (g.H.Host.told c.carry_out-outcome.new.host);
         outcome = c.carry_out-outcome.result;
         said = OutOfMemory;
         texts = [];
         heard = product_traces window_machine (map string_bytes c.args.words.now) (contents (g.H.Host.told c.args.host.now));
-        works = work-comes (map string_bytes c.args.words.now) (contents (g.H.Host.told c.args.host.now)) _ _ (said.plan t);
-        reports = inr (refl, refl);
-        few = omega arith;
+        works = plan-comes (contents (g.H.Host.told c.args.host.now)) _ _ (work_plan (map string_bytes c.args.words.now) (order_of (map string_bytes c.args.words.now))) _ (traces-of window_machine (map string_bytes c.args.words.now) (contents (g.H.Host.told c.args.host.now))) (said.both.window t);
+        reports = inr ((e.worked, some-due _ _ _ e.asked (subst (λ n. 1 ≤ n) many e.watched)), (refl, refl));
         told = record { between = _; spoken = c.tell.result; message = c.tell.ensures.plan there; behind = inl (alone _ _) };
       };
   answer = λ t ne. absurd (ne (c.tell.ensures.same ne));
@@ -99,10 +92,8 @@ returns-clause-product g c = record {
       let here = contents (g.H.Host.told c.carry_out-outcome.new.host) in
       let said = c.carry_out-outcome.ensures in
       front-of here.output _ _ _ (c.tell.ensures.keeps.output (said.causes.keeps.errors t to_stderr) (subst IsTrue (sym said.causes.keeps.telling) t)) refl
-      (subst (λ (a : Answer). IsFront here.output (output_of a)) (sym (product-is-course window_machine (map string_bytes c.args.words.now) start))
-      (spoken-front c.carry_out-outcome.result here (carried_out window_machine (map string_bytes c.args.words.now) (order_of (map string_bytes c.args.words.now)) start) (λ ne. ap plainly ((said.plan t).ending ne) ∙ work-end (map string_bytes c.args.words.now) (order_of (map string_bytes c.args.words.now)) start)
-      (λ e. subst (λ (a : Answer). IsFront here.output (output_of a)) (work-end (map string_bytes c.args.words.now) (order_of (map string_bytes c.args.words.now)) start)
-      (work-front (work_plan (map string_bytes c.args.words.now) (order_of (map string_bytes c.args.words.now))) here start ((said.plan t).stopping e)))));
+      (subst (λ (a : Answer). IsFront here.output (output_of a)) (sym (product-is-said window_machine (map string_bytes c.args.words.now) start))
+      (spoken-front c.carry_out-outcome.result here (answer_by window_machine (work_plan (map string_bytes c.args.words.now) (order_of (map string_bytes c.args.words.now))) start) (λ ne. answer-is start here _ (work_plan (map string_bytes c.args.words.now) (order_of (map string_bytes c.args.words.now))) (said.both.window t) ne) (λ e. front-is start here _ (work_plan (map string_bytes c.args.words.now) (order_of (map string_bytes c.args.words.now))) (said.both.window t) e)));
 }
 
 pub returns-clause-headline : goal.returns-clause-headline
