@@ -33,8 +33,8 @@ pub chosen-heard : (a : Option HostModel) (s : State) (r : Outcome) (ws left : L
 chosen-heard a s r ws left earlier later plan part e h = subst (λ (p : WorkPlan Outcome). HearsWork a s r ws left earlier later p) (sym e) h
 
 -- watchers are told nothing of these
-pub session-quiet : (a : Option HostModel) (s : State) (r : Outcome) (ws : List Watching) (earlier : List Report) (o : Order) → HearsWork a s r ws ws earlier earlier (work.session_plan_of o)
-session-quiet a s r ws earlier o = quiet-work a s r ws earlier (work.session_plan_of o) (λ kind t m. session-told kind o.steps t m (work.dumped_plan o.dump) (λ x u kept. end.dumped_plan o.dump x u) (to-dumped o.dump))
+pub session-quiet : (a : Option HostModel) (s : State) (r : Outcome) (ws : List Watching) (earlier : List Report) (o : Order) → HearsWork a s r ws ws earlier earlier (work.sitting_plan o)
+session-quiet a s r ws earlier o = quiet-work a s r ws earlier (work.sitting_plan o) (λ kind t m. session-told kind o.steps t m (work.dumped_plan o.dump) (λ x u kept. end.dumped_plan o.dump x u) (to-dumped o.dump))
 
 pub stepped-quiet : (a : Option HostModel) (s : State) (r : Outcome) (ws : List Watching) (earlier : List Report) (o : Order) → HearsWork a s r ws ws earlier earlier (work.stepped_plan o)
 stepped-quiet a s r ws earlier o = quiet-work a s r ws earlier (work.stepped_plan o) (λ kind t m. run-told kind o.steps t m (work.dumped_plan o.dump) (λ x u kept. end.dumped_plan o.dump x u) (to-dumped o.dump))

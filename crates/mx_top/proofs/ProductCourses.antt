@@ -303,4 +303,8 @@ pub traces-are-told : (kind : MachineKind) (words : List Word) (m : HostModel) �
 unfolding product_traces
 traces-are-told kind words m = ap told_of (product-so kind words m) ∙ told-with (carried_traces kind words (order_of words) m) (with_message (carried_out kind words (order_of words) m))
 
-pub ruleset courses = (product-is-course, traces-are-told)
+-- so is the work without the message
+pub work-is-course : (kind : MachineKind) (words : List Word) (r : Result Order WordsFault) (m : HostModel) → answer_of (course (program_goes kind) (page.work_plan words r) (m, [])) ≡ carried_out kind words r m
+work-is-course kind words r m = ap answer_of (work-course kind words r m) ∙ answer-with (carried_traces kind words r m) (carried_out kind words r m)
+
+pub ruleset courses = (product-is-course, work-is-course, traces-are-told)

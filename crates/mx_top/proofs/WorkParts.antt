@@ -248,11 +248,11 @@ generated-named a b r o source text e h = both-taking a b r (run_text o source) 
 
 run-is : (o : Order) → o.interactive ≡ false → work.machine_plan o ≡ cond (not (o.last == 0)) (work.kept_plan o) (cond o.report (work.reported_plan o) (work.stepped_plan o))
 unfolding work.machine_plan
-run-is o e = ap (λ (b : Bool). cond b (work.session_plan_of o) (cond (not (o.last == 0)) (work.kept_plan o) (cond o.report (work.reported_plan o) (work.stepped_plan o)))) e
+run-is o e = ap (λ (b : Bool). cond b (work.sitting_plan o) (cond (not (o.last == 0)) (work.kept_plan o) (cond o.report (work.reported_plan o) (work.stepped_plan o)))) e
 
-pub session-is : (o : Order) → o.interactive ≡ true → work.machine_plan o ≡ work.session_plan_of o
+pub session-is : (o : Order) → o.interactive ≡ true → work.machine_plan o ≡ work.sitting_plan o
 unfolding work.machine_plan
-session-is o e = ap (λ (b : Bool). cond b (work.session_plan_of o) (cond (not (o.last == 0)) (work.kept_plan o) (cond o.report (work.reported_plan o) (work.stepped_plan o)))) e
+session-is o e = ap (λ (b : Bool). cond b (work.sitting_plan o) (cond (not (o.last == 0)) (work.kept_plan o) (cond o.report (work.reported_plan o) (work.stepped_plan o)))) e
 
 pub kept-is : (o : Order) → o.interactive ≡ false → o.last ≢ 0 → work.machine_plan o ≡ work.kept_plan o
 kept-is o i some = run-is o i ∙ ap (λ (b : Bool). cond (not b) (work.kept_plan o) (cond o.report (work.reported_plan o) (work.stepped_plan o))) (other-test o.last 0 some)

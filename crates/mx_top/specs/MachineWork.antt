@@ -143,8 +143,8 @@ back_plan o outcome =
     else dumped_plan o.dump outcome
 
 -- the user leads the machine through a session
-abbrev pub session_plan_of : Order → WorkPlan Outcome
-session_plan_of o = calling (sitting o.steps) (λ end. dumped_plan o.dump (session_outcome o.steps end))
+abbrev pub sitting_plan : Order → WorkPlan Outcome
+sitting_plan o = calling (sitting o.steps) (λ end. dumped_plan o.dump (session_outcome o.steps end))
 
 -- its last steps are taken back; the room for what is kept takes memory
 abbrev pub kept_plan : Order → WorkPlan Outcome
@@ -158,7 +158,7 @@ abbrev pub stepped_plan : Order → WorkPlan Outcome
 stepped_plan o = calling (stepping o.steps) (λ end. dumped_plan o.dump (outcome_of o.steps end))
 
 unfoldable pub machine_plan : Order → WorkPlan Outcome
-machine_plan o = if o.interactive then session_plan_of o else if not (o.last == 0) then kept_plan o else if o.report then reported_plan o else stepped_plan o
+machine_plan o = if o.interactive then sitting_plan o else if not (o.last == 0) then kept_plan o else if o.report then reported_plan o else stepped_plan o
 
 -- ---- the work of `gen`: where the program halts, one line tells what came of it
 

@@ -37,7 +37,7 @@ fn session_outcome(steps: u64, end: SessionEnd) -> Outcome
 pub fn run_session<H: Host>(alloc: Global, host: &mut H, order: &Order, machine: Machine) -> Outcome
     requires { (state_of machine).touched ≡ false }
     ensures { PerformsWork H.told H.faults host.old host.new (state_of machine) result
-        (work.session_plan_of order.now) }
+        (work.sitting_plan order.now) }
 {
     let mut runner = Runner::new(alloc, machine);
     match session(alloc, &mut runner, host, order.steps) {
