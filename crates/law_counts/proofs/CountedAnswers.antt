@@ -23,7 +23,6 @@ use Rattle.mx_files.specs.Source.{file_bytes, object_pieces, source_pieces}
 use Rattle.mx_files.specs.Sources.{source_meaning}
 use Rattle.mx_files.specs.declared.refusal.Refusal.{Refusal}
 use Rattle.mx_outcome.specs.declared.outcome.Outcome.{Outcome}
-use Rattle.mx_outcome.specs.declared.outcome.Outcome.TheVariants.{BadObject}
 use Rattle.mx_begin.specs.Arguments.{Word, word_at, arguments}
 use Rattle.mx_begin.specs.Begun.{assembled, loaded, started}
 use Rattle.mx_begin.proofs.Beginnings.{begins}

@@ -89,27 +89,20 @@ dump-told wanted status ended after last h e =
     ap (λ b. with_message (dumped b (ran (Done status) ended after))) h
     ∙ ap (λ t. with_message (after_lines (Done status) t)) e
 
--- ---- `run` and `sim`
+-- ---- `run` and `sim`: what runs this image, by the words and the host after the file was read
 
-pub source-plain : (kind : MachineKind) (words : List Word) (o : Order) (image : Image) (status : ℕ) (ended : State) (m begun after : HostModel) → HasSource words o image m begun →
+abbrev pub Runs : MachineKind → List Word → Order → Image → HostModel → HostModel → Type 0
+Runs kind words o image m begun = product kind words m ≡ with_message (image_run kind o (arguments words o) image begun)
+
+pub runs-plain : (kind : MachineKind) (words : List Word) (o : Order) (image : Image) (status : ℕ) (ended : State) (m begun after : HostModel) → Runs kind words o image m begun →
     IsHalted kind words o image begun status ended after → o.dump ≡ false → product kind words m ≡ answered (Done status) after
-source-plain kind words o image status ended m begun after h k d =
-    source-run kind words o image m begun h ∙ ap with_message (halted-run kind words o image begun status ended after k) ∙ plain-told o.dump status ended after d
+runs-plain kind words o image status ended m begun after h k d =
+    h ∙ ap with_message (halted-run kind words o image begun status ended after k) ∙ plain-told o.dump status ended after d
 
-pub source-dumped : (kind : MachineKind) (words : List Word) (o : Order) (image : Image) (status : ℕ) (ended : State) (m begun after last : HostModel) → HasSource words o image m begun →
+pub runs-dumped : (kind : MachineKind) (words : List Word) (o : Order) (image : Image) (status : ℕ) (ended : State) (m begun after last : HostModel) → Runs kind words o image m begun →
     IsHalted kind words o image begun status ended after → o.dump ≡ true → lines_put (dump_lines ended) after ≡ (true, last) → product kind words m ≡ answered (Done status) last
-source-dumped kind words o image status ended m begun after last h k d e =
-    source-run kind words o image m begun h ∙ ap with_message (halted-run kind words o image begun status ended after k) ∙ dump-told o.dump status ended after last d e
-
-pub object-plain : (kind : MachineKind) (words : List Word) (o : Order) (image : Image) (status : ℕ) (ended : State) (m begun after : HostModel) → HasObject words o image m begun →
-    IsHalted kind words o image begun status ended after → o.dump ≡ false → product kind words m ≡ answered (Done status) after
-object-plain kind words o image status ended m begun after h k d =
-    object-run kind words o image m begun h ∙ ap with_message (halted-run kind words o image begun status ended after k) ∙ plain-told o.dump status ended after d
-
-pub object-dumped : (kind : MachineKind) (words : List Word) (o : Order) (image : Image) (status : ℕ) (ended : State) (m begun after last : HostModel) → HasObject words o image m begun →
-    IsHalted kind words o image begun status ended after → o.dump ≡ true → lines_put (dump_lines ended) after ≡ (true, last) → product kind words m ≡ answered (Done status) last
-object-dumped kind words o image status ended m begun after last h k d e =
-    object-run kind words o image m begun h ∙ ap with_message (halted-run kind words o image begun status ended after k) ∙ dump-told o.dump status ended after last d e
+runs-dumped kind words o image status ended m begun after last h k d e =
+    h ∙ ap with_message (halted-run kind words o image begun status ended after k) ∙ dump-told o.dump status ended after last d e
 
 -- ---- sessions of the console
 
@@ -118,28 +111,12 @@ pub sat-image : (kind : MachineKind) (words : List Word) (o : Order) (image : Im
 sat-image kind words o image s begun h k =
     ap with_message (started-run kind words o image s begun k ∙ ap (dumped o.dump) (sat-run kind o s begun h))
 
-pub source-sat : (kind : MachineKind) (words : List Word) (o : Order) (image : Image) (s : State) (m begun : HostModel) → HasSource words o image m begun → o.interactive ≡ true →
-    IsStarted kind words o image s → product kind words m ≡ with_message (dumped o.dump (session_ran kind o.steps s begun))
-source-sat kind words o image s m begun h i k = source-run kind words o image m begun h ∙ sat-image kind words o image s begun i k
-
-pub object-sat : (kind : MachineKind) (words : List Word) (o : Order) (image : Image) (s : State) (m begun : HostModel) → HasObject words o image m begun → o.interactive ≡ true →
-    IsStarted kind words o image s → product kind words m ≡ with_message (dumped o.dump (session_ran kind o.steps s begun))
-object-sat kind words o image s m begun h i k = object-run kind words o image m begun h ∙ sat-image kind words o image s begun i k
-
-played-told : (kind : MachineKind) (words : List Word) (o : Order) (image : Image) (begun : HostModel) (outcome : Outcome) (ended : State) (after : HostModel) → IsPlayed kind words o image begun outcome ended after →
+pub played-image : (kind : MachineKind) (words : List Word) (o : Order) (image : Image) (begun : HostModel) (outcome : Outcome) (ended : State) (after : HostModel) → IsPlayed kind words o image begun outcome ended after →
     o.dump ≡ false → with_message (image_run kind o (arguments words o) image begun) ≡ with_message (answered outcome after)
-played-told kind words o image begun outcome ended after h d =
+played-image kind words o image begun outcome ended after h d =
     sat-image kind words o image h.machine begun h.console h.starts
     ∙ ap (λ r. with_message (dumped o.dump r)) h.plays
     ∙ ap (λ b. with_message (dumped b (ran outcome ended after))) d
-
-pub source-played : (kind : MachineKind) (words : List Word) (o : Order) (image : Image) (outcome : Outcome) (ended : State) (m begun after : HostModel) → HasSource words o image m begun →
-    IsPlayed kind words o image begun outcome ended after → o.dump ≡ false → product kind words m ≡ with_message (answered outcome after)
-source-played kind words o image outcome ended m begun after h k d = source-run kind words o image m begun h ∙ played-told kind words o image begun outcome ended after k d
-
-pub object-played : (kind : MachineKind) (words : List Word) (o : Order) (image : Image) (outcome : Outcome) (ended : State) (m begun after : HostModel) → HasObject words o image m begun →
-    IsPlayed kind words o image begun outcome ended after → o.dump ≡ false → product kind words m ≡ with_message (answered outcome after)
-object-played kind words o image outcome ended m begun after h k d = object-run kind words o image m begun h ∙ played-told kind words o image begun outcome ended after k d
 
 -- ---- `asm`
 

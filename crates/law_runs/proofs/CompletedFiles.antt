@@ -43,7 +43,7 @@ use Rattle.mx_outcome.specs.declared.outcome.Outcome.{Outcome}
 use Rattle.mx_outcome.specs.declared.outcome.Outcome.TheVariants.{Done}
 use Rattle.mx_top.specs.Commands.{with_message}
 use Rattle.mx_top.specs.Product.{product}
-use Rattle.mx_top.specs.Runs.{Ran, ran, ran_to, machine_ran, played, session_ran, image_run}
+use Rattle.mx_top.specs.Runs.{ran, ran_to, machine_ran, played, session_ran, image_run}
 use Rattle.law_runs.specs.Complete.{IsOrdered, IsThere, SourceIsThere, ObjectIsThere, with_output}
 use Rattle.law_runs.specs.Detour.{answer_unscheduled}
 use Rattle.law_runs.proofs.Completed.{order-is, source-run, object-run}

@@ -21,7 +21,7 @@ use Rattle.mx_mmo.specs.Object.{IsObject}
 use Rattle.mx_mmo.specs.Tetras.{wide_lop}
 use Rattle.mx_mmo.proofs.Sound.{left-bytes, object-stands}
 use Rattle.mx_plan.specs.Counts.{unscheduled}
-use Rattle.mx_plan.proofs.Spared.{uncalled, steady-of}
+use Rattle.mx_plan.proofs.Spared.{uncalled}
 use Rattle.mx_run.specs.WildRuns.{MachineKind, window_machine}
 use Rattle.mx_stab.specs.Grammar.{IsTrie}
 use Rattle.mx_stab.specs.Reading.{trie_answer}

@@ -150,30 +150,18 @@ called words old new result outcome h k a =
     cc
 
 -- that of a machine that halts, and that of a session
-halted-called : (words : List Word) (o : Order) (image : Image) (status : ℕ) (ended : State) (after : HostModel) (old new : Option HostModel) (result : Outcome) → IsCalled words old new result →
+pub halted-called : (words : List Word) (o : Order) (image : Image) (status : ℕ) (ended : State) (after : HostModel) (old new : Option HostModel) (result : Outcome) → IsCalled words old new result →
     HasStartSlots (contents old) → RunsAs window_machine words o image (contents old) → IsHalted window_machine words o image (unscheduled (contents old)) status ended after →
     result ≢ OutOfMemory → result ≡ Done (register ended.stack 255 % 2 ^ 8)
 halted-called words o image status ended after old new result call slots h k kept =
     called words old new result (Done status) call kept (halted-answers window_machine words o image status ended (contents old) after slots h k o.dump refl)
     ∙ ap Done (halts-low window_machine o.steps status k.machine ended (unscheduled (contents old)) after k.halts)
 
-played-called : (words : List Word) (o : Order) (image : Image) (outcome : Outcome) (ended : State) (after : HostModel) (old new : Option HostModel) (result : Outcome) → IsCalled words old new result →
+pub played-called : (words : List Word) (o : Order) (image : Image) (outcome : Outcome) (ended : State) (after : HostModel) (old new : Option HostModel) (result : Outcome) → IsCalled words old new result →
     HasStartSlots (contents old) → RunsAs window_machine words o image (contents old) → IsPlayed window_machine words o image (unscheduled (contents old)) outcome ended after →
     result ≢ OutOfMemory → result ≡ outcome
 played-called words o image outcome ended after old new result call slots h k kept =
     called words old new result outcome call kept (played-answers window_machine words o image outcome ended (contents old) after slots h k)
-
-pub run-answers : (words : List Word) (o : Order) (image : Image) (status : ℕ) (ended : State) (after : HostModel) (old new : Option HostModel) (result : Outcome) → IsCalled words old new result →
-    SourceIsThere words o image (contents old) → NoCallFails window_machine words (contents old) → IsHalted window_machine words o image (unscheduled (contents old)) status ended after →
-    result ≢ OutOfMemory → result ≡ Done (register ended.stack 255 % 2 ^ 8)
-run-answers words o image status ended after old new result call h none k kept =
-    halted-called words o image status ended after old new result call h.there.slots (source-spared window_machine words o image (contents old) h none) k kept
-
-pub sim-answers : (words : List Word) (o : Order) (image : Image) (status : ℕ) (ended : State) (after : HostModel) (old new : Option HostModel) (result : Outcome) → IsCalled words old new result →
-    ObjectIsThere words o image (contents old) → NoCallFails window_machine words (contents old) → IsHalted window_machine words o image (unscheduled (contents old)) status ended after →
-    result ≢ OutOfMemory → result ≡ Done (register ended.stack 255 % 2 ^ 8)
-sim-answers words o image status ended after old new result call h none k kept =
-    halted-called words o image status ended after old new result call h.there.slots (object-spared window_machine words o image (contents old) h none) k kept
 
 pub asm-answers : (words : List Word) (o : Order) (text : List ℕ) (old new : Option HostModel) (result : Outcome) → IsCalled words old new result →
     IsOrdered words o Asm → IsThere (word_at words o.file) source_pieces text (contents old) → NoCallFails window_machine words (contents old) → refusal text ≡ None →
@@ -187,15 +175,3 @@ pub gen-answers : (words : List Word) (left : HostModel) (line : List ℕ) (old 
     result ≢ OutOfMemory → result ≡ Done 0
 gen-answers words left line old new result call slots none h kept =
     called words old new result (Done 0) call kept (unscheduled (with_output left line), generated-spared window_machine words (contents old) left line slots none h)
-
-pub run_console-answers : (words : List Word) (o : Order) (image : Image) (outcome : Outcome) (ended : State) (after : HostModel) (old new : Option HostModel) (result : Outcome) → IsCalled words old new result →
-    SourceIsThere words o image (contents old) → NoCallFails window_machine words (contents old) → IsPlayed window_machine words o image (unscheduled (contents old)) outcome ended after →
-    result ≢ OutOfMemory → result ≡ outcome
-run_console-answers words o image outcome ended after old new result call h none k kept =
-    played-called words o image outcome ended after old new result call h.there.slots (source-spared window_machine words o image (contents old) h none) k kept
-
-pub sim_console-answers : (words : List Word) (o : Order) (image : Image) (outcome : Outcome) (ended : State) (after : HostModel) (old new : Option HostModel) (result : Outcome) → IsCalled words old new result →
-    ObjectIsThere words o image (contents old) → NoCallFails window_machine words (contents old) → IsPlayed window_machine words o image (unscheduled (contents old)) outcome ended after →
-    result ≢ OutOfMemory → result ≡ outcome
-sim_console-answers words o image outcome ended after old new result call h none k kept =
-    played-called words o image outcome ended after old new result call h.there.slots (object-spared window_machine words o image (contents old) h none) k kept

@@ -1,8 +1,10 @@
-use Rattle.law_runs.proofs.Completed.{source-plain, source-dumped}
+use Rattle.law_runs.proofs.Completed.{source-run, runs-plain, runs-dumped}
 use Rattle.law_runs.proofs.complete.sources_that_halt_are_done.Goals as goal
 
 pub returns-clause-plain : goal.returns-clause-plain
-returns-clause-plain c = source-plain
+returns-clause-plain c = λ kind words o image status ended m begun after h k d.
+    runs-plain kind words o image status ended m begun after (source-run kind words o image m begun h) k d
 
 pub returns-clause-dumped : goal.returns-clause-dumped
-returns-clause-dumped c = source-dumped
+returns-clause-dumped c = λ kind words o image status ended m begun after last h k d e.
+    runs-dumped kind words o image status ended m begun after last (source-run kind words o image m begun h) k d e
