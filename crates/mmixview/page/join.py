@@ -1,0 +1,77 @@
+#!/usr/bin/env python3
+"""Joins page.html, style.css and script.js to one page, whose data is put between two parts.
+
+usage: join.py DATA >PAGE      DATA is a file with what `mmixview page --json` writes; - is standard input
+"""
+import base64
+import hashlib
+import os
+import re
+import sys
+
+FOLDER = os.path.dirname(os.path.realpath(__file__))
+LINK = '<link rel="stylesheet" href="style.css">'
+SCRIPT = '<script src="script.js"></script>'
+DATA = '<script id="data" type="application/json">'
+
+
+def text_of(name):
+    with open(os.path.join(FOLDER, name), encoding="utf-8") as file:
+        return file.read()
+
+
+def page_of(text):
+    """A page without the blanks in front of its lines, and without ends of lines between elements."""
+    return re.sub(r">\n<", "><", re.sub(r"\n +", "\n", text))
+
+
+def style_of(text):
+    """A style without blanks that part nothing."""
+    return re.sub(r";?\s*([{};,])\s*", r"\1", re.sub(r":\s+", ":", text)).strip()
+
+
+def script_of(text):
+    """A script without comments, and without blanks and ends of lines beside signs; what is quoted stays as it is. So
+    each statement has to end with ; or }."""
+    expression = r"(?:(?<=\()|(?<== ))/(?:[^/\\\n[]|\\.|\[(?:[^]\\]|\\.)*\])+/"
+    quoted = rf"""('(?:[^'\\\n]|\\.)*'|`(?:[^`\\]|\\.)*`|{expression}|//[^\n]*)"""
+    uncommented = "".join("" if part.startswith("//") else part for part in re.split(quoted, text))
+    parts = re.split(quoted, uncommented)
+    for index in range(0, len(parts), 2):
+        if re.search(r"[-+]\s+[-+]", parts[index]):
+            sys.exit("script.js must not have a sign after a sign and a blank")
+        parts[index] = re.sub(r"\s*([^\w\s$])\s*", r"\1", re.sub(r"\s+", " ", parts[index]))
+    return "".join(parts).strip()
+
+
+def hash_of(text):
+    return "'sha256-" + base64.b64encode(hashlib.sha256(text.encode()).digest()).decode() + "'"
+
+
+def replaced(text, old, new):
+    if text.count(old) != 1:
+        sys.exit(f"page.html has to have once: {old}")
+    return text.replace(old, new)
+
+
+def parts():
+    """What comes before the data of a page, and what comes after it."""
+    page, style, script = page_of(text_of("page.html")), style_of(text_of("style.css")), script_of(text_of("script.js"))
+    for text in style, script:
+        if "</" in text or "<!--" in text:
+            sys.exit("style.css and script.js must not have </ or <!-- in them")
+    page = replaced(page, "style-src 'self'", f"style-src {hash_of(style)}")
+    page = replaced(page, "script-src 'self'", f"script-src {hash_of(script)}")
+    page = replaced(page, LINK, f"<style>{style}</style>")
+    page = replaced(page, SCRIPT, f"<script>{script}</script>")
+    before, after = page.split(DATA)
+    return before + DATA, after
+
+
+if __name__ == "__main__":
+    if len(sys.argv) != 2:
+        sys.exit(__doc__.strip())
+    with open(0 if sys.argv[1] == "-" else sys.argv[1], encoding="utf-8") as file:
+        data = file.read()
+    before, after = parts()
+    sys.stdout.buffer.write((before + data.strip() + after).encode())
