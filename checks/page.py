@@ -7,24 +7,21 @@
 - In chromium and firefox-esr the page is opened and used by keys and the mouse, and what it shows is compared with a
   dump.
 
-Where node, tidy, a browser or python3-selenium is not there, that is said, and the rest is checked. Firefox is asked by
-its own protocol, Marionette, since Debian has no geckodriver.
+Where node, tidy, a browser or python3-selenium is not there, that is said, and the rest is checked.
 """
 import argparse
-import contextlib
 import glob
 import json
 import os
 import shutil
-import socket
 import subprocess
 import sys
 import tempfile
-import time
 
 TOP = os.path.dirname(os.path.dirname(os.path.realpath(__file__)))
 sys.path[:0] = [f"{TOP}/crates/mmixview/page", f"{TOP}/checks/model"]
 import join  # noqa: E402
+from browsers import browsers, is_there, strokes_of  # noqa: E402
 from generate import case_of  # noqa: E402
 
 PROGRAM, VIEW = f"{TOP}/.built/mmixware", f"{TOP}/.built/mmixview"
@@ -36,13 +33,6 @@ wrongs = []
 def wrong(where, what):
     wrongs.append(where)
     print(f"checks/page.py: {where}: {what}")
-
-
-def is_there(name, package):
-    if shutil.which(name):
-        return True
-    print(f"checks/page.py: {name} is not there (in Debian: {package}); what needs it is not checked")
-    return False
 
 
 # ---- runs
@@ -140,90 +130,6 @@ def random_programs(count, seed):
 
 # ---- browsers
 
-class Chromium:
-    """Chromium, asked by selenium."""
-
-    def __init__(self):
-        from selenium import webdriver
-        from selenium.webdriver.chrome.service import Service
-        options = webdriver.ChromeOptions()
-        options.binary_location = shutil.which("chromium")
-        for word in ("--headless=new", "--no-sandbox", "--disable-dev-shm-usage", "--window-size=1200,900"):
-            options.add_argument(word)
-        self.driver = webdriver.Chrome(service=Service(shutil.which("chromedriver")), options=options)
-
-    def open(self, address):
-        self.driver.get(address)
-
-    def run(self, script, *arguments):
-        return self.driver.execute_script(script, *arguments)
-
-    def act(self, actions):
-        self.driver.execute("actions", {"actions": actions})
-
-    def close(self):
-        self.driver.quit()
-
-
-class Firefox:
-    """Firefox, asked by Marionette: each message is its length, a colon, and JSON."""
-
-    def __init__(self):
-        self.profile = tempfile.mkdtemp()
-        with socket.socket() as free:
-            free.bind(("127.0.0.1", 0))
-            port = free.getsockname()[1]
-        with open(f"{self.profile}/user.js", "w", encoding="utf-8") as file:
-            file.write(f'user_pref("marionette.port", {port});\n')
-        words = ["firefox-esr", "--headless", "--marionette", "--no-remote", "--profile", self.profile]
-        self.process = subprocess.Popen(words, stdout=subprocess.DEVNULL, stderr=subprocess.DEVNULL,
-                                        env={**os.environ, "HOME": self.profile})
-        for _ in range(150):
-            with contextlib.suppress(OSError):
-                self.socket = socket.create_connection(("127.0.0.1", port))
-                break
-            time.sleep(0.2)
-        self.answers = self.socket.makefile("rb")
-        self.count = 0
-        self.answer()
-        self.ask("WebDriver:NewSession", {})
-        self.ask("WebDriver:SetWindowRect", {"width": 1200, "height": 900})
-
-    def answer(self):
-        length = b""
-        while (byte := self.answers.read(1)) != b":":
-            length += byte
-        return json.loads(self.answers.read(int(length)))
-
-    def ask(self, name, arguments):
-        self.count += 1
-        message = json.dumps([0, self.count, name, arguments]).encode()
-        self.socket.sendall(b"%d:" % len(message) + message)
-        _, _, error, value = self.answer()
-        if error:
-            raise RuntimeError(error["message"])
-        return value
-
-    def open(self, address):
-        self.ask("WebDriver:Navigate", {"url": address})
-
-    def run(self, script, *arguments):
-        return self.ask("WebDriver:ExecuteScript", {"script": script, "args": arguments})["value"]
-
-    def act(self, actions):
-        self.ask("WebDriver:PerformActions", {"actions": actions})
-
-    def close(self):
-        with contextlib.suppress(RuntimeError, ConnectionError, ValueError):
-            self.ask("Marionette:Quit", {"flags": ["eForceQuit"]})
-        self.process.wait()
-        shutil.rmtree(self.profile, ignore_errors=True)
-
-
-KEYS = {"Shift": "\ue008", "End": "\ue010", "Home": "\ue011", "Left": "\ue012", "Up": "\ue013", "Right": "\ue014",
-        "Down": "\ue015", "Enter": "\ue007", "Back": "\ue003"}
-
-
 class Page:
     """A page in a browser, with what a user does."""
 
@@ -232,11 +138,8 @@ class Page:
 
     def press(self, words):
         """Presses keys, as in "Right Shift+Down 5"."""
-        for word in words.split():
-            keys = [KEYS.get(key, key) for key in word.split("+")]
-            strokes = [("keyDown", key) for key in keys] + [("keyUp", key) for key in reversed(keys)]
-            actions = [{"type": kind, "value": key} for kind, key in strokes]
-            self.browser.act([{"type": "key", "id": "keys", "actions": actions}])
+        for actions in strokes_of(words):
+            self.browser.act(actions)
 
     def click(self, selector, part=0.5):
         """Clicks into an element, at a part of its width."""
@@ -356,17 +259,6 @@ Add     LDO   $0,Count
         STO   $0,Count
         POP   1,0
 """
-
-
-def browsers():
-    if is_there("chromium", "chromium") and is_there("chromedriver", "chromium-driver"):
-        try:
-            import selenium  # noqa: F401
-            yield "chromium", Chromium
-        except ImportError:
-            print("checks/page.py: selenium is not there (in Debian: python3-selenium); chromium is not asked")
-    if is_there("firefox-esr", "firefox-esr"):
-        yield "firefox", Firefox
 
 
 def check_pages(maker):
