@@ -147,7 +147,7 @@ function endOfRun() {
   return {
     halted: `The program halted with status ${status}.`,
     stopped: `The program was stopped: ${message}.`,
-    steps: cut,
+    steps: cut + ' With --steps there are more.',
     records: cut + ' There is no room for more.',
     refused: `The program is refused: ${message}.`,
   }[data.end];
@@ -468,6 +468,8 @@ function showPage() {
   showProgram();
   data.faults.forEach(showFault);
   if (data.more) addNote(null, 'There are more faults than these.', []);
+  const { what, help } = data.outcome;
+  if (data.end === 'refused' && what) addNote(null, endOfRun(), [what, help]);
   const all = $('all');
   all.onchange = () => document.body.classList.toggle('all', all.checked);
   all.checked = innerWidth > 1400;
