@@ -10,9 +10,9 @@ import re
 import sys
 
 FOLDER = os.path.dirname(os.path.realpath(__file__))
-LINK = '<link rel="stylesheet" href="style.css">'
-SCRIPT = '<script src="script.js"></script>'
-DATA = '<script id="data" type="application/json">'
+LINK = "<link rel=stylesheet href=style.css>"
+SCRIPT = "<script src=script.js></script>"
+DATA = '<script id=data type="application/json">'
 
 
 def text_of(name):
@@ -21,18 +21,37 @@ def text_of(name):
 
 
 def page_of(text):
-    """A page without the blanks in front of its lines, and without ends of lines between elements."""
-    return re.sub(r">\n<", "><", re.sub(r"\n +", "\n", text))
+    """A page without the blanks in front of its lines, ends of lines between elements, and quotes that HTML does not need."""
+    text = re.sub(r">\n<", "><", re.sub(r"\n +", "\n", text))
+    return re.sub(r'( [\w-]+=)"([\w.-]+)"(?=[^<>]*>)', r"\1\2", text)
 
 
 def style_of(text):
-    """A style without blanks that part nothing."""
-    return re.sub(r";?\s*([{};,])\s*", r"\1", re.sub(r":\s+", ":", text)).strip()
+    """A style without blanks that part nothing, and without zeros in front of points."""
+    return re.sub(r"\b0\.", ".", re.sub(r";?\s*([{};,>])\s*", r"\1", re.sub(r":\s+", ":", text))).strip()
+
+
+def names_in(text):
+    """The names that a script declares at its top and has nowhere as a member or in a quotation, the frequent ones first."""
+    declared = re.findall(r"^(?:function|const|let) (\w+)", text, re.M)
+    named = [name for name in declared if len(name) > 2 and not re.search(rf"[.'\"{{] ?{name}\b|[,{{] {name}([,:]| }})", text)]
+    return sorted(named, key=lambda name: -len(re.findall(rf"\b{name}\b", text)))
+
+
+def short_names(text):
+    """A name of one or two letters, of which the first is a capital, for each of them: no such name is in the script."""
+    capitals = [c for c in "ABCDEFGHIJKLMNOPQRSTUVWXYZ" if not re.search(rf"\b{c}[a-z]?\b", text)]
+    return dict(zip(names_in(text), capitals + [c + d for c in capitals for d in "abcd"]))
+
+
+def renamed(code, names):
+    return re.sub(r"(?<![\w$])(" + "|".join(names) + r")(?![\w$])", lambda it: names[it[1]], code)
 
 
 def script_of(text):
-    """A script without comments, and without blanks and ends of lines beside signs; what is quoted stays as it is. So
-    each statement has to end with ; or }."""
+    """A script without comments, with short names, and without blanks and ends of lines beside signs; what is quoted stays
+    as it is. So each statement has to end with ; or }."""
+    names = short_names(text)
     expression = r"(?:(?<=\()|(?<== ))/(?:[^/\\\n[]|\\.|\[(?:[^]\\]|\\.)*\])+/"
     quoted = rf"""('(?:[^'\\\n]|\\.)*'|`(?:[^`\\]|\\.)*`|{expression}|//[^\n]*)"""
     uncommented = "".join("" if part.startswith("//") else part for part in re.split(quoted, text))
@@ -40,7 +59,12 @@ def script_of(text):
     for index in range(0, len(parts), 2):
         if re.search(r"[-+]\s+[-+]", parts[index]):
             sys.exit("script.js must not have a sign after a sign and a blank")
-        parts[index] = re.sub(r"\s*([^\w\s$])\s*", r"\1", re.sub(r"\s+", " ", parts[index]))
+        code = renamed(parts[index].replace("const ", "let "), names)
+        code = re.sub(r"\s*([^\w\s$])\s*", r"\1", re.sub(r"\s+", " ", code))
+        parts[index] = re.sub(r"\((\w+)\)=>", r"\1=>", code).replace(";}", "}")
+    for index in range(1, len(parts), 2):
+        if parts[index][0] == "`":
+            parts[index] = re.sub(r"\$\{[^}]*\}", lambda it: renamed(it[0], names), parts[index])
     return "".join(parts).strip()
 
 
