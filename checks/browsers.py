@@ -82,7 +82,7 @@ class Firefox:
             port = free.getsockname()[1]
         with open(f"{self.profile}/user.js", "w", encoding="utf-8") as file:
             file.write(f'user_pref("marionette.port", {port});\nuser_pref("app.update.enabled", false);\n')
-        words = ["firefox-esr", "--headless", "--marionette", "--no-remote", "--profile", self.profile]
+        words = ["firefox-esr", "--headless", "--marionette", "--remote-allow-system-access", "--no-remote", "--profile", self.profile]
         self.process = subprocess.Popen(words, stdout=subprocess.DEVNULL, stderr=subprocess.DEVNULL,
                                         env={**os.environ, "HOME": self.profile})
         for _ in range(150):

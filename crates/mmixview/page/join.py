@@ -23,7 +23,7 @@ def text_of(name):
 def page_of(text):
     """A page without the blanks in front of its lines, ends of lines between elements, and quotes that HTML does not need."""
     text = re.sub(r">\n<", "><", re.sub(r"\n +", "\n", text))
-    return re.sub(r'( [\w-]+=)"([\w.-]+)"(?=[^<>]*>)', r"\1\2", text)
+    return re.sub(r'( [\w-]+=)"([\w.-]+)"(?!/)(?=[^<>]*>)', r"\1\2", text)
 
 
 def style_of(text):

@@ -353,7 +353,7 @@ function tellStep() {
     if (hidden[at] > hidden[at - 1]) told.unshift('a call');
     if (hidden[at] < hidden[at - 1]) told.unshift('a return');
     const bytes = written[at] - written[at - 1];
-    if (bytes) told.push(`${bytes} bytes written` + (errors.has(at) ? ' to standard error' : ''));
+    if (bytes) told.push(`${bytes} byte${bytes > 1 ? 's' : ''} written` + (errors.has(at) ? ' to standard error' : ''));
     texts.push(`Last: ${[lineName(at - 1), ...told].join('; ')}.`);
   }
   if (hasNext()) texts.push(`Next: ${lineName(at)}.`);
@@ -475,7 +475,7 @@ function showPage() {
   all.checked = innerWidth > 1400;
   all.onchange();
   if (data.start) showRun();
-  else $('program').style.maxHeight = 'none';
+  else document.body.classList.add('refused');
 }
 
 if (typeof document === 'object') showPage();
