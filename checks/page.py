@@ -263,7 +263,6 @@ Add     LDO   $0,Count
 
 def check_pages(maker):
     """Opens pages in each browser."""
-    before, after = join.parts()
     programs = [Program("a hostile source", "hostile.mms", {"hostile.mms": HOSTILE})]
     names = ("fibonacci.mms", "coroutines.mms", "hello.mms", "primes.mms", "refused.mms")
     programs += [program for program in examples() if program.word in names]
@@ -273,7 +272,7 @@ def check_pages(maker):
             text = program.data(maker, MOST_STEPS)
             if not text:
                 continue
-            page = before.encode() + text.strip() + after.encode()
+            page = join.page_with(text.decode()).encode()
             if maker[-1] == "--json" and program.data(maker[:-1], MOST_STEPS) != page:
                 wrong(program.name, "the page is not what join.py makes of the data")
             path = f"{room}/{program.word}.html"

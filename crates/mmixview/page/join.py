@@ -92,10 +92,15 @@ def parts():
     return before + DATA, after
 
 
+def page_with(data):
+    """The page of some data: no `<` is in it, so that nothing there ends its element."""
+    before, after = parts()
+    return before + data.strip().replace("<", "\\u003c") + after
+
+
 if __name__ == "__main__":
     if len(sys.argv) != 2:
         sys.exit(__doc__.strip())
     with open(0 if sys.argv[1] == "-" else sys.argv[1], encoding="utf-8") as file:
         data = file.read()
-    before, after = parts()
-    sys.stdout.buffer.write((before + data.strip() + after).encode())
+    sys.stdout.buffer.write(page_with(data).encode())
