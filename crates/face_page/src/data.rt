@@ -2,7 +2,6 @@
 
 ghost use Rattle.std.specs.Prelude.{◌≤◌, ◌<◌, length};
 
-use crate::made::{Ending, Made};
 use crate::meaning::{add_help, add_what, row_on};
 use crate::rows::{add_counted_rows, add_plain_rows, add_tetra_rows};
 use face_check::add_faults;
@@ -15,6 +14,7 @@ use mx_outcome::{Outcome, message};
 use mx_view::{Listed, ToldFaults};
 use mx_word::{Bytes, NoMemory, Symbol};
 use mx_words::Order;
+use page_run::{Ending, Made};
 use std::alloc::Global;
 
 /// What is told of the lines of a program: of a source or an object that was run, or of a source that was not.

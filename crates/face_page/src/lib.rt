@@ -1,14 +1,9 @@
-//! A program and its run on one page: what the words order, the run turn by turn as data, and the page around it.
+//! A program and its run on one page: its lines with their counts, its records, and the page around them.
 #![tactic(auto)]
 
 mod data;
-mod gather;
-mod made;
 mod meaning;
-mod program;
-mod records;
 mod rows;
 mod showing;
-mod words;
 
 pub use showing::page;

@@ -5,11 +5,7 @@ ghost use Rattle.mx_count.specs.Runs.{AreArguments};
 ghost use Rattle.mx_face.specs.Pages.{FaultsOnlyBy, IsOfView};
 
 use crate::data::{Call, Program, data};
-use crate::gather::{Gathered, gather};
-use crate::made::{Ending, Made, of_memory, record_run, refused};
-use crate::program::{host_of, program_of};
-use crate::words::{Ordered, Unread, order_in};
-use mx_begin::arguments;
+use mx_begin::{Form, arguments};
 use mx_count::count_lines;
 use mx_face::{Page, put_page, tell};
 use mx_host::Host;
@@ -19,7 +15,20 @@ use mx_view::{Wanted, list_source, tell_faults};
 use mx_word::{Bytes, NoMemory};
 use mx_words::Order;
 use page_parts::{end, front};
+use page_run::{
+    Ending, Gathered, Made, Ordered, Unread, gather, host_of, of_memory, order_in, program_of,
+    record_run, refused,
+};
 use std::alloc::Global;
+
+/// Whether bytes are a source or an object.
+fn form_of(bytes: &[u8]) -> Form {
+    if is_object(bytes) {
+        Form::Object
+    } else {
+        Form::Source
+    }
+}
 
 /// Records the run of a program.
 fn record(
@@ -32,7 +41,8 @@ fn record(
     requires rest { order.now.rest ≤ length words.now }
     ensures { IfErr result IsOfView }
 {
-    match program_of(alloc, words, order, gathered) {
+    let form = form_of(gathered.source.as_slice());
+    match program_of(alloc, words, order, form, gathered) {
         Ok(program) => record_run(alloc, program, order.steps),
         Err(NoMemory) => Err(Outcome::OutOfMemory),
     }

@@ -6,20 +6,10 @@ ghost use Rattle.mx_replay.specs.Programs.{NamesFile};
 use crate::gather::Gathered;
 use mx_begin::{Form, word};
 use mx_host::{MemHost, StoredFile};
-use mx_object::is_object;
 use mx_replay::Program;
 use mx_word::{Bytes, NoMemory, Sequence};
 use mx_words::Order;
 use std::alloc::Global;
-
-/// Whether bytes are a source or an object.
-fn form_of(bytes: &[u8]) -> Form {
-    if is_object(bytes) {
-        Form::Object
-    } else {
-        Form::Source
-    }
-}
 
 /// The same words once more.
 fn copied_words(alloc: Global, words: &[String]) -> Result<Vec<String>, NoMemory>
@@ -49,6 +39,7 @@ pub fn program_of(
     alloc: Global,
     words: &[String],
     order: &Order,
+    form: Form,
     gathered: &Gathered,
 ) -> Result<Program, NoMemory>
     requires file { order.now.file < length words.now }
@@ -65,7 +56,7 @@ pub fn program_of(
     Ok(Program {
         words: Sequence::from_vec(copy),
         order: *order,
-        form: form_of(gathered.source.as_slice()),
+        form,
         input,
         files,
     })
