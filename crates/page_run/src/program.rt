@@ -3,7 +3,7 @@
 ghost use Rattle.std.specs.Prelude.{◌≡◌, ◌<◌, ◌≤◌, IfOk, length};
 ghost use Rattle.mx_replay.specs.Programs.{NamesFile};
 
-use crate::gather::Gathered;
+use crate::reading::Gathered;
 use mx_begin::{Form, word};
 use mx_host::{MemHost, StoredFile};
 use mx_replay::Program;
