@@ -9,6 +9,9 @@ use mx_view::{Cell, ListedLine};
 use mx_word::{Bytes, NoMemory};
 use std::alloc::Global;
 
+/// Of so many tetras all are told, also those that were never carried out.
+const MOST_TETRAS: usize = 3000;
+
 /// A line with what is told of it.
 #[derive(Clone, Copy)]
 struct Row<'a> {
@@ -88,7 +91,38 @@ pub fn add_plain_rows(alloc: Global, text: &mut Bytes, source: &[u8]) -> Result<
     text.extend(b"]")
 }
 
-/// Adds the tetras of an object that was run, with what was counted of them.
+/// Whether a tetra was never carried out.
+fn is_idle(tally: Option<Tally>) -> bool {
+    match tally {
+        Some(tally) => tally.times == 0,
+        None => true,
+    }
+}
+
+/// Adds a tetra of an object that was run.
+fn add_tetra_row(
+    alloc: Global,
+    text: &mut Bytes,
+    tetra: &ListedTetra,
+    tally: Option<Tally>,
+) -> Result<(), NoMemory> {
+    let cell = Cell {
+        address: tetra.address,
+        tetra: tetra.tetra,
+    };
+    add_row(
+        alloc,
+        text,
+        Row {
+            tally,
+            cells: &[cell],
+            line: tetra.line.map(u64::from),
+            text: tetra.text.as_slice(),
+        },
+    )
+}
+
+/// Adds the tetras of an object that was run, with what was counted of them; of many, those that were carried out.
 pub fn add_tetra_rows(
     alloc: Global,
     text: &mut Bytes,
@@ -96,22 +130,15 @@ pub fn add_tetra_rows(
     counts: &[TetraCount],
 ) -> Result<(), NoMemory> {
     text.extend(b"[")?;
+    let is_long = tetras.len() > MOST_TETRAS;
+    let mut is_first = true;
     for (at, tetra) in tetras.iter().enumerate() {
-        add_comma(text, at == 0)?;
-        let cell = Cell {
-            address: tetra.address,
-            tetra: tetra.tetra,
-        };
-        add_row(
-            alloc,
-            text,
-            Row {
-                tally: counts.get(at).map(|count| count.tally),
-                cells: &[cell],
-                line: tetra.line.map(u64::from),
-                text: tetra.text.as_slice(),
-            },
-        )?;
+        let tally = counts.get(at).map(|count| count.tally);
+        if !(is_long && is_idle(tally)) {
+            add_comma(text, is_first)?;
+            add_tetra_row(alloc, text, tetra, tally)?;
+            is_first = false;
+        }
     }
     text.extend(b"]")
 }
