@@ -3,7 +3,8 @@
 
 usage: page_looks.py pictures FOLDER   pictures of pages in many states, and what is printed of them, to be looked at
        page_looks.py readme            docs/page.png, the picture of the README
-       page_looks.py figures [PROGRAM [ARGUMENT ...]]   how long a page is made, opened and used, and how large it is
+       page_looks.py figures PROGRAM [ARGUMENT ...]   how long a page is made, opened and used, and how large it is
+       page_looks.py figures PAGE.html                how long this page is opened and used
 
 What is needed is said in docs/PAGE.md; where it is missing, that is said.
 """
@@ -94,14 +95,30 @@ def take_readme_picture():
 
 # the middle and the longest of the times, in milliseconds, that goTo takes from step to step
 TIMES = """
+const page = window.wrappedJSObject ?? window;
 const steps = arguments[0]; const times = [];
 for (const step of steps) {
-  const from = performance.now(); goTo(step); document.body.offsetHeight; times.push(performance.now() - from);
+  const from = performance.now(); page.goTo(step); document.body.offsetHeight; times.push(performance.now() - from);
 }
 times.sort((a, b) => a - b);
 return [times[times.length >> 1], times.at(-1)];
 """
 OPENED = "const [it] = performance.getEntriesByType('navigation'); return it.loadEventEnd - it.startTime"
+
+
+def measure_page(path):
+    """How long a page is opened and used in each browser."""
+    for name, kind in browsers():
+        browser = kind()
+        browser.open("file://" + path)
+        opened = browser.run(OPENED)
+        steps = int(browser.run("return document.getElementById('slider').max"))
+        jumps = browser.run(TIMES, [steps * k * 7 % (steps + 1) if k % 2 else 0 for k in range(1, 40)])
+        ends = browser.run(TIMES, [0, steps, 0, steps, 0, steps])
+        keys = browser.run(TIMES, list(range(steps // 2, min(steps, steps // 2 + 300))))
+        browser.close()
+        print(f"  {name}: {steps:,} steps opened in {opened:.0f} ms; middle and longest time of a jump {jumps[0]:.0f} and "
+              f"{jumps[1]:.0f} ms, from end to end {ends[0]:.0f} and {ends[1]:.0f} ms, of a step {keys[0]:.1f} and {keys[1]:.1f} ms")
 
 
 def measure(words):
@@ -112,28 +129,20 @@ def measure(words):
             done = subprocess.run([VIEW, "page", *words], stdout=file, stderr=subprocess.DEVNULL, check=False)
             made = time.monotonic() - began
         print(f"{' '.join(words)}: made in {made:.2f} s with status {done.returncode}, {os.path.getsize(path):,} bytes")
-        for name, kind in browsers():
-            browser = kind()
-            browser.open("file://" + path)
-            opened = browser.run(OPENED)
-            steps = browser.run("return run.steps")
-            jumps = browser.run(TIMES, [steps * k * 7 % (steps + 1) if k % 2 else 0 for k in range(1, 40)])
-            ends = browser.run(TIMES, [0, steps, 0, steps, 0, steps])
-            keys = browser.run(TIMES, list(range(steps // 2, min(steps, steps // 2 + 300))))
-            browser.close()
-            print(f"  {name}: {steps:,} steps opened in {opened:.0f} ms; middle and longest time of a jump {jumps[0]:.0f} and "
-                  f"{jumps[1]:.0f} ms, from end to end {ends[0]:.0f} and {ends[1]:.0f} ms, of a step {keys[0]:.1f} and {keys[1]:.1f} ms")
+        measure_page(path)
 
 
 def main():
     words = sys.argv[1:]
+    if words[:1] == ["figures"] and words[-1].endswith(".html"):
+        return measure_page(os.path.abspath(words[1]))
     if not shutil.which(VIEW):
         sys.exit(f"{VIEW} is not there")
     if words[:1] == ["pictures"] and len(words) == 2:
         take_pictures(words[1])
     elif words == ["readme"]:
         take_readme_picture()
-    elif words[:1] == ["figures"]:
+    elif words[:1] == ["figures"] and words[1:]:
         measure(words[1:])
     else:
         sys.exit(__doc__.strip())
