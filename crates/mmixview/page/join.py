@@ -21,20 +21,27 @@ def text_of(name):
 
 
 def page_of(text):
-    """A page without the blanks in front of its lines, ends of lines between elements, and quotes that HTML does not need."""
+    """A page without the blanks in front of its lines, ends of lines between elements, and the quotes and the
+    ends of rows and cells that HTML does not need."""
     text = re.sub(r">\n<", "><", re.sub(r"\n +", "\n", text))
+    text = re.sub("</t[hr]>", "", text)
     return re.sub(r'( [\w-]+=)"([\w.-]+)"(?!/)(?=[^<>]*>)', r"\1\2", text)
 
 
 def style_of(text):
-    """A style without blanks that part nothing, and without zeros in front of points."""
+    """A style without blanks that part nothing, without zeros in front of points, and with short names."""
+    names = sorted(set(re.findall(r"--(\w{3,4}): ", text)))
+    for letter, name in zip("abcdefghij", names):
+        text = re.sub(rf"--{name}\b", f"--{letter}", text)
     return re.sub(r"\b0\.", ".", re.sub(r";?\s*([{};,>])\s*", r"\1", re.sub(r":\s+", ":", text))).strip()
 
 
 def names_in(text):
-    """The names that a script declares at its top and has nowhere as a member or in a quotation, the frequent ones first."""
+    """The names that a script declares at its top and has nowhere as a member, the frequent ones first."""
     declared = re.findall(r"^(?:function|const|let) (\w+)", text, re.M)
-    named = [name for name in declared if len(name) > 2 and not re.search(rf"[.'\"{{] ?{name}\b|[,{{] {name}([,:]| }})", text)]
+    for several in re.findall(r"^const \[(.*)\] =", text, re.M):
+        declared += several.split(", ")
+    named = [name for name in declared if len(name) > 1 and not re.search(rf"\w\.{name}\b|[,{{] {name}([,:]| }})", text)]
     return sorted(named, key=lambda name: -len(re.findall(rf"\b{name}\b", text)))
 
 
