@@ -106,19 +106,25 @@ return [times[times.length >> 1], times.at(-1)];
 OPENED = "const [it] = performance.getEntriesByType('navigation'); return it.loadEventEnd - it.startTime"
 
 
+def figures_in(browser, path):
+    browser.open("file://" + path)
+    opened = browser.run(OPENED)
+    steps = int(browser.run("return document.getElementById('slider').max"))
+    jumps = browser.run(TIMES, [steps * k * 7 % (steps + 1) if k % 2 else 0 for k in range(1, 40)])
+    ends = browser.run(TIMES, [0, steps, 0, steps, 0, steps])
+    keys = browser.run(TIMES, list(range(steps // 2, min(steps, steps // 2 + 300))))
+    return (f"{steps:,} steps opened in {opened:.0f} ms; middle and longest time of a jump {jumps[0]:.0f} and {jumps[1]:.0f} ms, "
+            f"from end to end {ends[0]:.0f} and {ends[1]:.0f} ms, of a step {keys[0]:.1f} and {keys[1]:.1f} ms")
+
+
 def measure_page(path):
     """How long a page is opened and used in each browser."""
     for name, kind in browsers():
         browser = kind()
-        browser.open("file://" + path)
-        opened = browser.run(OPENED)
-        steps = int(browser.run("return document.getElementById('slider').max"))
-        jumps = browser.run(TIMES, [steps * k * 7 % (steps + 1) if k % 2 else 0 for k in range(1, 40)])
-        ends = browser.run(TIMES, [0, steps, 0, steps, 0, steps])
-        keys = browser.run(TIMES, list(range(steps // 2, min(steps, steps // 2 + 300))))
-        browser.close()
-        print(f"  {name}: {steps:,} steps opened in {opened:.0f} ms; middle and longest time of a jump {jumps[0]:.0f} and "
-              f"{jumps[1]:.0f} ms, from end to end {ends[0]:.0f} and {ends[1]:.0f} ms, of a step {keys[0]:.1f} and {keys[1]:.1f} ms")
+        try:
+            print(f"  {name}: {figures_in(browser, path)}")
+        finally:
+            browser.close()
 
 
 def measure(words):
