@@ -49,7 +49,7 @@ offers '' mmixware sim --last ''
 offers a.mms mmixware run --last 5 a
 offers '' mmixware other ''
 
-offers '--help|--version|check|count|debug|explain|help|list|where' mmixview ''
+offers '--help|--version|check|count|debug|explain|help|list|page|where' mmixview ''
 offers 'check|count' mmixview c
 offers 'a.mms|b c.mms|programs' mmixview list ''
 offers '' mmixview list a.mms ''
@@ -73,7 +73,11 @@ offers 'a.mms|b c.mms|programs' mmixview debug ''
 offers notes mmixview debug --input n
 offers '--ring' mmixview debug --file notes --file d.mmo --r
 offers 'a.mms|b c.mms|d.mmo|notes|programs' mmixview debug --steps 9 a.mms ''
-offers 'check|count|debug|explain|list|where' mmixview help ''
+offers '--file|--input|--json|--ring|--steps' mmixview page -
+offers 'a.mms|b c.mms|programs' mmixview page --json ''
+offers notes mmixview page --input n
+offers 'a.mms|b c.mms|d.mmo|notes|programs' mmixview page a.mms ''
+offers 'check|count|debug|explain|list|page|where' mmixview help ''
 
 offers programs grade ''
 offers '--shield|--show|--size|--sshlogin|--steps|--suffix' grade --s

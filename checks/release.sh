@@ -52,6 +52,9 @@ for name in mmixware mmixview; do
   [ "$(ldd $name | grep -c '=> /')" = 1 ] || wrong "$name needs more than the C library: $(ldd $name)"
   grep -q "^$name  *$(sha256sum <$name | cut -d ' ' -f 1)" MADE-FROM || wrong "MADE-FROM does not have the sum of $name"
 done
+for page in sort coroutines; do
+  grep -q '"end":"halted"' "examples/pages/$page.html" || wrong "examples/pages/$page.html does not have the run of $page.mms"
+done
 folder=$(basename "$PWD")
 ./install "$room/there" 2>/dev/null || wrong 'the release is not installed'
 for file in bin/mmixware bin/mmixview bin/grade share/man/man1/mmixware.1 share/man/man1/mmixview.1 share/man/man1/grade.1 \

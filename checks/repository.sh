@@ -61,6 +61,9 @@ for row in $(find crates -name out -prune -o \( -name '*.rt' -o -name '*.antt' \
   [ "$files" -le 40 ] || wrong "$folder has $files files, and may have 40"
 done
 
+# the page of a run is in the program as its files have it
+python3 crates/mmixview/page/parts.py --check || bad=1
+
 # the manual pages are in order
 if command -v groff >/dev/null; then
   for page in docs/*.1; do

@@ -29,7 +29,7 @@ _mmixview() {
   local given words='' files=none
   given=$(_mmixview_given)
   case $COMP_CWORD/$command/$given/$before in
-    1/*) words='list check where count debug explain help --help --version' ;;
+    1/*) words='list check where count debug page explain help --help --version' ;;
     */list/0/*) words='--json' files=.mms ;;
     */check/0/*) words='--json --gnu --no-warnings' files=.mms ;;
     */where/0/*) words='--json' ;;
@@ -44,7 +44,12 @@ _mmixview() {
     */debug/0/--command | */debug/0/--input | */debug/0/--file) files='' ;;
     */debug/0/*) words='--command --input --file --ring --steps' files=.mms ;;
     */debug/*) files='' ;;
-    2/help/*) words='list check where count debug explain' ;;
+    */page/0/--ring) words='256 512 1024 2048 4096 8192 16384 32768 65536' ;;
+    */page/0/--steps) ;;
+    */page/0/--input | */page/0/--file) files='' ;;
+    */page/0/*) words='--json --input --file --ring --steps' files=.mms ;;
+    */page/*) files='' ;;
+    2/help/*) words='list check where count debug page explain' ;;
   esac
   if [ "$files" != none ] && { [ -z "$words" ] || [ "${word#-}" = "$word" ]; }; then
     _mmixview_files "$files" "$word"

@@ -8,8 +8,9 @@ use face_check::{Form, check};
 use face_count::count;
 use face_debug::debug;
 use face_explain::{show_list, show_word};
+use face_page::page;
 use face_source::{find_lines, list, read_address, refuse_address};
-use mx_menu::{Choice, Face, choose, count_words, debug_words};
+use mx_menu::{Choice, Face, VERSION, choose, count_words, debug_words, page_words};
 use mx_outcome::Outcome;
 use mx_real::{RealHost, StandIns};
 use std::alloc::Global;
@@ -47,6 +48,7 @@ fn carry_out(alloc: Global, host: &mut RealHost, choice: &Choice) -> Outcome {
         },
         Face::Count => count(alloc, host, &[]),
         Face::Debug => debug(alloc, host, &[], false),
+        Face::Page => page(alloc, host, VERSION, &[]),
         Face::Explain => match choice.word {
             Some(word) => show_word(alloc, host, word),
             None => show_list(alloc, host),
@@ -81,16 +83,32 @@ fn debugged(rt: HostRuntime, alloc: Global, words: &[String]) -> u8 {
     }
 }
 
+/// Does what the words after `count` order, and gives the status.
+fn counted(rt: HostRuntime, alloc: Global, words: &[String]) -> u8 {
+    match RealHost::new(rt) {
+        Some(mut host) => count(alloc, &mut host, words).status(),
+        None => OUT_OF_MEMORY,
+    }
+}
+
+/// Does what the words after `page` order, and gives the status.
+fn paged(rt: HostRuntime, alloc: Global, words: &[String]) -> u8 {
+    match RealHost::new(rt) {
+        Some(mut host) => page(alloc, &mut host, VERSION, words).status(),
+        None => OUT_OF_MEMORY,
+    }
+}
+
 /// Does what the words of the command line order, and gives the status.
 fn obey(rt: HostRuntime, alloc: Global, all: &[String]) -> u8 {
     if let Some(words) = count_words(all) {
-        return match RealHost::new(rt) {
-            Some(mut host) => count(alloc, &mut host, words).status(),
-            None => OUT_OF_MEMORY,
-        };
+        return counted(rt, alloc, words);
     }
     if let Some(words) = debug_words(all) {
         return debugged(rt, alloc, words);
+    }
+    if let Some(words) = page_words(all) {
+        return paged(rt, alloc, words);
     }
     match choose(alloc, all) {
         Err(error) => answered(&rt, &error),

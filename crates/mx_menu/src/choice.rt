@@ -79,3 +79,8 @@ pub fn count_words(words: &[String]) -> Option<&[String]> {
 pub fn debug_words(words: &[String]) -> Option<&[String]> {
     words_after(words, "debug")
 }
+
+/// The words after `page`, which are not read by the table, unless they ask for its help.
+pub fn page_words(words: &[String]) -> Option<&[String]> {
+    words_after(words, "page")
+}

@@ -6,5 +6,5 @@ mod choice;
 mod parser;
 mod table;
 
-pub use choice::{Choice, choose, count_words, debug_words};
-pub use table::Face;
+pub use choice::{Choice, choose, count_words, debug_words, page_words};
+pub use table::{Face, VERSION};

@@ -15,6 +15,8 @@ pub enum Face {
     Explain,
     /// A run that is gone through step by step, forth and back. Its words are read as those of `mmixware run`, after its own options.
     Debug,
+    /// A program and its run on one page. Its words are read as those of `mmixware run`, after its own options.
+    Page,
 }
 
 /// How a word is given: by a name after two dashes, alone or with a value, or by its place, where it may be left out or come often.
@@ -50,7 +52,7 @@ pub const VERSION: &str = "0.4.0";
 pub const ABOUT: &str = "Views of a source in MMIXAL, and of a run of it.";
 
 /// The commands in the order in which help has them.
-pub static COMMANDS: [Row; 6] = [
+pub static COMMANDS: [Row; 7] = [
     Row {
         face: Face::List,
         name: "list",
@@ -188,6 +190,48 @@ pub static COMMANDS: [Row; 6] = [
                 id: "N",
                 form: Form::Value("steps"),
                 help: "at most N steps are made, 1 to 1000000000000",
+            },
+            Word {
+                id: "SRC",
+                form: Form::One,
+                help: "the file of the source, in MMIXAL, or of the object",
+            },
+            Word {
+                id: "ARG",
+                form: Form::Many,
+                help: "what the program is handed",
+            },
+        ],
+    },
+    Row {
+        face: Face::Page,
+        name: "page",
+        about: "writes a page with a source or an object and its run, step by step, forth and back",
+        words: &[
+            Word {
+                id: "JSON",
+                form: Form::Flag("json"),
+                help: "writes the data of the page alone, one line of JSON",
+            },
+            Word {
+                id: "N",
+                form: Form::Value("steps"),
+                help: "at most N steps are on the page, 1 to 1000000; without it 100000",
+            },
+            Word {
+                id: "R",
+                form: Form::Value("ring"),
+                help: "the ring has R registers, a power of two from 256 to 65536",
+            },
+            Word {
+                id: "INPUT",
+                form: Form::Value("input"),
+                help: "a file with the standard input of the program",
+            },
+            Word {
+                id: "FILE",
+                form: Form::Value("file"),
+                help: "a file that the program is to find; as many times as there are files",
             },
             Word {
                 id: "SRC",

@@ -1,0 +1,5 @@
+use Rattle.page_run.proofs.Parts.{part-after}
+use Rattle.page_run.proofs.reading.gather_beside.Goals as goal
+
+pub returns-in-Ok : goal.returns-in-Ok
+returns-in-Ok g c = part-after _ _ _ _ _ _ _ c.file_at.ensures.keeps c.gather_files.ensures
