@@ -14,8 +14,10 @@ type Wrong = (Option<usize>, Option<usize>, Option<usize>);
 
 /// Where the program is not shown as is due; nothing where its run does not begin.
 fn wrong_of(alloc: Global, book: &Book) -> Option<Wrong> {
-    let replay = &mut replay(alloc, SAMPLE, "")?;
-    Some(wrong_along(alloc, book, replay))
+    match replay(alloc, SAMPLE, "") {
+        Some(mut replay) => Some(wrong_along(alloc, book, &mut replay)),
+        None => None,
+    }
 }
 
 /// The same of its run, which is at its start.
