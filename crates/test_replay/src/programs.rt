@@ -1,4 +1,4 @@
-//! Programs that are visited.
+//! Programs that are visited, recorded and shown.
 
 ghost use Rattle.std.specs.Prelude.{◌<◌, ◌≤◌, IfSome, length};
 ghost use Rattle.mx_replay.specs.Programs.{NamesFile};
@@ -74,6 +74,81 @@ Loop ADD $1,$1,1
  JMP Loop
 ";
 
+/// Step 1 is after SET, 2 after LDO, 3 after STB, 4 after PUSHJ, 5 after POP, and 6 after Halt.
+pub static SAMPLE: &str = "k IS $1
+N IS 300
+ LOC Data_Segment
+ GREG @
+Text BYTE \"ab\",#a,#ff,0
+ LOC #100
+Main SET k,5
+ LDO $2,Text
+ STB k,Text
+ PUSHJ $3,Sub
+ TRAP 0,Halt,0
+Sub POP 0,0
+";
+
+/// The address of `Text`.
+pub const TEXT: u64 = 0x2000_0000_0000_0000;
+
+/// A recursion 70 calls deep, which spills registers.
+pub static DEEP: &str = " LOC #100
+Main SET $2,70
+ PUSHJ $1,Down
+ TRAP 0,Halt,0
+Down BZ $0,Done
+ GET $1,rJ
+ SET $2,$0
+ SUB $4,$0,1
+ PUSHJ $3,Down
+ ADD $0,$3,$2
+ PUT rJ,$1
+Done POP 1,0
+";
+
+/// Frames are saved and come back, locals are cut, registers become global, and octas of the stack area are written.
+pub static FRAMES: &str = " LOC #100
+Main SET $3,7
+ PUT rG,253
+ SET $253,5
+ SAVE $255,0
+ SET $0,$255
+ SET $1,9
+ STO $1,$0,0
+ LDO $1,$0,0
+ SUB $0,$0,8
+ STO $1,$0,0
+ PUT rL,1
+ SETH $2,#6000
+ LDO $4,$2,0
+ STO $4,$2,24
+ SAVE $254,0
+ SET $5,1
+ UNSAVE 0,$254
+ TRAP 0,Halt,0
+";
+
+/// A trip whose handler goes on by RESUME, and octas on pages that stores begin.
+pub static TRIPS: &str = " LOC #0
+ PUSHJ $255,Handler
+ PUT rJ,$255
+ GET $255,rB
+ RESUME
+ LOC #100
+Main SETH $0,#4000
+ INCL $0,#4000
+ SET $1,1
+ STB $1,$0,5
+ TRIP 1,2,3
+ SET $2,3
+ TRAP 0,Halt,0
+Handler SETH $0,#4000
+ INCL $0,#6000
+ STO $0,$0,0
+ POP 0,0
+";
+
 /// The words `run p.mms`.
 fn words(alloc: Global) -> Option<Vec<String>> {
     let mut words = Vec::new(alloc);
@@ -92,7 +167,7 @@ fn files(alloc: Global, source: &str) -> Option<Sequence<StoredFile>> {
 }
 
 /// The program of a source that words order.
-fn program(
+fn ordered(
     alloc: Global,
     words: Vec<String>,
     order: Order,
@@ -113,13 +188,20 @@ fn program(
     })
 }
 
-/// The run of a source with this input, at its start.
-pub fn replay(alloc: Global, source: &str, input: &str) -> Option<Replay> {
+/// The program of a source with this input.
+pub fn program(alloc: Global, source: &str, input: &str) -> Option<Program>
+    ensures { IfSome result NamesFile }
+{
     let words = words(alloc)?;
     let order = read(words.as_slice()).ok()?;
     if order.file < words.len() && order.rest <= words.len() {
-        Replay::begin(alloc, program(alloc, words, order, source, input)?).ok()
+        ordered(alloc, words, order, source, input)
     } else {
         None
     }
+}
+
+/// The run of a source with this input, at its start.
+pub fn replay(alloc: Global, source: &str, input: &str) -> Option<Replay> {
+    Replay::begin(alloc, program(alloc, source, input)?).ok()
 }

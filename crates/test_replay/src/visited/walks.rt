@@ -4,7 +4,6 @@ use crate::programs::{ECHOES, LETTER, SUMS, replay};
 use mx_replay::Replay;
 use mx_run::End;
 use std::alloc::Global;
-use std::test::Fail;
 
 /// A step that is gone to, and what is due there: the step, `$1`, the octa at `Letter`, the output and the end.
 type Visit<'a> = (u64, (u64, u64, u64, &'a str, End));
@@ -12,7 +11,7 @@ type Visit<'a> = (u64, (u64, u64, u64, &'a str, End));
 /// What `$1` has at the start: the address of the list of arguments.
 const ARGV: u64 = 0x4000_0000_0000_0008;
 
-/// Forth and back over prints and reads, and behind the end.
+/// Forth and back over prints and reads, and after the end.
 static ECHOED: [Visit; 12] = [
     (0, (0, ARGV, 0, "", End::Spent)),
     (1, (1, 3, 0, "", End::Spent)),
@@ -80,7 +79,7 @@ fn first_wrong(replay: &mut Replay, visits: &[Visit]) -> Option<usize> {
     None
 }
 
-/// The same of a source with this input; the number behind the last where it does not begin.
+/// The same of a source with this input; the number after the last where it does not begin.
 fn wrong_of(alloc: Global, source: &str, input: &str, visits: &[Visit]) -> Option<usize> {
     match replay(alloc, source, input) {
         Some(mut replay) => first_wrong(&mut replay, visits),
@@ -89,13 +88,10 @@ fn wrong_of(alloc: Global, source: &str, input: &str, visits: &[Visit]) -> Optio
 }
 
 #[test]
-fn steps_are_visited_forth_and_back(rt: HostRuntime) -> Result<(), Fail> {
+fn steps_are_visited_forth_and_back(rt: HostRuntime) {
     let wrong = (
         wrong_of(rt.alloc(), ECHOES, "abc", &ECHOED),
         wrong_of(rt.alloc(), SUMS, "", &SUMMED),
     );
-    if wrong != (None, None) {
-        return Err(Fail::new(format_args!("{wrong:?}")));
-    }
-    Ok(())
+    assert_eq!(rt; wrong, (None, None));
 }

@@ -4,7 +4,6 @@ use crate::programs::{CALLS, ECHOES, LETTER, SUM, SUMS, WHERE, replay};
 use mx_replay::{Place, Replay};
 use mx_run::{FlagMap, Flags};
 use std::alloc::Global;
-use std::test::Fail;
 
 /// A row: the step that one is at, what is looked for, and the step that is due.
 type Search = (u64, Sought, Option<u64>);
@@ -52,7 +51,7 @@ static ECHO_MAKERS: [Search; 6] = [
     (21, Sought::Octa(WHERE), None),
 ];
 
-/// The sum is 7 behind turn 9, and no address from 2^63 on has a value.
+/// The sum is 7 after turn 9, and no address from 2^63 on has a value.
 static SUM_MAKERS: [Search; 3] = [
     (13, Sought::Octa(SUM), Some(9)),
     (3, Sought::Octa(SUM), None),
@@ -133,7 +132,7 @@ fn one_flag(alloc: Global, a: u64, flags: Flags) -> Option<FlagMap> {
     Some(map)
 }
 
-/// The same of a source with the input `abc` and with flags at one address; the number behind the last where it does not begin.
+/// The same of a source with the input `abc` and with flags at one address; the number after the last where it does not begin.
 fn wrong_of(
     alloc: Global,
     source: &str,
@@ -158,7 +157,7 @@ const BEFORE: Flags = Flags {
     t: false,
 };
 
-/// Behind a step that writes a tetra.
+/// After a step that writes a tetra.
 const WRITTEN: Flags = Flags {
     r: false,
     w: true,
@@ -167,37 +166,28 @@ const WRITTEN: Flags = Flags {
 };
 
 #[test]
-fn turns_are_found_both_ways(rt: HostRuntime) -> Result<(), Fail> {
+fn turns_are_found_both_ways(rt: HostRuntime) {
     let wrong = (
         wrong_of(rt.alloc(), ECHOES, (0x104, BEFORE), &LOOPS, 21),
         wrong_of(rt.alloc(), SUMS, (SUM + 4, WRITTEN), &STORES, 22),
     );
-    if wrong != (None, None) {
-        return Err(Fail::new(format_args!("{wrong:?}")));
-    }
-    Ok(())
+    assert_eq!(rt; wrong, (None, None));
 }
 
 #[test]
-fn values_have_makers(rt: HostRuntime) -> Result<(), Fail> {
+fn values_have_makers(rt: HostRuntime) {
     let wrong = (
         wrong_of(rt.alloc(), ECHOES, (0x104, BEFORE), &ECHO_MAKERS, 21),
         wrong_of(rt.alloc(), SUMS, (SUM, WRITTEN), &SUM_MAKERS, 22),
     );
-    if wrong != (None, None) {
-        return Err(Fail::new(format_args!("{wrong:?}")));
-    }
-    Ok(())
+    assert_eq!(rt; wrong, (None, None));
 }
 
 #[test]
-fn changes_and_depths_are_found_both_ways(rt: HostRuntime) -> Result<(), Fail> {
+fn changes_and_depths_are_found_both_ways(rt: HostRuntime) {
     let wrong = (
         wrong_of(rt.alloc(), SUMS, (SUM, WRITTEN), &SUM_CHANGES, 22),
         wrong_of(rt.alloc(), CALLS, (SUM, WRITTEN), &DEPTHS, 10),
     );
-    if wrong != (None, None) {
-        return Err(Fail::new(format_args!("{wrong:?}")));
-    }
-    Ok(())
+    assert_eq!(rt; wrong, (None, None));
 }

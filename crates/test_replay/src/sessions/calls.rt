@@ -1,6 +1,7 @@
 //! Calls that are gone over, out of and back to.
 
-use crate::sessions::{CALLS, CALLS_START, Row, first_wrong};
+use crate::programs::CALLS;
+use crate::sessions::{CALLS_START, Row, first_wrong};
 
 static ROWS: [Row; 11] = [
     Row {

@@ -1,5 +1,5 @@
 use Rattle.mx_record.specs.Recording.{IsReady}
-use Rattle.test_record.proofs.walks.walk_along.Given as goal
+use Rattle.test_replay.proofs.recorded.walks.walk_along.Given as goal
 
 abbrev pub invariant-loop : goal.invariant-loop
 invariant-loop l = IsReady l.recorder

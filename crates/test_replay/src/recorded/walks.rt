@@ -3,12 +3,11 @@
 ghost use Rattle.std.specs.Prelude.{IfSome};
 ghost use Rattle.mx_record.specs.Recording.{IsReady};
 
-use crate::pictures::Picture;
-use crate::programs::{PROGRAMS, recorder};
+use crate::programs::{DEEP, ECHOES, FRAMES, SUMS, TRIPS, program};
+use crate::recorded::pictures::Picture;
 use mx_record::{Record, Recorder};
 use mx_run::End;
 use std::alloc::Global;
-use std::test::Fail;
 
 /// Makes the next turn, and adds its record, which leads to the picture of the machine. Nothing where it does not.
 fn walk_on(recorder: &mut Recorder, picture: &mut Picture, records: &mut Vec<Record>) -> Option<()>
@@ -69,18 +68,19 @@ fn walk_from(alloc: Global, recorder: &mut Recorder, start: &Record) -> Option<u
     }
 }
 
-/// The same of the run of a source.
+/// The same of the run of a source with the input `abc`.
 fn walk(alloc: Global, source: &str) -> Option<usize> {
-    let (mut recorder, start) = recorder(alloc, source)?;
-    walk_from(alloc, &mut recorder, &start)
+    let program = program(alloc, source, "abc")?;
+    match Recorder::begin(alloc, program) {
+        Ok((mut recorder, start)) => walk_from(alloc, &mut recorder, &start),
+        Err(_) => None,
+    }
 }
-
-/// How many turns the runs of the programs have.
-static TURNS: [usize; 5] = [21, 22, 565, 18, 15];
 
 /// The number of the first program whose run is not told by its records, and how many turns it has.
 fn first_wrong(alloc: Global) -> Option<(usize, Option<usize>)> {
-    for (number, (source, turns)) in PROGRAMS.iter().zip(TURNS.iter()).enumerate() {
+    let runs = [(ECHOES, 21), (SUMS, 22), (DEEP, 565), (FRAMES, 18), (TRIPS, 15)];
+    for (number, (source, turns)) in runs.iter().enumerate() {
         let made = walk(alloc, source);
         if made != Some(*turns) {
             return Some((number, made));
@@ -90,10 +90,7 @@ fn first_wrong(alloc: Global) -> Option<(usize, Option<usize>)> {
 }
 
 #[test]
-fn records_lead_along_the_run_and_back(rt: HostRuntime) -> Result<(), Fail> {
+fn records_lead_along_the_run_and_back(rt: HostRuntime) {
     let wrong = first_wrong(rt.alloc());
-    if wrong != None {
-        return Err(Fail::new(format_args!("{wrong:?}")));
-    }
-    Ok(())
+    assert_eq!(rt; wrong, None);
 }

@@ -1,14 +1,12 @@
 //! Stops, and what steps change.
 
-use crate::program::{book, replay};
 use mx_book::Book;
 use mx_replay::Replay;
 use mx_tell::{Before, add_changes, add_stop};
 use mx_word::{Bytes, NoMemory};
 use std::alloc::Global;
-use std::test::Fail;
 
-/// What is shown at each step from 0 on: where the run stands, and what the next step changes.
+/// What is shown at each step from 0 on: where the run is, and what the next step changes.
 static SHOWN: [&str; 6] = [
     "step 0  s.mms:7  Main  SET k,5
 $1 (k) = 5  (was #4000000000000008)
@@ -45,31 +43,11 @@ fn shows(alloc: Global, book: &Book, replay: &mut Replay, due: &str) -> bool {
 }
 
 /// The number of the first step that shows something else.
-fn first_wrong(alloc: Global, book: &Book, replay: &mut Replay) -> Option<usize> {
+pub fn first_wrong(alloc: Global, book: &Book, replay: &mut Replay) -> Option<usize> {
     for (number, due) in SHOWN.iter().enumerate() {
         if !shows(alloc, book, replay, due) {
             return Some(number);
         }
     }
     None
-}
-
-/// The number of the first step that shows something else in the run of the program.
-fn wrong_step(alloc: Global) -> Option<usize> {
-    let Some(book) = book(alloc) else {
-        return Some(SHOWN.len());
-    };
-    let Some(mut replay) = replay(alloc, 0) else {
-        return Some(SHOWN.len());
-    };
-    first_wrong(alloc, &book, &mut replay)
-}
-
-#[test]
-fn stops_and_changes_are_shown(rt: HostRuntime) -> Result<(), Fail> {
-    let wrong = wrong_step(rt.alloc());
-    if wrong != None {
-        return Err(Fail::new(format_args!("{wrong:?}")));
-    }
-    Ok(())
 }

@@ -3,7 +3,6 @@
 use crate::programs::{COUNTS, replay};
 use mx_replay::{Place, Replay};
 use std::alloc::Global;
-use std::test::Fail;
 
 /// Steps that are gone to, forth and back: step 2^20 = 1,048,576 is kept, and some that are before others gone back to.
 static STEPS: [u64; 7] = [
@@ -15,13 +14,10 @@ fn shows(replay: &mut Replay, k: u64) -> bool {
     replay.go_to(k).is_ok() && replay.at() == k && replay.machine().register(1) == k / 2
 }
 
-/// The first step that shows something else; 0 where the run does not begin, or where another turn than the last one made `$1`.
-fn first_wrong(alloc: Global) -> Option<u64> {
-    let Some(mut replay) = replay(alloc, COUNTS, "") else {
-        return Some(0);
-    };
+/// The first step that shows something else; 0 where another turn than the last one made `$1`.
+fn first_wrong(replay: &mut Replay) -> Option<u64> {
     for k in &STEPS {
-        if !shows(&mut replay, *k) {
+        if !shows(replay, *k) {
             return Some(*k);
         }
     }
@@ -31,11 +27,15 @@ fn first_wrong(alloc: Global) -> Option<u64> {
     }
 }
 
-#[test]
-fn steps_far_away_are_visited(rt: HostRuntime) -> Result<(), Fail> {
-    let wrong = first_wrong(rt.alloc());
-    if wrong != None {
-        return Err(Fail::new(format_args!("{wrong:?}")));
+/// The same of the run of the program; 0 where it does not begin.
+fn wrong(alloc: Global) -> Option<u64> {
+    match replay(alloc, COUNTS, "") {
+        Some(mut replay) => first_wrong(&mut replay),
+        None => Some(0),
     }
-    Ok(())
+}
+
+#[test]
+fn steps_far_away_are_visited(rt: HostRuntime) {
+    assert_eq!(rt; wrong(rt.alloc()), None);
 }

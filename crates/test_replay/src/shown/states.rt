@@ -1,9 +1,10 @@
 //! What is shown of a state.
 
-use crate::program::{TEXT, book, replay};
+use crate::programs::TEXT;
 use mx_ask::Unit;
 use mx_book::{Book, Thing};
 use mx_core::Machine;
+use mx_replay::Replay;
 use mx_run::End;
 use mx_tell::{
     Call, add_backtrace, add_break_row, add_end, add_instructions, add_lines, add_memory, add_ring,
@@ -12,7 +13,6 @@ use mx_tell::{
 use mx_text::Form;
 use mx_word::{Bytes, NoMemory, Sequence};
 use std::alloc::Global;
-use std::test::Fail;
 
 /// What is shown.
 #[derive(Clone, Copy)]
@@ -207,23 +207,19 @@ fn shows(alloc: Global, book: &Book, machine: &Machine, what: What, due: &str) -
 }
 
 /// The number of the first row that is shown otherwise.
-fn first_wrong(alloc: Global) -> Option<usize> {
-    let (Some(book), Some(replay)) = (book(alloc), replay(alloc, 4)) else {
-        return Some(SHOWN.len());
-    };
+fn wrong_row(alloc: Global, book: &Book, machine: &Machine) -> Option<usize> {
     for (number, (what, due)) in SHOWN.iter().enumerate() {
-        if !shows(alloc, &book, replay.machine(), *what, due) {
+        if !shows(alloc, book, machine, *what, due) {
             return Some(number);
         }
     }
     None
 }
 
-#[test]
-fn states_are_shown(rt: HostRuntime) -> Result<(), Fail> {
-    let wrong = first_wrong(rt.alloc());
-    if wrong != None {
-        return Err(Fail::new(format_args!("{wrong:?}")));
+/// The same of the state after step 4, to which the run is taken.
+pub fn first_wrong(alloc: Global, book: &Book, replay: &mut Replay) -> Option<usize> {
+    match replay.go_to(4) {
+        Ok(_) => wrong_row(alloc, book, replay.machine()),
+        Err(_) => Some(SHOWN.len()),
     }
-    Ok(())
 }

@@ -1,4 +1,9 @@
-//! Sessions over the host in memory.
+//! Rows of sessions of the debugger over the host in memory: lines, and what is answered.
+
+mod calls;
+mod faults;
+mod steps;
+mod values;
 
 use face_debug::debug;
 use mx_host::MemHost;
@@ -32,32 +37,17 @@ Twice GET   $1,rJ
       POP   1,0
 ";
 
-/// What is told of its start.
+/// What is told of the start of `SUM`.
 pub static SUM_START: &str = "step 0  sum.mms:8  Main  SET k,3
 at the start
 ";
 
-/// A call within a call. Turn 1 is SET, and 2 the call of `Outer`, at #110: GET is turn 3, and 4 the call of `Inner`, at #120: SET is
-/// turn 5, and POP 6. In `Outer` PUT is turn 7, and POP 8. SET is turn 9, and Halt 10.
-pub static CALLS: &str = "      LOC   #100
-Main  SET   $0,1
-      PUSHJ $1,Outer
-      SET   $0,2
-      TRAP  0,Halt,0
-Outer GET   $0,rJ
-      PUSHJ $1,Inner
-      PUT   rJ,$0
-      POP   0,0
-Inner SET   $0,5
-      POP   0,0
-";
-
-/// What is told of its start.
+/// What is told of the start of `CALLS`.
 pub static CALLS_START: &str = "step 0  sum.mms:2  Main  SET $0,1
 at the start
 ";
 
-/// Lines, and what is answered behind the start.
+/// Lines, and what is answered after the start.
 pub struct Row {
     pub lines: &'static str,
     pub answer: &'static str,

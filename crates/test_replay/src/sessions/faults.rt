@@ -12,7 +12,7 @@ struct Row {
     errors: &'static str,
 }
 
-/// It prints what it reads from its input, and then what stands in the file `byte`.
+/// It prints what it reads from its input, and then the file `byte`.
 static ECHO: &str = " LOC Data_Segment
  GREG @
 Letter BYTE 0,0

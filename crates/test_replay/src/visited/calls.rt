@@ -3,7 +3,6 @@
 use crate::programs::{CALLS, replay};
 use mx_replay::{Frame, Replay};
 use std::alloc::Global;
-use std::test::Fail;
 
 /// The call of `Outer`.
 const OUTER: Frame = Frame {
@@ -42,23 +41,24 @@ fn shows(replay: &mut Replay, k: u64, due: &[Frame]) -> bool {
 }
 
 /// The number of the first step that shows other calls.
-fn first_wrong(alloc: Global) -> Option<usize> {
-    let Some(mut replay) = replay(alloc, CALLS, "") else {
-        return Some(CALLED.len());
-    };
+fn first_wrong(replay: &mut Replay) -> Option<usize> {
     for (number, (k, due)) in CALLED.iter().enumerate() {
-        if !shows(&mut replay, *k, due) {
+        if !shows(replay, *k, due) {
             return Some(number);
         }
     }
     None
 }
 
-#[test]
-fn calls_are_listed_outermost_first(rt: HostRuntime) -> Result<(), Fail> {
-    let wrong = first_wrong(rt.alloc());
-    if wrong != None {
-        return Err(Fail::new(format_args!("{wrong:?}")));
+/// The same of the run of the program; the number after the last where it does not begin.
+fn wrong(alloc: Global) -> Option<usize> {
+    match replay(alloc, CALLS, "") {
+        Some(mut replay) => first_wrong(&mut replay),
+        None => Some(CALLED.len()),
     }
-    Ok(())
+}
+
+#[test]
+fn calls_are_listed_outermost_first(rt: HostRuntime) {
+    assert_eq!(rt; wrong(rt.alloc()), None);
 }
