@@ -532,10 +532,7 @@ fn full_otherwise(
 }
 
 /// The same of a new loader, and the fault that it ends with.
-fn filled(
-    alloc: Global,
-    turns: &[Turn],
-) -> (Result<Option<usize>, LoadFault>, Option<LoadFault>) {
+fn filled(alloc: Global, turns: &[Turn]) -> (Result<Option<usize>, LoadFault>, Option<LoadFault>) {
     let mut loader = Loader::new(alloc);
     let turn = full_otherwise(alloc, &mut loader, turns);
     (turn, loader.finish(Symbols::new(alloc)).err())

@@ -88,12 +88,7 @@ fn put_pieces(
 }
 
 /// The same by a new reader, and what the reader finds at the end.
-fn put_all(
-    alloc: Global,
-    writer: &mut Writer,
-    bytes: &[u8],
-    size: usize,
-) -> Result<Tail, MmoFault>
+fn put_all(alloc: Global, writer: &mut Writer, bytes: &[u8], size: usize) -> Result<Tail, MmoFault>
     requires { 0 < size }
 {
     let mut reader = Reader::new(alloc);

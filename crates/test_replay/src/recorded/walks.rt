@@ -79,7 +79,13 @@ fn walk(alloc: Global, source: &str) -> Option<usize> {
 
 /// The number of the first program whose run is not told by its records, and how many turns it has.
 fn first_wrong(alloc: Global) -> Option<(usize, Option<usize>)> {
-    let runs = [(ECHOES, 21), (SUMS, 22), (DEEP, 565), (FRAMES, 18), (TRIPS, 15)];
+    let runs = [
+        (ECHOES, 21),
+        (SUMS, 22),
+        (DEEP, 565),
+        (FRAMES, 18),
+        (TRIPS, 15),
+    ];
     for (number, (source, turns)) in runs.iter().enumerate() {
         let made = walk(alloc, source);
         if made != Some(*turns) {
