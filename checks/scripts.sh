@@ -91,7 +91,7 @@ begin_gate() {
   done
 }
 
-proving='mmixware: proving and building the program; from nothing this took 10 to 25 minutes on four processors'
+proving='mmixware: proving and building the program; from nothing this took 10 to 27 minutes on four processors'
 progress='mmixware: 1 of 2 crates, 0 minutes
 mmixware: 2 of 2 crates, 0 minutes'
 building="$proving
