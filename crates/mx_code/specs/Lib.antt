@@ -2,5 +2,4 @@ pub mod Reasons
 pub mod Operations
 pub mod Instructions
 pub mod LoadsAndStores
-pub mod Groups
 pub mod Told

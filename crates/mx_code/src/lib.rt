@@ -8,7 +8,6 @@
 mod codes;
 mod condition;
 mod destinations;
-mod groups;
 mod immediate;
 mod instruction;
 mod operation;
@@ -20,7 +19,6 @@ mod trace;
 pub use codes::operation_of;
 pub use condition::holds;
 pub use destinations::destination;
-pub use groups::{Group, group_of};
 pub use immediate::wyde_value;
 pub use instruction::Instruction;
 pub use operation::{Loading, Operation, Storing};
