@@ -1,0 +1,70 @@
+//! The labels of a text as its outline.
+
+use crate::lines::add_line_range;
+use crate::names::range_of;
+use mx_json::{add_between, add_string};
+use mx_marks::{line_text, operation_at};
+use mx_occurrences::{Named, Occurrence, occurrences};
+use mx_word::{Bytes, NoMemory};
+use std::alloc::Global;
+
+/// The kind of a label, by the operation of its statement, as the protocol numbers it: a constant, a variable or a function.
+fn kind_of(operation: &[u8]) -> &'static [u8] {
+    if operation == b"IS" {
+        return b"14";
+    }
+    if operation == b"GREG"
+        || operation == b"BYTE"
+        || operation == b"WYDE"
+        || operation == b"TETRA"
+        || operation == b"OCTA"
+    {
+        return b"13";
+    }
+    b"12"
+}
+
+/// Adds a label.
+fn add_label(
+    alloc: Global,
+    result: &mut Bytes,
+    o: &Occurrence,
+    source: &[u8],
+) -> Result<(), NoMemory> {
+    let line = line_text(o.line, source);
+    add_string(alloc, result, b"{\"name\":", o.text.as_slice())?;
+    let operation = operation_at(line, o.from.min(line.len()));
+    add_between(result, b",\"kind\":", kind_of(operation), b"")?;
+    add_line_range(result, b",\"range\":", o.line, line)?;
+    let range = range_of(alloc, o, source)?;
+    add_between(result, b",\"selectionRange\":", range.as_slice(), b"}")
+}
+
+/// Adds labels.
+fn add_labels(
+    alloc: Global,
+    result: &mut Bytes,
+    names: &[Occurrence],
+    source: &[u8],
+) -> Result<(), NoMemory> {
+    let mut is_first = true;
+    for o in names {
+        if o.is_label && matches!(&o.named, Named::Symbol(_)) {
+            if !is_first {
+                result.extend(b",")?;
+            }
+            is_first = false;
+            add_label(alloc, result, o, source)?;
+        }
+    }
+    Ok(())
+}
+
+/// The labels of a text.
+pub(crate) fn outline(alloc: Global, source: &[u8]) -> Result<Bytes, NoMemory> {
+    let names = occurrences(alloc, source)?;
+    let mut result = Bytes::copy(alloc, b"[")?;
+    add_labels(alloc, &mut result, names.as_slice(), source)?;
+    result.extend(b"]")?;
+    Ok(result)
+}

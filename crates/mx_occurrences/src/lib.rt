@@ -1,0 +1,12 @@
+//! The names of a source in their places: where each is, and which symbol or local label it names.
+#![tactic(auto)]
+
+mod course;
+mod finding;
+mod gathering;
+mod occurrence;
+
+pub use course::full_name;
+pub use finding::{definition_of, occurrence_at, same_named};
+pub use gathering::occurrences;
+pub use occurrence::{Named, Occurrence, Occurrences};
