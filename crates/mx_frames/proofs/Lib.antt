@@ -2,3 +2,4 @@ pub mod Parts
 pub mod Turns
 pub mod Framed
 pub mod Spelled
+pub mod Units

@@ -1,5 +1,5 @@
 -- Parts of a text, and its lines one after another.
-use Rattle.std.proofs.Common.{◌≡◌, ◌≤◌, ◌<◌, ℕ, zero, suc, ◌-◌, ◌+◌, List, [], ◌∷◌, drop, take, length, arith, refl, Bool, true, false, Option, None}
+use Rattle.std.proofs.Common.{◌≡◌, ◌≤◌, ◌<◌, ℕ, zero, suc, ◌-◌, ◌+◌, List, [], ◌∷◌, drop, take, length, arith, refl, sym, Bool, true, false, Option, None}
 use Rattle.std.proofs.lemmas.List.{take_all}
 use Rattle.std.proofs.lemmas.Slice.Eq.{bytes_eq-Decides}
 use Rattle.mx_line.specs.Bytes.{run}
@@ -36,4 +36,10 @@ unfolding length_in
 line-next zero text e is = absurd (omega (arith, e))
 line-next (suc n) text e is = let less : suc n - 1 ≡ n = omega arith in rw (← is, less) refl
 
-pub ruleset lines = (line-none, line-found, line-next)
+pub line-is : (n : ℕ) (text : List ℕ) → 0 < n → begins_with_name text ≡ true → length_in n text ≡ number_at (drop (length (run is_gap (drop 15 text))) (drop 15 text))
+line-is n text e is = line-found n text e (sym is)
+
+pub line-goes : (n : ℕ) (text : List ℕ) → 0 < n → begins_with_name text ≡ false → length_in n text ≡ length_in (n - 1) (next_line text)
+line-goes n text e is = line-next n text e (sym is)
+
+pub ruleset lines = (line-none, line-found, line-next, line-is, line-goes)

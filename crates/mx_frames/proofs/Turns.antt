@@ -9,17 +9,25 @@ pub joined-assoc : (r s t : Read) → joined (joined r s) t ≡ joined r (joined
 joined-assoc r s t = ap (λ frames. read_with frames t.coming) (append_assoc r.frames s.frames t.frames)
 
 -- a byte more
-pub byte-read : (frames : List Frame) (coming : Coming) (b : ℕ) (bs : List ℕ) →
-    joined (read_with frames coming) (reads coming (b ∷ bs))
-    ≡ joined (joined (read_with frames coming) (settled (with_byte coming b))) (reads (settled (with_byte coming b)).coming bs)
+pub frames-next : (frames : List Frame) (coming : Coming) (b : ℕ) (bs : List ℕ) →
+    frames ++ (reads coming (b ∷ bs)).frames
+    ≡ (frames ++ (settled (with_byte coming b)).frames) ++ (reads (settled (with_byte coming b)).coming bs).frames
 unfolding reads
-byte-read frames coming b bs = sym (joined-assoc (read_with frames coming) (settled (with_byte coming b)) _)
+frames-next frames coming b bs = sym (append_assoc frames (settled (with_byte coming b)).frames _)
 
-pub none-read : (frames : List Frame) (coming : Coming) → joined (read_with frames coming) (reads coming []) ≡ read_with frames coming
+pub coming-next : (coming : Coming) (b : ℕ) (bs : List ℕ) → (reads coming (b ∷ bs)).coming ≡ (reads (settled (with_byte coming b)).coming bs).coming
 unfolding reads
-none-read frames coming = ap (λ frames. read_with frames coming) (append-nil frames)
+coming-next coming b bs = refl
 
-pub ruleset turns = (byte-read, none-read)
+pub frames-none : (frames : List Frame) (coming : Coming) → frames ++ (reads coming []).frames ≡ frames
+unfolding reads
+frames-none frames coming = append-nil frames
+
+pub coming-none : (coming : Coming) → (reads coming []).coming ≡ coming
+unfolding reads
+coming-none coming = refl
+
+pub ruleset turns = (frames-next, coming-next, frames-none, coming-none)
 
 -- a piece, and what follows it
 pub pieces : (coming : Coming) (piece others : List ℕ) →

@@ -1,6 +1,7 @@
 //! Headers.
 
 ghost use Rattle.std.specs.Prelude.{◌≡◌, length, take, drop};
+ghost use Rattle.std.specs.Str.{str_eq_ignore_ascii_case};
 ghost use Rattle.mx_line.specs.Bytes.{run};
 ghost use Rattle.mx_word.specs.Kinds as kinds;
 ghost use Rattle.mx_frames.specs.Heads as spec;
@@ -9,12 +10,6 @@ use mx_word::is_digit;
 
 /// The most bytes of a body.
 pub(crate) const BODY_LIMIT: u64 = 1 << 26;
-
-/// The name of the field that says how long a body is, with its colon.
-const NAME: &[u8; 15] = b"content-length:";
-
-/// The empty line that ends a header, after the end of the line before it.
-const END: &[u8; 4] = b"\r\n\r\n";
 
 /// A text without its first bytes, so many or all.
 #[tactic(auto, using(crate::proofs::Parts::parts))]
@@ -30,7 +25,7 @@ fn behind(text: &[u8], count: usize) -> &[u8]
 
 /// The first bytes of a text, so many or all.
 #[tactic(auto, using(crate::proofs::Parts::parts))]
-fn front(text: &[u8], count: usize) -> &[u8]
+pub(crate) fn front(text: &[u8], count: usize) -> &[u8]
     ensures { result.now ≡ take count text.now }
 {
     if count < text.len() {
@@ -44,15 +39,22 @@ fn front(text: &[u8], count: usize) -> &[u8]
 pub(crate) fn ends_head(head: &[u8]) -> bool
     ensures { result ≡ spec.ends_head head.now }
 {
-    behind(head, head.len().saturating_sub(4)) == END.as_slice()
+    behind(head, head.len().saturating_sub(4)) == b"\r\n\r\n".as_slice()
+}
+
+/// Whether two texts differ in the case of their letters alone, or not at all.
+#[tactic(auto, using(crate::proofs::Parts::names))]
+fn is_same_letters(one: &[u8], other: &[u8]) -> bool
+    ensures { result ≡ str_eq_ignore_ascii_case one.now other.now }
+{
+    one.eq_ignore_ascii_case(other)
 }
 
 /// Whether a line begins with the name of the field, in capital or small letters.
-#[tactic(auto, using(crate::proofs::Parts::names))]
 fn begins_with_name(text: &[u8]) -> bool
     ensures { result ≡ spec.begins_with_name text.now }
 {
-    front(text, 15).eq_ignore_ascii_case(NAME.as_slice())
+    is_same_letters(front(text, 15), b"content-length:")
 }
 
 /// How many blanks and tabs are at the front of a text.

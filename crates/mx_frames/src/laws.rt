@@ -1,7 +1,8 @@
-//! Laws on streams of frames.
+//! Laws on streams of frames, and on columns.
 
-ghost use Rattle.std.specs.Prelude.{◌≡◌, ◌≢◌, ◌<◌, ◌++◌, ℕ, List, [], length, map};
+ghost use Rattle.std.specs.Prelude.{◌≡◌, ◌≢◌, ◌<◌, ◌≤◌, ◌++◌, ℕ, List, [], length, map, true};
 ghost use Rattle.std.specs.List.{AllByRecursion, flat_map};
+ghost use Rattle.mx_frames.specs.Columns as columns;
 ghost use Rattle.mx_frames.specs.Streams as spec;
 ghost use Rattle.mx_frames.specs.declared.reader.Coming.{Coming};
 
@@ -29,5 +30,21 @@ pub fn the_stream_is_the_frames_that_are_read()
 pub fn no_frame_ends_before_the_bytes_that_are_wanted()
     ensures { (stream piece : List ℕ) → length piece < spec.wanted (spec.reads spec.nothing stream).coming →
         (spec.reads (spec.reads spec.nothing stream).coming piece).frames ≡ [] }
+{
+}
+
+/// Of two places of a line the later one has no smaller column.
+#[tactic(auto, using(crate::proofs::Units::laws))]
+pub fn columns_ascend_with_their_places()
+    ensures { (line : List ℕ) (place other : ℕ) → place ≤ other →
+        columns.column_of line place ≤ columns.column_of line other }
+{
+}
+
+/// A place in front of a character, or at the end of its line, is the one that its column leads to.
+#[tactic(auto, using(crate::proofs::Units::laws))]
+pub fn columns_lead_back_to_their_places()
+    ensures { (line : List ℕ) (place : ℕ) → place ≤ length line → columns.is_boundary line place ≡ true →
+        columns.place_of line (columns.column_of line place) ≡ place }
 {
 }

@@ -1,6 +1,6 @@
 //! Frames that are read byte by byte.
 
-ghost use Rattle.std.specs.Prelude.{◌≡◌, ◌++◌, IfOk};
+ghost use Rattle.std.specs.Prelude.{◌≡◌, ◌++◌, IfOk, OnOk};
 ghost use Rattle.mx_frames.specs.Streams as spec;
 
 use crate::heads::{body_length, ends_head};
@@ -62,10 +62,10 @@ fn head_after(alloc: Global, head: Bytes) -> Coming
 }
 
 /// What has come with one more byte.
-fn with_byte(alloc: Global, coming: Coming, b: u8) -> Result<Coming, NoMemory>
-    ensures { IfOk result (λ coming'. coming' ≡ spec.with_byte coming b) }
+fn with_byte(alloc: Global, before: Coming, b: u8) -> Result<Coming, NoMemory>
+    ensures { IfOk result (λ coming. coming ≡ spec.with_byte before b) }
 {
-    match coming {
+    match before {
         Coming::Head(mut head) => {
             head.push(b)?;
             Ok(head_after(alloc, head))
@@ -86,8 +86,8 @@ fn settle_body(
     length: u64,
     body: Bytes,
 ) -> Result<Coming, NoMemory>
-    ensures { IfOk result (λ coming'. (spec.read_with frames.new coming')
-        ≡ spec.joined (spec.read_with frames.old spec.Faulty) (spec.settled_body head length body)) }
+    ensures frames { OnOk result (frames.new ≡ frames.old ++ (spec.settled_body head length body).frames) }
+    ensures coming { IfOk result (λ coming. coming ≡ (spec.settled_body head length body).coming) }
 {
     if body.as_slice().len() as u64 != length {
         return Ok(Coming::Body(head, length, body));
@@ -97,11 +97,11 @@ fn settle_body(
 }
 
 /// Adds the frame that has come whole, if one has, and gives what has come of the next one.
-fn settle(alloc: Global, frames: &mut Frames, coming: Coming) -> Result<Coming, NoMemory>
-    ensures { IfOk result (λ coming'. (spec.read_with frames.new coming')
-        ≡ spec.joined (spec.read_with frames.old coming) (spec.settled coming)) }
+fn settle(alloc: Global, frames: &mut Frames, before: Coming) -> Result<Coming, NoMemory>
+    ensures frames { OnOk result (frames.new ≡ frames.old ++ (spec.settled before).frames) }
+    ensures coming { IfOk result (λ coming. coming ≡ (spec.settled before).coming) }
 {
-    match coming {
+    match before {
         Coming::Head(head) => Ok(Coming::Head(head)),
         Coming::Body(head, length, body) => settle_body(alloc, frames, head, length, body),
         Coming::Faulty => Ok(Coming::Faulty),
@@ -113,13 +113,13 @@ fn settle(alloc: Global, frames: &mut Frames, coming: Coming) -> Result<Coming, 
 pub fn feed(
     alloc: Global,
     frames: &mut Frames,
-    coming: Coming,
+    before: Coming,
     piece: &[u8],
 ) -> Result<Coming, NoMemory>
-    ensures { IfOk result (λ coming'. (spec.read_with frames.new coming')
-        ≡ spec.joined (spec.read_with frames.old coming) (spec.reads coming piece.now)) }
+    ensures frames { OnOk result (frames.new ≡ frames.old ++ (spec.reads before piece.now).frames) }
+    ensures coming { IfOk result (λ coming. coming ≡ (spec.reads before piece.now).coming) }
 {
-    let mut coming = coming;
+    let mut coming = before;
     for b in piece {
         let next = with_byte(alloc, coming, *b)?;
         coming = settle(alloc, frames, next)?;

@@ -11,6 +11,20 @@ static DIRECTIVES: [&str; 11] = [
     "IS", "LOC", "PREFIX", "GREG", "LOCAL", "BYTE", "WYDE", "TETRA", "OCTA", "LDA", "SET",
 ];
 
+/// What is between the values of a list: nothing in front of the first one.
+fn separator(list: &[u8]) -> &'static [u8] {
+    match list {
+        [] => b"",
+        [.., b] => {
+            if *b == b'[' {
+                b""
+            } else {
+                b","
+            }
+        }
+    }
+}
+
 /// Adds a word, with its kind as the protocol numbers it.
 fn add_word(
     alloc: Global,
@@ -18,9 +32,8 @@ fn add_word(
     word: &[u8],
     kind: &[u8],
 ) -> Result<(), NoMemory> {
-    if result.as_slice().last() != Some(&b'[') {
-        result.extend(b",")?;
-    }
+    let separator = separator(result.as_slice());
+    result.extend(separator)?;
     add_string(alloc, result, b"{\"label\":", word)?;
     add_between(result, b",\"kind\":", kind, b"}")
 }

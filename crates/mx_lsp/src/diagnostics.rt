@@ -1,11 +1,11 @@
 //! Faults and warnings as diagnostics.
 
-use crate::lines::{add_line_range, add_range};
 use mx_json::{add_between, add_number, add_quoted, add_string};
 use mx_marks::line_text;
 use mx_outcome::fault_name;
 use mx_view::{ToldFault, tell_faults};
 use mx_warn::{Warning, tell_warnings};
+use mx_wire::{add_line_range, add_notice, add_range};
 use mx_word::{Bytes, NoMemory};
 use std::alloc::Global;
 
@@ -26,7 +26,7 @@ fn add_fault_range(text: &mut Bytes, fault: &ToldFault, source: &[u8]) -> Result
             fault.at_line,
             line,
             from,
-            fault.length,
+            from.saturating_add(fault.length),
         ),
     }
 }
@@ -92,7 +92,7 @@ fn add_warning(alloc: Global, text: &mut Bytes, warning: &Warning) -> Result<(),
         warning.line,
         warning.text.as_slice(),
         warning.place,
-        warning.length,
+        warning.place.saturating_add(warning.length),
     )?;
     text.extend(b",\"severity\":2")?;
     add_quoted(text, b",\"code\":", warning.kind.name().as_bytes())?;
@@ -151,11 +151,9 @@ fn add_all(alloc: Global, text: &mut Bytes, source: &[u8]) -> Result<(), NoMemor
 
 /// The message that tells the faults and the warnings of a text of this name.
 pub(crate) fn diagnostics(alloc: Global, uri: &[u8], source: &[u8]) -> Result<Bytes, NoMemory> {
-    let mut body = Bytes::copy(
-        alloc,
-        b"{\"jsonrpc\":\"2.0\",\"method\":\"textDocument/publishDiagnostics\",\"params\":{\"uri\":",
-    )?;
-    add_string(alloc, &mut body, b"", uri)?;
+    let mut body = Bytes::new(alloc);
+    add_notice(&mut body, b"textDocument/publishDiagnostics")?;
+    add_string(alloc, &mut body, b"{\"uri\":", uri)?;
     body.extend(b",\"diagnostics\":[")?;
     add_all(alloc, &mut body, source)?;
     body.extend(b"]}}")?;
@@ -164,11 +162,9 @@ pub(crate) fn diagnostics(alloc: Global, uri: &[u8], source: &[u8]) -> Result<By
 
 /// The message that a text of this name has none.
 pub(crate) fn no_diagnostics(alloc: Global, uri: &[u8]) -> Result<Bytes, NoMemory> {
-    let mut body = Bytes::copy(
-        alloc,
-        b"{\"jsonrpc\":\"2.0\",\"method\":\"textDocument/publishDiagnostics\",\"params\":{\"uri\":",
-    )?;
-    add_string(alloc, &mut body, b"", uri)?;
+    let mut body = Bytes::new(alloc);
+    add_notice(&mut body, b"textDocument/publishDiagnostics")?;
+    add_string(alloc, &mut body, b"{\"uri\":", uri)?;
     body.extend(b",\"diagnostics\":[]}}")?;
     Ok(body)
 }

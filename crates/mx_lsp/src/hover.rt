@@ -1,6 +1,6 @@
 //! What is told of a place of a text.
 
-use crate::lines::{Place, add_range};
+use crate::lines::Place;
 use face_explain::{Answer, explain};
 use mx_costs::{mems, oops};
 use mx_json::{add_between, add_string};
@@ -10,6 +10,7 @@ use mx_ops::predefined;
 use mx_slips::{SourceLine, Statement, source_lines};
 use mx_text::{add_decimal, instruction, octa_hex, tetra_hex};
 use mx_view::{Cell, Listed, Wanted, list_source};
+use mx_wire::add_range;
 use mx_word::{Bytes, NoMemory, Symbol, Value};
 use std::alloc::Global;
 
@@ -122,6 +123,14 @@ fn symbol_named<'a>(symbols: &'a [Symbol], name: &[u8]) -> Option<&'a Symbol> {
     None
 }
 
+/// A complete name without the colon at its front.
+fn without_colon(name: &[u8]) -> &[u8] {
+    match name {
+        [] => name,
+        [_, rest @ ..] => rest,
+    }
+}
+
 /// Adds what a symbol is.
 fn add_symbol(
     alloc: Global,
@@ -136,7 +145,7 @@ fn add_symbol(
         return text.extend(b"\n");
     }
     if predefined(name).is_some() {
-        let told = meaning(alloc, &name[1.min(name.len())..])?;
+        let told = meaning(alloc, without_colon(name))?;
         return text.extend(told.as_slice());
     }
     Ok(())
@@ -186,7 +195,8 @@ fn hover_with(
         told,
     )?;
     result.extend(b"}")?;
-    add_range(&mut result, b",\"range\":", number, line, from, length)?;
+    let to = from.saturating_add(length);
+    add_range(&mut result, b",\"range\":", number, line, from, to)?;
     result.extend(b"}")?;
     Ok(result)
 }

@@ -1,7 +1,6 @@
 //! The server's answers to the messages of the Language Server Protocol: each is a function of the texts that are open.
 #![tactic(auto)]
 
-mod columns;
 mod completion;
 mod diagnostics;
 mod documents;
@@ -13,10 +12,8 @@ mod message;
 mod names;
 mod outline;
 mod renaming;
-mod replies;
 mod session;
 mod signature;
 
-pub use columns::{column_of, place_of};
 pub use documents::{Document, Documents};
 pub use session::{Flow, Session, answer, new_session, no_header};

@@ -1,10 +1,11 @@
 //! Names: where they are defined, and where they are used.
 
-use crate::lines::{Place, add_location, add_range};
+use crate::lines::Place;
 use mx_marks::line_text;
 use mx_occurrences::{
     Named, Occurrence, definition_of, occurrence_at, occurrences, same_named,
 };
+use mx_wire::{add_location, add_range};
 use mx_word::{Bytes, NoMemory};
 use std::alloc::Global;
 
@@ -12,14 +13,8 @@ use std::alloc::Global;
 pub(crate) fn range_of(alloc: Global, o: &Occurrence, source: &[u8]) -> Result<Bytes, NoMemory> {
     let mut range = Bytes::new(alloc);
     let line = line_text(o.line, source);
-    add_range(
-        &mut range,
-        b"",
-        o.line,
-        line,
-        o.from,
-        o.text.as_slice().len(),
-    )?;
+    let to = o.from.saturating_add(o.text.as_slice().len());
+    add_range(&mut range, b"", o.line, line, o.from, to)?;
     Ok(range)
 }
 

@@ -1,10 +1,10 @@
 //! The labels of a text as its outline.
 
-use crate::lines::add_line_range;
 use crate::names::range_of;
 use mx_json::{add_between, add_string};
 use mx_marks::{line_text, operation_at};
 use mx_occurrences::{Named, Occurrence, occurrences};
+use mx_wire::add_line_range;
 use mx_word::{Bytes, NoMemory};
 use std::alloc::Global;
 

@@ -47,10 +47,15 @@ fn is_name(text: &[u8]) -> bool {
 
 /// How many bytes of a name its last colon and what is before it have.
 fn lead_length(text: &[u8]) -> usize {
-    match text.iter().rposition(|b| *b == b':') {
-        None => 0,
-        Some(place) => place.saturating_add(1),
+    let mut length = 0usize;
+    let mut place = 0usize;
+    for b in text {
+        place = place.saturating_add(1);
+        if *b == b':' {
+            length = place;
+        }
     }
+    length
 }
 
 /// Whether a text ends with the letter of a local label.

@@ -12,12 +12,15 @@ use crate::message::{
 use crate::names::{definition, highlights, references};
 use crate::outline::outline;
 use crate::renaming::{Renamed, prepare, rename};
-use crate::replies::{Bodies, Refused, refusal_of, result_of};
 use crate::signature::signature;
-use mx_word::{Bytes, NoMemory};
+use mx_wire::{Refused, refusal_of, result_of};
+use mx_word::{Bytes, NoMemory, Sequence};
 use serde_json::Value;
 use std::alloc::Global;
 use std::mem;
+
+/// The bodies of messages.
+type Bodies = Sequence<Bytes>;
 
 /// The texts that are open, and whether the end was asked for.
 #[derive(Drop)]
@@ -34,7 +37,9 @@ pub enum Flow {
 }
 
 /// What the server offers: whole texts come, and columns are units of UTF-16.
-static OFFERS: &[u8] = b"{\"capabilities\":{\"textDocumentSync\":{\"openClose\":true,\"change\":1},\"hoverProvider\":true,\"definitionProvider\":true,\"referencesProvider\":true,\"documentHighlightProvider\":true,\"renameProvider\":{\"prepareProvider\":true},\"documentSymbolProvider\":true,\"completionProvider\":{},\"signatureHelpProvider\":{\"triggerCharacters\":[\" \",\",\"]},\"documentFormattingProvider\":true},\"serverInfo\":{\"name\":\"mmixview\"}}";
+fn offers() -> &'static [u8] {
+    b"{\"capabilities\":{\"textDocumentSync\":{\"openClose\":true,\"change\":1},\"hoverProvider\":true,\"definitionProvider\":true,\"referencesProvider\":true,\"documentHighlightProvider\":true,\"renameProvider\":{\"prepareProvider\":true},\"documentSymbolProvider\":true,\"completionProvider\":{},\"signatureHelpProvider\":{\"triggerCharacters\":[\" \",\",\"]},\"documentFormattingProvider\":true},\"serverInfo\":{\"name\":\"mmixview\"}}"
+}
 
 /// A session before its first message.
 pub fn new_session(alloc: Global) -> Session {
@@ -135,7 +140,7 @@ fn request(
         return refusal_of(alloc, id, Refused::NoRequest, b"the session is shut down");
     }
     match method {
-        Method::Initialize => result_of(alloc, id, OFFERS),
+        Method::Initialize => result_of(alloc, id, offers()),
         Method::Shutdown => {
             session.is_shut = true;
             result_of(alloc, id, b"null")
@@ -239,8 +244,13 @@ pub fn answer(
     };
     match Value::from_str(alloc, text) {
         Ok(message) => take_message(alloc, session, &message, out),
-        Err(e) if e.is_memory() => Err(NoMemory),
-        Err(_) => refuse(alloc, out),
+        Err(e) => {
+            if e.is_memory() {
+                Err(NoMemory)
+            } else {
+                refuse(alloc, out)
+            }
+        }
     }
 }
 
