@@ -28,36 +28,36 @@ fn separator(list: &[u8]) -> &'static [u8] {
 /// Adds a word, with its kind as the protocol numbers it.
 fn add_word(
     alloc: Global,
-    result: &mut Bytes,
+    list: &mut Bytes,
     word: &[u8],
     kind: &[u8],
 ) -> Result<(), NoMemory> {
-    let separator = separator(result.as_slice());
-    result.extend(separator)?;
-    add_string(alloc, result, b"{\"label\":", word)?;
-    add_between(result, b",\"kind\":", kind, b"}")
+    let separator = separator(list.as_slice());
+    list.extend(separator)?;
+    add_string(alloc, list, b"{\"label\":", word)?;
+    add_between(list, b",\"kind\":", kind, b"}")
 }
 
 /// Adds the operations.
-fn add_operations(alloc: Global, result: &mut Bytes) -> Result<(), NoMemory> {
+fn add_operations(alloc: Global, list: &mut Bytes) -> Result<(), NoMemory> {
     for directive in &DIRECTIVES {
-        add_word(alloc, result, directive.as_bytes(), b"14")?;
+        add_word(alloc, list, directive.as_bytes(), b"14")?;
     }
     let mut last = "";
     for code in 0..=255u8 {
         if name(code) != last {
             last = name(code);
-            add_word(alloc, result, last.as_bytes(), b"14")?;
+            add_word(alloc, list, last.as_bytes(), b"14")?;
         }
     }
     Ok(())
 }
 
 /// Adds the labels.
-fn add_labels(alloc: Global, result: &mut Bytes, names: &[Occurrence]) -> Result<(), NoMemory> {
+fn add_labels(alloc: Global, list: &mut Bytes, names: &[Occurrence]) -> Result<(), NoMemory> {
     for o in names {
         if o.is_label && matches!(&o.named, Named::Symbol(_)) {
-            add_word(alloc, result, o.text.as_slice(), b"6")?;
+            add_word(alloc, list, o.text.as_slice(), b"6")?;
         }
     }
     Ok(())

@@ -2,7 +2,6 @@
 #![tactic(auto)]
 
 mod completion;
-mod diagnostics;
 mod documents;
 mod formatting;
 mod hover;

@@ -41,7 +41,7 @@ pub(crate) fn definition(
 /// Adds the places of the names that name this.
 fn add_places(
     alloc: Global,
-    result: &mut Bytes,
+    list: &mut Bytes,
     uri: &[u8],
     names: &[Occurrence],
     named: &Named,
@@ -52,11 +52,11 @@ fn add_places(
     for o in names {
         if same_named(named, o) && (has_label || !o.is_label) {
             if !is_first {
-                result.extend(b",")?;
+                list.extend(b",")?;
             }
             is_first = false;
             let range = range_of(alloc, o, source)?;
-            add_location(alloc, result, uri, range.as_slice())?;
+            add_location(alloc, list, uri, range.as_slice())?;
         }
     }
     Ok(())
@@ -90,7 +90,7 @@ pub(crate) fn references(
 /// Adds the marks of the names that name this: a label is written, and the others are read.
 fn add_marks(
     alloc: Global,
-    result: &mut Bytes,
+    list: &mut Bytes,
     names: &[Occurrence],
     named: &Named,
     source: &[u8],
@@ -99,16 +99,16 @@ fn add_marks(
     for o in names {
         if same_named(named, o) {
             if !is_first {
-                result.extend(b",")?;
+                list.extend(b",")?;
             }
             is_first = false;
             let range = range_of(alloc, o, source)?;
-            result.extend(b"{\"range\":")?;
-            result.extend(range.as_slice())?;
+            list.extend(b"{\"range\":")?;
+            list.extend(range.as_slice())?;
             if o.is_label {
-                result.extend(b",\"kind\":3}")?;
+                list.extend(b",\"kind\":3}")?;
             } else {
-                result.extend(b",\"kind\":2}")?;
+                list.extend(b",\"kind\":2}")?;
             }
         }
     }

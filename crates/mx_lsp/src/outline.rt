@@ -10,14 +10,14 @@ use std::alloc::Global;
 
 /// The kind of a label, by the operation of its statement, as the protocol numbers it: a constant, a variable or a function.
 fn kind_of(operation: &[u8]) -> &'static [u8] {
-    if operation == b"IS" {
+    if operation == b"IS".as_slice() {
         return b"14";
     }
-    if operation == b"GREG"
-        || operation == b"BYTE"
-        || operation == b"WYDE"
-        || operation == b"TETRA"
-        || operation == b"OCTA"
+    if operation == b"GREG".as_slice()
+        || operation == b"BYTE".as_slice()
+        || operation == b"WYDE".as_slice()
+        || operation == b"TETRA".as_slice()
+        || operation == b"OCTA".as_slice()
     {
         return b"13";
     }
@@ -27,23 +27,23 @@ fn kind_of(operation: &[u8]) -> &'static [u8] {
 /// Adds a label.
 fn add_label(
     alloc: Global,
-    result: &mut Bytes,
+    list: &mut Bytes,
     o: &Occurrence,
     source: &[u8],
 ) -> Result<(), NoMemory> {
     let line = line_text(o.line, source);
-    add_string(alloc, result, b"{\"name\":", o.text.as_slice())?;
+    add_string(alloc, list, b"{\"name\":", o.text.as_slice())?;
     let operation = operation_at(line, o.from.min(line.len()));
-    add_between(result, b",\"kind\":", kind_of(operation), b"")?;
-    add_line_range(result, b",\"range\":", o.line, line)?;
+    add_between(list, b",\"kind\":", kind_of(operation), b"")?;
+    add_line_range(list, b",\"range\":", o.line, line)?;
     let range = range_of(alloc, o, source)?;
-    add_between(result, b",\"selectionRange\":", range.as_slice(), b"}")
+    add_between(list, b",\"selectionRange\":", range.as_slice(), b"}")
 }
 
 /// Adds labels.
 fn add_labels(
     alloc: Global,
-    result: &mut Bytes,
+    list: &mut Bytes,
     names: &[Occurrence],
     source: &[u8],
 ) -> Result<(), NoMemory> {
@@ -51,10 +51,10 @@ fn add_labels(
     for o in names {
         if o.is_label && matches!(&o.named, Named::Symbol(_)) {
             if !is_first {
-                result.extend(b",")?;
+                list.extend(b",")?;
             }
             is_first = false;
-            add_label(alloc, result, o, source)?;
+            add_label(alloc, list, o, source)?;
         }
     }
     Ok(())

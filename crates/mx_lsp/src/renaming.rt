@@ -133,7 +133,7 @@ fn changed(
 /// Adds the changes of the names that name this.
 fn add_edits(
     alloc: Global,
-    result: &mut Bytes,
+    list: &mut Bytes,
     names: &[Occurrence],
     named: &Named,
     name: &[u8],
@@ -143,14 +143,14 @@ fn add_edits(
     for o in names {
         if same_named(named, o) {
             if !is_first {
-                result.extend(b",")?;
+                list.extend(b",")?;
             }
             is_first = false;
             let range = range_of(alloc, o, source)?;
-            add_between(result, b"{\"range\":", range.as_slice(), b"")?;
+            add_between(list, b"{\"range\":", range.as_slice(), b"")?;
             let new = new_text(alloc, o, name)?;
-            add_string(alloc, result, b",\"newText\":", new.as_slice())?;
-            result.extend(b"}")?;
+            add_string(alloc, list, b",\"newText\":", new.as_slice())?;
+            list.extend(b"}")?;
         }
     }
     Ok(())

@@ -1,7 +1,6 @@
 //! A session: the messages that come, and the answers to them.
 
 use crate::completion::completion;
-use crate::diagnostics::{diagnostics, no_diagnostics};
 use crate::documents::{Documents, text_of, with_text, without};
 use crate::formatting::formatting;
 use crate::hover::hover;
@@ -13,6 +12,7 @@ use crate::names::{definition, highlights, references};
 use crate::outline::outline;
 use crate::renaming::{Renamed, prepare, rename};
 use crate::signature::signature;
+use mx_diagnostics::{published, withdrawn};
 use mx_wire::{Refused, refusal_of, result_of};
 use mx_word::{Bytes, NoMemory, Sequence};
 use serde_json::Value;
@@ -162,7 +162,7 @@ fn take_text(
 ) -> Result<(), NoMemory> {
     let documents = mem::replace(&mut session.documents, Documents::new(alloc));
     session.documents = with_text(alloc, documents, uri, text)?;
-    out.push(diagnostics(alloc, uri, text)?)
+    out.push(published(alloc, uri, text)?)
 }
 
 /// Forgets a text.
@@ -174,7 +174,7 @@ fn close_text(
 ) -> Result<(), NoMemory> {
     let documents = mem::replace(&mut session.documents, Documents::new(alloc));
     session.documents = without(alloc, documents, uri)?;
-    out.push(no_diagnostics(alloc, uri)?)
+    out.push(withdrawn(alloc, uri)?)
 }
 
 /// Takes what a message tells that asks for no answer.
