@@ -8,8 +8,6 @@ mod hover;
 mod images;
 mod lines;
 mod message;
-mod names;
-mod outline;
 mod renaming;
 mod session;
 mod signature;

@@ -2,10 +2,10 @@
 
 use crate::images::{Compared, compare};
 use crate::lines::Place;
-use crate::names::range_of;
 use mx_json::{add_between, add_string};
 use mx_line::cut_line;
 use mx_occurrences::{Named, Occurrence, occurrence_at, occurrences, same_named};
+use mx_references::range_text;
 use mx_word::{Bytes, NoMemory, is_digit, is_letter, is_name_byte};
 use std::alloc::Global;
 
@@ -146,7 +146,7 @@ fn add_edits(
                 list.extend(b",")?;
             }
             is_first = false;
-            let range = range_of(alloc, o, source)?;
+            let range = range_text(alloc, source, o)?;
             add_between(list, b"{\"range\":", range.as_slice(), b"")?;
             let new = new_text(alloc, o, name)?;
             add_string(alloc, list, b",\"newText\":", new.as_slice())?;
@@ -215,14 +215,5 @@ pub(crate) fn rename(
         Compared::SecondRefused => Ok(Renamed::Refused(
             "the source would have a fault with this name",
         )),
-    }
-}
-
-/// The range of the name at a place, or nothing.
-pub(crate) fn prepare(alloc: Global, place: Place, source: &[u8]) -> Result<Bytes, NoMemory> {
-    let names = occurrences(alloc, source)?;
-    match occurrence_at(names.as_slice(), place.line, place.from) {
-        None => Bytes::copy(alloc, b"null"),
-        Some(o) => range_of(alloc, o, source),
     }
 }

@@ -8,11 +8,10 @@ use crate::lines::{Place, place_at};
 use crate::message::{
     Method, id_of, last_change, method_of, number_at, text_at, uri_of, wants_label,
 };
-use crate::names::{definition, highlights, references};
-use crate::outline::outline;
-use crate::renaming::{Renamed, prepare, rename};
+use crate::renaming::{Renamed, rename};
 use crate::signature::signature;
 use mx_diagnostics::{published, withdrawn};
+use mx_references::{definition, highlights, name_range, outline, references};
 use mx_wire::{Refused, refusal_of, result_of};
 use mx_word::{Bytes, NoMemory, Sequence};
 use serde_json::Value;
@@ -77,10 +76,13 @@ fn result_in(
     let place = place_of_message(message, source);
     match method {
         Method::Hover => hover(alloc, place, source),
-        Method::Definition => definition(alloc, uri, place, source),
-        Method::References => references(alloc, uri, place, wants_label(message), source),
-        Method::Highlight => highlights(alloc, place, source),
-        Method::PrepareRename => prepare(alloc, place, source),
+        Method::Definition => definition(alloc, uri, place.line, place.from, source),
+        Method::References => {
+            let has_labels = wants_label(message);
+            references(alloc, uri, place.line, place.from, has_labels, source)
+        },
+        Method::Highlight => highlights(alloc, place.line, place.from, source),
+        Method::PrepareRename => name_range(alloc, place.line, place.from, source),
         Method::Symbols => outline(alloc, source),
         Method::Completion => completion(alloc, source),
         Method::Signature => signature(alloc, place, source),
