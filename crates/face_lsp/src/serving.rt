@@ -119,7 +119,11 @@ fn turn<H: Host>(alloc: Global, host: &mut H, session: &mut Session, coming: Com
     if most == 0 {
         return Read::Ended(refuse_header(alloc, host));
     }
-    let size = if most < PIECE as u64 { most as usize } else { PIECE };
+    let size = if most < PIECE as u64 {
+        most as usize
+    } else {
+        PIECE
+    };
     match host.read_slot(INPUT, &mut buffer[..size]) {
         Err(fault) => Read::Ended(outcome_of(fault)),
         Ok(0) => Read::Ended(Outcome::Done(1)),

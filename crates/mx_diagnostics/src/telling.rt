@@ -110,11 +110,7 @@ fn add_faults(
 }
 
 /// Adds warnings.
-fn add_warnings(
-    alloc: Global,
-    told: &mut Diagnostics,
-    warnings: &[Warning],
-) -> Result<(), NoMemory>
+fn add_warnings(alloc: Global, told: &mut Diagnostics, warnings: &[Warning]) -> Result<(), NoMemory>
     ensures { OnOk result (told.new ≡ told.old ++ map spec.warning_diagnostic warnings.now) }
 {
     for warning in warnings {
@@ -128,7 +124,11 @@ fn add_warnings(
 fn first_faults(faults: &[ToldFault]) -> &[ToldFault]
     ensures { result.now ≡ take 20 faults.now }
 {
-    if faults.len() > MOST { &faults[..MOST] } else { faults }
+    if faults.len() > MOST {
+        &faults[..MOST]
+    } else {
+        faults
+    }
 }
 
 /// Adds the faults and the warnings of a source.

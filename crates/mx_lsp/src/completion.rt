@@ -15,23 +15,12 @@ static DIRECTIVES: [&str; 11] = [
 fn separator(list: &[u8]) -> &'static [u8] {
     match list {
         [] => b"",
-        [.., b] => {
-            if *b == b'[' {
-                b""
-            } else {
-                b","
-            }
-        }
+        [.., b] => { if *b == b'[' { b"" } else { b"," } }
     }
 }
 
 /// Adds a word, with its kind as the protocol numbers it.
-fn add_word(
-    alloc: Global,
-    list: &mut Bytes,
-    word: &[u8],
-    kind: &[u8],
-) -> Result<(), NoMemory> {
+fn add_word(alloc: Global, list: &mut Bytes, word: &[u8], kind: &[u8]) -> Result<(), NoMemory> {
     let separator = separator(list.as_slice());
     list.extend(separator)?;
     add_string(alloc, list, b"{\"label\":", word)?;

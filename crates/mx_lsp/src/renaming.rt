@@ -19,13 +19,7 @@ pub(crate) enum Renamed {
 /// The digit of a local label as a new name has it: `d`, `dH`, `dB` or `dF`.
 fn new_digit(name: &[u8]) -> Option<u8> {
     match name {
-        [d] => {
-            if is_digit(*d) {
-                Some(*d)
-            } else {
-                None
-            }
-        }
+        [d] => { if is_digit(*d) { Some(*d) } else { None } }
         [d, way] => {
             if is_digit(*d) && (*way == b'H' || *way == b'B' || *way == b'F') {
                 Some(*d)
@@ -103,7 +97,10 @@ fn add_changed_line(
             text.extend(&line[done..o.from])?;
             let new = new_text(alloc, o, name)?;
             text.extend(new.as_slice())?;
-            done = o.from.saturating_add(o.text.as_slice().len()).min(line.len());
+            done = o
+                .from
+                .saturating_add(o.text.as_slice().len())
+                .min(line.len());
         }
     }
     text.extend(&line[done.min(line.len())..])

@@ -82,7 +82,7 @@ cut-at line place cut order =
     record {
       label = λ label e. label-at line cut.label label e;
       tokens = tokens-at line 0 cut.operands.from cut.operands.to (part line cut.operands) (drop cut.operands.to line)
-        (part-front line cut.operands order.operands within) (part-long line cut.operands order.operands within);
+          (part-front line cut.operands order.operands within) (part-long line cut.operands order.operands within);
     }
 
 found-at : (line : List ℕ) (place : ℕ) (later : ℕ → List (Result Cut LineFault)) →

@@ -76,7 +76,11 @@ pub(crate) fn front_digit(text: &[u8]) -> Option<u8>
 pub(crate) fn count_of(course: &Course, d: u8) -> u64
     ensures { result ≡ spec.count_of course.now d }
 {
-    if d < 10 { course.counts[usize::from(d)] } else { 0 }
+    if d < 10 {
+        course.counts[usize::from(d)]
+    } else {
+        0
+    }
 }
 
 /// Counts a local label.

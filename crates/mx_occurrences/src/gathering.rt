@@ -79,7 +79,14 @@ fn add_operands(
     if is_prefix(statement) {
         return Ok(());
     }
-    add_tokens(alloc, out, before, course, line, statement.tokens.as_slice())
+    add_tokens(
+        alloc,
+        out,
+        before,
+        course,
+        line,
+        statement.tokens.as_slice(),
+    )
 }
 
 /// The course with its own copy of the prefix.

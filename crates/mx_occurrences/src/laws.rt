@@ -8,5 +8,4 @@ ghost use Rattle.mx_occurrences.specs.Places as spec;
 #[tactic(auto, using(crate::proofs::InPlace::laws))]
 pub fn names_are_in_their_places()
     ensures { (source : List ℕ) → spec.AreInPlace source (occurrences_of source) }
-{
-}
+{}

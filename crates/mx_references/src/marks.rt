@@ -84,12 +84,7 @@ fn marks(
 }
 
 /// Where the name at a place is in the text, as an editor marks it.
-pub fn highlights(
-    alloc: Global,
-    line: u32,
-    place: usize,
-    source: &[u8],
-) -> Result<Bytes, NoMemory>
+pub fn highlights(alloc: Global, line: u32, place: usize, source: &[u8]) -> Result<Bytes, NoMemory>
     ensures { IfOk result (λ text. text ≡ spec.highlights line place source.now) }
 {
     let names = occurrences(alloc, source)?;

@@ -5,9 +5,7 @@ ghost use Rattle.std.specs.List.{flat_map};
 ghost use Rattle.mx_references.specs.Uses as spec;
 
 use mx_marks::line_text;
-use mx_occurrences::{
-    Named, Occurrence, definition_of, occurrence_at, occurrences, same_named,
-};
+use mx_occurrences::{Named, Occurrence, definition_of, occurrence_at, occurrences, same_named};
 use mx_wire::{Values, add_array, add_location, add_range};
 use mx_word::{Bytes, NoMemory};
 use std::alloc::Global;
@@ -144,15 +142,7 @@ fn uses(
 {
     let mut values = Values::new(alloc);
     if let Some(o) = o {
-        add_uses(
-            alloc,
-            &mut values,
-            uri,
-            source,
-            &o.named,
-            has_labels,
-            names,
-        )?;
+        add_uses(alloc, &mut values, uri, source, &o.named, has_labels, names)?;
     }
     Ok(values)
 }
@@ -187,18 +177,9 @@ fn range_if(alloc: Global, source: &[u8], o: Option<&Occurrence>) -> Result<Byte
 }
 
 /// The range of the name at a place, or nothing.
-pub fn name_range(
-    alloc: Global,
-    line: u32,
-    place: usize,
-    source: &[u8],
-) -> Result<Bytes, NoMemory>
+pub fn name_range(alloc: Global, line: u32, place: usize, source: &[u8]) -> Result<Bytes, NoMemory>
     ensures { IfOk result (λ text. text ≡ spec.name_range line place source.now) }
 {
     let names = occurrences(alloc, source)?;
-    range_if(
-        alloc,
-        source,
-        occurrence_at(names.as_slice(), line, place),
-    )
+    range_if(alloc, source, occurrence_at(names.as_slice(), line, place))
 }
