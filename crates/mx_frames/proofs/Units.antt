@@ -9,13 +9,31 @@ unfolding total
 total-more [] b = omega arith
 total-more (c ∷ text) b = let more = total-more text b in omega (arith, more)
 
+pub total-none : total [] ≡ 0
+unfolding total
+total-none = refl
+
+pub ruleset totals = (total-more, total-none)
+
 -- ---- places
+
+pub none-here : (left : ℕ) → place_of [] left ≡ 0
+unfolding place_of
+none-here left = refl
+
+pub later-column : (b : ℕ) (bs : List ℕ) (left : ℕ) → left ≢ 0 → place_of (b ∷ bs) left ≡ place_of bs (left - units b) + 1
+unfolding place_of
+later-column b bs left some = let no : ((left == 0) && not (units b == 0)) ≡ false = grind (arith, nat_tests) in rw no refl
+
+pub later-byte : (b : ℕ) (bs : List ℕ) (left : ℕ) → units b ≡ 0 → place_of (b ∷ bs) left ≡ place_of bs (left - units b) + 1
+unfolding place_of
+later-byte b bs left none = let no : ((left == 0) && not (units b == 0)) ≡ false = grind (arith, nat_tests) in rw no refl
 
 pub here : (b : ℕ) (bs : List ℕ) (left : ℕ) → left ≡ 0 → units b ≢ 0 → place_of (b ∷ bs) left ≡ 0
 unfolding place_of
 here b bs left e some = grind (arith, nat_tests)
 
-pub ruleset places = (here)
+pub ruleset places = (here, none-here, later-column, later-byte)
 
 -- ---- laws
 

@@ -20,6 +20,7 @@ fn units(b: u8) -> usize
 }
 
 /// How many units of UTF-16 a text has.
+#[tactic(auto, using(crate::proofs::Units::totals))]
 fn total(text: &[u8]) -> usize
     ensures { result ≡ spec.total text.now }
 {

@@ -5,7 +5,7 @@ ghost use Rattle.std.specs.List.{flat_map};
 ghost use Rattle.mx_occurrences.specs.Occurrences as spec;
 
 use crate::course::{Course, is_prefix, label_named, pass_label, pass_prefix, start, token_named};
-use crate::occurrence::{Occurrences, occurrence};
+use crate::occurrence::{Occurrences, make_occurrence};
 use mx_slips::{SourceLine, Statement, Token, source_lines};
 use mx_word::{Bytes, NoMemory};
 use std::alloc::Global;
@@ -25,7 +25,7 @@ fn add_label(
     };
     let text = label.text.as_slice();
     let named = label_named(alloc, course, text)?;
-    out.push(occurrence(alloc, line, label.from, text, true, named)?)
+    out.push(make_occurrence(alloc, line, label.from, text, true, named)?)
 }
 
 /// Adds a token, if it is a name.
@@ -42,7 +42,7 @@ fn add_token(
     let text = token.text.as_slice();
     match token_named(alloc, before, course, text)? {
         None => Ok(()),
-        Some(named) => out.push(occurrence(alloc, line, token.from, text, false, named)?),
+        Some(named) => out.push(make_occurrence(alloc, line, token.from, text, false, named)?),
     }
 }
 

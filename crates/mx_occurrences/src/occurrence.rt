@@ -40,7 +40,7 @@ pub(crate) fn is_same(one: &Named, other: &Named) -> bool
 }
 
 /// A name at a place of a line with this number.
-pub(crate) fn occurrence(
+pub(crate) fn make_occurrence(
     alloc: Global,
     line: u32,
     from: usize,
