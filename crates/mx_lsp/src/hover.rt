@@ -68,7 +68,6 @@ fn is_instruction(statement: &Statement) -> bool {
 
 /// Adds a tetra that a line loads: its address, and what it is as an instruction and costs, if it is one.
 fn add_cell(alloc: Global, text: &mut Bytes, cell: Cell, is_code: bool) -> Result<(), NoMemory> {
-    text.extend(b"#")?;
     text.extend(&octa_hex(cell.address))?;
     text.extend(b": ")?;
     text.extend(&tetra_hex(cell.tetra))?;
@@ -102,10 +101,7 @@ fn add_cells(
 /// Adds the value of a symbol.
 fn add_value(text: &mut Bytes, value: Value) -> Result<(), NoMemory> {
     match value {
-        Value::Pure(x) => {
-            text.extend(b"#")?;
-            text.extend(&octa_hex(x))
-        }
+        Value::Pure(x) => text.extend(&octa_hex(x)),
         Value::Reg(k) => {
             text.extend(b"$")?;
             add_decimal(text, u64::from(k))
