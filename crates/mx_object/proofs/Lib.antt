@@ -1,7 +1,6 @@
 pub mod AddressLists
 pub mod AddressLaws
 pub mod LabelLists
-pub mod Bests
 pub mod NearestLaws
 pub mod ListedImages
 pub mod ShortObjects
