@@ -6,9 +6,8 @@ use Rattle.std.proofs.lemmas.Bool.Decides.{nat_tests}
 use Rattle.mx_host.specs.HostModel.{HostModel}
 use Rattle.mx_host.specs.HostAnswer.{Then}
 use Rattle.mx_plan.specs.Calls.{host, HostPlan, need}
-use Rattle.mx_plan.specs.Plan.{returns, calls, bind, end_of, end_after}
+use Rattle.mx_plan.specs.Plan.{returns, calls, bind, end_of}
 use Rattle.mx_plan.specs.Wild.{Course, ends, meets_wild, then_on, course}
-use Rattle.mx_plan.proofs.WildLaws.{course_bind}
 use Rattle.mx_mmo.specs.Image.{Image}
 use Rattle.mx_code.specs.declared.trace.Trace.{Trace}
 use Rattle.mx_core.specs.State.{State}
@@ -33,7 +32,7 @@ use Rattle.mx_words.specs.declared.order.WordsFault.{WordsFault}
 use Rattle.law_gen.specs.Generator.{generated}
 use Rattle.mx_files.specs.Answers.{Answer, answered, wild, plainly, after_lines}
 use Rattle.mx_files.specs.Clauses.{part_of}
-use Rattle.mx_files.specs.FilePlans.{Part, on_ok, lines_plan}
+use Rattle.mx_files.specs.FilePlans.{Part, lines_plan}
 use Rattle.mx_files.specs.ObjectPlans.{assemble_plan, list_plan}
 use Rattle.mx_files.specs.Schedules.{schedule_plan}
 use Rattle.mx_files.specs.Sources.{source_meaning}
@@ -43,12 +42,11 @@ use Rattle.mx_files.proofs.FileEnds.{lines-end}
 use Rattle.mx_outcome.specs.Kinds.{leaves_machine}
 use Rattle.mx_outcome.specs.declared.outcome.Outcome.{Outcome}
 use Rattle.mx_outcome.specs.declared.outcome.Outcome.TheVariants.{Done, Usage, NoFile, HostFault, Refused, BadObject, BadSchedule, Stopped, StepsSpent, Quit, ConsoleLimit, OutOfMemory}
-use Rattle.mx_begin.specs.Arguments.{Word, word_at, arguments}
-use Rattle.mx_begin.specs.BeginPlans.{begin_plan, image_file_plan, start_plan}
+use Rattle.mx_begin.specs.Arguments.{Word, word_at}
+use Rattle.mx_begin.specs.BeginPlans.{begin_plan, image_file_plan}
 use Rattle.mx_begin.specs.Begun.{started, stack_at_start}
 use Rattle.mx_begin.specs.declared.images.Form.{Form}
 use Rattle.mx_begin.specs.declared.images.Form.TheVariants.{Source, Object}
-use Rattle.mx_begin.proofs.Beginnings.{begin-by, start-end}
 use Rattle.mx_dump.specs.Dump.{dump_lines}
 use Rattle.mx_top.specs.Commands.{begun_run, summed, summed_from, generated_run, image_turned, after_schedule, ordered, carried_out, with_message, order_traces, begun_traces, ordered_traces, carried_traces}
 use Rattle.mx_top.specs.MachineWork.{Work, WorkPlan, work_goes, calling, stepping, reporting, keeping, sitting, going_back, dumping}
@@ -57,8 +55,11 @@ use Rattle.mx_top.specs.Processors.{multi_lines, multi_outcome, processors_named
 use Rattle.mx_top.specs.Product.{ProgramPlan, ProgramWorld, program_goes, at_start, worked, work_on, turned, answer_of, told_of, product, product_course, product_traces}
 use Rattle.mx_top.specs.Product as page
 use Rattle.mx_top.specs.Runs.{Ran, ran, ran_wild, generator_steps, outcome_of, dumped, ran_to, machine_ran, session_ran, session_outcome, played, takes_back, state_lines, reached, lines_told, taken_back, run_back, run_from}
-use Rattle.mx_top.specs.Telling.{telling, message_plan}
-use Rattle.mx_top.proofs.ProductEnds.{telling-end, message-end}
+use Rattle.mx_top.specs.Telling.{telling}
+use Rattle.mx_top.proofs.ProductEnds.{telling-end}
+use Rattle.mx_top.proofs.Spoken.{product-is-said, traces-of}
+use Rattle.mx_top.proofs.WorkParts.{begun_by, file-course, run-on}
+use Rattle.mx_top.proofs.WorkPlans.{host-bind, taking-course}
 use Rattle.mx_top.proofs.TakenBack.{faulted, no-last}
 
 -- an answer, with traces that were told
@@ -158,19 +159,10 @@ machine-course kind o s m = by o.interactive o.report (o.last == 0) refl
 
 -- ---- the program: a plan of the host first, and a part
 
-host-bind : {A : Type 0} (kind : MachineKind) (f : A → ProgramPlan Outcome) (p : HostPlan A) (w : ProgramWorld) → course (program_goes kind) (bind f (page.on_host p)) w ≡ course (program_goes kind) (f (end_of host p w.0).0) ((end_of host p w.0).1, w.1)
-unfolding course bind page.on_host end_of
-host-bind kind f (returns a) w = refl
-host-bind kind f (calls o k) w = host-bind kind f (k (host.act o w.0).0) ((host.act o w.0).1, w.1)
-
 host-course : (kind : MachineKind) (p : HostPlan Outcome) (w : ProgramWorld) → course (program_goes kind) (page.on_host p) w ≡ told_with w.1 (plainly (end_of host p w.0))
 unfolding course page.on_host end_of
 host-course kind (returns a) w = refl
 host-course kind (calls o k) w = host-course kind (k (host.act o w.0).0) ((host.act o w.0).1, w.1)
-
-taking-course : (kind : MachineKind) (p : ProgramPlan Outcome) (w : ProgramWorld) → course (program_goes kind) (page.taking p) w ≡ course (program_goes kind) p w
-unfolding course bind page.on_host need host
-taking-course kind p w = refl
 
 part-course : {A : Type 0} (kind : MachineKind) (f : A → ProgramPlan Outcome) (told : Then (Result A Outcome) → List Trace) (g : Then (Result A Outcome) → Answer) (p : Part A) (m : HostModel) →
     ((o : Outcome) (n : HostModel) → ends o (n, []) ≡ told_with (told (Err o, n)) (g (Err o, n))) → ((x : A) (n : HostModel) → course (program_goes kind) (f x) (n, []) ≡ told_with (told (Ok x, n)) (g (Ok x, n))) →
@@ -182,35 +174,18 @@ part-course {A} kind f told g p m none some = host-bind kind (page.on_part f) p 
     by (Ok x, n) = some x n
     by (Err o, n) = none o n
 
-ends-alone : {A W : Type 0} (c : Course A W) → then_on (λ a w. ends a w) c ≡ c
-ends-alone (ends a w) = refl
-ends-alone (meets_wild w) = refl
-
 -- ---- `run` and `sim`
-
-run-on : (kind : MachineKind) (ring : ℕ) (args : List Word) (plan : WorkPlan Outcome) (image : Image) (m : HostModel) →
-    course (program_goes kind) (page.run_on ring args plan image) (m, []) ≡ work_on kind plan (started kind ring image args) (m, [])
-unfolding course bind page.on_host need host
-run-on kind ring args plan image m = ends-alone (work_on kind plan (started kind ring image args) (m, []))
 
 begun-course : (kind : MachineKind) (o : Order) (r : Result State Outcome) (m : HostModel) → work_on kind (work.machine_plan o) r (m, []) ≡ told_with (begun_traces kind o (r, m)) (begun_run kind o (r, m))
 begun-course kind o (Err outcome) m = refl
 begun-course kind o (Ok s) m = machine-course kind o s m
 
-file-course : (kind : MachineKind) (words : List Word) (o : Order) (form : Form) (m : HostModel) →
+file-so : (kind : MachineKind) (words : List Word) (o : Order) (form : Form) (m : HostModel) →
     course (program_goes kind) (page.run_file words o form) (m, []) ≡ told_with (begun_traces kind o (end_of host (begin_plan kind words o form) m)) (begun_run kind o (end_of host (begin_plan kind words o form) m))
-unfolding page.run_file end_of
-file-course kind words o form m =
-    taking-course kind _ (m, [])
-    ∙ part-course kind (page.run_on o.ring args (work.machine_plan o)) (λ t. begun_traces kind o (end_after host (on_ok (start_plan kind o.ring args)) t)) (λ t. begun_run kind o (end_after host (on_ok (start_plan kind o.ring args)) t))
-    (image_file_plan form (word_at words o.file)) m (λ x n. refl) (λ image n. run-on kind o.ring args (work.machine_plan o) image n ∙ begun-course kind o (started kind o.ring image args) n ∙ ap both-of (sym (start-end kind o.ring args image n)))
-    ∙ ap both-of (sym (begin-by kind words o form m))
+file-so kind words o form m = file-course kind words o form m ∙ by (end_of host (begin_plan kind words o form) m)
   where
-    args : List Word
-    args = arguments words o
-
-    both-of : Then (Result State Outcome) → Course Outcome ProgramWorld
-    both-of t = told_with (begun_traces kind o t) (begun_run kind o t)
+    by : (t : Then (Result State Outcome)) → begun_by kind (work.machine_plan o) t ≡ told_with (begun_traces kind o t) (begun_run kind o t)
+    by (r, n) = begun-course kind o r n
 
 -- ---- `gen`
 
@@ -240,7 +215,7 @@ source-course : (kind : MachineKind) (o : Order) (size : ℕ) (r : Result Image 
 unfolding course
 source-course kind o size (Err refusal) m = refl
 source-course kind o size (Ok image) m =
-    run-on kind o.ring (codes "gen" ∷ []) (calling (stepping generator_steps) (λ end. work.summed_plan o.number size (outcome_of generator_steps end))) image m ∙ summed-start kind o.number size (started kind o.ring image (codes "gen" ∷ [])) m
+    run-on kind o.ring (codes "gen" ∷ []) (work.generated_work o.number size) image (m, []) ∙ summed-start kind o.number size (started kind o.ring image (codes "gen" ∷ [])) m
 
 -- ---- `multi`
 
@@ -261,8 +236,8 @@ object-course kind o object schedule m =
 
 ordered-course : (kind : MachineKind) (words : List Word) (o : Order) (command : Command) (m : HostModel) → course (program_goes kind) (page.ordered_plan words o command) (m, []) ≡ told_with (ordered_traces kind words o command m) (ordered kind words o command m)
 unfolding page.ordered_plan
-ordered-course kind words o Run m = file-course kind words o Source m
-ordered-course kind words o Sim m = file-course kind words o Object m
+ordered-course kind words o Run m = file-so kind words o Source m
+ordered-course kind words o Sim m = file-so kind words o Object m
 ordered-course kind words o Asm m = host-course kind (assemble_plan (word_at words o.file) (word_at words o.rest)) (m, [])
 ordered-course kind words o Gen m =
     taking-course kind _ (m, []) ∙ taking-course kind (page.run_source o (length (generated o.number)) (source_meaning (generated o.number))) (m, []) ∙ source-course kind o (length (generated o.number)) (source_meaning (generated o.number)) m
@@ -275,17 +250,6 @@ unfolding course
 work-course kind words (Err fault) m = refl
 work-course kind words (Ok o) m = ordered-course kind words o o.command m
 
-message-course : (kind : MachineKind) (told : List Trace) (a : Answer) → then_on (λ outcome w. course (program_goes kind) (page.on_host (message_plan outcome)) w) (told_with told a) ≡ told_with told (with_message a)
-message-course kind told (answered outcome m) = host-course kind (message_plan outcome) (m, told) ∙ ap (told_with told) (message-end outcome m)
-message-course kind told (wild m) = refl
-
-product-so : (kind : MachineKind) (words : List Word) (m : HostModel) → product_course kind words m ≡ told_with (carried_traces kind words (order_of words) m) (with_message (carried_out kind words (order_of words) m))
-unfolding product_course page.product_plan
-product-so kind words m =
-    course_bind (program_goes kind) (λ outcome. page.on_host (message_plan outcome)) (page.work_plan words (order_of words)) (m, [])
-    ∙ ap (λ (c : Course Outcome ProgramWorld). then_on (λ outcome w. course (program_goes kind) (page.on_host (message_plan outcome)) w) c) (work-course kind words (order_of words) m)
-    ∙ message-course kind (carried_traces kind words (order_of words) m) (carried_out kind words (order_of words) m)
-
 answer-with : (told : List Trace) (a : Answer) → answer_of (told_with told a) ≡ a
 answer-with told (answered outcome m) = refl
 answer-with told (wild m) = refl
@@ -294,17 +258,16 @@ told-with : (told : List Trace) (a : Answer) → told_of (told_with told a) ≡ 
 told-with told (answered outcome m) = refl
 told-with told (wild m) = refl
 
--- the product is what its commands come to, and the traces are those of the run
-pub product-is-course : (kind : MachineKind) (words : List Word) (m : HostModel) → product kind words m ≡ with_message (carried_out kind words (order_of words) m)
-unfolding product
-product-is-course kind words m = ap answer_of (product-so kind words m) ∙ answer-with (carried_traces kind words (order_of words) m) (with_message (carried_out kind words (order_of words) m))
-
-pub traces-are-told : (kind : MachineKind) (words : List Word) (m : HostModel) → product_traces kind words m ≡ carried_traces kind words (order_of words) m
-unfolding product_traces
-traces-are-told kind words m = ap told_of (product-so kind words m) ∙ told-with (carried_traces kind words (order_of words) m) (with_message (carried_out kind words (order_of words) m))
-
--- so is the work without the message
+-- the work is what its command comes to, without the message
 pub work-is-course : (kind : MachineKind) (words : List Word) (r : Result Order WordsFault) (m : HostModel) → answer_of (course (program_goes kind) (page.work_plan words r) (m, [])) ≡ carried_out kind words r m
 work-is-course kind words r m = ap answer_of (work-course kind words r m) ∙ answer-with (carried_traces kind words r m) (carried_out kind words r m)
+
+-- so the product is what its commands come to, and the traces are those of the run
+pub product-is-course : (kind : MachineKind) (words : List Word) (m : HostModel) → product kind words m ≡ with_message (carried_out kind words (order_of words) m)
+product-is-course kind words m = product-is-said kind words m ∙ ap with_message (work-is-course kind words (order_of words) m)
+
+pub traces-are-told : (kind : MachineKind) (words : List Word) (m : HostModel) → product_traces kind words m ≡ carried_traces kind words (order_of words) m
+traces-are-told kind words m =
+    traces-of kind words m ∙ ap told_of (work-course kind words (order_of words) m) ∙ told-with (carried_traces kind words (order_of words) m) (carried_out kind words (order_of words) m)
 
 pub ruleset courses = (product-is-course, work-is-course, traces-are-told)

@@ -149,9 +149,9 @@ fn finish<H: Host>(alloc: Global, host: &mut H, outcome: Outcome, texts: &[Bytes
 ///
 /// With `--report`, `run` and `sim` tell each watcher the trace of every step that the program completes, up to one
 /// at which it is full; that one leaves the list. Behind the message, the report of each on what it heard is
-/// written to slot 260, in the order of the list, if there is something in it. Nothing else changes: the outcome
-/// is that of `mmixware`, and so is all that the host holds before the reports. Without `--report` no watcher
-/// is told anything.
+/// written to slot 260, in the order of the list, if there is something in it; where the work found no memory, none is.
+/// Nothing else changes: the outcome is that of `mmixware`, and so is all that the host holds before the reports, unless
+/// the reports lack memory. Without `--report` no watcher is told anything.
 pub fn mmixware_watched<H: Host>(
     alloc: Global,
     words: &[String],
