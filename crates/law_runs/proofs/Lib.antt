@@ -15,8 +15,10 @@ pub mod SteadyFiles
 pub mod SteadyProduct
 pub mod SteadyTurns
 pub mod SteadyWork
+pub mod ToldFiles
 pub mod ToldPrograms
 pub mod UnbrokenRuns
 pub mod UnbrokenTurns
 pub mod WholeFiles
 pub mod WatchedCalls
+pub mod WorkEnds

@@ -31,8 +31,10 @@ end-told : (steps : ℕ) (e : RunEnd) → RunEndsSo Told e → is_told (ran_to s
 end-told steps (run_ended e) h = h steps
 end-told steps (run_wild m) h = refl
 
+pub runs-told : (kind : MachineKind) (steps : ℕ) (s : State) (m : HostModel) → RunEndsSo Told (run_by kind steps no_flags false s m)
+runs-told kind steps s m = run-ends-so kind no_flags HasMemory AnyWay Told leads (λ t k tame. has-memory (turn t k)) steps false s m tt
+
 pub machines-told : (kind : MachineKind) (steps : ℕ) (s : State) (m : HostModel) → is_told (machine_ran kind steps s m) ≡ true
-machines-told kind steps s m =
-    end-told steps (run_by kind steps no_flags false s m) (run-ends-so kind no_flags HasMemory AnyWay Told leads (λ t k tame. has-memory (turn t k)) steps false s m tt)
+machines-told kind steps s m = end-told steps (run_by kind steps no_flags false s m) (runs-told kind steps s m)
 
 pub ruleset unbroken = (machines-told)
