@@ -10,7 +10,7 @@ use mx_word::{Bytes, Symbol, Symbols, Value};
 use std::alloc::Global;
 
 /// An item of a row.
-enum Row {
+pub(crate) enum Row {
     Load(u32),
     Loc(u64),
     Skip(u16),
@@ -109,7 +109,7 @@ fn two(alloc: Global, x: u64, y: u64) -> Option<Octas>
 }
 
 /// What a loader answers to a row.
-fn take_row(alloc: Global, loader: &mut Loader, row: &Row) -> Result<(), LoadFault> {
+pub(crate) fn take_row(alloc: Global, loader: &mut Loader, row: &Row) -> Result<(), LoadFault> {
     match item_of(alloc, row) {
         Some(item) => loader.take(&item),
         None => Err(LoadFault::OutOfMemory),
@@ -477,70 +477,4 @@ fn faults(rt: HostRuntime) {
         ),
         (90, 0)
     );
-}
-
-/// Gives a loader a tetra on each of as many pages as there may be.
-fn fill(loader: &mut Loader) -> Result<(), LoadFault> {
-    for page in 0..65536 {
-        loader.take(&Item::Loc(page * 4096))?;
-        loader.take(&Item::Load(1))?;
-    }
-    Ok(())
-}
-
-/// A row, and what is answered to it.
-type Turn = (Row, Result<(), LoadFault>);
-
-/// What a loader answers in turn whose memory is full, and the fault that it ends with.
-static FULL: [(&[Turn], LoadFault); 2] = [
-    (
-        &[
-            (Load(2), Ok(())),
-            (Loc(1 << 40), Ok(())),
-            (Load(0), Err(LoadFault::PagesFull)),
-            // the fault is answered again
-            (Loc(0), Err(LoadFault::PagesFull)),
-            (Line(1), Err(LoadFault::PagesFull)),
-        ],
-        LoadFault::PagesFull,
-    ),
-    // an octa that would lie in the stack segment by half is refused for that
-    (
-        &[(FixOcta(0x5fff_ffff_ffff_fffc), Err(LoadFault::BadPlace))],
-        LoadFault::BadPlace,
-    ),
-];
-
-/// The first turn at which a loader answers otherwise, if there is one.
-fn turn_otherwise(alloc: Global, loader: &mut Loader, turns: &[Turn]) -> Option<usize> {
-    for (turn, (row, answer)) in turns.iter().enumerate() {
-        if take_row(alloc, loader, row) != *answer {
-            return Some(turn);
-        }
-    }
-    None
-}
-
-/// The first turn at which a loader answers otherwise once its memory is full, if there is one.
-fn full_otherwise(
-    alloc: Global,
-    loader: &mut Loader,
-    turns: &[Turn],
-) -> Result<Option<usize>, LoadFault> {
-    fill(loader)?;
-    Ok(turn_otherwise(alloc, loader, turns))
-}
-
-/// The same of a new loader, and the fault that it ends with.
-fn filled(alloc: Global, turns: &[Turn]) -> (Result<Option<usize>, LoadFault>, Option<LoadFault>) {
-    let mut loader = Loader::new(alloc);
-    let turn = full_otherwise(alloc, &mut loader, turns);
-    (turn, loader.finish(Symbols::new(alloc)).err())
-}
-
-#[test]
-fn full_memory(rt: HostRuntime) {
-    for (turns, fault) in &FULL {
-        assert_eq!(rt; filled(rt.alloc(), turns), (Ok(None), Some(*fault)));
-    }
 }

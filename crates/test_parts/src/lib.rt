@@ -6,6 +6,8 @@
 #[cfg(test)]
 mod back;
 #[cfg(test)]
+mod full;
+#[cfg(test)]
 mod images;
 #[cfg(test)]
 mod instructions;
