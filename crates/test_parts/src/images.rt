@@ -1,7 +1,6 @@
 //! Items with what they come to; octas and addresses were worked out by hand from the format's rules.
 
-ghost use Rattle.std.specs.Prelude.{◌≡◌, ◌⊎◌, ◌∷◌, [], IfSome};
-ghost use Rattle.std.specs.List.{AllByRecursion};
+ghost use Rattle.std.specs.Prelude.{◌≡◌, ◌∷◌, [], IfSome};
 ghost use Rattle.mx_mmo.specs.Valid.{Fits};
 
 use mx_load::{Image, LoadFault, Loader, load};
@@ -10,7 +9,7 @@ use mx_word::{Bytes, Symbol, Symbols, Value};
 use std::alloc::Global;
 
 /// An item of a row.
-pub(crate) enum Row {
+enum Row {
     Load(u32),
     Loc(u64),
     Skip(u16),
@@ -32,70 +31,45 @@ pub(crate) enum Row {
 
 use Row::*;
 
-/// The item of a row that needs no memory; nothing where it needs some, or where the word of a far fix is too big.
-fn plain_item(row: &Row) -> Option<Item>
-    ensures { IfSome result Fits }
-{
-    match row {
-        Load(t) => Some(Item::Load(*t)),
-        Loc(a) => Some(Item::Loc(*a)),
-        Skip(n) => Some(Item::Skip(*n)),
-        FixOcta(a) => Some(Item::FixOcta(*a)),
-        FixNear(n) => Some(Item::FixNear(*n)),
-        Fix16(word) => far_fix(16, *word),
-        Fix24(word) => far_fix(24, *word),
-        File(number) => Some(Item::File {
-            number: *number,
-            name: None,
-        }),
-        Line(n) => Some(Item::Line(*n)),
-        Spec(n) => Some(Item::Spec(*n)),
-        Stab => Some(Item::Stab),
-        Named(_) | Pre | Post(_, _) => None,
-    }
-}
-
-/// A far fix of so many bits, 16 or 24; nothing where its word is too big.
-fn far_fix(bits: u8, word: u32) -> Option<Item>
-    requires { (bits ≡ 16) ⊎ (bits ≡ 24) }
-    ensures { IfSome result Fits }
-{
-    if word < 1 << 25 {
-        Some(Item::FixFar { bits, word })
-    } else {
-        None
-    }
-}
-
 /// The item of a row; nothing where there is no memory, or where the word of a far fix is too big.
 fn item_of(alloc: Global, row: &Row) -> Option<Item>
     ensures { IfSome result Fits }
 {
-    match row {
-        Named(number) => named(alloc, *number),
-        Pre => Some(Item::Pre(Words::new(alloc))),
-        Post(x, y) => post(alloc, *x, *y),
-        _ => plain_item(row),
-    }
-}
-
-/// The file of this number with a name.
-fn named(alloc: Global, number: u8) -> Option<Item>
-    ensures { IfSome result Fits }
-{
-    let name = Bytes::copy(alloc, b"a").ok()?;
-    Some(Item::File {
-        number,
-        name: Some(name),
+    Some(match row {
+        Load(t) => Item::Load(*t),
+        Loc(a) => Item::Loc(*a),
+        Skip(n) => Item::Skip(*n),
+        FixOcta(a) => Item::FixOcta(*a),
+        FixNear(n) => Item::FixNear(*n),
+        Fix16(word) if *word < 1 << 25 => Item::FixFar {
+            bits: 16,
+            word: *word,
+        },
+        Fix24(word) if *word < 1 << 25 => Item::FixFar {
+            bits: 24,
+            word: *word,
+        },
+        Fix16(_) | Fix24(_) => return None,
+        File(number) => Item::File {
+            number: *number,
+            name: None,
+        },
+        Named(number) => {
+            let name = Bytes::copy(alloc, b"a").ok()?;
+            Item::File {
+                number: *number,
+                name: Some(name),
+            }
+        }
+        Line(n) => Item::Line(*n),
+        Spec(n) => Item::Spec(*n),
+        Pre => Item::Pre(Words::new(alloc)),
+        Post(x, y) => Item::Post {
+            g: 254,
+            values: two(alloc, *x, *y)?,
+        },
+        Stab => Item::Stab,
     })
-}
-
-/// The last two global registers.
-fn post(alloc: Global, x: u64, y: u64) -> Option<Item>
-    ensures { IfSome result Fits }
-{
-    let values = two(alloc, x, y)?;
-    Some(Item::Post { g: 254, values })
 }
 
 /// A list of two octas.
@@ -109,34 +83,30 @@ fn two(alloc: Global, x: u64, y: u64) -> Option<Octas>
 }
 
 /// What a loader answers to a row.
-pub(crate) fn take_row(alloc: Global, loader: &mut Loader, row: &Row) -> Result<(), LoadFault> {
+fn take_row(alloc: Global, loader: &mut Loader, row: &Row) -> Result<(), LoadFault> {
     match item_of(alloc, row) {
         Some(item) => loader.take(&item),
         None => Err(LoadFault::OutOfMemory),
     }
 }
 
-/// Gives rows to a loader, up to one that it refuses.
-fn take_rows(alloc: Global, loader: &mut Loader, rows: &[Row]) -> Result<(), LoadFault> {
-    for row in rows {
-        take_row(alloc, loader, row)?;
-    }
-    Ok(())
-}
-
 /// The image of rows.
 fn image_of_rows(alloc: Global, rows: &[Row]) -> Result<Image, LoadFault> {
     let mut loader = Loader::new(alloc);
-    match take_rows(alloc, &mut loader, rows) {
-        Ok(()) => loader.finish(Symbols::new(alloc)),
-        Err(fault) => Err(fault),
+    for row in rows {
+        take_row(alloc, &mut loader, row)?;
     }
+    loader.finish(Symbols::new(alloc))
 }
 
-/// The symbol `:Main` of the small program.
-fn main_symbol(alloc: Global) -> Option<Symbols> {
-    let name = Bytes::copy(alloc, b":Main").ok()?;
+/// The image of `first.mms`, with a shorter name of its file: `hi` and a newline at #100, and three
+/// instructions.
+fn small(alloc: Global) -> Option<Image> {
+    let mut values = Octas::new(alloc);
+    values.push(0x104).ok()?;
     let mut symbols = Symbols::new(alloc);
+    let name = Bytes::copy(alloc, b":Main").ok()?;
+    let file = item_of(alloc, &Named(0))?;
     symbols
         .push(Symbol {
             name,
@@ -144,31 +114,6 @@ fn main_symbol(alloc: Global) -> Option<Symbols> {
             serial: 1,
         })
         .ok()?;
-    Some(symbols)
-}
-
-/// The value of its only global register.
-fn main_value(alloc: Global) -> Option<Octas>
-    ensures { IfSome result (λ octas. octas ≡ 260 ∷ []) }
-{
-    let mut values = Octas::new(alloc);
-    values.push(0x104).ok()?;
-    Some(values)
-}
-
-/// The image of items with its symbol.
-fn with_symbol(alloc: Global, items: &[Item]) -> Option<Image>
-    requires { AllByRecursion Fits items.now }
-{
-    load(alloc, items, main_symbol(alloc)?).ok()
-}
-
-/// The image of `first.mms`, with a shorter name of its file: `hi` and a newline at #100, and three
-/// instructions.
-fn small_of(alloc: Global, file: Item, values: Octas) -> Option<Image>
-    requires file { Fits file }
-    requires values { values ≡ 260 ∷ [] }
-{
     let items = [
         Item::Pre(Words::new(alloc)),
         file,
@@ -181,13 +126,7 @@ fn small_of(alloc: Global, file: Item, values: Octas) -> Option<Image>
         Item::Post { g: 255, values },
         Item::Stab,
     ];
-    with_symbol(alloc, &items)
-}
-
-/// The same, with the name of its file and the value of Main.
-fn small(alloc: Global) -> Option<Image> {
-    let values = main_value(alloc)?;
-    small_of(alloc, item_of(alloc, &Named(0))?, values)
+    load(alloc, &items, symbols).ok()
 }
 
 /// Whether the only symbol has the value of the small program's Main.
@@ -250,15 +189,13 @@ static SMALL_LINES: [(u64, u32); 5] = [(0xff, 0), (0x100, 2), (0x107, 3), (0x10c
 
 /// What is seen of the small program, its registers, whether it has the symbol, and its last octa.
 fn small_seen(alloc: Global) -> Option<(Seen, (u8, [u64; 3]), bool, u64)> {
-    match small(alloc) {
-        Some(image) => Some((
-            seen(&image, &SMALL_OCTAS, &SMALL_LINES),
-            globals(&image),
-            is_main(image.symbols().as_slice()),
-            image.into_memory().load(0x10f),
-        )),
-        None => None,
-    }
+    let image = small(alloc)?;
+    Some((
+        seen(&image, &SMALL_OCTAS, &SMALL_LINES),
+        globals(&image),
+        is_main(image.symbols().as_slice()),
+        image.into_memory().load(0x10f),
+    ))
 }
 
 #[test]
@@ -403,10 +340,8 @@ fn rows_seen(
     octas: &[(u64, u64)],
     lines: &[(u64, u32)],
 ) -> Result<Seen, LoadFault> {
-    match image_of_rows(alloc, rows) {
-        Ok(image) => Ok(seen(&image, octas, lines)),
-        Err(fault) => Err(fault),
-    }
+    let image = image_of_rows(alloc, rows)?;
+    Ok(seen(&image, octas, lines))
 }
 
 /// The number of the first row whose image is otherwise, and what is seen of it, if there is one.
@@ -427,10 +362,8 @@ fn images(rt: HostRuntime) {
 
 /// The registers of the image of rows.
 fn rows_globals(alloc: Global, rows: &[Row]) -> Result<(u8, [u64; 3]), LoadFault> {
-    match image_of_rows(alloc, rows) {
-        Ok(image) => Ok(globals(&image)),
-        Err(fault) => Err(fault),
-    }
+    let image = image_of_rows(alloc, rows)?;
+    Ok(globals(&image))
 }
 
 #[test]
@@ -443,7 +376,7 @@ fn registers(rt: HostRuntime) {
 
 /// Items that are refused, and the number of the fault.
 static REFUSED: [(&[Row], u16); 9] = [
-    // in the stack segment: at its first tetra, loaded after the last tetra below it, by half
+    // in the stack segment: at its first tetra, loaded behind the last tetra below it, by half
     // of an octa, and at the end of all addresses
     (&[Loc(0x6000_0000_0000_0000), Load(0)], 95),
     (&[Loc(0x5fff_ffff_ffff_ffff), Load(1), Load(2)], 95),
@@ -477,4 +410,70 @@ fn faults(rt: HostRuntime) {
         ),
         (90, 0)
     );
+}
+
+/// Gives a loader a tetra on each of as many pages as there may be.
+fn fill(loader: &mut Loader) -> Result<(), LoadFault> {
+    for page in 0..65536 {
+        loader.take(&Item::Loc(page * 4096))?;
+        loader.take(&Item::Load(1))?;
+    }
+    Ok(())
+}
+
+/// A loader whose memory has as many pages as there may be.
+fn full(alloc: Global) -> Result<Loader, LoadFault> {
+    let mut loader = Loader::new(alloc);
+    fill(&mut loader)?;
+    Ok(loader)
+}
+
+/// A row, and what is answered to it.
+type Turn = (Row, Result<(), LoadFault>);
+
+/// What a loader answers in turn whose memory is full, and the fault that it ends with.
+static FULL: [(&[Turn], LoadFault); 2] = [
+    (
+        &[
+            (Load(2), Ok(())),
+            (Loc(1 << 40), Ok(())),
+            (Load(0), Err(LoadFault::PagesFull)),
+            // the fault is answered again
+            (Loc(0), Err(LoadFault::PagesFull)),
+            (Line(1), Err(LoadFault::PagesFull)),
+        ],
+        LoadFault::PagesFull,
+    ),
+    // an octa that would lie in the stack segment by half is refused for that
+    (
+        &[(FixOcta(0x5fff_ffff_ffff_fffc), Err(LoadFault::BadPlace))],
+        LoadFault::BadPlace,
+    ),
+];
+
+/// The first turn at which a loader answers otherwise, if there is one.
+fn turn_otherwise(alloc: Global, loader: &mut Loader, turns: &[Turn]) -> Option<usize> {
+    for (turn, (row, answer)) in turns.iter().enumerate() {
+        if take_row(alloc, loader, row) != *answer {
+            return Some(turn);
+        }
+    }
+    None
+}
+
+/// The first turn at which a loader whose memory is full answers otherwise, and the fault that it ends with.
+fn full_otherwise(
+    alloc: Global,
+    turns: &[Turn],
+) -> Result<(Option<usize>, Option<LoadFault>), LoadFault> {
+    let mut loader = full(alloc)?;
+    let turn = turn_otherwise(alloc, &mut loader, turns);
+    Ok((turn, loader.finish(Symbols::new(alloc)).err()))
+}
+
+#[test]
+fn full_memory(rt: HostRuntime) {
+    for (turns, fault) in &FULL {
+        assert_eq!(rt; full_otherwise(rt.alloc(), turns), Ok((None, Some(*fault))));
+    }
 }

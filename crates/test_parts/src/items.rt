@@ -30,23 +30,12 @@ fn pieces(alloc: Global, bytes: &[u8], size: usize) -> Result<Vec<Bytes>, NoMemo
     Ok(pieces)
 }
 
-/// Gives the next item, if one is whole, to a writer. Whether there was one.
-fn put_item(reader: &mut Reader, writer: &mut Writer) -> Result<bool, MmoFault> {
-    match reader.next() {
-        Ok(Some(item)) => match writer.put(&item) {
-            Ok(()) => Ok(true),
-            Err(fault) => Err(fault),
-        },
-        Ok(None) => Ok(false),
-        Err(fault) => Err(fault),
-    }
-}
-
 /// Gives the items that are whole to a writer.
 fn put_items(reader: &mut Reader, writer: &mut Writer, most: usize) -> Result<(), MmoFault> {
     for _ in 0..most {
-        if !put_item(reader, writer)? {
-            return Ok(());
+        match reader.next()? {
+            Some(item) => writer.put(&item)?,
+            None => return Ok(()),
         }
     }
     Ok(())
@@ -72,41 +61,17 @@ fn ended(writer: Writer, tail: &Tail) -> Result<Bytes, MmoFault> {
     writer.end(trie)
 }
 
-/// Gives the items of bytes that come in pieces of a size to a writer.
-fn put_pieces(
-    reader: &mut Reader,
-    writer: &mut Writer,
-    bytes: &[u8],
-    size: usize,
-) -> Result<(), MmoFault>
-    requires { 0 < size }
-{
-    for piece in bytes.chunks(size) {
-        put_piece(reader, writer, piece, bytes.len())?;
-    }
-    Ok(())
-}
-
-/// The same by a new reader, and what the reader finds at the end.
-fn put_all(alloc: Global, writer: &mut Writer, bytes: &[u8], size: usize) -> Result<Tail, MmoFault>
-    requires { 0 < size }
-{
-    let mut reader = Reader::new(alloc);
-    match put_pieces(&mut reader, writer, bytes, size) {
-        Ok(()) => reader.finish(),
-        Err(fault) => Err(fault),
-    }
-}
-
 /// The object of bytes that come in pieces of a size, written again.
 fn written_again(alloc: Global, bytes: &[u8], size: usize) -> Result<Bytes, MmoFault>
     requires { 0 < size }
 {
+    let mut reader = Reader::new(alloc);
     let mut writer = Writer::new(alloc);
-    match put_all(alloc, &mut writer, bytes, size) {
-        Ok(tail) => ended(writer, &tail),
-        Err(fault) => Err(fault),
+    for piece in bytes.chunks(size) {
+        put_piece(&mut reader, &mut writer, piece, bytes.len())?;
     }
+    let tail = reader.finish()?;
+    ended(writer, &tail)
 }
 
 /// The first size of pieces in which an object is not written as it should be, if there is one.

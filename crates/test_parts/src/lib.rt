@@ -6,8 +6,6 @@
 #[cfg(test)]
 mod back;
 #[cfg(test)]
-mod full;
-#[cfg(test)]
 mod images;
 #[cfg(test)]
 mod instructions;

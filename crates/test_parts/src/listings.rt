@@ -1,8 +1,8 @@
 //! Listings, row by row. The rows are worked out by hand from the tables of lines and of lopcodes.
 
-use mx_mmo::{Item, MmoFault, Object, Reader, read};
+use mx_mmo::{MmoFault, Object, Reader, read};
 use mx_type::{Lister, listing};
-use mx_word::{Bytes, NoMemory, Symbols, tetra_bytes};
+use mx_word::{Bytes, NoMemory, tetra_bytes};
 use std::alloc::Global;
 
 /// An object in tetras, and its listing.
@@ -28,7 +28,7 @@ static TIMED: [u32; 15] = [
 ];
 
 /// An object with each lopcode. Its trie has a character of two bytes, a blank with a register, and a
-/// value past 2^61.
+/// value behind 2^61.
 static EACH: [u32; 39] = [
     // pre, with two tetras
     0x9809_0102,
@@ -144,59 +144,47 @@ fn object_of(alloc: Global, tetras: &[u32]) -> Option<Object> {
     read(alloc, &[bytes]).ok()
 }
 
-/// Adds what a lister gives for an item.
-fn add_item(text: &mut Bytes, lister: &mut Lister, item: &Item) -> Option<()> {
-    let line = lister.item(item).ok()?;
-    text.extend(line.as_slice()).ok()
+/// The listing of an object.
+fn listed(alloc: Global, object: &Object) -> Option<Bytes> {
+    let symbols = mx_stab::read(alloc, object.tail.trie.as_slice()).ok()?;
+    listing(alloc, &object.items, &object.tail.trie, &symbols).ok()
 }
 
-/// Adds what a lister gives for the items of an object and its tail.
-fn add_lines(alloc: Global, text: &mut Bytes, object: &Object, symbols: &Symbols) -> Option<()> {
-    let mut lister = Lister::new(alloc);
+/// What a lister gives for the items of an object, joined.
+fn lines_of(lister: &mut Lister, object: &Object, text: &mut Bytes) -> Result<(), NoMemory> {
     for item in object.items.as_slice() {
-        add_item(text, &mut lister, item)?;
+        let line = lister.item(item)?;
+        text.extend(line.as_slice())?;
     }
-    let tail = lister.tail(&object.tail.trie, symbols).ok()?;
-    text.extend(tail.as_slice()).ok()
+    Ok(())
 }
 
 /// What a lister gives for an object, joined.
-fn joined(alloc: Global, object: &Object, symbols: &Symbols) -> Option<Bytes> {
+fn joined(alloc: Global, object: &Object) -> Option<Bytes> {
+    let symbols = mx_stab::read(alloc, object.tail.trie.as_slice()).ok()?;
+    let mut lister = Lister::new(alloc);
     let mut text = Bytes::new(alloc);
-    match add_lines(alloc, &mut text, object, symbols) {
-        Some(()) => Some(text),
-        None => None,
-    }
+    lines_of(&mut lister, object, &mut text).ok()?;
+    let tail = lister.tail(&object.tail.trie, &symbols).ok()?;
+    text.extend(tail.as_slice()).ok()?;
+    Some(text)
 }
 
 /// Whether a text is this one.
-fn is_text(text: Option<Bytes>, want: &[u8]) -> bool {
+fn is_text(text: &Option<Bytes>, want: &[u8]) -> bool {
     match text {
         Some(text) => text.as_slice() == want,
         None => false,
     }
 }
 
-/// Whether an object with these symbols has this listing, as a whole and item by item.
-fn are_listed(alloc: Global, object: &Object, symbols: &Symbols, want: &[u8]) -> bool {
-    let whole = listing(alloc, &object.items, &object.tail.trie, symbols);
-    is_text(whole.ok(), want) && is_text(joined(alloc, object, symbols), want)
-}
-
-/// The same with the symbols of its trie.
-fn is_object_listed(alloc: Global, object: &Object, want: &str) -> bool {
-    match mx_stab::read(alloc, object.tail.trie.as_slice()) {
-        Ok(symbols) => are_listed(alloc, object, &symbols, want.as_bytes()),
-        Err(_) => false,
-    }
-}
-
-/// The same of the object in tetras.
+/// Whether the object in tetras has this listing, as a whole and item by item.
 fn is_listed(alloc: Global, tetras: &[u32], want: &str) -> bool {
-    match object_of(alloc, tetras) {
-        Some(object) => is_object_listed(alloc, &object, want),
-        None => false,
-    }
+    let Some(object) = object_of(alloc, tetras) else {
+        return false;
+    };
+    is_text(&listed(alloc, &object), want.as_bytes())
+        && is_text(&joined(alloc, &object), want.as_bytes())
 }
 
 #[test]
@@ -214,32 +202,21 @@ fn nothing_but_the_ends(rt: HostRuntime) {
     assert!(rt; is_listed(rt.alloc(), &BARE, BARE_LINES));
 }
 
-/// The line of an item.
-fn line_of(alloc: Global, item: &Item) -> Option<Bytes> {
-    Lister::new(alloc).item(item).ok()
-}
-
-/// Whether this is the line of the next item.
-fn is_next(alloc: Global, reader: &mut Reader, want: &[u8]) -> bool {
-    match reader.next() {
-        Ok(Some(item)) => is_text(line_of(alloc, &item), want),
-        _ => false,
-    }
-}
-
-/// Whether this is the line of the first item of an object that has a fault after it, and the fault.
-fn is_begun(alloc: Global, tetras: &[u32], want: &str, fault: MmoFault) -> bool {
+/// The line of the first item of an object that has a fault behind it, and the fault.
+fn begun(alloc: Global, tetras: &[u32]) -> Option<(Bytes, MmoFault)> {
+    let bytes = bytes_of(alloc, tetras).ok()?;
     let mut reader = Reader::new(alloc);
-    is_fed(alloc, &mut reader, tetras)
-        && is_next(alloc, &mut reader, want.as_bytes())
-        && reader.next().err() == Some(fault)
+    reader.feed(bytes.as_slice()).ok()?;
+    let item = reader.next().ok()??;
+    let line = Lister::new(alloc).item(&item).ok()?;
+    Some((line, reader.next().err()?))
 }
 
-/// Whether a reader takes the bytes of tetras.
-fn is_fed(alloc: Global, reader: &mut Reader, tetras: &[u32]) -> bool {
-    match bytes_of(alloc, tetras) {
-        Ok(bytes) => reader.feed(bytes.as_slice()).is_ok(),
-        Err(_) => false,
+/// Whether these are the line and the fault.
+fn is_begun(alloc: Global, tetras: &[u32], want: &str, fault: MmoFault) -> bool {
+    match begun(alloc, tetras) {
+        Some((line, found)) => line.as_slice() == want.as_bytes() && found == fault,
+        None => false,
     }
 }
 
