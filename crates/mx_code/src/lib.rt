@@ -25,7 +25,7 @@ pub use immediate::wyde_value;
 pub use instruction::Instruction;
 pub use operation::{Loading, Operation, Storing};
 pub use part::{
-    loaded_part, loaded_tetra, loaded_value, overflows, stored_part, stored_value, touch,
+    loaded_part, loaded_value, loaded_within, overflows, stored_part, stored_value, touch,
 };
 pub use reason::Reason;
 pub use stop::{Stop, Told};

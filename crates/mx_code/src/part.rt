@@ -1,6 +1,6 @@
 //! The parts of an octa that are loaded and stored by themselves.
 
-ghost use Rattle.std.specs.Prelude.{◌≡◌, ℕ, ◌<◌, ◌-◌, ◌*◌, ◌^◌, None, Some, if◌then◌else◌};
+ghost use Rattle.std.specs.Prelude.{◌≡◌, ◌≢◌, ℕ, ◌<◌, ◌-◌, ◌*◌, ◌^◌, None, Some, if◌then◌else◌};
 ghost use Rattle.mx_alu.specs.declared.answer.Event.TheVariants.{Overflow};
 ghost use Rattle.mx_mem.specs.Memory.{tetra_of};
 ghost use Rattle.mx_mem.specs.Parts.{size_of};
@@ -96,18 +96,14 @@ pub fn loaded_value(how: Loading, octa: u64, a: u64) -> u64
     }
 }
 
-/// The value that a load of a tetra (LDT, LDTU, LDHT) takes of the tetra that holds the address.
+/// The value that a load of a byte, a wyde or a tetra takes of the tetra that holds the address.
 #[tactic(auto, using(crate::proofs::Tetras::tetras))]
 #[inline(always)]
-pub fn loaded_tetra(how: Loading, t: u32) -> u64
-    requires { spec.loaded_part how ≡ Part.Tetra }
-    ensures { (x a : ℕ) → t ≡ tetra_of x a → result ≡ spec.loaded_value how x a }
+pub fn loaded_within(how: Loading, t: u32, a: u64) -> u64
+    requires { spec.loaded_part how ≢ Part.Octa }
+    ensures { (x : ℕ) → t ≡ tetra_of x a → result ≡ spec.loaded_value how x a }
 {
-    match how {
-        Loading::Signed(_) => sign_extended(Part::Tetra, u64::from(t)),
-        Loading::Unsigned(_) => u64::from(t),
-        Loading::HighTetra => u64::from(t) << 32,
-    }
+    loaded_value(how, u64::from(t), 4 + a % 4)
 }
 
 /// The part that is stored into.

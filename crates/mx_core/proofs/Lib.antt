@@ -11,4 +11,3 @@ pub mod Choices
 pub mod UsualSteps
 mod Walks
 pub mod BareStarts
-pub mod Tetras

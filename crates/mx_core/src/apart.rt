@@ -1,6 +1,6 @@
 //! Usual instructions that do more than give a value or go elsewhere. Each is given with its code as a literal.
 
-ghost use Rattle.std.specs.Prelude.{◌≡◌, ◌<◌, ◌/◌, ◌%◌, ◌^◌, IsTrue, false, true};
+ghost use Rattle.std.specs.Prelude.{◌≡◌, ◌<◌, ◌/◌, ◌%◌, IsTrue, false, true};
 ghost use Rattle.mx_core.specs.Way.Calls.{KeepsWhereNot, MakesWhereTold, settled, store_outcome};
 ghost use Rattle.mx_core.specs.Deeds.{deed_at, deed_of, outcome};
 ghost use Rattle.mx_core.specs.Effects.{data_address};
@@ -11,7 +11,7 @@ ghost use Rattle.mx_core.specs.Way.Noting.{PutsLink, StoresBelow};
 use crate::Machine;
 use crate::trips::RJ;
 use mx_code::{Instruction, Operation, Storing, overflows, stored_part, stored_value};
-use mx_mem::{Part, with_part};
+use mx_mem::Part;
 
 impl Machine {
     /// MULU, DIV and DIVU, which give more than a result.
@@ -177,33 +177,6 @@ impl Machine {
         ensures there { IsTrue result → (state_of self.old).pages (a / 4096) ≡ true }
         ensures kept { KeepsWhereNot result self.old self.new }
     {
-        match part {
-            Part::Tetra => self.store_tetra_if_near(a, low_tetra(x)),
-            _ => match self.memory.near_octa(a) {
-                Some(octa) => self.memory.store_if_near(a, with_part(part, octa, a, x)),
-                None => false,
-            },
-        }
+        self.memory.store_part_if_near(a, part, x)
     }
-
-    /// A tetra is stored in place of the one that holds an address, if that is below Stack_Segment and its page is
-    /// near.
-    #[tactic(auto, unfolding(crate::specs::Kept::state_of, crate::specs::State::octa, crate::specs::State::with_octa, crate::specs::Way::Calls::store_outcome))]
-    #[inline(always)]
-    fn store_tetra_if_near(&mut self, a: u64, t: u32) -> bool
-        ensures made { MakesWhereTold (λ s. store_outcome s a Part.Tetra t) result self.old self.new }
-        ensures low { IsTrue result → a < 0x6000_0000_0000_0000 }
-        ensures there { IsTrue result → (state_of self.old).pages (a / 4096) ≡ true }
-        ensures kept { KeepsWhereNot result self.old self.new }
-    {
-        self.memory.store_tetra_if_near(a, t)
-    }
-}
-
-/// The low tetra of an octa.
-#[inline(always)]
-fn low_tetra(x: u64) -> u32
-    ensures { result ≡ x % 2 ^ 32 }
-{
-    (x & 0xffff_ffff) as u32
 }

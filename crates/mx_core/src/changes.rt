@@ -4,7 +4,7 @@ ghost use Rattle.std.specs.Prelude.{◌≡◌, ◌≢◌, ◌<◌, ◌^◌, Err,
 ghost use Rattle.mx_core.specs.Way.Changed.{Changes, Stores};
 ghost use Rattle.mx_core.specs.Changes as spec;
 ghost use Rattle.mx_core.specs.Kept.{state_of};
-ghost use Rattle.mx_core.specs.State.{begins_page};
+ghost use Rattle.mx_core.specs.State.{begins_page, is_page_refused};
 ghost use Rattle.mx_ring.specs.Bounds.{IsRing};
 
 use crate::Machine;
@@ -86,6 +86,7 @@ impl Machine {
         ensures ok { result ≢ Err MemFault.OutOfMemory → Stores a x result self.old self.new }
         ensures err { OnErr result (state_of self.new ≡ state_of self.old) }
         ensures there { IsTrue (not (begins_page (state_of self.old) a)) → result ≢ Err MemFault.OutOfMemory }
+        ensures room { IsTrue (is_page_refused (state_of self.old) a) → result ≢ Err MemFault.OutOfMemory }
         ensures bounds { IsRing self.old.ring }
     {
         know_bounds(&self.ring);

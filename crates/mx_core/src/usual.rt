@@ -14,7 +14,7 @@ ghost use Rattle.mx_core.specs.Way.Stepping.{advanced};
 ghost use Rattle.mx_core.specs.declared.step.Advance.TheVariants as advance;
 
 use crate::Machine;
-use mx_code::{Instruction, Loading, loaded_part, loaded_tetra, loaded_value};
+use mx_code::{Instruction, Loading, loaded_part, loaded_value, loaded_within};
 use mx_mem::Part;
 
 /// What a usual instruction does: $X gets a value, and the machine goes on; the machine goes to an address; what
@@ -94,12 +94,12 @@ impl Machine {
         ensures low { IfSome result (λ _. a < 0x6000_0000_0000_0000) }
     {
         match loaded_part(how) {
-            Part::Tetra => match self.near_data(a) {
-                Some(t) => Some(loaded_tetra(how, t)),
+            Part::Octa => match self.near_octa(a) {
+                Some(octa) => Some(loaded_value(how, octa, a)),
                 None => None,
             },
-            _ => match self.near_octa(a) {
-                Some(octa) => Some(loaded_value(how, octa, a)),
+            _ => match self.near_data(a) {
+                Some(t) => Some(loaded_within(how, t, a)),
                 None => None,
             },
         }

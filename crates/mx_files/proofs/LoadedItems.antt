@@ -1,5 +1,5 @@
 -- Items that are loaded one after another, and what a line comes to.
-use Rattle.std.proofs.Common.{◌≡◌, ℕ, List, [], ◌∷◌, refl, Ok, Err}
+use Rattle.std.proofs.Common.{◌≡◌, ℕ, List, [], ◌∷◌, refl, ap, Ok, Err}
 use Rattle.std.specs.Prelude.{Result}
 use Rattle.mx_asm.specs.OnePass.{Assembly, Progress}
 use Rattle.mx_asm.specs.declared.refused.Refused.{Refused}
@@ -56,13 +56,21 @@ judged-faulty line before behind items a p fault ep el ea = rw (← ep, ← el, 
 
 pub ruleset judging = (judged-whole, judged-refused, judged-faulty)
 
+-- what the last items come to
+pub end-whole : (before behind : Result Loading LoadFault) (items : List Item) → behind ≡ all_loaded before items →
+    ◌≡◌ {A = Result Image Refusal} (image_loaded behind) (image_loaded (all_loaded before items))
+end-whole before behind items e = ap image_loaded e
+
+pub end-faulty : (l : Result Loading LoadFault) (fault : LoadFault) → Err fault ≡ answer l → ◌≡◌ {A = Result Image Refusal} (Err (refused_at 0 (number_of fault))) (image_loaded l)
+end-faulty l fault e = rw (fault-answered l fault e) refl
+
+pub ruleset ending = (end-whole, end-faulty)
+
 -- the image at the end
-pub image-whole : (l : Result Loading LoadFault) (r : Result Kept LoadFault) (image : Kept) → Ok tt ≡ answer l → Ok (image_of image) ≡ image_in l →
-    ◌≡◌ {A = Result Image Refusal} (Ok (image_of image)) (image_loaded l)
-image-whole (Ok s) r image ea ei = cc
-image-whole (Err fault) r image ea ei = absurd (cc)
+pub image-is : (l : Result Loading LoadFault) (image : Kept) → Ok (image_of image) ≡ image_in l → ◌≡◌ {A = Result Image Refusal} (Ok (image_of image)) (image_loaded l)
+image-is (Ok s) image e = cc
+image-is (Err fault) image e = absurd (cc)
 
-pub image-faulty : (l : Result Loading LoadFault) (fault : LoadFault) → Err fault ≡ answer l → ◌≡◌ {A = Result Image Refusal} (Err (refused_at 0 (number_of fault))) (image_loaded l)
-image-faulty l fault e = rw (fault-answered l fault e) refl
-
-pub ruleset ending = (image-whole, image-faulty)
+pub image-fails : (l : Result Loading LoadFault) (fault : LoadFault) → Err fault ≡ image_in l → ◌≡◌ {A = Result Image Refusal} (Err (refused_at 0 (number_of fault))) (image_loaded l)
+image-fails (Ok s) fault e = absurd (cc)
+image-fails (Err f) fault e = cc

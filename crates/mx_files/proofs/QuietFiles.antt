@@ -93,12 +93,12 @@ calm-end (calls o k) m h = calm-end (k (host.act o m).0) (host.act o m).1 (h.1 (
 
 left-output : (o : HostCall) (m n : HostModel) → host.Lacks o m n → n.output ≡ m.output
 unfolding host
-left-output (opening slot name mode) m n e = rw e refl
-left-output (closing slot) m n e = rw e refl
-left-output (reading slot len) m n e = rw e refl
-left-output (writing slot from) m n e = rw e refl
-left-output (seeking slot to) m n e = rw e refl
-left-output (telling slot) m n e = rw e refl
+left-output (opening slot name mode) m n e = rw (e.counts) refl
+left-output (closing slot) m n e = rw (e.counts) refl
+left-output (reading slot len) m n e = rw (e.counts) refl
+left-output (writing slot from) m n e = rw (e.counts) refl
+left-output (seeking slot to) m n e = rw (e.counts) refl
+left-output (telling slot) m n e = rw (e.counts) refl
 left-output needing m n e = rw e refl
 
 calm-stop : {A : Type 0} (p : HostPlan A) (m n : HostModel) → Calm p → Stops host n p m → n.output ≡ m.output

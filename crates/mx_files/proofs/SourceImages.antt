@@ -25,7 +25,7 @@ use Rattle.mx_asm.proofs.MeaningLaws.{page-refusal-is}
 use Rattle.mx_asm.proofs.MeaningLines.{line-is-refused}
 use Rattle.mx_asm.proofs.MeaningSources.{bytes-fault, run-means, source-bytes}
 use Rattle.mx_asm.proofs.MeaningStates.{take-append}
-use Rattle.mx_files.specs.Loading.{standing, refused_at, refusal_of, all_loaded, judged, progress_loaded, and_lines, lines_loaded, image_loaded, ended_with, end_loaded, image_from, standing_after, source_image}
+use Rattle.mx_files.specs.Loading.{standing, refused_at, refusal_of, all_loaded, judged, progress_loaded, and_lines, lines_loaded, image_loaded, ended_with, end_loaded, end_after, standing_after, source_image}
 use Rattle.mx_files.specs.Sources.{meaning_unless, source_meaning}
 use Rattle.mx_files.specs.declared.refusal.Refusal.{Refusal}
 use Rattle.mx_files.specs.declared.refusal.SourceFault.{SourceFault}
@@ -213,9 +213,9 @@ pub source-loaded : (source : List ℕ) → AreBytes source → (a : Result Asse
 unfolding source_image
 source-loaded source bytes a l r ea el e = e ∙ (λ i. end_loaded (lines_loaded 1 (lines_of source) (standing (ea i) (el i)))) ∙ source-is source bytes
 
-pub refusal-ends : (fault : SourceFault) (a : Result Assembly Refused) (l : Result Loading LoadFault) → image_from (Err fault) ≡ end_loaded (standing_after (Err fault) a l)
-refusal-ends (Refusing refusal) a l = refl
-refusal-ends NoRoom a l = refl
+pub refusal-ends : (fault : SourceFault) (a : Result Assembly Refused) (l k : Result Loading LoadFault) → end_after (Err fault) k ≡ end_loaded (standing_after (Err fault) a l)
+refusal-ends (Refusing refusal) a l k = refl
+refusal-ends NoRoom a l k = refl
 
 -- ---- what is loaded means the image
 

@@ -98,6 +98,12 @@ standing_after (Ok u) assembly loading = Ok (standing assembly loading)
 standing_after (Err (Refusing refusal)) assembly loading = Err refusal
 standing_after (Err NoRoom) assembly loading = Err (refused_at 0 0)
 
+-- what the end comes to: what was loaded then, or the refusal
+abbrev pub end_after : Result (Unit {0}) SourceFault → Result Loading LoadFault → Result Image Refusal
+end_after (Ok u) loading = image_loaded loading
+end_after (Err (Refusing refusal)) loading = Err refusal
+end_after (Err NoRoom) loading = Err (refused_at 0 0)
+
 -- the refusal in what stands
 abbrev pub refusal_in : Result Assembly Refused → Result (Unit {0}) Refusal
 refusal_in (Ok assembly) = Ok tt

@@ -1,8 +1,9 @@
 //! A source that is assembled into an object file.
 
-ghost use Rattle.std.specs.Prelude.{◌≡◌, ◌≢◌, Err, IfOk, OnOk, false, fold};
+ghost use Rattle.std.specs.Prelude.{◌≡◌, ◌≢◌, Ok, Err, [], IfOk, OnOk, false, fold};
 ghost use Rattle.mx_asm.specs.Faults.{no_memory};
 ghost use Rattle.mx_asm.specs.Fitting.{AreFit, IsPadded};
+ghost use Rattle.mx_asm.specs.OnePass.{beginning};
 ghost use Rattle.mx_asm.specs.Whole.{assembled_lines, line_after};
 ghost use Rattle.mx_host.specs.Keeping.{Answers, WritesFront};
 ghost use Rattle.mx_line.specs.Lines.{lines_of};
@@ -59,28 +60,58 @@ fn if_no_memory(refused: &Refused) -> Result<(), NoMemory>
     Ok(())
 }
 
-/// The items that a source is assembled into, and its trie or refusal.
+/// Takes the lines of a source, and ends it. What is answered is its trie or its refusal.
 #[tactic(auto, using(crate::proofs::TakenLines::taking))]
+fn assemble_by(
+    assembler: &mut Assembler,
+    items: &mut Items,
+    text: &[u8],
+) -> Result<Result<Bytes, Refused>, NoMemory>
+    requires start { assembler.old ≡ Ok beginning }
+    requires none { items.old ≡ [] }
+    ensures value { IfOk result (λ r. (items.new, r) ≡ assembled_lines (lines_of text.now)) }
+    ensures fits { AreFit items.old → AreFit items.new }
+    ensures trie { IfOk result (λ r. IfOk r IsPadded) }
+{
+    match take_lines(assembler, items, text) {
+        Ok(()) => match assembler.finish(items) {
+            Ok(trie) => Ok(Ok(trie)),
+            Err(refused) => match if_no_memory(&refused) {
+                Ok(()) => Ok(Err(refused)),
+                Err(e) => Err(e),
+            },
+        },
+        Err(e) => Err(e),
+    }
+}
+
+/// Adds the items that a source is assembled into. What is answered is its trie or its refusal.
+fn assemble_into(
+    alloc: Global,
+    items: &mut Items,
+    text: &[u8],
+) -> Result<Result<Bytes, Refused>, NoMemory>
+    requires { items.old ≡ [] }
+    ensures value { IfOk result (λ r. (items.new, r) ≡ assembled_lines (lines_of text.now)) }
+    ensures fits { AreFit items.old → AreFit items.new }
+    ensures trie { IfOk result (λ r. IfOk r IsPadded) }
+{
+    match Assembler::new(alloc) {
+        Ok(mut assembler) => assemble_by(&mut assembler, items, text),
+        Err(_) => Err(NoMemory),
+    }
+}
+
+/// The items that a source is assembled into, and its trie or refusal.
 fn assembled(alloc: Global, text: &[u8]) -> Result<(Items, Result<Bytes, Refused>), NoMemory>
     ensures value { IfOk result (λ r. r ≡ assembled_lines (lines_of text.now)) }
     ensures fits { IfOk result (λ r. AreFit r.0) }
     ensures trie { IfOk result (λ r. IfOk r.1 IsPadded) }
 {
     let mut items = Items::new(alloc);
-    let mut assembler = match Assembler::new(alloc) {
-        Ok(assembler) => assembler,
-        Err(_) => return Err(NoMemory),
-    };
-    match take_lines(&mut assembler, &mut items, text) {
-        Ok(()) => {}
-        Err(e) => return Err(e),
-    }
-    match assembler.finish(&mut items) {
-        Ok(trie) => Ok((items, Ok(trie))),
-        Err(refused) => match if_no_memory(&refused) {
-            Ok(()) => Ok((items, Err(refused))),
-            Err(e) => Err(e),
-        },
+    match assemble_into(alloc, &mut items, text) {
+        Ok(answer) => Ok((items, answer)),
+        Err(e) => Err(e),
     }
 }
 

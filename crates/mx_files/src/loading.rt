@@ -3,9 +3,10 @@
 ghost use Rattle.std.specs.Prelude.{◌≡◌, ◌≢◌, Ok, Err, IfOk, OnOk};
 ghost use Rattle.mx_asm.specs.Faults.{no_memory};
 ghost use Rattle.mx_asm.specs.Fitting.{AreFit};
-ghost use Rattle.mx_asm.specs.OnePass.{line_behind};
+ghost use Rattle.mx_asm.specs.OnePass.{beginning, line_behind};
 ghost use Rattle.mx_line.specs.Lines.{lines_of};
 ghost use Rattle.mx_load.specs.Standing as loader_spec;
+ghost use Rattle.mx_mmo.specs.Meaning.{nothing};
 ghost use Rattle.mx_files.specs.Loading as spec;
 ghost use Rattle.mx_files.specs.Sources.{source_meaning};
 
@@ -138,17 +139,24 @@ fn load_lines(
     Ok(())
 }
 
-/// Ends a source, and gives the image that its items set up.
+/// Ends a source, and loads its last items.
 #[tactic(auto, using(crate::proofs::LoadedItems::ending))]
-fn finish_source(alloc: Global, assembler: Assembler, loader: Loader) -> Result<Image, SourceFault>
-    requires open { loader_spec.answer (loader_spec.standing loader) ≡ Ok tt }
-    ensures image { result ≢ Err SourceFault.OutOfMemory →
-        spec.image_from result ≡ spec.end_loaded (Ok (spec.standing assembler (loader_spec.standing loader))) }
+fn load_end(
+    alloc: Global,
+    assembler: &mut Assembler,
+    loader: &mut Loader,
+) -> Result<(), SourceFault>
+    requires open { loader_spec.answer (loader_spec.standing loader.old) ≡ Ok tt }
+    ensures { result ≢ Err SourceFault.OutOfMemory →
+        spec.end_after result (loader_spec.standing loader.new)
+        ≡ spec.end_loaded (Ok (spec.standing assembler.old (loader_spec.standing loader.old))) }
 {
-    let mut assembler = assembler;
     let mut items = Items::new(alloc);
     match assembler.finish(&mut items) {
-        Ok(_) => end_image(alloc, loader, items.as_slice()),
+        Ok(_) => match load_items(loader, items.as_slice()) {
+            Ok(()) => Ok(()),
+            Err(fault) => Err(refused_line(0, fault)),
+        },
         Err(refused) => match told(refused) {
             Ok(refusal) => Err(SourceFault::Refused(refusal)),
             Err(_) => Err(SourceFault::OutOfMemory),
@@ -156,21 +164,33 @@ fn finish_source(alloc: Global, assembler: Assembler, loader: Loader) -> Result<
     }
 }
 
-/// Loads the last items of a source, and gives the image that they set up.
-#[tactic(auto, using(crate::proofs::LoadedItems::ending))]
-fn end_image(alloc: Global, loader: Loader, items: &[Item]) -> Result<Image, SourceFault>
-    requires fit { AreFit items.now }
-    requires open { loader_spec.answer (loader_spec.standing loader) ≡ Ok tt }
-    ensures image { result ≢ Err SourceFault.OutOfMemory →
-        spec.image_from result ≡ spec.image_loaded (spec.all_loaded (loader_spec.standing loader) items.now) }
+/// Takes the lines of a source and its end, and loads their items as they come.
+fn load_by(
+    alloc: Global,
+    assembler: &mut Assembler,
+    loader: &mut Loader,
+    text: &[u8],
+) -> Result<(), SourceFault>
+    requires start { assembler.old ≡ Ok beginning }
+    requires none { loader_spec.standing loader.old ≡ Ok nothing }
+    ensures { result ≢ Err SourceFault.OutOfMemory →
+        spec.end_after result (loader_spec.standing loader.new) ≡ source_meaning text.now }
 {
-    let mut loader = loader;
-    match load_items(&mut loader, items) {
-        Ok(()) => match loader.finish(Symbols::new(alloc)) {
-            Ok(image) => Ok(image),
-            Err(fault) => Err(refused_line(0, fault)),
-        },
-        Err(fault) => Err(refused_line(0, fault)),
+    match load_lines(alloc, assembler, loader, text) {
+        Ok(()) => load_end(alloc, assembler, loader),
+        Err(fault) => Err(fault),
+    }
+}
+
+/// Loads the items that a source is assembled into.
+fn load_into(alloc: Global, loader: &mut Loader, text: &[u8]) -> Result<(), SourceFault>
+    requires { loader_spec.standing loader.old ≡ Ok nothing }
+    ensures { result ≢ Err SourceFault.OutOfMemory →
+        spec.end_after result (loader_spec.standing loader.new) ≡ source_meaning text.now }
+{
+    match Assembler::new(alloc) {
+        Ok(mut assembler) => load_by(alloc, &mut assembler, loader, text),
+        Err(_) => Err(SourceFault::OutOfMemory),
     }
 }
 
@@ -178,13 +198,12 @@ fn end_image(alloc: Global, loader: Loader, items: &[Item]) -> Result<Image, Sou
 pub fn load_source(alloc: Global, text: &[u8]) -> Result<Image, SourceFault>
     ensures { result ≢ Err SourceFault.OutOfMemory → spec.image_from result ≡ source_meaning text.now }
 {
-    let mut assembler = match Assembler::new(alloc) {
-        Ok(assembler) => assembler,
-        Err(_) => return Err(SourceFault::OutOfMemory),
-    };
     let mut loader = Loader::new(alloc);
-    match load_lines(alloc, &mut assembler, &mut loader, text) {
-        Ok(()) => finish_source(alloc, assembler, loader),
+    match load_into(alloc, &mut loader, text) {
+        Ok(()) => match loader.finish(Symbols::new(alloc)) {
+            Ok(image) => Ok(image),
+            Err(fault) => Err(refused_line(0, fault)),
+        },
         Err(fault) => Err(fault),
     }
 }

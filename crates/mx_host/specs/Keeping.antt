@@ -1,10 +1,10 @@
 -- What stands in the clauses of every function over a host: what it keeps, what it answers and
 -- leaves, and when it may answer a failure. `old` and `new` are what the host told before and after,
 -- `before` and `after` its counts of faults.
-use Rattle.std.specs.Prelude.{ℕ, IsTrue, ◌≡◌, ◌≢◌, ◌≤◌, Option}
+use Rattle.std.specs.Prelude.{ℕ, IsTrue, false, ◌≡◌, ◌≢◌, ◌≤◌, Option}
 use Rattle.mx_word.specs.Lists.{IsFront}
 use Rattle.mx_host.specs.declared.slots.Slot.{Slot}
-use Rattle.mx_host.specs.HostModel.{HostModel, tells, contents, counted, slot_at, to_input, to_output, to_errors, Rose}
+use Rattle.mx_host.specs.HostModel.{HostModel, tells, contents, counted, is_failing, slot_at, to_input, to_output, to_errors, Rose}
 use Rattle.mx_host.specs.HostAnswer.{Then}
 
 -- over a host that tells its contents, a slot that leads somewhere still does
@@ -43,9 +43,14 @@ KeepsOutput old new = IsTrue (tells old) → (contents new).output ≡ (contents
 unfoldable pub HasStreams : Option HostModel → Type 0
 HasStreams old = IsTrue (tells old) → (slot_at (contents old) 258 ≡ to_input) × (slot_at (contents old) 259 ≡ to_output)
 
--- over a host that tells its contents, an answer of no memory leaves all but the number of calls
-abbrev pub LeavesCounted : {A : Type 0} → Option HostModel → Option HostModel → A → A → Type 0
-LeavesCounted old new none result = IsTrue (tells old) → result ≡ none → contents new ≡ counted (contents old)
+-- A call lacked memory: it is counted, and nothing else changed. One that is to fail fails, and never lacks memory.
+pub record Lacked (m n : HostModel) : Type 0 where
+  pub counts : n ≡ counted m
+  pub spared : is_failing m ≡ false
+
+-- over a host that tells its contents, that is so where the answer is that of no memory
+abbrev pub LacksCalled : {A : Type 0} → Option HostModel → Option HostModel → A → A → Type 0
+LacksCalled old new none result = IsTrue (tells old) → result ≡ none → Lacked (contents old) (contents new)
 
 -- over a host that tells nothing, this answer comes only where the count of faults rose
 abbrev pub ComesByFault : {A : Type 0} → Option HostModel → A → A → ℕ → ℕ → Type 0

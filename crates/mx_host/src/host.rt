@@ -3,7 +3,7 @@
 ghost use Rattle.std.specs.Prelude.{IsTrue, ◌≡◌, ◌≢◌, ◌≤◌, ℕ, Option, Ok, Err, IfOk, IfErr, length, take, drop};
 ghost use Rattle.mx_word.specs.Results.{map_ok};
 ghost use Rattle.mx_host.specs.HostModel.{HostModel, tells, contents, Rose};
-ghost use Rattle.mx_host.specs.Keeping.{Answers, LeavesCounted, ComesByFault, Keeps};
+ghost use Rattle.mx_host.specs.Keeping.{Answers, LacksCalled, ComesByFault, Keeps};
 ghost use Rattle.mx_host.specs.HostAnswer.{open_answer, close_answer, read_answer, write_answer, seek_answer};
 ghost use Rattle.mx_host.specs.HostAnswer.{tell_answer};
 
@@ -34,7 +34,7 @@ pub trait Host {
         requires { slot ≤ 257 }
         ensures answers { Answers (told self.old) (told self.new) (Err OpenFault.OutOfMemory) result
             (λ m. open_answer m slot name.now mode) }
-        ensures memory { LeavesCounted (told self.old) (told self.new) (Err OpenFault.OutOfMemory) result }
+        ensures memory { LacksCalled (told self.old) (told self.new) (Err OpenFault.OutOfMemory) result }
         ensures failed { result ≡ Err OpenFault.Failed → Rose (faults self.old) (faults self.new) }
         ensures absent { ComesByFault (told self.old) (Err OpenFault.Absent) result
             (faults self.old) (faults self.new) }
@@ -47,7 +47,7 @@ pub trait Host {
         requires { slot ≤ 260 }
         ensures answers { Answers (told self.old) (told self.new) (Err HostFault.OutOfMemory) result
             (λ m. close_answer m slot) }
-        ensures memory { LeavesCounted (told self.old) (told self.new) (Err HostFault.OutOfMemory) result }
+        ensures memory { LacksCalled (told self.old) (told self.new) (Err HostFault.OutOfMemory) result }
         ensures failed { result ≡ Err HostFault.Failed → Rose (faults self.old) (faults self.new) }
         ensures misused { ComesByFault (told self.old) (Err HostFault.Misused) result
             (faults self.old) (faults self.new) }
@@ -68,7 +68,7 @@ pub trait Host {
         ensures rest { IsTrue (tells (told self.old)) →
             IfOk result (λ n. drop n into.new ≡ drop n into.old) }
         ensures unread { IsTrue (tells (told self.old)) → IfErr result (λ _. into.new ≡ into.old) }
-        ensures memory { LeavesCounted (told self.old) (told self.new) (Err HostFault.OutOfMemory) result }
+        ensures memory { LacksCalled (told self.old) (told self.new) (Err HostFault.OutOfMemory) result }
         ensures failed { result ≡ Err HostFault.Failed → Rose (faults self.old) (faults self.new) }
         ensures misused { ComesByFault (told self.old) (Err HostFault.Misused) result
             (faults self.old) (faults self.new) }
@@ -82,7 +82,7 @@ pub trait Host {
         requires { slot ≤ 260 }
         ensures answers { Answers (told self.old) (told self.new) (Err HostFault.OutOfMemory) result
             (λ m. write_answer m slot from.now) }
-        ensures memory { LeavesCounted (told self.old) (told self.new) (Err HostFault.OutOfMemory) result }
+        ensures memory { LacksCalled (told self.old) (told self.new) (Err HostFault.OutOfMemory) result }
         ensures failed { result ≡ Err HostFault.Failed → Rose (faults self.old) (faults self.new) }
         ensures misused { ComesByFault (told self.old) (Err HostFault.Misused) result
             (faults self.old) (faults self.new) }
@@ -97,7 +97,7 @@ pub trait Host {
         requires { slot ≤ 260 }
         ensures answers { Answers (told self.old) (told self.new) (Err HostFault.OutOfMemory) result
             (λ m. seek_answer m slot to) }
-        ensures memory { LeavesCounted (told self.old) (told self.new) (Err HostFault.OutOfMemory) result }
+        ensures memory { LacksCalled (told self.old) (told self.new) (Err HostFault.OutOfMemory) result }
         ensures failed { result ≡ Err HostFault.Failed → Rose (faults self.old) (faults self.new) }
         ensures misused { ComesByFault (told self.old) (Err HostFault.Misused) result
             (faults self.old) (faults self.new) }
@@ -110,7 +110,7 @@ pub trait Host {
         requires { slot ≤ 260 }
         ensures answers { Answers (told self.old) (told self.new) (Err HostFault.OutOfMemory) result
             (λ m. tell_answer m slot) }
-        ensures memory { LeavesCounted (told self.old) (told self.new) (Err HostFault.OutOfMemory) result }
+        ensures memory { LacksCalled (told self.old) (told self.new) (Err HostFault.OutOfMemory) result }
         ensures failed { result ≡ Err HostFault.Failed → Rose (faults self.old) (faults self.new) }
         ensures misused { ComesByFault (told self.old) (Err HostFault.Misused) result
             (faults self.old) (faults self.new) }

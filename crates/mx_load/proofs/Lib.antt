@@ -1,4 +1,5 @@
 pub mod Apart
+pub mod Joined
 pub mod Loading
 pub mod Tails
 pub mod Taken

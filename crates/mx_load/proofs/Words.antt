@@ -8,6 +8,7 @@ pub use Rattle.mx_mmo.specs.Whole.{Left, Walk, behind, left_of, object_behind, o
 unfoldable pub use Rattle.mx_mmo.specs.Whole.{items_of, walk}
 pub use Rattle.mx_mmo.specs.declared.faults.MmoFault.{MmoFault}
 pub use Rattle.mx_mmo.specs.declared.items.Item.{Item}
+pub use Rattle.mx_mmo.specs.declared.items.Item.TheVariants.{Load}
 pub use Rattle.mx_stab.specs.declared.faults.StabFault.{StabFault}
 pub use Rattle.mx_load.specs.Answers.{item_answer, loaded_behind, loaded_from, place_and_number, unloaded, unread}
 pub use Rattle.mx_load.specs.Faults.{fault_of, told}

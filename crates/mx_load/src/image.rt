@@ -1,7 +1,7 @@
 //! What the items of an object set up.
 
-ghost use Rattle.std.specs.Prelude.{◌≡◌, ◌≢◌, ◌≤◌, ◌<◌, ◌/◌, ◌==◌, [], Ok, Err, OnOk, OnErr, IfErr, if◌then◌else◌};
-ghost use Rattle.mx_mem.specs.Memory.{page_count};
+ghost use Rattle.std.specs.Prelude.{◌≡◌, ◌≢◌, ◌≤◌, ◌<◌, ◌/◌, ◌==◌, [], true, false, Ok, Err, OnOk, OnErr, IfErr, if◌then◌else◌};
+ghost use Rattle.mx_mem.specs.Memory.{page_count, in_half};
 ghost use Rattle.mx_mmo.specs.Meaning as spec;
 ghost use Rattle.mx_mmo.specs.Meaning.{nothing, lined, with_globals};
 ghost use Rattle.mx_load.specs.Faults.{told, given};
@@ -112,8 +112,34 @@ impl Image {
         }
     }
 
-    /// Joins a tetra to the one that holds an address.
+    /// Joins a tetra to the one that holds an address. Mostly its page was used lately.
+    #[inline(always)]
     pub(crate) fn join(&mut self, a: u64, t: u32) -> Result<(), LoadFault>
+        ensures { result ≢ Err LoadFault.OutOfMemory →
+            given result (image_of self.new) ≡ told (spec.join (image_of self.old) a t) }
+    {
+        if self.join_near(a, t) {
+            return Ok(());
+        }
+        self.join_far(a, t)
+    }
+
+    /// Joins a tetra where the page of the address was used lately; else nothing changes. Whether it did.
+    #[tactic(auto, using(crate::proofs::Joined::joined))]
+    #[inline(always)]
+    fn join_near(&mut self, a: u64, t: u32) -> bool
+        ensures joined { result ≡ true → Ok (image_of self.new) ≡ spec.join (image_of self.old) a t }
+        ensures same { result ≡ false → self.new ≡ self.old }
+    {
+        match self.memory.near_octa(a) {
+            Some(x) => self.memory.store_if_near(a, x ^ in_its_half(a, t)),
+            None => false,
+        }
+    }
+
+    /// Joins a tetra, also where its page is a new one.
+    #[inline(never)]
+    fn join_far(&mut self, a: u64, t: u32) -> Result<(), LoadFault>
         ensures { result ≢ Err LoadFault.OutOfMemory →
             given result (image_of self.new) ≡ told (spec.join (image_of self.old) a t) }
     {
@@ -176,6 +202,18 @@ impl Image {
         let mut image = self;
         image.symbols = symbols;
         image
+    }
+}
+
+/// An octa that has a tetra in the half where an address lies, and 0 in the other.
+#[inline(always)]
+fn in_its_half(a: u64, t: u32) -> u64
+    ensures { result ≡ in_half a t }
+{
+    if a % 8 < 4 {
+        u64::from(t) << 32
+    } else {
+        u64::from(t)
     }
 }
 

@@ -68,8 +68,43 @@ fn load_item(progress: &mut Progress, item: &Item, place: u64) -> Result<bool, O
     }
 }
 
-/// Loads the item that stands next, and says whether one did.
+/// Loads a tetra that begins at a place.
+#[tactic(auto, using(crate::proofs::Loading::loading))]
+#[inline(always)]
+fn load_tetra(progress: &mut Progress, t: u32, place: u64) -> Result<bool, ObjectFault>
+    ensures taken { result ≢ Err ObjectFault.OutOfMemory →
+        spec.item_answer result (loading_of progress.new)
+        ≡ taken place (take_item (loading_of progress.old) (Item.Load t)) }
+    ensures more { result ≢ Ok false }
+{
+    match progress.load(t) {
+        Ok(()) => Ok(true),
+        Err(fault) => Err(unloaded(place, fault)),
+    }
+}
+
+/// Loads the item that stands next, and says whether one did. Mostly it is a tetra.
+#[inline(always)]
 fn load_next(reader: &mut Reader, progress: &mut Progress) -> Result<bool, ObjectFault>
+    requires { reader.old.fault ≡ None }
+    ensures next { result ≡ Ok true → (n : ℕ) →
+        spec.loaded_from (suc n) progress.old reader.old ≡ spec.loaded_from n progress.new reader.new }
+    ensures less { result ≡ Ok true → length reader.new.rest < length reader.old.rest }
+    ensures last { result ≡ Ok false → (n : ℕ) →
+        spec.loaded_from (suc n) progress.old reader.old ≡ Ok (loading_of progress.new, left_of reader.new) }
+    ensures read { OnOk result (reader.new.fault ≡ None) }
+    ensures fault { result ≢ Err ObjectFault.OutOfMemory →
+        IfErr result (λ f. (n : ℕ) → spec.loaded_from (suc n) progress.old reader.old ≡ Err (spec.place_and_number f)) }
+{
+    match reader.next_plain() {
+        Some(t) => load_tetra(progress, t, reader.place()),
+        None => load_other(reader, progress),
+    }
+}
+
+/// Loads the item that stands next, whatever it is, and says whether one did.
+#[inline(never)]
+fn load_other(reader: &mut Reader, progress: &mut Progress) -> Result<bool, ObjectFault>
     requires { reader.old.fault ≡ None }
     ensures next { result ≡ Ok true → (n : ℕ) →
         spec.loaded_from (suc n) progress.old reader.old ≡ spec.loaded_from n progress.new reader.new }

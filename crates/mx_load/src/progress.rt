@@ -106,7 +106,8 @@ impl Progress {
     }
 
     /// Loads a tetra at lambda.
-    fn load(&mut self, t: u32) -> Result<(), LoadFault>
+    #[inline(always)]
+    pub(crate) fn load(&mut self, t: u32) -> Result<(), LoadFault>
         ensures { let s = loading_of self.old in result ≢ Err LoadFault.OutOfMemory →
             given result (loading_of self.new) ≡ told (after_load s (spec.join s.image s.lambda t)) }
     {

@@ -8,6 +8,7 @@ pub mod Joins
 pub mod Searches
 pub mod Fields
 pub mod PartBytes
+pub mod PartFields
 pub mod Spaces
 pub mod Tetras
 pub mod Removals

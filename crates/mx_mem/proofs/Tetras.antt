@@ -97,16 +97,6 @@ low-part h l t a fl fh ft m =
 abbrev pub octa_with : List ℕ → ℕ → ℕ → ℕ
 octa_with ts a t = with_part Tetra (get_or (octas_of ts) (a / 8 % 512) 0) a t
 
-pub octa-with-fits : (o a t : ℕ) → o < 2 ^ 64 → t < 2 ^ 32 → with_part Tetra o a t < 2 ^ 64
-octa-with-fits o a t fo ft =
-    let whole : o ≡ o / 2 ^ 32 * 2 ^ 32 + o % 2 ^ 32 = omega arith in
-    let high : o / 2 ^ 32 < 2 ^ 32 = omega arith in
-    let low : o % 2 ^ 32 < 2 ^ 32 = omega arith in
-    rw whole (⊎_elim
-    (λ m. rw (high-part (o / 2 ^ 32) (o % 2 ^ 32) t a low high ft m) (omega (arith, low)))
-    (λ m. rw (low-part (o / 2 ^ 32) (o % 2 ^ 32) t a low high ft m) (omega (arith, high)))
-    (cases_lt (a % 8) 4))
-
 pub tetra-set : (ts : List ℕ) (a t : ℕ) → length ts ≡ 1024 → ((i : ℕ) → get_or ts i 0 < 2 ^ 32) → t < 2 ^ 32 → octas_of (set ts (a / 4 % 1024) t) ≡ set (octas_of ts) (a / 8 % 512) (octa_with ts a t)
 tetra-set ts a t long fits ft = by-half (cases_lt (a % 8) 4)
   where

@@ -27,6 +27,10 @@ is_in_stack_area a = nat_le 0x6000_0000_0000_0000 a && nat_lt a 0x6000_0000_0080
 abbrev pub begins_page : {Rest : Type 0} → Contents Rest → ℕ → Bool
 begins_page s a = not (s.is_stack_apart && is_in_stack_area a) && not (s.pages (a / 4096))
 
+-- whether it makes one, which is not refused
+abbrev pub makes_page : {Rest : Type 0} → Contents Rest → ℕ → Bool
+makes_page s a = not (is_negative a) && (begins_page s a && not (s.page_count == 65536))
+
 -- the contents with a byte put at an address, without and with a new page for it
 abbrev pub with_byte : {Rest : Type 0} → Contents Rest → ℕ → ℕ → Contents Rest
 with_byte s a b = record s { bytes = λ q. if q == a then b else s.bytes q }

@@ -161,12 +161,12 @@ impl Memory {
         }
     }
 
-    /// Stores a tetra in place of the one that holds an address, where its page is a low one and stands at the place
-    /// that is remembered for it; else nothing changes. Whether it did. It takes no memory.
+    /// Stores the low bytes of `x` in place of the part that holds an address, where its page is a low one and stands
+    /// at the place that is remembered for it; else nothing changes. Whether it did. It takes no memory.
     #[inline(always)]
-    pub fn store_tetra_if_near(&mut self, a: u64, t: u32) -> bool
+    pub fn store_part_if_near(&mut self, a: u64, part: Part, x: u64) -> bool
         ensures octas { IsTrue result → octa_at self.new
-            ≡ stored_at (octa_at self.old) a (spec.with_part Part.Tetra (octa_at self.old a) a t) }
+            ≡ stored_at (octa_at self.old) a (spec.with_part part (octa_at self.old a) a x) }
         ensures pages { IsTrue result → has_page self.new ≡ with_page (has_page self.old) (a / 4096) }
         ensures count { IsTrue result → page_count self.new ≡ count_with_page self.old (a / 4096) }
         ensures there { IsTrue result → IsTrue (has_page self.old (a / 4096)) }
@@ -176,28 +176,7 @@ impl Memory {
         let place = self.guesses[slot(a / PAGE)].get();
         match low_place(&self.pages, &self.places, place, a / PAGE) {
             Some(place) => {
-                self.pages[place].put_tetra(a, t);
-                true
-            }
-            None => false,
-        }
-    }
-
-    /// Stores an octa as `store` does, where its page is a low one and stands at the place that is remembered for it;
-    /// else nothing changes. Whether it did. It takes no memory.
-    #[inline(always)]
-    pub fn store_if_near(&mut self, a: u64, x: u64) -> bool
-        ensures octas { IsTrue result → octa_at self.new ≡ stored_at (octa_at self.old) a x }
-        ensures pages { IsTrue result → has_page self.new ≡ with_page (has_page self.old) (a / 4096) }
-        ensures count { IsTrue result → page_count self.new ≡ count_with_page self.old (a / 4096) }
-        ensures there { IsTrue result → IsTrue (has_page self.old (a / 4096)) }
-        ensures low { IsTrue result → a / 4096 < low_pages }
-        ensures unmade { result ≡ false → self.new ≡ self.old }
-    {
-        let place = self.guesses[slot(a / PAGE)].get();
-        match low_place(&self.pages, &self.places, place, a / PAGE) {
-            Some(place) => {
-                self.pages[place].put((a / 8 % 512) as usize, x);
+                self.pages[place].put_part(a, part, x);
                 true
             }
             None => false,

@@ -10,6 +10,7 @@ ghost use Rattle.mx_mem.specs.Tetras.{octas_of};
 pub(crate) mod copy;
 
 use crate::Part;
+use crate::part::{tetra_with, with_part};
 use mx_word::NoMemory;
 use std::alloc::Global;
 use std::marker::Model;
@@ -139,6 +140,27 @@ impl Page {
         put_tetra_in(&mut self.sheet.tetras, a, t);
         know_tetras(self.sheet.tetras.as_slice());
         self.sheet.most = u64::MAX;
+    }
+
+    /// Puts the low bytes of `x` in place of the part that holds an address, if the page has it. A part of a tetra
+    /// is put into the tetra alone.
+    #[inline(always)]
+    pub fn put_part(&mut self, a: u64, part: Part, x: u64)
+        ensures { self.new ≡ (
+          self.old.0,
+          slice_set self.old.1 (a / 8 % 512) (with_part part (slice_index_or self.old.1 (a / 8 % 512) 0) a x),
+        ) }
+    {
+        match part {
+            Part::Octa => {
+                let at = (a / 8 % 512) as usize;
+                self.put(at, with_part(part, self.octa(at), a, x));
+            }
+            _ => {
+                let t = self.tetra(a);
+                self.put_tetra(a, tetra_with(part, t, a, x));
+            }
+        }
     }
 
     /// The first octa other than 0 from a place on, which is at most 512, and its place.

@@ -1,6 +1,7 @@
 //! The parts of an octa that are stored by themselves.
 
-ghost use Rattle.std.specs.Prelude.{◌≡◌, ◌<◌, ◌-◌, ◌*◌, ◌^◌};
+ghost use Rattle.std.specs.Prelude.{◌≡◌, ◌≢◌, ◌<◌, ◌-◌, ◌*◌, ◌%◌, ◌^◌, ℕ};
+ghost use Rattle.mx_mem.specs.Memory.{tetra_of};
 ghost use Rattle.mx_mem.specs.Parts.{size_of, bits_below};
 ghost use Rattle.mx_mem.specs.Parts as spec;
 
@@ -40,6 +41,24 @@ impl Part {
             Part::Octa => u64::MAX,
         }
     }
+}
+
+/// A tetra with the low bytes of `x` in place of the part where an address lies, which is within the tetra.
+#[inline(always)]
+pub(crate) fn tetra_with(part: Part, t: u32, a: u64, x: u64) -> u32
+    requires { part ≢ Part.Octa }
+    ensures { (octa : ℕ) → t ≡ tetra_of octa a →
+        spec.with_part Part.Tetra octa a result ≡ spec.with_part part octa a x }
+{
+    low_tetra(with_part(part, u64::from(t), 4 + a % 4, x))
+}
+
+/// The low tetra of an octa.
+#[inline(always)]
+fn low_tetra(x: u64) -> u32
+    ensures { result ≡ x % 2 ^ 32 }
+{
+    (x & 0xffff_ffff) as u32
 }
 
 /// An octa with the low bytes of `x` in place of the part where an address lies.

@@ -2,7 +2,7 @@
 
 ghost use Rattle.std.specs.Prelude.{◌≡◌, ◌≢◌, ◌<◌, Err, IsTrue, not};
 ghost use Rattle.mx_mem.specs.Space as spec;
-ghost use Rattle.mx_mem.specs.Space.{Contents, octa_answer, byte_answer, put_answer, begins_page, memory_contents};
+ghost use Rattle.mx_mem.specs.Space.{Contents, octa_answer, byte_answer, put_answer, makes_page, memory_contents};
 
 use crate::{MemFault, Memory, Part};
 
@@ -38,13 +38,13 @@ pub trait Space {
     /// Puts a byte at an address, whose page is there afterwards; nothing else changes.
     ///
     /// Errors: `Negative`, `PagesFull` exactly where the page would be one too many, and out of
-    /// memory; then nothing changed. It takes no memory where it begins no page.
+    /// memory; then nothing changed. It takes no memory where it makes no page.
     fn put_byte(&mut self, a: u64, b: u8) -> Result<(), SpaceFault>
         ensures answer { result ≢ Err SpaceFault.OutOfMemory →
             (result, Self.contents self.new) ≡ put_answer (Self.contents self.old) a b }
         ensures memory { result ≡ Err SpaceFault.OutOfMemory →
             Self.contents self.new ≡ Self.contents self.old }
-        ensures there { IsTrue (not (begins_page (Self.contents self.old) a)) →
+        ensures there { IsTrue (not (makes_page (Self.contents self.old) a)) →
             result ≢ Err SpaceFault.OutOfMemory };
 }
 

@@ -1,6 +1,6 @@
 //! The item that stands first in what was fed.
 
-ghost use Rattle.std.specs.Prelude.{◌≡◌, ◌≢◌, ◌≤◌, ◌*◌, ◌+◌, Some, false, IfOk, IfSome, length, take, drop};
+ghost use Rattle.std.specs.Prelude.{◌≡◌, ◌≢◌, ◌≤◌, ◌*◌, ◌+◌, ℕ, Ok, Some, false, IfOk, IfSome, OnSome, length, take, drop};
 ghost use Rattle.mx_mmo.specs.Reading as spec;
 ghost use Rattle.mx_mmo.specs.Reading.{IsWithin};
 ghost use Rattle.mx_mmo.specs.Skipping.{quoted_behind, skipped};
@@ -101,6 +101,19 @@ fn due_item(alloc: Global, scan: &mut Scan, phase: Phase, at: u64, rest: &[u8]) 
         Phase::Posted if *y != 0 || *z != 0 => Err(MmoFault::BadFields(at)),
         Phase::Posted => Ok(Some((Item::Stab, 4))),
         Phase::Ended => Ok(None),
+    }
+}
+
+/// The tetra that stands first in bytes between `pre` and `post`, where it is one that is loaded as it stands.
+#[inline(always)]
+pub fn plain_tetra(rest: &[u8]) -> Option<u32>
+    ensures item { IfSome result (λ t. (at : ℕ) →
+        spec.first_item Phase.Middle at rest.now ≡ Ok (Some (Item.Load t, 4))) }
+    ensures whole { OnSome result (4 ≤ length rest.now) }
+{
+    match rest {
+        [a, code, y, z, ..] if *a != 0x98 => Some(tetra_of([*a, *code, *y, *z])),
+        _ => None,
     }
 }
 

@@ -46,6 +46,7 @@ impl Input {
     }
 
     /// The bytes.
+    #[inline(always)]
     pub fn bytes(&self) -> &[u8]
         ensures { result.now ≡ self.now }
     {
@@ -69,6 +70,7 @@ impl Input {
     }
 
     /// Takes bytes away from the front.
+    #[inline(always)]
     pub fn advance(&mut self, size: usize)
         requires { size ≤ length self.old }
         ensures { self.new ≡ drop size self.old }

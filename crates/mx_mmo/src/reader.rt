@@ -1,11 +1,11 @@
 //! Reading an object in pieces.
 
 ghost use Rattle.std.specs.Prelude.{◌≡◌, ◌≢◌, ◌≤◌, ◌+◌, ◌++◌, ◌^◌, length, drop, ◌<◌, IfOk, IfErr, IfSome, OnOk, OnErr};
-ghost use Rattle.std.specs.Prelude.{OnSome};
+ghost use Rattle.std.specs.Prelude.{OnSome, None, Ok, Some};
 ghost use Rattle.mx_mmo.specs.Replies as spec;
 ghost use Rattle.mx_mmo.specs.Valid.{Fits};
 
-use crate::due::{Phase, first_item};
+use crate::due::{Phase, first_item, plain_tetra};
 use crate::input::Input;
 use crate::skipping::Scan;
 use crate::tail::tail_of;
@@ -137,7 +137,25 @@ impl Reader {
         }
     }
 
+    /// The tetra that stands next, where it is one that is loaded as it stands: it is given then, as `next` gives it as an
+    /// item. Nothing where anything else is due, and then nothing changes. It takes no memory.
+    #[inline]
+    pub fn next_plain(&mut self) -> Option<u32>
+        ensures answers { IfSome result (λ t. (Ok (Some (Item.Load t)), self.new) ≡ spec.next_answer self.old) }
+        ensures read { OnSome result (self.new.fault ≡ None) }
+        ensures shorter { OnSome result (length self.new.rest < length self.old.rest) }
+        ensures none { result ≡ None → self.new ≡ self.old }
+    {
+        if self.fault.is_some() || self.phase != Phase::Middle {
+            return None;
+        }
+        let t = plain_tetra(self.input.bytes())?;
+        self.pass(4);
+        Some(t)
+    }
+
     /// The byte place, from 0, where the item that was given last begins; 0 where none was given.
+    #[inline]
     pub fn place(&self) -> u64
         ensures { result ≡ self.now.place }
     {
@@ -179,11 +197,24 @@ impl Reader {
         requires { size ≤ length self.old.rest }
         ensures { self.new ≡ spec.given self.old item.now size }
     {
+        self.pass(size);
+        self.phase = phase_after(item, self.phase);
+    }
+
+    /// So many bytes are given, and the phase stays.
+    #[inline(always)]
+    fn pass(&mut self, size: usize)
+        requires { size ≤ length self.old.rest }
+        ensures { self.new ≡ record self.old {
+          rest = drop size self.old.rest;
+          at = self.old.at + size;
+          place = self.old.at;
+        } }
+    {
         self.input.advance(size);
         self.scan = Scan::start();
         self.place = self.at;
         self.at += size as u64;
-        self.phase = phase_after(item, self.phase);
     }
 
     /// How many bytes were fed.

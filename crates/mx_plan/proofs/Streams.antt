@@ -16,7 +16,7 @@ use Rattle.mx_host.specs.declared.slots.Mode.{Mode}
 use Rattle.mx_host.specs.declared.slots.Slot.{Slot}
 use Rattle.mx_host.specs.declared.slots.Slot.TheVariants.{Closed, Open}
 use Rattle.mx_host.proofs.Output.{write-front}
-use Rattle.mx_plan.specs.Calls.{HostCall, opening, closing, reading, writing, seeking, telling, needing, host, host_act, host_left, BothCall, of_host, of_space, looking, Both, both, BothPlan, space}
+use Rattle.mx_plan.specs.Calls.{HostCall, opening, closing, reading, writing, seeking, telling, needing, host, host_act, HostLacks, BothCall, of_host, of_space, looking, Both, both, BothPlan, space}
 use Rattle.mx_plan.specs.Held.{Held, OnlyAdds, LeadsStill, KeepsStreams}
 use Rattle.mx_plan.specs.Plan.{end_of, Stops}
 use Rattle.mx_plan.proofs.HeldLaws.{held-end, held-stop, held-on}
@@ -123,20 +123,20 @@ call-leads k to needing m h i e = e
 
 -- ---- want of memory
 
-left-same : (P : HostModel → Type 0) (o : HostCall) (m : HostModel) → P m → P (counted m) → P (host_left o m)
-left-same P (opening slot name mode) m h k = k
-left-same P (closing slot) m h k = k
-left-same P (reading slot len) m h k = k
-left-same P (writing slot from) m h k = k
-left-same P (seeking slot to) m h k = k
-left-same P (telling slot) m h k = k
-left-same P needing m h k = h
+left-same : (P : HostModel → Type 0) (o : HostCall) (m n : HostModel) → HostLacks o m n → P m → P (counted m) → P n
+left-same P (opening slot name mode) m n l h k = rw (l.counts) k
+left-same P (closing slot) m n l h k = rw (l.counts) k
+left-same P (reading slot len) m n l h k = rw (l.counts) k
+left-same P (writing slot from) m n l h k = rw (l.counts) k
+left-same P (seeking slot to) m n l h k = rw (l.counts) k
+left-same P (telling slot) m n l h k = rw (l.counts) k
+left-same P needing m n l h k = rw l h
 
-left-slot : (o : HostCall) (m : HostModel) (k : ℕ) → slot_at (host_left o m) k ≡ slot_at m k
-left-slot o m k = left-same (λ n. slot_at n k ≡ slot_at m k) o m refl refl
+left-slot : (o : HostCall) (m n : HostModel) (k : ℕ) → HostLacks o m n → slot_at n k ≡ slot_at m k
+left-slot o m n k l = left-same (λ v. slot_at v k ≡ slot_at m k) o m n l refl refl
 
-left-output : (o : HostCall) (m : HostModel) → (host_left o m).output ≡ m.output
-left-output o m = left-same (λ n. n.output ≡ m.output) o m refl refl
+left-output : (o : HostCall) (m n : HostModel) → HostLacks o m n → n.output ≡ m.output
+left-output o m n l = left-same (λ v. v.output ≡ m.output) o m n l refl refl
 
 -- ---- standard output
 
@@ -204,8 +204,8 @@ adds-held = record {
   self = λ m. front-self m.output;
   through = λ l m n h k. front-through l.output m.output n.output h k;
   acting = call-adds;
-  lacking = λ o m n e. same-front m.output n.output (rw e (left-output o m));
-  between = λ o m n e. subst (λ xs. IsFront xs (host_act o m).1.output) (sym (rw e (left-output o m))) (call-adds o m);
+  lacking = λ o m n e. same-front m.output n.output (left-output o m n e);
+  between = λ o m n e. subst (λ xs. IsFront xs (host_act o m).1.output) (sym (left-output o m n e)) (call-adds o m);
 }
 
 leads-held : (k : ℕ) (to : Slot) → 257 < k → IsStream to → Held host (LeadsStill k to)
@@ -214,8 +214,8 @@ leads-held k to h i = record {
   self = λ m e. e;
   through = λ l m n f g e. g (f e);
   acting = λ o m e. call-leads k to o m h i e;
-  lacking = λ o m n e f. rw e (left-slot o m k) ∙ f;
-  between = λ o m n e f. call-leads k to o m h i (sym (left-slot o m k) ∙ subst (Leads k to) e f);
+  lacking = λ o m n e f. left-slot o m n k e ∙ f;
+  between = λ o m n e f. call-leads k to o m h i (sym (left-slot o m n k e) ∙ f);
 }
 
 pub streams-held : Held host KeepsStreams

@@ -1,9 +1,10 @@
 -- The calls of a host, of a space, and of both (MMIXware, MMIX-SIM, "Simulating a simple operating system").
 use Rattle.std.specs.Prelude.{ℕ, ℤ, IsTrue, ◌≡◌, nat_le, List, Result, Err, if◌then◌else◌}
-use Rattle.mx_mem.specs.Space.{Contents, put_answer, begins_page}
+use Rattle.mx_mem.specs.Space.{Contents, put_answer, makes_page}
 use Rattle.mx_mem.specs.declared.space.SpaceFault.{SpaceFault}
-use Rattle.mx_host.specs.HostModel.{HostModel, counted}
+use Rattle.mx_host.specs.HostModel.{HostModel}
 use Rattle.mx_host.specs.HostAnswer.{open_answer, close_answer, read_answer, write_answer, seek_answer, tell_answer}
+use Rattle.mx_host.specs.Keeping.{Lacked}
 use Rattle.mx_host.specs.declared.faults.HostFault.{HostFault}
 use Rattle.mx_host.specs.declared.faults.HostFault.TheVariants.{Misused}
 use Rattle.mx_host.specs.declared.faults.OpenFault.{OpenFault}
@@ -43,18 +44,18 @@ host_act (seeking slot to) m = seek_answer m slot to
 host_act (telling slot) m = tell_answer m slot
 host_act needing m = (tt, m)
 
--- what is left where there is no memory: a call is counted all the same
-abbrev pub host_left : HostCall → HostModel → HostModel
-host_left (opening slot name mode) m = counted m
-host_left (closing slot) m = counted m
-host_left (reading slot len) m = counted m
-host_left (writing slot from) m = counted m
-host_left (seeking slot to) m = counted m
-host_left (telling slot) m = counted m
-host_left needing m = m
+-- What is left where there is no memory: a call is counted all the same, and is none that is to fail.
+abbrev pub HostLacks : HostCall → HostModel → HostModel → Type 0
+HostLacks (opening slot name mode) m n = Lacked m n
+HostLacks (closing slot) m n = Lacked m n
+HostLacks (reading slot len) m n = Lacked m n
+HostLacks (writing slot from) m n = Lacked m n
+HostLacks (seeking slot to) m n = Lacked m n
+HostLacks (telling slot) m n = Lacked m n
+HostLacks needing m n = n ≡ m
 
 unfoldable pub host : Acts HostCall HostSays HostModel
-host = record { act = host_act; Lacks = λ o m n. n ≡ host_left o m }
+host = record { act = host_act; Lacks = HostLacks }
 
 abbrev pub HostPlan : Type 0 → Type 0
 HostPlan A = Plan HostCall HostSays A
@@ -93,9 +94,9 @@ SpaceSays (putting a b) = Result (Unit {0}) SpaceFault
 abbrev pub space_act : {Rest : Type 0} → (o : SpaceCall) → Contents Rest → SpaceSays o × Contents Rest
 space_act (putting a b) s = put_answer s a b
 
--- memory lacks only where the byte begins a page; then nothing changed
+-- memory lacks only where the byte makes a page; then nothing changed
 abbrev pub SpaceLacks : {Rest : Type 0} → SpaceCall → Contents Rest → Contents Rest → Type 0
-SpaceLacks (putting a b) s t = IsTrue (begins_page s a) × (t ≡ s)
+SpaceLacks (putting a b) s t = IsTrue (makes_page s a) × (t ≡ s)
 
 unfoldable pub space : {Rest : Type 0} → Acts SpaceCall SpaceSays (Contents Rest)
 space = record { act = space_act; Lacks = SpaceLacks }

@@ -102,7 +102,7 @@ pub fn tell<H: Host>(host: &mut H, slot: u16) -> Result<u64, HostFault>
     host.tell_slot(slot)
 }
 
-/// Puts a byte at an address of a space. It lacks memory only where the byte begins a page, and then nothing
+/// Puts a byte at an address of a space. It lacks memory only where the byte makes a page, and then nothing
 /// changed.
 #[tactic(auto, unfolding(crate::specs::Calls::put_plan, crate::specs::Calls::space, crate::specs::Plan::end_of, crate::specs::Plan::Stops))]
 pub fn put<M: Space>(memory: &mut M, a: u64, b: u8) -> Result<(), SpaceFault>

@@ -48,7 +48,7 @@ first_below v n few f = ⊎_elim (λ e. longer e) (λ e. shorter e) (cases_lt (l
 -- MOVED AT ONCE
 
 -- what stands above the locals
-behind : (v : Registers) (m : ℕ) → length v.locals ≤ m → m ≤ v.first_global → drop m (all_values v) ≡ replicate (v.first_global - m) 0 ++ v.globals
+pub behind : (v : Registers) (m : ℕ) → length v.locals ≤ m → m ≤ v.first_global → drop m (all_values v) ≡ replicate (v.first_global - m) 0 ++ v.globals
 behind v m f g =
     let l : ℕ = length v.locals in
     let zs : List ℕ = replicate (v.first_global - l) 0 in

@@ -1,5 +1,7 @@
 pub mod Areas
+pub mod Eight
 pub mod Few
+pub mod ListParts
 pub mod OctaLists
 pub mod Octas
 pub mod Returned

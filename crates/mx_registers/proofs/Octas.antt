@@ -4,7 +4,7 @@ use Rattle.std.proofs.lemmas.Bool.{cases_lt}
 use Rattle.std.proofs.lemmas.Bool.Decides.{nat_tests}
 use Rattle.std.proofs.lemmas.List.{append_assoc, append-nil, length-take, length-take-le, length-drop, length-append, take-append-drop, take-append-le, take-take}
 use Rattle.std.proofs.Math.Seq.{take-append-add}
-use Rattle.mx_registers.proofs.Spilled.{take-with_part, length-with_part}
+use Rattle.mx_registers.proofs.Spilled.{take-with_part, length-with_part, resident-first}
 use Rattle.mx_registers.specs.HiddenPart.{HiddenPart, octas_of, with_spilled, with_room, with_first, with_hidden}
 
 -- the hidden part lies in its bounds: what is spilled is hidden, and there is room in the stack area
@@ -101,6 +101,11 @@ first-split h n f = ⊎_elim (λ e. low e) (λ e. high e) (cases_lt n h.spilled)
 pub first-octas : (h : HiddenPart) (room n : ℕ) → Fits h room → octas_of (with_first h n) ≡ take n (octas_of h)
 unfolding with_first
 first-octas h room n f = first-split h n (spilled-below h room f)
+
+-- so it is where the hidden octas are one list
+pub first-in-list : (stack octas : List ℕ) (s n m : ℕ) → m ≡ min s n → record { stack = stack; spilled = m; resident = drop m (take n octas) } ≡ with_first (record { stack = stack; spilled = s; resident = drop s octas }) n
+unfolding with_first
+first-in-list stack octas s n m e = rw (e, resident-first octas s n) refl
 
 length-first : (h : HiddenPart) (n : ℕ) → (with_first h n).spilled ≡ min h.spilled n
 unfolding with_first

@@ -1,5 +1,6 @@
 pub mod Bounds
 pub mod HiddenPart
+pub mod ListParts
 pub mod Parts
 pub mod Registers
 pub mod RingFaults

@@ -1,6 +1,5 @@
 -- How the registers and the hidden octas are kept, and the pieces that the operations on them are made of.
-use Rattle.std.specs.Prelude.{ℕ, ◌-◌, ◌^◌, ◌≡◌, ◌≤◌, List, ◌++◌, length, take, drop, replicate}
-use Rattle.std.specs.Vec.{vec_capacity}
+use Rattle.std.specs.Prelude.{ℕ, ◌+◌, ◌-◌, ◌^◌, ◌≡◌, ◌≤◌, min, List, ◌++◌, length, take, drop, replicate}
 use Rattle.mx_registers.specs.Bounds.{AreInBounds}
 use Rattle.mx_registers.specs.HiddenPart.{HiddenPart}
 use Rattle.mx_registers.specs.Registers.{Registers}
@@ -27,15 +26,21 @@ pub record HoldsRegisters (i : VisibleInside) : Type 0 where
 
 -- the hidden octas in a list of all of them; those that are spilled stand in the stack area too
 abbrev pub part_in : HiddenInside → HiddenPart
-part_in i = record { stack = i.stack; spilled = i.spilled; resident = drop i.spilled i.octas.items }
+part_in i = record { stack = i.stack; spilled = i.spilled; resident = drop i.spilled i.list.octas }
 
--- the spilled octas are the same in both places, and there is memory for all octas that may be hidden
+-- where nothing is spilled for a register or a call: hidden and local registers up to this number. With them a ring of
+-- the least size has 255 registers, and there are 2^20 in all
+abbrev pub limit_for : ℕ → ℕ
+limit_for spilled = min (spilled + 255) (2 ^ 20)
+
+-- the spilled octas are the same in both places, and octas are kept up to the limit
 pub record HoldsHidden (i : HiddenInside) : Type 0 where
-  pub spilled_are_hidden : i.spilled ≤ length i.octas.items
-  pub same_spilled : take i.spilled i.octas.items ≡ take i.spilled i.stack
+  pub spilled_are_hidden : i.spilled ≤ length i.list.octas
+  pub same_spilled : take i.spilled i.list.octas ≡ take i.spilled i.stack
   pub all_stack : length i.stack ≡ 2 ^ 20
-  pub has_room : length i.octas.items ≤ 2 ^ 20
-  pub has_memory : 2 ^ 20 ≤ vec_capacity i.octas
+  pub has_room : length i.list.octas ≤ 2 ^ 20
+  pub has_limit : i.limit ≡ limit_for i.spilled
+  pub has_list : i.limit ≤ i.list.room
 
 -- zeros in place of what stands from one place up to another
 abbrev pub with_zeros_at : List ℕ → ℕ → ℕ → List ℕ

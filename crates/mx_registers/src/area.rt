@@ -12,6 +12,7 @@ mod copy;
 use crate::RingFault;
 use crate::hidden::ROOM;
 use crate::knowing::know_octas;
+use crate::list::HiddenList;
 use crate::slices::{append, put};
 use std::alloc::Global;
 use std::marker::Model;
@@ -91,6 +92,19 @@ impl Area {
     {
         fill_up(&mut self.octas, to);
         append(list, &self.octas[from..to]);
+    }
+
+    /// Appends the octas from a place up to another, at most 2^20, to those that count in a list.
+    pub(crate) fn hide(&mut self, from: usize, to: usize, list: &mut HiddenList)
+        requires forward { from ≤ to }
+        requires inside { to ≤ 2 ^ 20 }
+        requires room { length list.old.octas + (to - from) ≤ 2 ^ 20 }
+        ensures same { self.new ≡ self.old }
+        ensures octas { list.new.octas ≡ list.old.octas ++ take (to - from) (drop from self.old) }
+        ensures room { list.old.room ≤ list.new.room }
+    {
+        fill_up(&mut self.octas, to);
+        list.append(&self.octas[from..to]);
     }
 
     /// Overwrites the octa at a place below 2^20.

@@ -1,9 +1,9 @@
 //! The hidden octas: a list of all of them, and the stack area, where the older ones stand too.
 
-ghost use Rattle.std.specs.Prelude.{◌≡◌, ◌≤◌, ◌<◌, ◌+◌, ◌-◌, ◌^◌, ◌++◌, [], ◌∷◌, ℕ, IfOk, OnErr, Err, length, take};
-ghost use Rattle.std.specs.Prelude.{None, IfSome, slice_index};
-ghost use Rattle.std.specs.Vec.{vec_len, vec_capacity};
+ghost use Rattle.std.specs.Prelude.{◌≡◌, ◌≤◌, ◌<◌, ◌+◌, ◌-◌, ◌^◌, ◌++◌, [], ◌∷◌, ℕ, IfOk, OnErr, Err, length, take, drop};
+ghost use Rattle.std.specs.Prelude.{None, IfSome, slice_index, nat_le, ◌&&◌};
 ghost use Rattle.mx_word.specs.Ranges.{AreOctas};
+ghost use Rattle.mx_registers.specs.Parts.{limit_for};
 ghost use Rattle.mx_registers.specs.HiddenPart.{octas_of, with_hidden, with_spilled, with_room, with_first};
 ghost use Rattle.mx_registers.specs.HiddenPart.{with_stack_first, with_octa, nothing_hidden};
 
@@ -13,21 +13,25 @@ mod copy;
 use crate::RingFault;
 use crate::area::Area;
 use crate::knowing::know_octas;
-use crate::slices::append;
+use crate::list::HiddenList;
 use std::alloc::Global;
 use std::marker::Model;
 
 /// How many octas the stack area has, which is also how many hidden and local registers there may be.
 pub const ROOM: usize = 1 << 20;
 
+/// How many hidden and local registers a ring of the least size has in it at most.
+const LEAST: usize = 255;
+
 /// The hidden octas and the stack area. Contracts see the octas of the area, how many hidden ones are spilled to it,
 /// and the other hidden ones.
 #[derive(Drop)]
 pub struct Hidden {
     alloc: Global,
-    octas: Vec<u64>,
+    list: HiddenList,
     stack: Area,
     spilled: usize,
+    limit: usize,
 }
 
 impl Model for Hidden {
@@ -42,22 +46,6 @@ impl Model for Hidden {
     ghost invariant = { HoldsHidden };
 }
 
-/// Appends the first `n` of some items, and that number. All of them are written first, since a number of
-/// items that is known beforehand is written faster.
-#[tactic(auto, using(crate::proofs::Few::counted))]
-#[inline(always)]
-fn append_counted(list: &mut Vec<u64>, items: &[u64], n: usize)
-    requires room { vec_len list.old + length items.now ≤ vec_capacity list.old }
-    requires among { n < length items.now }
-    ensures items { list.new.items ≡ list.old.items ++ (take n items.now ++ n ∷ []) }
-    ensures capacity { vec_capacity list.old ≤ vec_capacity list.new }
-{
-    let place = list.len() + n;
-    append(list, items);
-    list.truncate(place + 1);
-    list[place] = n as u64;
-}
-
 #[tactic(auto, unfolding(crate::specs::HiddenPart::with_spilled, crate::specs::HiddenPart::with_room, crate::specs::HiddenPart::with_first))]
 impl Hidden {
     /// Nothing is hidden, and the stack area has zeros. The room for all octas is taken at once.
@@ -69,9 +57,10 @@ impl Hidden {
     {
         Ok(Hidden {
             alloc,
-            octas: Vec::with_capacity(alloc, ROOM)?,
+            list: HiddenList::new(alloc, LEAST)?,
             stack: Area::new(alloc)?,
             spilled: 0,
+            limit: LEAST,
         })
     }
 
@@ -82,7 +71,7 @@ impl Hidden {
         ensures room { result ≤ 2 ^ 20 }
         ensures parts { result ≡ self.now.spilled + length self.now.resident }
     {
-        self.octas.len()
+        self.list.len()
     }
 
     /// The number of hidden octas in the stack area, at most that of the hidden ones.
@@ -98,7 +87,29 @@ impl Hidden {
     pub fn octas(&self) -> &[u64]
         ensures { result.now ≡ octas_of self.now }
     {
-        self.octas.as_slice()
+        self.list.as_slice()
+    }
+
+    /// Whether `n` registers, at most 2^20, may follow the hidden ones, and a ring of the least size has room for them.
+    #[inline(always)]
+    pub fn has_room(&self, n: usize) -> bool
+        requires { n ≤ 2 ^ 20 }
+        ensures { result ≡ nat_le (length self.now.resident + n) 255
+            && nat_le (length (octas_of self.now) + n) (2 ^ 20) }
+    {
+        self.list.len() + n <= self.limit
+    }
+
+    /// So many octas from a place among the hidden ones on, at most 16: the first of them are those that are hidden.
+    #[inline(always)]
+    pub fn some_from(&self, from: usize, n: usize) -> &[u64]
+        requires inside { from ≤ length (octas_of self.now) }
+        requires few { n ≤ 16 }
+        ensures size { length result.now ≡ n }
+        ensures octas { (k : ℕ) → k ≤ n → from + k ≤ length (octas_of self.now)
+            → take k result.now ≡ take k (drop from (octas_of self.now)) }
+    {
+        self.list.some_from(from, n)
     }
 
     /// The octa of the stack area at a place below 2^20.
@@ -125,7 +136,7 @@ impl Hidden {
         ensures resident { AreOctas self.now.resident }
         ensures area { AreOctas self.now.stack }
     {
-        know_octas(self.octas.as_slice());
+        know_octas(self.list.as_slice());
         self.stack.know_octas();
     }
 
@@ -144,7 +155,7 @@ impl Hidden {
         requires { length (octas_of self.old) + length octas.now ≤ 2 ^ 20 }
         ensures { self.new ≡ with_hidden self.old octas.now }
     {
-        append(&mut self.octas, octas);
+        self.list.append(octas);
     }
 
     /// Hides the first `n` of some octas, and that number. There are more than `n`, and for all of them there is
@@ -155,7 +166,21 @@ impl Hidden {
         requires among { n < length octas.now }
         ensures { self.new ≡ with_hidden self.old (take n octas.now ++ n ∷ []) }
     {
-        append_counted(&mut self.octas, octas, n);
+        if self.has_room(octas.len()) {
+            self.list.append_counted(octas, n);
+        } else {
+            self.append_number(&octas[..n]);
+        }
+    }
+
+    /// Hides octas and how many they are.
+    #[inline(never)]
+    fn append_number(&mut self, octas: &[u64])
+        requires { length (octas_of self.old) + (length octas.now + 1) ≤ 2 ^ 20 }
+        ensures { self.new ≡ with_hidden self.old (octas.now ++ length octas.now ∷ []) }
+    {
+        self.append(octas);
+        self.append(&[octas.len() as u64]);
     }
 
     /// After a growth, where the ring has a number of registers, at least 256, and `l` of them, at most 255, are local:
@@ -166,7 +191,7 @@ impl Hidden {
         requires registers { 256 ≤ registers }
         ensures { self.new ≡ with_room self.old l registers }
     {
-        let count = self.octas.len() - self.spilled + l;
+        let count = self.list.len() - self.spilled + l;
         if count >= registers {
             self.spill(count + 1 - registers);
         }
@@ -180,15 +205,17 @@ impl Hidden {
     {
         let end = self.spilled + n;
         self.stack
-            .write(self.spilled, &self.octas[self.spilled..end]);
+            .write(self.spilled, &self.list.as_slice()[self.spilled..end]);
         self.spilled = end;
+        self.limit = limit_for(end);
+        self.list.widen(self.limit);
     }
 
     /// All octas that are not in the stack area go there.
     pub fn spill_all(&mut self)
         ensures { self.new ≡ with_spilled self.old (length self.old.resident) }
     {
-        let n = self.octas.len() - self.spilled;
+        let n = self.list.len() - self.spilled;
         self.spill(n);
     }
 
@@ -197,8 +224,11 @@ impl Hidden {
     pub fn keep_first(&mut self, n: usize)
         ensures { self.new ≡ with_first self.old n }
     {
-        self.octas.truncate(n);
-        self.spilled = self.spilled.min(n);
+        self.list.truncate(n);
+        if n < self.spilled {
+            self.spilled = n;
+            self.limit = limit_for(n);
+        }
     }
 
     /// The first `n` octas of the stack area, at most 2^20, are the hidden ones.
@@ -207,9 +237,11 @@ impl Hidden {
         ensures { self.new ≡ with_stack_first self.old n }
     {
         let start = n.min(self.spilled);
-        self.octas.truncate(start);
-        self.stack.append_to(start, n, &mut self.octas);
+        self.list.truncate(start);
+        self.stack.hide(start, n, &mut self.list);
         self.spilled = n;
+        self.limit = limit_for(n);
+        self.list.widen(self.limit);
     }
 
     /// Overwrites the octa of the stack area at a place below 2^20.
@@ -218,8 +250,17 @@ impl Hidden {
         ensures { self.new ≡ with_octa self.old i x }
     {
         if i < self.spilled {
-            self.octas[i] = x;
+            self.list.set(i, x);
         }
         self.stack.set(i, x);
     }
+}
+
+/// Up to how many hidden and local registers nothing is spilled, where so many octas are.
+#[inline(always)]
+fn limit_for(spilled: usize) -> usize
+    requires { spilled ≤ 2 ^ 20 }
+    ensures { result ≡ limit_for spilled }
+{
+    (spilled + LEAST).min(ROOM)
 }

@@ -8,6 +8,7 @@ mod area;
 mod fault;
 mod hidden;
 mod knowing;
+mod list;
 mod results;
 mod size;
 mod slices;

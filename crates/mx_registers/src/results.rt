@@ -1,6 +1,7 @@
 //! What POP leaves in the registers below G.
 
-ghost use Rattle.std.specs.Prelude.{◌≡◌, ◌≤◌, ◌<◌, ◌+◌, ◌-◌, ◌∷◌, ◌++◌, min, length, take, drop};
+ghost use Rattle.std.specs.Prelude.{◌≡◌, ◌≤◌, ◌<◌, ◌+◌, ◌-◌, ◌∷◌, ◌++◌, min, length, take, drop, replicate};
+ghost use Rattle.std.specs.Prelude.{◌==◌, if◌then◌else◌, slice_index, slice_set};
 ghost use Rattle.mx_word.specs.Lists.{with_part, with_zeros};
 ghost use Rattle.mx_registers.specs.Registers.{results};
 
@@ -64,4 +65,47 @@ fn put_first(front: &mut [u64], main: u64, count: usize, hole: usize) -> usize
     copy(front, 0, others, hole + 1);
     front[hole] = main;
     others + 1
+}
+
+/// The first `n` of 8 octas as the first registers, zeros for the others of 8, and behind them what the first
+/// register had, or a 0 where POP with `x` gives nothing.
+#[inline(always)]
+pub(crate) fn put_few(front: &mut [u64], octas: &[u64], n: usize, x: usize)
+    requires room { 8 ≤ length front.old }
+    requires all { length octas.now ≡ 8 }
+    requires few { n < 8 }
+    ensures { front.new ≡ slice_set (with_part front.old 0 (take n octas.now ++ replicate (8 - n) 0)) n
+        (if x == 0 then 0 else slice_index front.old 0) }
+{
+    let main = octa_if(front[0], x != 0);
+    put(front, 0, &first_of_eight(octas, n));
+    front[n] = main;
+}
+
+/// The first `n` of 8 octas, and zeros for the others.
+#[tactic(auto, using(crate::proofs::Eight::eight))]
+#[inline(always)]
+fn first_of_eight(octas: &[u64], n: usize) -> [u64; 8]
+    requires all { length octas.now ≡ 8 }
+    requires few { n ≤ 8 }
+    ensures { result ≡ take n octas.now ++ replicate (8 - n) 0 }
+{
+    [
+        octa_if(octas[0], 0 < n),
+        octa_if(octas[1], 1 < n),
+        octa_if(octas[2], 2 < n),
+        octa_if(octas[3], 3 < n),
+        octa_if(octas[4], 4 < n),
+        octa_if(octas[5], 5 < n),
+        octa_if(octas[6], 6 < n),
+        octa_if(octas[7], 7 < n),
+    ]
+}
+
+/// An octa, or 0.
+#[inline(always)]
+fn octa_if(x: u64, is_it: bool) -> u64
+    ensures { result ≡ (if is_it then x else 0) }
+{
+    if is_it { x } else { 0 }
 }

@@ -28,6 +28,7 @@ pub(crate) fn clear(items: &mut [u64], from: usize, to: usize)
 }
 
 /// Other items in place of as many from `place` on.
+#[inline(always)]
 pub(crate) fn put(items: &mut [u64], place: usize, others: &[u64])
     requires { place + length others.now ≤ length items.old }
     ensures { items.new ≡ with_part items.old place others.now }

@@ -10,7 +10,7 @@ ghost use Rattle.mx_registers.specs.Registers.{with_globals_from, push_number, r
 ghost use Rattle.mx_registers.specs.Registers.{with_returned};
 
 use crate::knowing::know_octas;
-use crate::results::bring_back;
+use crate::results::{bring_back, put_few};
 use crate::slices::{clear, copy, put};
 use std::marker::Model;
 
@@ -105,6 +105,7 @@ impl Visible {
     }
 
     /// Makes a $k local that is neither local nor global, with this value and zeros between.
+    #[inline(always)]
     pub fn add(&mut self, k: u8, x: u64)
         requires { is_marginal self.old k ≡ true }
         ensures { self.new ≡ with_value self.old k x }
@@ -191,16 +192,16 @@ impl Visible {
         self.local_count = count;
     }
 
-    /// The first `n` locals are gone, where at most 8 were local, `n` is at most G less 8, and `count` stay. Nothing
-    /// behind them is to be cleared.
+    /// The first `n` locals are gone, where at most `size` were local, `n` is at most G less `size`, and `count` stay.
+    /// Nothing behind them is to be cleared.
     #[inline(always)]
-    pub fn keep_fewer(&mut self, n: usize, count: usize)
+    pub fn keep_fewer(&mut self, n: usize, count: usize, size: usize)
         requires count { count ≡ length self.old.locals - n }
-        requires few { length self.old.locals ≤ 8 }
-        requires room { n + 8 ≤ self.old.first_global }
+        requires few { length self.old.locals ≤ size }
+        requires room { n + size ≤ self.old.first_global }
         ensures { self.new ≡ registers_from self.old n }
     {
-        move_fewer(&mut self.values, n);
+        move_fewer(&mut self.values, n, size);
         self.local_count = count;
     }
 
@@ -250,6 +251,21 @@ impl Visible {
         self.local_count = bring_back(&mut self.values[..room], local_count, octas, x);
     }
 
+    /// The first `n` of 8 octas come back as $0 and so on, and one result of POP follows them, or none, where at most 8
+    /// registers are local. 8 registers are written at once.
+    #[inline(always)]
+    pub fn bring_few_back(&mut self, octas: &[u64], n: usize, x: usize)
+        requires octas { length octas.now ≡ 8 }
+        requires few { n < 8 }
+        requires locals { length self.old.locals ≤ 8 }
+        requires one { x ≤ 1 }
+        requires among { x ≤ length self.old.locals }
+        ensures { self.new ≡ with_returned self.old (take n octas.now) x }
+    {
+        put_few(&mut self.values, octas, n, x);
+        self.local_count = n + x;
+    }
+
     /// The registers become those with this G, which is from 32 to 255, all globals from $G to $255, and these
     /// locals, as far as they are below G.
     pub fn restore(&mut self, first_global: usize, locals: &[u64], globals: &[u64])
@@ -283,11 +299,11 @@ fn move_few(values: &mut [u64], n: usize, l: usize)
     clear(values, FEW, l.max(FEW));
 }
 
-/// As many registers as are copied at once, from the place `n` on, become the first ones.
+/// As many registers as `size` from the place `n` on become the first ones.
 #[inline(always)]
-fn move_fewer(values: &mut [u64], n: usize)
-    requires { n + 8 ≤ length values.old }
-    ensures { values.new ≡ with_part values.old 0 (take 8 (drop n values.old)) }
+fn move_fewer(values: &mut [u64], n: usize, size: usize)
+    requires { n + size ≤ length values.old }
+    ensures { values.new ≡ with_part values.old 0 (take size (drop n values.old)) }
 {
-    copy(values, n, n + FEW, 0);
+    copy(values, n, n + size, 0);
 }

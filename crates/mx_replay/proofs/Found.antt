@@ -18,7 +18,8 @@ use Rattle.mx_replay.specs.Searches.{FindsNext, IsLast, IsLastAfter, IsLastBefor
 use Rattle.mx_replay.specs.Visits.{ComesTo, IsStart, IsStep, MakesTurn, came_by, came_to, trace_after, trace_of, turn_from}
 use Rattle.mx_replay.specs.declared.program.Program.{Program}
 use Rattle.mx_replay.specs.declared.visit.Visit.{Visit}
-use Rattle.mx_replay.proofs.Steps.{is-spent, on-step, over-reached, step-over}
+use Rattle.mx_replay.proofs.RunEnds.{is-spent}
+use Rattle.mx_replay.proofs.Steps.{on-step, over-reached, step-over}
 
 -- ONE TURN MORE
 

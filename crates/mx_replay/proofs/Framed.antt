@@ -20,7 +20,8 @@ use Rattle.mx_replay.specs.declared.frames.Frame.{Frame}
 use Rattle.mx_replay.specs.declared.program.Program.{Program}
 use Rattle.mx_replay.specs.declared.visit.Visit.{Visit}
 use Rattle.mx_replay.proofs.Found.{more-here, more-on, no-more-by, turn-step}
-use Rattle.mx_replay.proofs.Steps.{is-spent, step-over}
+use Rattle.mx_replay.proofs.RunEnds.{is-spent}
+use Rattle.mx_replay.proofs.Steps.{step-over}
 
 -- ---- one turn
 

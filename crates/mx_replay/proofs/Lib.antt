@@ -6,3 +6,4 @@ pub mod Found
 pub mod Framed
 pub mod Keeping
 pub mod Unmarked
+pub mod Locals

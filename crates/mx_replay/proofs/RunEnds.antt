@@ -1,11 +1,12 @@
 -- Runs without flags by their last turn.
-use Rattle.std.proofs.Common.{IsTrue, Some, ◌≡◌, ◌≢◌, ◌<◌, ◌≤◌, ◌+◌, ◌-◌, ◌%◌, ◌^◌, ℕ, zero, suc, true, false, arith, refl, sym, subst, ◌∙◌, ap}
+use Rattle.std.proofs.Common.{IsTrue, Some, ◌≡◌, ◌≢◌, ◌<◌, ◌≤◌, ◌+◌, ◌-◌, ◌%◌, ◌^◌, ℕ, zero, suc, Bool, true, false, arith, refl, sym, subst, ◌∙◌, ap}
 use Rattle.mx_host.specs.HostModel.{HostModel, tells, contents}
 use Rattle.mx_core.specs.State.{State}
 use Rattle.mx_run.specs.Runs.{Ended, ended, no_flags, run}
 use Rattle.mx_run.specs.Turns.{Turn, went_on, halts, stops, turn}
 use Rattle.mx_run.specs.declared.end.End.{End}
 use Rattle.mx_run.specs.declared.end.End.TheVariants.{Halted, Stopped, Broke, Traced, Spent, OutOfMemory}
+use Rattle.mx_run.proofs.Following.{run-over}
 use Rattle.mx_run.proofs.FreeTurns.{none-made, run-went, run-halts, run-stops}
 use Rattle.mx_run.proofs.StepCounts.{CountsTurn, turn-count}
 use Rattle.mx_replay.specs.Programs.{is_over}
@@ -14,36 +15,29 @@ use Rattle.mx_replay.specs.Visits.{ComesTo, uncounted, turns_told}
 abbrev free : ℕ → State → HostModel → Ended
 free n s m = run n no_flags false s m
 
-next-sum : (i j : ℕ) → suc i + j ≡ suc (i + j)
-next-sum i j = omega arith
+-- an end at which a run goes on, or not
+over-end : (e : End) → is_over e ≡ true → e ≢ Spent
+over-end e h same = let wrong : is_over Spent ≡ true = subst (λ x. is_over x ≡ true) same h in absurd (cc)
 
--- ---- a run that has ended stays so
+pub is-spent : (e : End) → is_over e ≡ false → e ≡ Spent
+is-spent Spent h = refl
+is-spent (Halted status) h = absurd (cc)
+is-spent (Stopped pc reason) h = absurd (cc)
+is-spent (Broke kind at traced) h = absurd (cc)
+is-spent (Traced trace) h = absurd (cc)
+is-spent OutOfMemory h = absurd (cc)
 
-abbrev Stays : ℕ → ℕ → State → HostModel → Type 0
-Stays i j s m = is_over (free i s m).end ≡ true → free (i + j) s m ≡ free i s m
-
-stays-by : (i j : ℕ) (s : State) (m : HostModel) (x : Turn) → turn s m ≡ x → ((u : State) (k : HostModel) → Stays i j u k) → is_over (free (suc i) s m).end ≡ true → free (suc (i + j)) s m ≡ free (suc i) s m
-stays-by i j s m (went_on u k trace) e more h =
-    run-went (i + j) s u m k trace e ∙ more u k (subst (λ (x : Ended). is_over x.end ≡ true) (run-went i s u m k trace e) h) ∙ sym (run-went i s u m k trace e)
-stays-by i j s m (halts status u k) e more h = run-halts (i + j) s u m k status e ∙ sym (run-halts i s u m k status e)
-stays-by i j s m (stops reason u k) e more h = run-stops (i + j) s u m k reason e ∙ sym (run-stops i s u m k reason e)
+-- ---- a run that has ended stays so, and one that goes on has gone on before
 
 pub run-stays : (i j : ℕ) (s : State) (m : HostModel) → is_over (free i s m).end ≡ true → free (i + j) s m ≡ free i s m
-run-stays zero j s m h = let wrong : is_over Spent ≡ true = subst (λ (x : Ended). is_over x.end ≡ true) (none-made s m) h in absurd (cc)
-run-stays (suc i) j s m h = ap (λ n. free n s m) (next-sum i j) ∙ stays-by i j s m (turn s m) refl (λ u k. run-stays i j u k) h
+run-stays i j s m h = run-over i j no_flags false s m (over-end (free i s m).end h)
 
--- ---- a run that goes on has gone on before
-
-before-by : (i j : ℕ) (s : State) (m : HostModel) (x : Turn) → turn s m ≡ x → ((u : State) (k : HostModel) → (free (i + j) u k).end ≡ Spent → (free i u k).end ≡ Spent) →
-    (free (suc (i + j)) s m).end ≡ Spent → (free (suc i) s m).end ≡ Spent
-before-by i j s m (went_on u k trace) e more h =
-    ap (λ (x : Ended). x.end) (run-went i s u m k trace e) ∙ more u k (sym (ap (λ (x : Ended). x.end) (run-went (i + j) s u m k trace e)) ∙ h)
-before-by i j s m (halts status u k) e more h = let wrong : Halted status ≡ Spent = sym (ap (λ (x : Ended). x.end) (run-halts (i + j) s u m k status e)) ∙ h in absurd (cc)
-before-by i j s m (stops reason u k) e more h = let wrong : Stopped s.pc reason ≡ Spent = sym (ap (λ (x : Ended). x.end) (run-stops (i + j) s u m k reason e)) ∙ h in absurd (cc)
-
-pub run-before : (i j : ℕ) (s : State) (m : HostModel) → (free (i + j) s m).end ≡ Spent → (free i s m).end ≡ Spent
-run-before zero j s m h = ap (λ (x : Ended). x.end) (none-made s m)
-run-before (suc i) j s m h = before-by i j s m (turn s m) refl (λ u k. run-before i j u k) (subst (λ n. (free n s m).end ≡ Spent) (next-sum i j) h)
+run-before : (i j : ℕ) (s : State) (m : HostModel) → (free (i + j) s m).end ≡ Spent → (free i s m).end ≡ Spent
+run-before i j s m h = by (is_over (free i s m).end) refl
+  where
+    by : (b : Bool) → is_over (free i s m).end ≡ b → (free i s m).end ≡ Spent
+    by true e = ap (λ (x : Ended). x.end) (sym (run-stays i j s m e)) ∙ h
+    by false e = is-spent (free i s m).end e
 
 pub run-below : (j n : ℕ) (s : State) (m : HostModel) → j ≤ n → (free n s m).end ≡ Spent → (free j s m).end ≡ Spent
 run-below j n s m l h = let all : j + (n - j) ≡ n = omega (arith, l) in run-before j (n - j) s m (subst (λ k. (free k s m).end ≡ Spent) (sym all) h)

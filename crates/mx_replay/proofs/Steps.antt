@@ -18,12 +18,13 @@ use Rattle.mx_run.specs.WildRuns.{window_machine}
 use Rattle.mx_run.specs.Runs.{Ended, ended, no_flags, run}
 use Rattle.mx_run.specs.declared.end.End.{End}
 use Rattle.mx_run.specs.declared.end.End.TheVariants.{Halted, Stopped, Broke, Traced, Spent, OutOfMemory}
-use Rattle.mx_run.proofs.FreeTurns.{none-made, run-from}
+use Rattle.mx_run.proofs.Following.{run-spent}
+use Rattle.mx_run.proofs.FreeTurns.{none-made}
 use Rattle.mx_replay.specs.Programs.{GoesOn, HasEnded, IsReached, host_of, is_over, run_from, start_of, step_of}
 use Rattle.mx_replay.specs.Visits.{ComesTo, IsStart, IsStep, came_to}
 use Rattle.mx_replay.specs.declared.program.Program.{Program}
 use Rattle.mx_replay.specs.declared.visit.Visit.{Visit}
-use Rattle.mx_replay.proofs.RunEnds.{run-below, run-stays}
+use Rattle.mx_replay.proofs.RunEnds.{is-spent, run-below, run-stays}
 
 -- THE START
 
@@ -49,7 +50,7 @@ start-refused p why m e = ap (run_from 0) (sym e)
 -- a step, and so many turns from it
 from-by : (i j : ℕ) (s : State) (m : HostModel) (t : Then (Result State Outcome)) → run_from i t ≡ Ok (ended Spent s m) → run_from (i + j) t ≡ Ok (run j no_flags false s m)
 from-by i j s m (Err why, k) e = absurd (cc)
-from-by i j s m (Ok u, k) e = let reached : run i no_flags false u k ≡ ended Spent s m = cc in ap Ok (run-from i j u s k m reached)
+from-by i j s m (Ok u, k) e = let reached : run i no_flags false u k ≡ ended Spent s m = cc in ap Ok (run-spent i j no_flags u s k m reached)
 
 pub step-from : (p : Program) (i j : ℕ) (s : State) (m : HostModel) → step_of p i ≡ Ok (ended Spent s m) → step_of p (i + j) ≡ Ok (run j no_flags false s m)
 unfolding step_of
@@ -88,14 +89,6 @@ pub over-reached : (p : Program) (v : Visit) (k : ℕ) → IsStep p v → v.at �
 over-reached p v k s l e = record { within = l; early = λ h. ap (map_ok (λ (x : Ended). is_over x.end)) s.shown ∙ ap Ok e }
 
 -- where it has not
-pub is-spent : (e : End) → is_over e ≡ false → e ≡ Spent
-is-spent Spent h = refl
-is-spent (Halted status) h = absurd (cc)
-is-spent (Stopped pc reason) h = absurd (cc)
-is-spent (Broke kind at traced) h = absurd (cc)
-is-spent (Traced trace) h = absurd (cc)
-is-spent OutOfMemory h = absurd (cc)
-
 made-by : (p : Program) (v : Visit) (made j : ℕ) → IsStep p v → step_of p v.at ≡ Ok (ended Spent (state_of v.machine) v.host) → ((i : ℕ) → i < made → (run i no_flags false (state_of v.machine) v.host).end ≡ Spent) →
     j < v.at + made → (j < v.at) ⊎ (v.at ≤ j) → GoesOn p j
 made-by p v made j s e on l (inl h) = s.made j h

@@ -1,8 +1,10 @@
 -- The calls that have not returned at a step of a run.
-use Rattle.std.specs.Prelude.{ℕ, zero, suc, ◌-◌, ◌/◌, ◌^◌, ◌==◌, ◌||◌, Bool, if◌then◌else◌, nat_lt, List, [], ◌∷◌, ◌++◌, length, take, Result, Ok, Err}
+use Rattle.std.specs.Prelude.{ℕ, zero, suc, ◌≡◌, ◌<◌, ◌-◌, ◌/◌, ◌^◌, ◌==◌, ◌||◌, Bool, if◌then◌else◌, nat_lt, List, [], ◌∷◌, ◌++◌, length, take, slice_index, Result, Ok, Err}
 use Rattle.mx_host.specs.HostModel.{HostModel}
 use Rattle.mx_code.specs.declared.trace.Trace.{Trace}
 use Rattle.mx_core.specs.State.{State}
+use Rattle.mx_ring.specs.Stack.{local_count, register}
+use Rattle.mx_word.specs.Results.{map_ok}
 use Rattle.mx_run.specs.Runs.{Ended}
 use Rattle.mx_run.specs.Turns.{Turn, went_on, halts, stops, turn}
 use Rattle.mx_run.specs.declared.end.End.{End}
@@ -52,3 +54,14 @@ turned_after (Ok e) frames = turned_from e.end e.state e.host frames
 unfoldable pub frames_at : Program → ℕ → List Frame
 frames_at p zero = []
 frames_at p (suc j) = turned_after (step_of p j) (frames_at p j)
+
+-- ---- registers
+
+-- octas are what the local registers have, from `$0` on
+pub record AreLocals (s : State) (octas : List ℕ) : Type 0 where
+  pub count : length octas ≡ local_count s.stack
+  pub each : (k : ℕ) → k < length octas → slice_index octas k ≡ register s.stack k
+
+-- at step k of the run, where there is one
+abbrev pub AreLocalsAt : Program → ℕ → List ℕ → Type 0
+AreLocalsAt p k octas = (s : State) → map_ok (λ e. e.state) (step_of p k) ≡ Ok s → AreLocals s octas

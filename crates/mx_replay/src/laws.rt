@@ -8,8 +8,9 @@ ghost use Rattle.mx_run.specs.declared.end.End.TheVariants.{Spent};
 ghost use Rattle.mx_replay.specs.Programs.{GoesOn, HasEnded, step_of};
 ghost use Rattle.mx_replay.specs.declared.program.Program.{Program};
 
-/// From a step at which the run goes on, step i + j is what j turns come to from what step i left. Where the run has ended,
-/// all steps after it are the same. Where it goes on, it went on at each step before.
+/// What holds of all runs (`mx_run::laws::runs_follow_each_other`), told of the steps of a program: from a step at which the
+/// run goes on, step i + j is what j turns come to from what step i left. Where the run has ended, all steps after it are the
+/// same. Where it goes on, it went on at each step before.
 #[tactic(auto, using(crate::proofs::Steps::following))]
 pub fn steps_follow_each_other()
     ensures on { (p : Program) (i j : ℕ) (s : State) (m : HostModel) → step_of p i ≡ Ok (ended Spent s m)

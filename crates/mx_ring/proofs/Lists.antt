@@ -1,10 +1,10 @@
 -- The list that a window stands for goes through each operation as a list does.
-use Rattle.std.proofs.Common.{◌≡◌, ℕ, ◌+◌, ◌-◌, ◌^◌, ◌≤◌, ◌<◌, Bool, true, false, not, ◌||◌, ◌&&◌, List, [], ◌∷◌, ◌++◌, length, take, drop, max, cond, Some, None, Ok, Err, if◌then◌else◌, arith, refl, sym, ◌∙◌, ap, ⊎_elim}
+use Rattle.std.proofs.Common.{◌≡◌, ℕ, ◌+◌, ◌-◌, ◌^◌, ◌≤◌, ◌<◌, Bool, true, false, not, ◌||◌, ◌&&◌, List, [], ◌∷◌, ◌++◌, length, take, drop, max, nat_le, cond, Some, None, Ok, Err, if◌then◌else◌, arith, refl, sym, ◌∙◌, ap, ⊎_elim}
 use Rattle.std.proofs.lemmas.Bool.{cases_Bool}
 use Rattle.std.proofs.lemmas.Bool.Decides.{nat_tests}
 use Rattle.std.proofs.lemmas.List.{append-nil, length-take-le, take-take, take-append-le, length_push}
-use Rattle.mx_registers.proofs.Octas.{Fits, spilled-below, room-octas, spilled-octas, first-octas, hidden-octas, hidden-fits}
-use Rattle.mx_ring.proofs.Rings.{fits-of, grown-count, length-below, length-frame}
+use Rattle.mx_registers.proofs.Octas.{Fits, spilled-below, room-none, room-octas, spilled-octas, first-octas, hidden-octas, hidden-fits}
+use Rattle.mx_ring.proofs.Rings.{fits-of, grow-ring, grown-count, length-below, length-frame}
 use Rattle.mx_registers.proofs.Values.{with_value-bounds, from-bounds}
 use Rattle.mx_registers.specs.Bounds.{AreInBounds}
 use Rattle.mx_ring.specs.Bounds.{IsRing}
@@ -86,6 +86,16 @@ pub grown-is : (w : Window) (k x n : ℕ) (h : HiddenPart) (v : Registers) → i
 grown-is w k x n h v m en ev eh =
     let count : n + 1 ≡ length (with_value w.visible k x).locals = omega (arith, grown-count w.visible k x m) in
     rw (eh, ev, count) (sym (register-grown (windowed w) k x m))
+
+-- so it is where nothing is spilled for it
+pub grown-within : (w : Window) (k x n : ℕ) (v : Registers) → IsRing w → is_marginal w.visible k ≡ true → n ≡ k + 1 → v ≡ with_value w.visible k x → (nat_le (length w.hidden.resident + n) 255 && nat_le (length (octas_of w.hidden) + n) (2 ^ 20)) ≡ true → IsRing (record w { visible = v }) × (windowed (record w { visible = v }) ≡ with_register (windowed w) k x)
+grown-within w k x n v r m en ev t =
+    let few : length w.hidden.resident + n ≤ 255 = grind (arith, nat_tests) in
+    let room : length (octas_of w.hidden) + n ≤ 2 ^ 20 = grind (arith, nat_tests) in
+    let count : length (with_value w.visible k x).locals ≡ k + 1 = grown-count w.visible k x m in
+    let none : with_room w.hidden (length (with_value w.visible k x).locals) w.size ≡ w.hidden = room-none w.hidden (length (with_value w.visible k x).locals) w.size (omega (arith, r.least_size)) in
+    let same : with_room w.hidden (k + 1) w.size ≡ w.hidden = room-none w.hidden (k + 1) w.size (omega (arith, r.least_size)) in
+    (rw ev (rw none at (grow-ring w k x r m (omega arith))), grown-is w k x k w.hidden v m refl ev (sym same))
 
 -- PUSH
 

@@ -2,7 +2,7 @@
 use Rattle.std.proofs.Common.{◌≡◌, ℕ, ◌+◌, ◌-◌, ◌*◌, ◌^◌, ◌≤◌, ◌<◌, List, [], ◌∷◌, ◌++◌, length, take, drop, min, true, false, arith, refl, ◌∙◌, ap}
 use Rattle.std.proofs.lemmas.Bool.Decides.{nat_tests}
 use Rattle.std.proofs.lemmas.List.{append_assoc, append-nil, length-take, length-take-le, length-drop, length-append, length-replicate, take_all}
-use Rattle.mx_registers.proofs.Octas.{Fits, length-octas, length-spilled, room-fits, room-octas, room-shorter, spilled-fits, spilled-octas, first-octas, first-fits, first-resident, hidden-octas, hidden-fits}
+use Rattle.mx_registers.proofs.Octas.{Fits, length-octas, length-spilled, room-none, room-fits, room-octas, room-shorter, spilled-fits, spilled-octas, first-octas, first-fits, first-resident, hidden-octas, hidden-fits}
 use Rattle.mx_registers.proofs.Values.{with_value-bounds, locals-kept, locals-grown, locals-bounds, cut-bounds, from-bounds, globals-bounds}
 use Rattle.mx_registers.specs.Bounds.{AreInBounds}
 use Rattle.mx_ring.specs.Bounds.{IsRing}
@@ -69,6 +69,13 @@ push-ring w n octas r e f =
     let all : length (octas_of (with_hidden w.hidden octas)) ≡ length (octas_of w.hidden) + length octas = ap length (hidden-octas w.hidden octas) ∙ length-append (octas_of w.hidden) octas in
     let fewer : length (drop (n + 1) w.visible.locals) ≡ length w.visible.locals - (n + 1) = length-drop (n + 1) w.visible.locals in
     room-ring w.size _ (registers_from w.visible (n + 1)) r.least_size (hidden-fits w.hidden (2 ^ 20) octas (fits-of w r) (omega arith)) (from-bounds w.visible (n + 1) r.registers) (omega (arith, r.has_room))
+
+-- nothing is spilled where few registers are hidden and few stay
+pub push-within : (w : Window) (n size : ℕ) (octas : List ℕ) → IsRing w → length octas ≡ n + 1 → n < size → length w.hidden.resident + size ≤ 255 → length w.visible.locals ≤ size → with_room (with_hidden w.hidden octas) (length (registers_from w.visible (n + 1)).locals) w.size ≡ with_hidden w.hidden octas
+push-within w n size octas r e f ring few =
+    let all : length (w.hidden.resident ++ octas) ≡ length w.hidden.resident + length octas = length-append w.hidden.resident octas in
+    let left : length (drop (n + 1) w.visible.locals) ≡ length w.visible.locals - (n + 1) = length-drop (n + 1) w.visible.locals in
+    room-none (with_hidden w.hidden octas) (length (registers_from w.visible (n + 1)).locals) w.size (omega (arith, r.least_size))
 
 -- POP
 

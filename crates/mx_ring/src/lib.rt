@@ -5,6 +5,7 @@
 #![tactic(auto)]
 
 mod frame;
+mod hiding;
 mod laws;
 mod notes;
 mod ring;

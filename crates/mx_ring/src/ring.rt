@@ -21,7 +21,8 @@ ghost use Rattle.mx_word.specs.Ranges.{AreOctas};
 mod back;
 mod copy;
 
-use crate::frame::{frame_at, specials_at, upper_octas};
+use crate::frame::{frame_at, specials_at};
+use crate::hiding::{hide_below, hide_few_below, hide_registers, hole};
 use crate::{RingFault, RingSize, Saved};
 use mx_registers::{FEW, Hidden, ROOM, Visible};
 use mx_word::STACK_SEGMENT;
@@ -30,6 +31,9 @@ use std::marker::Model;
 
 /// The address behind the stack area, which begins where Stack_Segment does.
 pub const AREA_END: u64 = 0x6000_0000_0080_0000;
+
+/// How many registers are copied at once where more than `FEW` are wanted.
+const MORE: usize = 16;
 
 /// The 256 registers, the hidden ones and the stack area. Contracts see it as a window.
 #[derive(Drop)]
@@ -170,9 +174,26 @@ impl Ring {
         Ok(())
     }
 
-    /// Gives a value to a register that is neither local nor global.
+    /// Gives a value to a register that is neither local nor global. Mostly nothing is spilled for it.
     #[inline(always)]
     fn grow(&mut self, k: u8, x: u64) -> Result<(), RingFault>
+        requires { is_marginal self.old.visible k ≡ true }
+        ensures answer { result ≡ set_answer (windowed self.old) k }
+        ensures ok { OnOk result (windowed self.new ≡ with_register (windowed self.old) k x) }
+        ensures list_answer { result ≡ set_answer (list_of self.old) k }
+        ensures list { OnOk result (list_of self.new ≡ with_register (list_of self.old) k x) }
+        ensures err { OnErr result (self.new ≡ self.old) }
+    {
+        if self.hidden.has_room(usize::from(k) + 1) {
+            self.visible.add(k, x);
+            return Ok(());
+        }
+        self.grow_far(k, x)
+    }
+
+    /// Gives a value to such a register, where octas may be spilled for it.
+    #[inline(never)]
+    fn grow_far(&mut self, k: u8, x: u64) -> Result<(), RingFault>
         requires { is_marginal self.old.visible k ≡ true }
         ensures answer { result ≡ set_answer (windowed self.old) k }
         ensures ok { OnOk result (windowed self.new ≡ with_register (windowed self.old) k x) }
@@ -221,28 +242,45 @@ impl Ring {
         ensures list { OnOk result (list_of self.new ≡ pushed (list_of self.old) x) }
         ensures err { OnErr result (self.new ≡ self.old) }
     {
-        if usize::from(x) < FEW
-            && self.hidden.len() <= ROOM - 2 * FEW
-            && self.visible.local_count() <= FEW
+        if usize::from(x) < FEW && self.visible.local_count() <= FEW && self.hidden.has_room(FEW) {
+            self.hide_few(usize::from(x), FEW);
+            return Ok(());
+        }
+        self.push_more(x)
+    }
+
+    /// PUSHJ and PUSHGO where more registers are hidden, or local.
+    #[inline(never)]
+    fn push_more(&mut self, x: u8) -> Result<(), RingFault>
+        ensures answer { result ≡ push_answer (windowed self.old) x }
+        ensures ok { OnOk result (windowed self.new ≡ pushed (windowed self.old) x) }
+        ensures list_answer { result ≡ push_answer (list_of self.old) x }
+        ensures list { OnOk result (list_of self.new ≡ pushed (list_of self.old) x) }
+        ensures err { OnErr result (self.new ≡ self.old) }
+    {
+        if usize::from(x) < MORE
+            && self.visible.local_count() <= MORE
+            && self.hidden.has_room(MORE)
         {
-            self.hide_few(usize::from(x));
+            self.hide_few(usize::from(x), MORE);
             return Ok(());
         }
         self.push_any(x)
     }
 
-    /// Hides the first `count` registers and that number, where few are local.
+    /// Hides the first `count` registers and that number, where at most `size` are local and nothing is spilled for them.
     #[inline(always)]
-    fn hide_few(&mut self, count: usize)
-        requires count { count < 8 }
-        requires few { length self.old.visible.locals ≤ 8 }
-        requires room { hidden_count (windowed self.old) + 16 ≤ 2 ^ 20 }
+    fn hide_few(&mut self, count: usize, size: usize)
+        requires size { size ≤ 16 }
+        requires count { count < size }
+        requires few { length self.old.visible.locals ≤ size }
+        requires ring { length self.old.hidden.resident + size ≤ 255 }
+        requires room { hidden_count (windowed self.old) + size ≤ 2 ^ 20 }
         ensures { windowed self.new ≡ with_pushed (windowed self.old) count }
     {
-        hide_few_below(&mut self.hidden, &self.visible, count);
+        hide_few_below(&mut self.hidden, &self.visible, count, size);
         let left = self.visible.local_count().saturating_sub(count + 1);
-        self.visible.keep_fewer(count + 1, left);
-        self.hidden.make_room(self.visible.local_count(), self.size);
+        self.visible.keep_fewer(count + 1, left, size);
     }
 
     /// PUSHJ and PUSHGO for any number of registers.
@@ -290,7 +328,7 @@ impl Ring {
     {
         match hole(self.hidden.octas()) {
             Some(hole) => {
-                self.bring_back(hole, usize::from(x));
+                self.come_back(hole, usize::from(x));
                 Ok(())
             }
             None => Err(RingFault::Underflow),
@@ -298,8 +336,37 @@ impl Ring {
     }
 
     /// Brings `hole` hidden registers back, without the octa that is hidden after them. The results
-    /// of POP with `x` follow.
-    #[inline]
+    /// of POP with `x` follow. Mostly all of these are few.
+    #[inline(always)]
+    fn come_back(&mut self, hole: usize, x: usize)
+        requires { hole < hidden_count (windowed self.old) }
+        ensures { windowed self.new ≡ with_popped (windowed self.old) hole x }
+    {
+        let l = self.visible.local_count();
+        if hole < FEW && x <= 1 && x <= l && l <= FEW {
+            return self.bring_few_back(hole, x);
+        }
+        self.bring_back(hole, x);
+    }
+
+    /// Brings fewer than 8 registers back, where at most 8 are local and POP gives at most one of them.
+    #[inline(always)]
+    fn bring_few_back(&mut self, hole: usize, x: usize)
+        requires hidden { hole < hidden_count (windowed self.old) }
+        requires few { hole < 8 }
+        requires locals { length self.old.visible.locals ≤ 8 }
+        requires one { x ≤ 1 }
+        requires among { x ≤ length self.old.visible.locals }
+        ensures { windowed self.new ≡ with_popped (windowed self.old) hole x }
+    {
+        let below = self.hidden.len() - (hole + 1);
+        self.visible
+            .bring_few_back(self.hidden.some_from(below, FEW), hole, x);
+        self.hidden.keep_first(below);
+    }
+
+    /// Brings as many registers back as there are.
+    #[inline(never)]
     fn bring_back(&mut self, hole: usize, x: usize)
         requires { hole < hidden_count (windowed self.old) }
         ensures { windowed self.new ≡ with_popped (windowed self.old) hole x }
@@ -427,71 +494,4 @@ impl Ring {
             None => Err(RingFault::BadFrame),
         }
     }
-}
-
-/// How many octas below the last one are registers that POP brings back; nothing where there are
-/// fewer octas, or none.
-#[inline(always)]
-fn hole(octas: &[u64]) -> Option<usize>
-    ensures { result ≡ (if nat_le (length octas.now) (hole_in octas.now) then None else Some (hole_in octas.now)) }
-{
-    if octas.is_empty() {
-        return None;
-    }
-    let hole = (octas[octas.len() - 1] % 256) as usize;
-    if octas.len() <= hole {
-        return None;
-    }
-    Some(hole)
-}
-
-/// Hides the first `count` registers and that number. Where they are few, some more are written first.
-#[inline(always)]
-fn hide_below(hidden: &mut Hidden, visible: &Visible, count: usize)
-    requires bounds { AreInBounds visible.now }
-    requires below { count ≤ visible.now.first_global }
-    requires room { length (octas_of hidden.old) + (count + 1) ≤ 2 ^ 20 }
-    ensures { hidden.new ≡ with_hidden hidden.old (registers_below visible.now count ++ count ∷ []) }
-{
-    if count < FEW && hidden.len() + FEW <= ROOM {
-        return hide_few_below(hidden, visible, count);
-    }
-    hide_all_below(hidden, visible, count);
-}
-
-/// Hides the first `count` registers and that number, where they are few.
-#[inline(always)]
-fn hide_few_below(hidden: &mut Hidden, visible: &Visible, count: usize)
-    requires bounds { AreInBounds visible.now }
-    requires few { count < 8 }
-    requires room { length (octas_of hidden.old) + 8 ≤ 2 ^ 20 }
-    ensures { hidden.new ≡ with_hidden hidden.old (registers_below visible.now count ++ count ∷ []) }
-{
-    hidden.append_counted(visible.below(FEW), count);
-}
-
-/// Hides the first `count` registers and that number, however many they are.
-#[inline(never)]
-fn hide_all_below(hidden: &mut Hidden, visible: &Visible, count: usize)
-    requires below { count ≤ visible.now.first_global }
-    requires room { length (octas_of hidden.old) + (count + 1) ≤ 2 ^ 20 }
-    ensures { hidden.new ≡ with_hidden hidden.old (registers_below visible.now count ++ count ∷ []) }
-{
-    hidden.append(visible.below(count));
-    hidden.append(&[count as u64]);
-}
-
-/// Hides a frame with all local and global registers and these special ones.
-fn hide_registers(hidden: &mut Hidden, visible: &Visible, s: &Saved)
-    requires event_bits { s.now.a < 2 ^ 18 }
-    requires bounds { AreInBounds visible.now }
-    requires room { length (octas_of hidden.old)
-        + frame_length visible.now.first_global (length visible.now.locals) ≤ 2 ^ 20 }
-    ensures { hidden.new ≡ with_hidden hidden.old (frame visible.now s.now) }
-{
-    let l = visible.local_count();
-    hidden.append(visible.below(l));
-    hidden.append(&[l as u64]);
-    hidden.append(visible.globals());
-    hidden.append(&upper_octas(s, visible.first_global()));
 }

@@ -20,3 +20,4 @@ pub mod RunCases
 pub mod StepCounts
 pub mod SteadyRuns
 pub mod RunBoth
+pub mod Following

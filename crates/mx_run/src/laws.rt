@@ -2,7 +2,7 @@
 //! that its register stack stands for go the same way, as long as nothing looks at rS or at the
 //! memory of the register stack.
 
-ghost use Rattle.std.specs.Prelude.{◌≡◌, ℕ, suc, Bool, true, false};
+ghost use Rattle.std.specs.Prelude.{◌≡◌, ◌≢◌, ◌+◌, ◌&&◌, ◌==◌, ℕ, suc, Bool, true, false};
 ghost use Rattle.mx_host.specs.HostModel.{HostModel};
 ghost use Rattle.mx_plan.specs.Held.{KeepsStreams, OnlyAdds};
 ghost use Rattle.mx_plan.specs.Plan.{Stops, end_of};
@@ -12,7 +12,7 @@ ghost use Rattle.mx_word.specs.Ranges.{AreOctas};
 ghost use Rattle.mx_core.specs.Bounds.{IsMachine, as_list_state};
 ghost use Rattle.mx_core.specs.State.{State};
 ghost use Rattle.mx_run.specs.RunPlans.{RunPlan, RunWorld, ended_world, run_plan, running};
-ghost use Rattle.mx_run.specs.Runs.{FlagsOf, no_flags, ended, run, IsLater};
+ghost use Rattle.mx_run.specs.Runs.{Ended, FlagsOf, no_flags, ended, run, IsLater};
 ghost use Rattle.mx_run.specs.Turns.{went_on, halts, stops, turn};
 ghost use Rattle.mx_run.specs.declared.end.End.{End};
 ghost use Rattle.mx_run.specs.declared.end.End.TheVariants.{Halted, Spent, Stopped};
@@ -63,6 +63,20 @@ pub fn runs_go_turn_by_turn()
     ensures stopped { (kind : MachineKind) (n reason : ℕ) (s t : State) (m k : HostModel) → ends_wild kind s ≡ false
         → turn s m ≡ stops reason t k
         → run_by kind (suc n) no_flags false s m ≡ run_ended (ended (Stopped s.pc reason) t k) }
+{}
+
+/// A run of i + j steps is that of i steps and, where all of these are made, that of j steps from where it led: of either
+/// machine, with flags too. To pass a break before the first step is asked again only where no step was made. A run that
+/// has ended otherwise, or met something wild, comes to the same however many more steps it may make.
+#[tactic(auto, using(crate::proofs::Following::following))]
+pub fn runs_follow_each_other()
+    ensures on { (kind : MachineKind) (i j : ℕ) (f : FlagsOf) (pass : Bool) (s t : State) (m k : HostModel)
+        → run_by kind i f pass s m ≡ run_ended (ended Spent t k)
+        → run_by kind (i + j) f pass s m ≡ run_by kind j f (pass && i == 0) t k }
+    ensures over { (kind : MachineKind) (i j : ℕ) (f : FlagsOf) (pass : Bool) (s : State) (m : HostModel) (e : Ended)
+        → e.end ≢ Spent → run_by kind i f pass s m ≡ run_ended e → run_by kind (i + j) f pass s m ≡ run_ended e }
+    ensures wild { (kind : MachineKind) (i j : ℕ) (f : FlagsOf) (pass : Bool) (s : State) (m k : HostModel)
+        → run_by kind i f pass s m ≡ run_wild k → run_by kind (i + j) f pass s m ≡ run_wild k }
 {}
 
 /// A run is what its plan comes to. Where a plan over turns stops for want of memory, it only added to

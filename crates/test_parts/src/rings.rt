@@ -137,6 +137,59 @@ fn a_recursive_sum(rt: HostRuntime) {
     }
 }
 
+/// $k is 100 + k below `x`, a call hides these registers, $k is 200 + k below `own` there, and POP gives `n` of them.
+fn call(rt: &impl Abort, ring: &mut Ring, x: u8, own: u8, n: u8) {
+    for k in 0..x {
+        ring.set(k, 100 + u64::from(k)).expect(rt, "room");
+    }
+    ring.push(x).expect(rt, "room");
+    for k in 0..own {
+        ring.set(k, 200 + u64::from(k)).expect(rt, "room");
+    }
+    ring.pop(n).expect(rt, "a caller");
+}
+
+/// What $k is behind such a call.
+fn behind(k: u8, x: u8, n: u8) -> u64 {
+    if k < x {
+        100 + u64::from(k)
+    } else if k == x && n > 0 {
+        199 + u64::from(n)
+    } else if k < x + n {
+        199 + u64::from(k - x)
+    } else {
+        0
+    }
+}
+
+/// Makes calls that hide `x` registers, and looks at all that may be changed.
+fn calls_of_width(rt: &impl Abort, ring: &mut Ring, x: u8) {
+    for own in [3, 8, 9, 16, 17] {
+        for n in 0..4 {
+            call(rt, ring, x, own, n);
+            assert_eq!(rt; (ring.l(), ring.hidden()), (x + n, 0));
+            for k in 0..32 {
+                assert_eq!(rt;
+                    ring.get(k),
+                    behind(k, x, n),
+                    "${k} behind PUSHJ ${x} and POP {n}"
+                );
+            }
+        }
+    }
+}
+
+/// Calls with few registers and with more, where 8 or 16 are moved at once.
+#[test]
+fn calls_of_each_width(rt: HostRuntime) {
+    for size in &SIZES {
+        let mut ring = ring(&rt, rt.alloc(), *size);
+        for x in 0..20 {
+            calls_of_width(&rt, &mut ring, x);
+        }
+    }
+}
+
 /// The registers of a ring, how many of them are spilled once 300 are hidden, the octa that is then at
 /// the start of the stack area, and what $0 is when they are back, where that octa became 7.
 static SPILLS: [(u32, u32, u64, u64); 4] = [

@@ -4,7 +4,7 @@ ghost use Rattle.std.specs.Prelude.{◌≡◌, ◌≤◌, ◌<◌, ◌+◌, ◌^
 ghost use Rattle.mx_word.specs.Lists.{with_part};
 ghost use Rattle.mx_registers.specs.HiddenPart.{octas_of, put_back, rewound};
 
-use super::{Hidden, ROOM};
+use super::{Hidden, ROOM, limit_for};
 use crate::RingFault;
 use crate::slices::append;
 
@@ -31,7 +31,7 @@ impl Hidden {
         ensures octas { IfOk result (λ list. list.items ≡ drop stays self.now.resident) }
         ensures memory { OnErr result (result ≡ Err RingFault.OutOfMemory) }
     {
-        let resident = &self.octas[self.spilled..];
+        let resident = &self.list.as_slice()[self.spilled..];
         let gone = &resident[stays.min(resident.len())..];
         let mut list = Vec::with_capacity(self.alloc, gone.len())?;
         append(&mut list, gone);
@@ -72,8 +72,9 @@ impl Hidden {
         requires stays { stays ≤ 2 ^ 20 }
         ensures { self.new ≡ rewound self.old spilled stays }
     {
-        self.octas.truncate(spilled + stays);
+        self.list.truncate(spilled + stays);
         self.spilled = spilled;
+        self.limit = limit_for(spilled);
     }
 
     /// Overwrites as many octas of the stack area behind the spilled ones.

@@ -2,8 +2,7 @@
 
 ghost use Rattle.std.specs.Prelude.{◌≡◌, IfOk};
 
-use super::{Hidden, ROOM};
-use crate::slices::append;
+use super::Hidden;
 use mx_word::NoMemory;
 
 impl Hidden {
@@ -11,13 +10,12 @@ impl Hidden {
     pub fn copy(&self) -> Result<Hidden, NoMemory>
         ensures { IfOk result (λ h. h ≡ self.now) }
     {
-        let mut octas = Vec::with_capacity(self.alloc, ROOM)?;
-        append(&mut octas, self.octas.as_slice());
         Ok(Hidden {
             alloc: self.alloc,
-            octas,
+            list: self.list.copy(self.alloc)?,
             stack: self.stack.copy(self.alloc)?,
             spilled: self.spilled,
+            limit: self.limit,
         })
     }
 }

@@ -2,7 +2,8 @@
 
 ghost use Rattle.std.specs.Prelude.{◌≡◌, ◌-◌, [], None, IfOk, IsTrue, OnErr};
 ghost use Rattle.mx_run.specs.FlagMaps.{flags_at};
-ghost use Rattle.mx_replay.specs.Frames.{frames_at};
+ghost use Rattle.mx_core.specs.Kept.{state_of};
+ghost use Rattle.mx_replay.specs.Frames.{AreLocals, AreLocalsAt, frames_at};
 ghost use Rattle.mx_replay.specs.Marks.{changes, comes_to_flag, is_shallow, mark_of, stops_at};
 ghost use Rattle.mx_replay.specs.Searches.{FoundAt, IsLast, IsLastBefore, IsLeft, IsNext};
 
@@ -18,7 +19,10 @@ use mx_word::{NoMemory, Sequence};
 use std::alloc::Global;
 
 /// The local registers of a machine, from `$0` on.
-fn locals(alloc: Global, machine: &Machine) -> Result<Sequence<u64>, NoMemory> {
+#[tactic(auto, using(crate::proofs::Locals::locals))]
+fn locals(alloc: Global, machine: &Machine) -> Result<Sequence<u64>, NoMemory>
+    ensures { IfOk result (AreLocals (state_of machine.now)) }
+{
     let mut locals = Sequence::new(alloc);
     for k in 0..machine.l() {
         locals.push(machine.register(k))?;
@@ -220,8 +224,10 @@ impl Replay {
     /// The local registers at step k, from `$0` on. It stays where it is.
     ///
     /// Errors: out of memory.
+    #[tactic(auto, using(crate::proofs::Locals::showing))]
     pub fn locals_at(&mut self, k: u64) -> Result<Sequence<u64>, NoMemory>
         ensures same { self.new ≡ self.old }
+        ensures locals { IfOk result (AreLocalsAt self.old.program k) }
     {
         let visit = self.visit(k)?;
         locals(self.alloc, &visit.machine)

@@ -9,7 +9,8 @@ ghost use Rattle.mx_registers.specs.HiddenPart.{octas_of};
 ghost use Rattle.mx_ring.specs.Stack.{windowed, hole_in};
 ghost use Rattle.mx_word.specs.Results.{map_ok};
 
-use super::{Ring, hole};
+use super::Ring;
+use crate::hiding::hole;
 use crate::notes::{RingNote, RingWork, note_registers};
 use crate::{RingFault, Saved};
 

@@ -1,27 +1,11 @@
-use Rattle.std.proofs.Common.{◌≡◌, ◌<◌, ◌/◌, ◌%◌, ◌*◌, ◌+◌, ◌-◌, ◌^◌, ℕ, bit_and, arith, ap, sym, subst, refl, ◌∙◌}
+use Rattle.std.proofs.Common.{◌≡◌, ◌<◌, ◌/◌, ◌%◌, ◌*◌, ◌-◌, ◌^◌, ℕ, bit_and, arith, ap, refl, ◌∙◌}
 use Rattle.std.proofs.Math.Nat.{mod-eq_of_lt}
 use Rattle.std.proofs.lemmas.Nat.{and_mask}
-use Rattle.mx_mem.specs.Parts.{size_of, bits_below, with_part}
+use Rattle.mx_mem.specs.Parts.{size_of, bits_below}
 use Rattle.mx_mem.specs.declared.part.Part.{Part}
-use Rattle.mx_mem.specs.declared.part.Part.TheVariants.{Byte, Wyde, Tetra, Octa}
-use Rattle.mx_mem.proofs.Fields.{replaced-fits, field-within}
+use Rattle.mx_mem.proofs.Fields.{field-within}
+use Rattle.mx_mem.proofs.PartFields.{part-fits}
 use Rattle.mx_mem.proofs.part.with_part.Goals as goal
-
--- how many bits of an octa stand above a part
-bits-above : Part → ℕ → ℕ
-bits-above part a = 64 - bits_below part a - 8 * size_of part
-
-whole-octa : (part : Part) (a : ℕ) → 64 ≡ bits_below part a + (8 * size_of part + bits-above part a)
-unfolding bits-above
-whole-octa Byte a = omega arith
-whole-octa Wyde a = omega arith
-whole-octa Tetra a = omega arith
-whole-octa Octa a = omega arith
-
--- the part within the octa, and what is put in its place
-part-fits : (part : Part) (octa a x : ℕ) → octa < 2 ^ 64 → with_part part octa a x < 2 ^ 64
-part-fits part octa a x l =
-    subst (λ t. with_part part octa a x < 2 ^ t) (sym (whole-octa part a)) (replaced-fits octa (bits_below part a) (8 * size_of part) (bits-above part a) x (subst (λ t. octa < 2 ^ t) (whole-octa part a) l))
 
 -- a part, masked and moved to its place
 moved : (part : Part) (n a below mask : ℕ) → below ≡ bits_below part a → mask ≡ 2 ^ (8 * size_of part) - 1 → n % 2 ^ (8 * size_of part) * 2 ^ bits_below part a < 2 ^ 64 →

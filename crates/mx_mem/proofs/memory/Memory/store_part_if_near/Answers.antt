@@ -6,15 +6,14 @@ use Rattle.mx_mem.specs.Held.{view_of}
 use Rattle.mx_mem.proofs.Stores.{rewritten, rewritten-by, rewritten-indexed, rewritten-bounded, rewritten-kept, length-kept, stored-octas, stored-pages, stored-count, stored-there}
 use Rattle.std.proofs.lemmas.List.{get_or_read}
 use Rattle.mx_mem.specs.Parts.{with_part}
-use Rattle.mx_mem.specs.declared.part.Part.TheVariants.{Tetra}
-use Rattle.mx_mem.proofs.Tetras.{octa-with-fits}
+use Rattle.mx_mem.proofs.PartFields.{part-fits}
 use Rattle.mx_mem.proofs.Views.{octa-found}
 use Rattle.mx_mem.proofs.Fits.{store-fits}
-use Rattle.mx_mem.proofs.memory.Memory.store_tetra_if_near.Goals as goal
+use Rattle.mx_mem.proofs.memory.Memory.store_part_if_near.Goals as goal
 
 -- the octa that is stored
 abbrev stored : goal.After-self-1 → ℕ
-stored c = with_part Tetra (octa_at (view_of c.self.inside.pages.items c.self.inside.places.entries) c.args.a) c.args.a c.args.t
+stored c = with_part c.args.part (octa_at (view_of c.self.inside.pages.items c.self.inside.places.entries) c.args.a) c.args.a c.args.x
 
 within : (c : goal.After-self-1) → c.in-Some.place < length c.self.inside.pages.items
 within c = rw c.deref.ensures.value at c.in-Some.ensures.within
@@ -27,16 +26,16 @@ before c =
     ap (λ (p : ℕ × List ℕ). get_or p.1 (c.args.a / 8 % 512) 0) page ∙ sym there
 
 stored-fits : (c : goal.After-self-1) → stored c < 2 ^ 64
-stored-fits c = octa-with-fits _ c.args.a c.args.t (c.self.invariant.fits c.args.a) c.ranges.t.fits
+stored-fits c = part-fits c.args.part _ c.args.a c.args.x (c.self.invariant.fits c.args.a)
 
 -- the page that was written to, among the pages
-pages-after : (c : goal.After-self-1) → set c.self.inside.pages.items c.in-Some.place c.put_tetra.new.self ≡ rewritten c.self.inside.pages.items c.in-Some.place (c.args.a / 8 % 512) (stored c)
+pages-after : (c : goal.After-self-1) → set c.self.inside.pages.items c.in-Some.place c.put_part.new.self ≡ rewritten c.self.inside.pages.items c.in-Some.place (c.args.a / 8 % 512) (stored c)
 pages-after c =
-    let put = c.put_tetra.ensures ∙ ap (λ o. (c.index_mut.result.now.0, set c.index_mut.result.now.1 (c.args.a / 8 % 512) (with_part Tetra o c.args.a c.args.t))) (before c) in
-    rewritten-by c.self.inside.pages.items c.in-Some.place (c.args.a / 8 % 512) (stored c) c.index_mut.result.now c.put_tetra.new.self (within c) c.index_mut.ensures.value put
+    let put = c.put_part.ensures ∙ ap (λ o. (c.index_mut.result.now.0, set c.index_mut.result.now.1 (c.args.a / 8 % 512) (with_part c.args.part o c.args.a c.args.x))) (before c) in
+    rewritten-by c.self.inside.pages.items c.in-Some.place (c.args.a / 8 % 512) (stored c) c.index_mut.result.now c.put_part.new.self (within c) c.index_mut.ensures.value put
 
 -- the octas after the store
-octas-after : (c : goal.After-self-1) → octa_at (view_of (set c.self.inside.pages.items c.in-Some.place c.put_tetra.new.self) c.self.inside.places.entries) ≡ stored_at (octa_at (view_of c.self.inside.pages.items c.self.inside.places.entries)) c.args.a (stored c)
+octas-after : (c : goal.After-self-1) → octa_at (view_of (set c.self.inside.pages.items c.in-Some.place c.put_part.new.self) c.self.inside.places.entries) ≡ stored_at (octa_at (view_of c.self.inside.pages.items c.self.inside.places.entries)) c.args.a (stored c)
 octas-after c =
     ap (λ pages. octa_at (view_of pages c.self.inside.places.entries)) (pages-after c)
     ∙ stored-octas c.self.inside.pages.items c.self.inside.places _ c.args.a (stored c) c.in-Some.place c.self.invariant.indexed c.self.invariant.bounded refl c.in-Some.ensures.place
@@ -56,7 +55,7 @@ pub returns-in-Some-clause-octas : goal.returns-in-Some-clause-octas
 returns-in-Some-clause-octas c _ =
     ap (λ pages. octa_at (view_of pages c.self.inside.places.entries)) (pages-after c)
     ∙ stored-octas c.self.inside.pages.items c.self.inside.places _ c.args.a (stored c) c.in-Some.place c.self.invariant.indexed c.self.invariant.bounded c.self.view_is c.in-Some.ensures.place
-    ∙ ap (λ o. stored_at (octa_at c.args.self.now) c.args.a (with_part Tetra o c.args.a c.args.t)) (ap (λ m. octa_at m c.args.a) c.self.view_is)
+    ∙ ap (λ o. stored_at (octa_at c.args.self.now) c.args.a (with_part c.args.part o c.args.a c.args.x)) (ap (λ m. octa_at m c.args.a) c.self.view_is)
 
 pub returns-in-Some-clause-pages : goal.returns-in-Some-clause-pages
 returns-in-Some-clause-pages c _ =

@@ -1,7 +1,7 @@
 use Rattle.std.proofs.Common.{◌≡◌, ◌+◌, ◌*◌, ◌^◌, ◌∷◌, [], ◌++◌}
 use Rattle.mx_ring.proofs.Rings.{frame-hidden}
 use Rattle.mx_ring.specs.Frames.{saved_specials}
-use Rattle.mx_ring.proofs.ring.hide_registers.Goals as goal
+use Rattle.mx_ring.proofs.hiding.hide_registers.Goals as goal
 
 pub returns : goal.returns
 returns c =
