@@ -4,7 +4,7 @@
 usage: checks/picture.py          writes the picture
        checks/picture.py --check  says whether the picture is that of crates.txt, and no chain is too long
 A crate is in the column of its area and in a layer above all that it depends on; a line leads from a crate to each one
-that it depends on and that no other line leads to. No line is drawn to mx_word, on which all but mx_ops, mx_spec and mx_costs
+that it depends on and that no other line leads to. No line is drawn to mx_word, on which all but mx_ops and mx_costs
 depend; crates of tests (test_...) and of laws alone (law_...) have none. No chain may have more than 13 crates, those of tests
 aside.
 """
@@ -14,9 +14,9 @@ import sys
 HERE = os.path.dirname(os.path.dirname(os.path.abspath(__file__)))
 PICTURE = HERE + "/docs/crates.svg"
 AREAS = [
-    ("language", "mx_line mx_expr mx_ops mx_names mx_greg mx_stmt mx_asm"),
+    ("language", "mx_line mx_expr mx_ops mx_names mx_stmt mx_asm"),
     ("objects", "mx_mmo mx_stab mx_load mx_type"),
-    ("machine", "mx_mem mx_alu mx_registers mx_ring mx_trip mx_spec mx_code mx_core mx_start"),
+    ("machine", "mx_mem mx_alu mx_registers mx_ring mx_code mx_core mx_start"),
     ("host and runs", "mx_host mx_plan mx_trap mx_run mx_back mx_watch mx_multi mx_real"),
     ("console", "mx_text mx_cmd mx_show mx_con"),
     ("program", "mx_words mx_outcome mx_files mx_begin mx_dump mx_top mmixware"),

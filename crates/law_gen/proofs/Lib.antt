@@ -1,3 +1,17 @@
+pub mod Numerals
+pub mod OperandLists
+pub mod Parts
+pub mod OperandTrees
+pub mod Codes
+pub mod PlainBytes
+pub mod CutLines
+pub mod PlainForms
+pub mod RelativeForms
+pub mod PlacedTetras
+pub mod ShownAgain
+pub mod ShownLines
+pub mod Rows
+pub mod ShownWords
 pub mod Lines
 pub mod Operands
 pub mod Texts

@@ -6,8 +6,8 @@ use Rattle.mx_expr.specs.Bytes.{is_name_byte}
 use Rattle.mx_expr.specs.Reading as reading
 use Rattle.mx_expr.proofs.Moves.{st}
 use Rattle.mx_expr.proofs.Stops.{steps-first, steps-none}
-use Rattle.law_texts.proofs.Numerals.{decimal-constant}
-use Rattle.law_texts.proofs.OperandLists.{IsTaken, constant-taken, list-read}
+use Rattle.law_gen.proofs.Numerals.{decimal-constant}
+use Rattle.law_gen.proofs.OperandLists.{IsTaken, constant-taken, list-read}
 use Rattle.law_gen.proofs.Lines.{no_newline, IsClean}
 
 -- ---- decimal digits

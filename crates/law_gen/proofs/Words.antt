@@ -7,7 +7,7 @@ pub use Rattle.std.specs.Char.{digit_value}
 pub use Rattle.std.specs.Fmt.{decimal}
 pub use Rattle.std.specs.List.{AllByRecursion, list_all, list_any, slice_range}
 pub use Rattle.std.specs.Str.Parse.{AllDigits}
-pub use Rattle.law_texts.proofs.CutLines.{labelled-cut, line-cut}
+pub use Rattle.law_gen.proofs.CutLines.{labelled-cut, line-cut}
 pub use Rattle.mx_asm.specs.Emission.{main_name, padded_trie, zeros_after}
 pub use Rattle.mx_asm.specs.Entries.{Entry, entries_of, entry_of, entry_with, refusal_in, source_entries, statement_in, statements_in, with_operands, with_operation}
 pub use Rattle.mx_asm.specs.Pages.{accepted_in, page_refusal, run_refusal, run_refusal_with}

@@ -1,2 +1,3 @@
+pub mod ShownStatements
 pub mod Generator
 pub mod Program

@@ -20,3 +20,5 @@ pub mod UnbrokenRuns
 pub mod UnbrokenTurns
 pub mod WholeFiles
 pub mod WatchedCalls
+pub mod CountedAnswers
+pub mod ReadAlike

@@ -4,3 +4,4 @@ pub mod Detour
 pub mod Rings
 pub mod Unbroken
 pub mod WholeItems
+pub mod Counted

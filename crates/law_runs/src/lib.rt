@@ -4,6 +4,7 @@
 
 mod called;
 mod complete;
+mod counts;
 mod detour;
 mod dumps;
 mod files;
@@ -17,6 +18,9 @@ pub use complete::{
     generated_sources_are_done, objects_that_are_there_are_run, objects_that_halt_are_done,
     sources_that_are_there_are_assembled, sources_that_are_there_are_run,
     sources_that_halt_are_done, sources_that_mean_are_assembled,
+};
+pub use counts::{
+    counts_go_by_the_traces_of_their_runs, counts_run_as_the_program, sources_are_read_alike,
 };
 pub use detour::{
     objects_are_refused_as_their_sources, objects_load_as_their_sources,

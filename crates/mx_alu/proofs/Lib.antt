@@ -6,3 +6,4 @@ pub mod Fields
 pub mod Logic
 pub mod Places
 pub mod Named
+mod Events

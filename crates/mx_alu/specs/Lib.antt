@@ -6,3 +6,5 @@ pub mod Bitwise
 pub mod Wydes
 pub mod Alu
 pub mod Truth
+pub mod Trips
+pub mod Insertions

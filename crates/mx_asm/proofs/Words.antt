@@ -35,7 +35,7 @@ pub use Rattle.mx_line.specs.Statements.{Found, IsField, Next, Operation, Statem
 pub use Rattle.mx_line.specs.declared.cutter.Cut.{Cut}
 pub use Rattle.mx_line.specs.declared.faults.LineFault.{LineFault}
 pub use Rattle.mx_line.specs.declared.spans.Span.{Span}
-pub use Rattle.mx_greg.specs.Gregs.{lowest_of, with_greg}
+pub use Rattle.mx_names.specs.Gregs.{lowest_of, with_greg}
 pub use Rattle.mx_mmo.specs.Image.{Image}
 pub use Rattle.mx_mmo.specs.Meaning.{BadPlace, Loading, Meaningless, PagesFull, after_load, far_place, image_in, image_with_tetra, is_below, join, join_octa, meaning, next_line, noted, nothing, paged, take_item, take_items, tetras_before, tetras_behind, then_join, value_at, with_globals, with_image, with_name, with_page}
 pub use Rattle.mx_mmo.specs.Reading.{tetras_of}

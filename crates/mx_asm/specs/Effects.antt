@@ -1,7 +1,7 @@
 -- What always holds of a statement that is placed: its effect can be had, and its bytes lie low.
 use Rattle.std.specs.Prelude.{ℕ, ◌+◌, ◌^◌, ◌<◌, ◌≤◌, List, length, Ok, Err}
 use Rattle.mx_names.specs.Names.{IsFullName}
-use Rattle.mx_greg.specs.Gregs.{lowest_of}
+use Rattle.mx_names.specs.Gregs.{lowest_of}
 use Rattle.mx_stmt.specs.declared.placed.Effect.{Effect}
 use Rattle.mx_stmt.specs.declared.placed.Effect.TheVariants as effect
 use Rattle.mx_stmt.specs.declared.placed.Placed.{Placed}

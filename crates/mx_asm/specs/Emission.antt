@@ -10,7 +10,7 @@ use Rattle.mx_mmo.specs.declared.items.Item.{Item}
 use Rattle.mx_mmo.specs.declared.items.Item.TheVariants.{Load, Loc, File, Line, Pre, Post, Stab}
 use Rattle.mx_stab.specs.Trie.{trie_of}
 use Rattle.mx_names.specs.Names.{NameTable, value_of_name}
-use Rattle.mx_greg.specs.Gregs.{lowest_of}
+use Rattle.mx_names.specs.Gregs.{lowest_of}
 use Rattle.mx_stmt.specs.declared.placed.Placed.{Placed}
 use Rattle.mx_stmt.specs.Steps.{Answer}
 use Rattle.mx_stmt.specs.Encoding.{StatementTree}

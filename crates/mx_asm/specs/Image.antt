@@ -6,7 +6,7 @@ use Rattle.mx_word.specs.Words.{octa_from_bytes}
 use Rattle.mx_word.specs.declared.symbols.Symbol.{Symbol}
 use Rattle.mx_mmo.specs.Image.{Image}
 use Rattle.mx_mmo.specs.Meaning.{value_at}
-use Rattle.mx_greg.specs.Gregs.{lowest_of}
+use Rattle.mx_names.specs.Gregs.{lowest_of}
 use Rattle.mx_stmt.specs.Operands.{Known}
 use Rattle.mx_stmt.specs.Encoding.{StatementTree}
 pub use Rattle.mx_stmt.specs.Placements.{from_place, placed}

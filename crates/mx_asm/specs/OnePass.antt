@@ -12,7 +12,7 @@ use Rattle.mx_mmo.specs.declared.items.Item.{Item}
 use Rattle.mx_names.specs.declared.fault.NameFault.{NameFault}
 use Rattle.mx_names.specs.Names.{Naming, define_answer, value_of_name, with_symbol}
 use Rattle.mx_names.specs.Waiting.{first_of, waits_for, waits_for_others}
-use Rattle.mx_greg.specs.Gregs.{lowest_of}
+use Rattle.mx_names.specs.Gregs.{lowest_of}
 use Rattle.mx_stmt.specs.declared.statement.Label.{Label}
 use Rattle.mx_stmt.specs.declared.statement.Label.TheVariants.{Name, Local}
 use Rattle.mx_stmt.specs.declared.placed.Effect.{Effect}

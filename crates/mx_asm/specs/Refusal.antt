@@ -11,7 +11,7 @@ use Rattle.mx_line.specs.Lines.{lines_of}
 use Rattle.mx_mmo.specs.declared.items.Item.{Item}
 use Rattle.mx_names.specs.declared.fault.NameFault.{NameFault}
 use Rattle.mx_names.specs.Names.{NameTable, define_answer, value_of_name}
-use Rattle.mx_greg.specs.Gregs.{lowest_of}
+use Rattle.mx_names.specs.Gregs.{lowest_of}
 use Rattle.mx_stmt.specs.declared.statement.Label.{Label}
 use Rattle.mx_stmt.specs.declared.statement.Label.TheVariants.{Name, Local}
 use Rattle.mx_stmt.specs.declared.placed.Effect.{Effect}

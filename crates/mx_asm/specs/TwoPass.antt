@@ -8,7 +8,7 @@ use Rattle.mx_word.specs.declared.waits.Awaited.{Awaited}
 use Rattle.mx_word.specs.declared.waits.Awaited.TheVariants as awaited
 use Rattle.mx_word.specs.declared.waits.Wait.{Wait}
 use Rattle.mx_names.specs.Names.{NameTable, start, complete_form, value_of_name, with_symbol}
-use Rattle.mx_greg.specs.Gregs.{with_greg}
+use Rattle.mx_names.specs.Gregs.{with_greg}
 use Rattle.mx_stmt.specs.declared.statement.Label.{Label}
 use Rattle.mx_stmt.specs.declared.statement.Label.TheVariants.{Name, Local}
 use Rattle.mx_stmt.specs.declared.placed.Effect.{Effect}

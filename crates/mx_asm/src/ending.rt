@@ -11,9 +11,8 @@ ghost use Rattle.mx_asm.specs.OnePass as spec;
 
 use crate::AsmFault;
 use crate::head::zeros;
-use mx_greg::Gregs;
 use mx_mmo::{Item, Items, Octas};
-use mx_names::Names;
+use mx_names::{Gregs, Names};
 use mx_stab::write;
 use mx_word::{Awaited, Bytes, NoMemory, Value};
 use std::alloc::Global;

@@ -12,10 +12,10 @@ ghost use Rattle.mx_back.specs.History.{AreNotesOf, kept_turn, states_before};
 ghost use Rattle.mx_back.specs.KeptRuns as spec;
 
 use crate::Back;
+use mx_alu::TrapCall;
 use mx_core::Machine;
 use mx_host::Host;
 use mx_run::{TurnAnswer, trap_turn};
-use mx_trip::TrapCall;
 use std::alloc::Global;
 
 /// The number of the stop for one page too many.

@@ -4,3 +4,5 @@ pub mod Instructions
 pub mod LoadsAndStores
 pub mod Groups
 pub mod Told
+pub mod SpecialRegisters
+pub mod Puts

@@ -1,5 +1,5 @@
 //! Instructions as the machine reads them: what each code does, the fields of a tetra, and how a load or a store takes its
-//! part of an octa.
+//! part of an octa; and the special registers: their codes, and what PUT gives them.
 //!
 //! The rules are those of MMIXware (LNCS 1750; the part on MMIX) and of TAOCP 1, Fascicle 1, section
 //! 1.3.1'.
@@ -11,8 +11,10 @@ mod destinations;
 mod groups;
 mod immediate;
 mod instruction;
+mod laws;
 mod operation;
 mod part;
+mod put;
 mod reason;
 mod stop;
 mod trace;
@@ -23,10 +25,12 @@ pub use destinations::destination;
 pub use groups::{Group, group_of};
 pub use immediate::wyde_value;
 pub use instruction::Instruction;
+pub use laws::stored_values_are_in_bounds;
 pub use operation::{Loading, Operation, Storing};
 pub use part::{
     loaded_part, loaded_value, loaded_within, overflows, stored_part, stored_value, touch,
 };
+pub use put::{Put, may_put};
 pub use reason::Reason;
 pub use stop::{Stop, Told};
 pub use trace::{Touch, Trace};

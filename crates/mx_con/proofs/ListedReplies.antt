@@ -10,10 +10,10 @@ use Rattle.mx_text.specs.declared.numbers.Form.TheVariants.{Hex}
 use Rattle.mx_registers.specs.Registers.{Registers}
 use Rattle.mx_ring.specs.Stack.{in_stack_area, set_overfills}
 use Rattle.mx_ring.specs.Window.{Window}
-use Rattle.mx_spec.specs.Puts.{put_of}
-use Rattle.mx_spec.specs.SpecialRegisters.{rL, rG}
-use Rattle.mx_spec.specs.declared.put.Put.{Put}
-use Rattle.mx_spec.specs.declared.put.Put.TheVariants as put
+use Rattle.mx_code.specs.Puts.{put_of}
+use Rattle.mx_code.specs.SpecialRegisters.{rL, rG}
+use Rattle.mx_code.specs.declared.put.Put.{Put}
+use Rattle.mx_code.specs.declared.put.Put.TheVariants as put
 use Rattle.mx_core.specs.Bounds.{IsMachine, as_list_state}
 use Rattle.mx_core.specs.Changes.{allowed_unless, put_changed, special_changed, register_changed}
 use Rattle.mx_word.specs.Segments.{is_in_stack_segment}

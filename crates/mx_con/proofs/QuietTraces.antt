@@ -9,12 +9,12 @@ use Rattle.mx_mem.specs.declared.part.Part.TheVariants as part
 use Rattle.mx_plan.specs.Wild.{Course, ends, meets_wild}
 use Rattle.mx_plan.proofs.WildLaws.{EndsSo}
 use Rattle.mx_ring.specs.Stack.{in_stack_area}
-use Rattle.mx_spec.specs.SpecialRegisters.{rW, rX}
-use Rattle.mx_trip.specs.declared.call.TrapCall.{TrapCall}
-use Rattle.mx_trip.specs.declared.insertion.Insert.{Insert}
-use Rattle.mx_trip.specs.declared.insertion.Insert.TheVariants as insert
-use Rattle.mx_trip.specs.declared.insertion.Kind.TheVariants.{Again, Continue, Set}
-use Rattle.mx_trip.specs.Insertions.{insertion}
+use Rattle.mx_code.specs.SpecialRegisters.{rW, rX}
+use Rattle.mx_alu.specs.declared.call.TrapCall.{TrapCall}
+use Rattle.mx_alu.specs.declared.insertion.Insert.{Insert}
+use Rattle.mx_alu.specs.declared.insertion.Insert.TheVariants as insert
+use Rattle.mx_alu.specs.declared.insertion.Kind.TheVariants.{Again, Continue, Set}
+use Rattle.mx_alu.specs.Insertions.{insertion}
 use Rattle.mx_trap.specs.FileTraps.{trap_answer}
 use Rattle.mx_trap.specs.Moves.{Leaves}
 use Rattle.mx_trap.specs.Touches.{touches}

@@ -2,10 +2,10 @@
 use Rattle.std.proofs.Common.{◌≡◌, ◌≢◌, ◌≤◌, ◌<◌, ℕ, ◌-◌, ◌^◌, ◌==◌, Bool, true, false, cond, Result, Ok, Err, OnErr, arith, refl, ◌∙◌, ap}
 use Rattle.std.specs.Option.{unwrap_or}
 use Rattle.mx_ring.specs.Stack.{in_stack_area, set_overfills}
-use Rattle.mx_spec.specs.Puts.{put_of}
-use Rattle.mx_spec.specs.SpecialRegisters.{rG, rL}
-use Rattle.mx_spec.specs.declared.put.Put.{Put}
-use Rattle.mx_spec.specs.declared.put.Put.TheVariants as put
+use Rattle.mx_code.specs.Puts.{put_of}
+use Rattle.mx_code.specs.SpecialRegisters.{rG, rL}
+use Rattle.mx_code.specs.declared.put.Put.{Put}
+use Rattle.mx_code.specs.declared.put.Put.TheVariants as put
 use Rattle.mx_core.specs.Way.Changed.{left_changed}
 use Rattle.mx_core.specs.Changes.{allowed_unless, at_address, put_changed}
 use Rattle.mx_core.specs.State.{State, global_start, is_page_refused, locals, with_octa, with_value_in}

@@ -1,8 +1,8 @@
 -- What holds of both answers of a test holds of the answer.
 use Rattle.std.proofs.Common.{◌≡◌, ℕ, ◌==◌, Bool, true, false, not, cond, Option, None, Some, refl}
-use Rattle.mx_spec.specs.declared.put.Put.{Put}
-use Rattle.mx_spec.specs.declared.put.Put.TheVariants as put
-use Rattle.mx_spec.specs.SpecialRegisters.{rG, rL}
+use Rattle.mx_code.specs.declared.put.Put.{Put}
+use Rattle.mx_code.specs.declared.put.Put.TheVariants as put
+use Rattle.mx_code.specs.SpecialRegisters.{rG, rL}
 use Rattle.mx_core.specs.Effects.{Effect, putting}
 use Rattle.mx_code.specs.declared.instruction.Instruction.{Instruction}
 use Rattle.mx_core.specs.Stops.{reason_where, first_reason}

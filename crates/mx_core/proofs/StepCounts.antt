@@ -3,11 +3,11 @@ use Rattle.std.proofs.Common.{◌≡◌, ℕ, ◌+◌, ◌%◌, ◌^◌, Bool, t
 use Rattle.std.specs.Prelude.{◌==◌, not}
 use Rattle.std.specs.Option.{unwrap_or}
 use Rattle.mx_ring.specs.Stack.{in_stack_area}
-use Rattle.mx_spec.specs.SpecialRegisters.{rW, rX}
-use Rattle.mx_trip.specs.Insertions.{insertion}
-use Rattle.mx_trip.specs.declared.insertion.Insert.{Insert}
-use Rattle.mx_trip.specs.declared.insertion.Insert.TheVariants as insert
-use Rattle.mx_trip.specs.declared.insertion.Kind.TheVariants.{Again, Continue, Set}
+use Rattle.mx_code.specs.SpecialRegisters.{rW, rX}
+use Rattle.mx_alu.specs.Insertions.{insertion}
+use Rattle.mx_alu.specs.declared.insertion.Insert.{Insert}
+use Rattle.mx_alu.specs.declared.insertion.Insert.TheVariants as insert
+use Rattle.mx_alu.specs.declared.insertion.Kind.TheVariants.{Again, Continue, Set}
 use Rattle.mx_core.specs.Deeds.{Deed, with_result, with_store, with_specials, moved, tripped, trip_specials, applied, with_destination, deed_of, given_instruction, plain_deed, inserted, resumed}
 use Rattle.mx_core.specs.Effects.{going_to, Effect, Store, Move, Tripping, stays, pushes, pops, saves, unsaves, cuts, moves_globals}
 use Rattle.mx_code.specs.Instructions.{instruction, operation_in, xyz_of}

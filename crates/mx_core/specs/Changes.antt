@@ -2,10 +2,10 @@
 -- A rule of this program.
 use Rattle.std.specs.Prelude.{ℕ, ◌≡◌, ◌≤◌, ◌<◌, ◌^◌, ◌/◌, ◌*◌, Bool, ◌==◌, if◌then◌else◌, Result, Ok, Err}
 use Rattle.mx_ring.specs.Stack.{set_overfills, cut_to, with_global_start}
-use Rattle.mx_spec.specs.Puts.{put_of}
-use Rattle.mx_spec.specs.SpecialRegisters.{rA, rG, rL}
-use Rattle.mx_spec.specs.declared.put.Put.{Put}
-use Rattle.mx_spec.specs.declared.put.Put.TheVariants as put
+use Rattle.mx_code.specs.Puts.{put_of}
+use Rattle.mx_code.specs.SpecialRegisters.{rA, rG, rL}
+use Rattle.mx_code.specs.declared.put.Put.{Put}
+use Rattle.mx_code.specs.declared.put.Put.TheVariants as put
 use Rattle.mx_core.specs.State.{State, global_start, locals, with_value_in, with_special, with_octa, is_page_refused}
 use Rattle.mx_core.specs.declared.changes.SetFault.{SetFault}
 use Rattle.mx_core.specs.declared.changes.SetFault.TheVariants.{NotAllowed}

@@ -3,12 +3,12 @@
 use Rattle.std.specs.Prelude.{ℕ, ◌+◌, ◌*◌, ◌/◌, ◌%◌, ◌^◌, ◌==◌, ◌&&◌, ◌||◌, not, nat_le, min, Bool, true, false, if◌then◌else◌, List, [], ◌∷◌, Option, None, Some, Result, Ok, Err}
 use Rattle.std.specs.Option.{unwrap_or}
 use Rattle.mx_ring.specs.Stack.{Stack, register, hidden_count, in_stack_area, stack_index, pushed, popped, saved, unsaved, cut_to, with_global_start}
-use Rattle.mx_spec.specs.SpecialRegisters.{rB, rJ, rS, rW, rX, rY, rZ}
-use Rattle.mx_trip.specs.Insertions.{insertion}
-use Rattle.mx_trip.specs.declared.insertion.Insert.{Insert}
-use Rattle.mx_trip.specs.declared.insertion.Insert.TheVariants as insert
-use Rattle.mx_trip.specs.declared.insertion.Kind.{Kind}
-use Rattle.mx_trip.specs.declared.insertion.Kind.TheVariants.{Again, Continue, Set}
+use Rattle.mx_code.specs.SpecialRegisters.{rB, rJ, rS, rW, rX, rY, rZ}
+use Rattle.mx_alu.specs.Insertions.{insertion}
+use Rattle.mx_alu.specs.declared.insertion.Insert.{Insert}
+use Rattle.mx_alu.specs.declared.insertion.Insert.TheVariants as insert
+use Rattle.mx_alu.specs.declared.insertion.Kind.{Kind}
+use Rattle.mx_alu.specs.declared.insertion.Kind.TheVariants.{Again, Continue, Set}
 use Rattle.mx_core.specs.Effects.{Effect, Store, Tripping, Move, stays, pushes, pops, saves, unsaves, cuts, moves_globals, effect_of, giving, going_to, z_operand}
 use Rattle.mx_code.specs.Instructions.{instruction, x_of, z_of, xyz_of, next_of, operation_in, destination_of}
 use Rattle.mx_code.specs.declared.instruction.Instruction.{Instruction}

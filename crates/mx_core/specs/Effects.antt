@@ -13,13 +13,13 @@ use Rattle.mx_mem.specs.declared.part.Part.TheVariants.{Octa}
 use Rattle.mx_ops.specs.Opcodes.{opcode_kind, is_immediate}
 use Rattle.mx_ring.specs.Stack.{register, stack_index, unsaved_specials}
 use Rattle.mx_ring.specs.declared.saved.Saved.{Saved}
-use Rattle.mx_spec.specs.Puts.{put_of}
-use Rattle.mx_spec.specs.SpecialRegisters.{rB, rD, rE, rH, rJ, rM, rR, rG, rL, rA, rP, rW, rX, rY, rZ}
-use Rattle.mx_spec.specs.declared.put.Put.{Put}
-use Rattle.mx_spec.specs.declared.put.Put.TheVariants as put
-use Rattle.mx_trip.specs.Trips.{decided}
-use Rattle.mx_trip.specs.declared.decision.Trip.{Trip}
-use Rattle.mx_trip.specs.declared.decision.Trip.TheVariants.{Taken, Noted}
+use Rattle.mx_code.specs.Puts.{put_of}
+use Rattle.mx_code.specs.SpecialRegisters.{rB, rD, rE, rH, rJ, rM, rR, rG, rL, rA, rP, rW, rX, rY, rZ}
+use Rattle.mx_code.specs.declared.put.Put.{Put}
+use Rattle.mx_code.specs.declared.put.Put.TheVariants as put
+use Rattle.mx_alu.specs.Trips.{decided}
+use Rattle.mx_alu.specs.declared.decision.Trip.{Trip}
+use Rattle.mx_alu.specs.declared.decision.Trip.TheVariants.{Taken, Noted}
 use Rattle.mx_code.specs.Instructions.{code_of, x_of, y_of, z_of, yz_of, next_of, near_address, far_address, wyde_value}
 use Rattle.mx_code.specs.declared.instruction.Instruction.{Instruction}
 use Rattle.mx_code.specs.LoadsAndStores.{touch, loaded_part, loaded_value, stored_part, stored_value, stored_event}

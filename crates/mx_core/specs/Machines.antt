@@ -2,7 +2,7 @@
 use Rattle.std.specs.Prelude.{ℕ, ◌<◌, ◌^◌, slice_index}
 use Rattle.mx_word.specs.Ranges.{AreOctas}
 use Rattle.mx_ring.specs.Window.{Window}
-use Rattle.mx_spec.specs.SpecialRegisters.{rA}
+use Rattle.mx_code.specs.SpecialRegisters.{rA}
 use Rattle.mx_core.specs.Bounds.{IsMachine}
 use Rattle.mx_core.specs.State.{State}
 

@@ -5,7 +5,7 @@ use Rattle.mx_mem.specs.Memory.{tetra_of, stored_at}
 use Rattle.mx_mem.specs.Parts.{with_part}
 use Rattle.mx_mem.specs.declared.part.Part.{Part}
 use Rattle.mx_ring.specs.Stack.{Stack, visible, hidden_count, local_count, spilled_count, register, with_register, stack_address, in_stack_area, stack_index, stack_octa, with_stack_octa}
-use Rattle.mx_spec.specs.SpecialRegisters.{rC, rO, rS, rG, rL}
+use Rattle.mx_code.specs.SpecialRegisters.{rC, rO, rS, rG, rL}
 
 pub record State : Type 0 where
   -- the address of the next instruction, a multiple of 4

@@ -2,7 +2,7 @@
 use Rattle.std.specs.Prelude.{◌||◌, if◌then◌else◌, Option, None, Some}
 use Rattle.std.specs.Option.{option_map}
 use Rattle.mx_ring.specs.Stack.{register}
-use Rattle.mx_trip.specs.declared.call.TrapCall.{TrapCall}
+use Rattle.mx_alu.specs.declared.call.TrapCall.{TrapCall}
 use Rattle.mx_core.specs.Deeds.{Deed, deed_of, resumed, state_done}
 use Rattle.mx_code.specs.LoadsAndStores.{touch}
 use Rattle.mx_core.specs.Effects.{Store}

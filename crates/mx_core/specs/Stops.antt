@@ -3,9 +3,9 @@
 -- of this program.)
 use Rattle.std.specs.Prelude.{◌==◌, ◌&&◌, ◌||◌, not, nat_lt, Bool, if◌then◌else◌, Option, None, Some}
 use Rattle.mx_ring.specs.Stack.{set_overfills, push_overfills, pop_underflows, save_overfills, unsave_refused}
-use Rattle.mx_spec.specs.Puts.{put_of}
-use Rattle.mx_spec.specs.declared.put.Put.{Put}
-use Rattle.mx_spec.specs.declared.put.Put.TheVariants as put
+use Rattle.mx_code.specs.Puts.{put_of}
+use Rattle.mx_code.specs.declared.put.Put.{Put}
+use Rattle.mx_code.specs.declared.put.Put.TheVariants as put
 use Rattle.mx_core.specs.Effects.{Effect, Store, Tripping, z_operand}
 use Rattle.mx_code.specs.Instructions.{x_of, y_of, z_of, yz_of, xyz_of}
 use Rattle.mx_code.specs.declared.instruction.Instruction.{Instruction}

@@ -1,8 +1,8 @@
 -- The machine's part of a file trap: what it tells, and the state once the trap has a result.
 use Rattle.std.specs.Prelude.{ℕ, ◌+◌, ◌/◌, ◌%◌, ◌^◌, true, List, [], ◌∷◌, None}
 use Rattle.mx_ring.specs.Stack.{register}
-use Rattle.mx_spec.specs.SpecialRegisters.{rBB, rWW, rXX, rYY, rZZ}
-use Rattle.mx_trip.specs.declared.call.TrapCall.{TrapCall}
+use Rattle.mx_code.specs.SpecialRegisters.{rBB, rWW, rXX, rYY, rZZ}
+use Rattle.mx_alu.specs.declared.call.TrapCall.{TrapCall}
 use Rattle.mx_core.specs.Deeds.{with_specials, onward}
 use Rattle.mx_core.specs.State.{State, with_value_in}
 use Rattle.mx_code.specs.declared.trace.Trace.{Trace}

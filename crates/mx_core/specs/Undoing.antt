@@ -8,7 +8,7 @@ use Rattle.mx_registers.specs.Registers.{is_marginal}
 use Rattle.mx_ring.specs.Stack.{Stack, listed, windowed, visible, local_count, cut_to, in_stack_area, stack_index, stack_address}
 use Rattle.mx_ring.specs.Window.{Window}
 use Rattle.mx_ring.specs.declared.notes.RingWork.TheVariants as work
-use Rattle.mx_spec.specs.SpecialRegisters.{rJ}
+use Rattle.mx_code.specs.SpecialRegisters.{rJ}
 use Rattle.mx_core.specs.Deeds.{Deed}
 use Rattle.mx_core.specs.Effects.{Store, Move, stays, pushes, pops, saves, unsaves, cuts, moves_globals}
 use Rattle.mx_core.specs.State.{State, with_value_in, with_special}

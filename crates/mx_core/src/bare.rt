@@ -4,7 +4,7 @@ ghost use Rattle.std.specs.Prelude.{◌≡◌, ◌≤◌, ◌+◌, [], ◌∷◌
 ghost use Rattle.mx_ring.specs.RegisterList.{list_at_start};
 ghost use Rattle.mx_ring.specs.Stack.{listed, set_overfills, windowed, with_register};
 ghost use Rattle.mx_ring.specs.Window.{window_at_start};
-ghost use Rattle.mx_spec.specs.SpecialRegisters.{rA};
+ghost use Rattle.mx_code.specs.SpecialRegisters.{rA};
 ghost use Rattle.mx_core.specs.Bare as spec;
 ghost use Rattle.mx_core.specs.Bare.{bare_registers, shared_in, shared_of, window_with, with_shared};
 ghost use Rattle.mx_core.specs.Bounds.{as_list_state};

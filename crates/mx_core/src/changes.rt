@@ -10,8 +10,8 @@ ghost use Rattle.mx_ring.specs.Bounds.{IsRing};
 use crate::Machine;
 use crate::bounds::know_bounds;
 use crate::machine::is_in_stack_area;
+use mx_code::{Put, may_put};
 use mx_mem::MemFault;
-use mx_spec::{Put, may_put};
 use mx_word::STACK_SEGMENT;
 
 /// Why a change is refused: it is not allowed, or out of memory.

@@ -19,8 +19,8 @@ ghost use Rattle.mx_ring.specs.Laws.{SaveIsUndone};
 ghost use Rattle.mx_ring.specs.Stack.{visible, register, hidden_count, in_stack_area, stack_address};
 ghost use Rattle.mx_ring.specs.Stack.{save_overfills, saved, frame_top};
 ghost use Rattle.mx_ring.specs.Window.{Window};
-ghost use Rattle.mx_spec.specs.SpecialRegisters.{rS};
-ghost use Rattle.mx_trip.specs.declared.call.TrapCall.{TrapCall};
+ghost use Rattle.mx_code.specs.SpecialRegisters.{rS};
+ghost use Rattle.mx_alu.specs.declared.call.TrapCall.{TrapCall};
 ghost use Rattle.mx_word.specs.Results.{map_ok};
 
 /// Both read the same: registers, G and L, special registers other than rS, and memory outside the

@@ -4,7 +4,7 @@ ghost use Rattle.std.specs.Prelude.{◌≡◌, ◌≢◌, ◌<◌, ◌≤◌, �
 ghost use Rattle.mx_mem.specs.Memory.{tetra_of};
 ghost use Rattle.mx_ring.specs.Bounds.{IsRing};
 ghost use Rattle.mx_ring.specs.Stack as stacks;
-ghost use Rattle.mx_spec.specs.SpecialRegisters.{rA};
+ghost use Rattle.mx_code.specs.SpecialRegisters.{rA};
 ghost use Rattle.mx_core.specs.Way.Calls.{KeepsOnErr, Makes, MakesWithMemory, set_outcome, store_outcome};
 ghost use Rattle.mx_core.specs.Deeds as deeds;
 ghost use Rattle.mx_core.specs.Kept.{state_of};

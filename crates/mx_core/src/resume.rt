@@ -7,12 +7,12 @@ ghost use Rattle.mx_core.specs.Deeds.{outcome, resumed};
 ghost use Rattle.mx_code.specs.Instructions as spec;
 ghost use Rattle.mx_core.specs.Kept.{state_of};
 ghost use Rattle.mx_core.specs.Way.Stepping.{needs_page};
-ghost use Rattle.mx_trip.specs.declared.insertion.Kind.TheVariants as kinds;
+ghost use Rattle.mx_alu.specs.declared.insertion.Kind.TheVariants as kinds;
 
 use crate::trips::{RW, RX, RY, RZ};
 use crate::{Machine, Reason};
+use mx_alu::{Insert, Kind, inserted};
 use mx_code::{Instruction, Stop};
-use mx_trip::{Insert, Kind, inserted};
 
 impl Machine {
     /// RESUME 0: it goes on after a trip, or performs an inserted instruction.

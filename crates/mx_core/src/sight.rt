@@ -11,9 +11,9 @@ ghost use Rattle.mx_core.specs.Deeds as deeds;
 
 use crate::trips::{RW, RX, RY, RZ};
 use crate::{Machine, Touch};
+use mx_alu::{Insert, Kind, inserted};
 use mx_code::{Instruction, Operation, destination, loaded_part, stored_part, touch};
 use mx_mem::Part;
-use mx_trip::{Insert, Kind, inserted};
 
 /// The destination, and what is read and written of memory.
 #[derive(Clone, Copy)]

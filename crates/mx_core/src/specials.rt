@@ -15,9 +15,8 @@ use crate::bounds::know_bounds;
 use crate::machine::is_in_stack_area;
 use crate::trips::{RB, RH, RJ, RR, RW, RX, RY, RZ};
 use crate::{Machine, Reason};
-use mx_code::{Instruction, Operation, Stop};
+use mx_code::{Instruction, Operation, Put, Stop, may_put, stored_values_are_in_bounds};
 use mx_ring::Saved;
-use mx_spec::{Put, may_put, stored_values_are_in_bounds};
 use mx_word::STACK_SEGMENT;
 
 /// More codes of special registers.

@@ -14,8 +14,8 @@ ghost use Rattle.mx_core.specs.Way.Stepping.{advanced, is_quiet_group, needs_pag
 use crate::bounds::machines_keep_the_invariant;
 use crate::trips::RJ;
 use crate::{Machine, Reason, Trace};
+use mx_alu::TrapCall;
 use mx_code::{Group, Instruction, Operation, Stop, Told, group_of};
-use mx_trip::TrapCall;
 use mx_word::{STACK_SEGMENT, is_in_stack_segment};
 
 /// What a step comes to: the machine went on, with a trace; it calls a file trap, and is to be told its

@@ -4,7 +4,7 @@ ghost use Rattle.std.specs.Prelude.{◌≡◌, ◌<◌, ◌^◌, Err, Some};
 ghost use Rattle.mx_core.specs.Way.Calls.{KeepsOnErr, LacksMemoryOnlyWhere, MakesWithMemory, CarriesOutWithMemory};
 ghost use Rattle.mx_core.specs.Way.Calls as spec;
 ghost use Rattle.mx_code.specs.LoadsAndStores.{stored_event};
-ghost use Rattle.mx_trip.specs.declared.decision.Trip.TheVariants as trips;
+ghost use Rattle.mx_alu.specs.declared.decision.Trip.TheVariants as trips;
 ghost use Rattle.mx_alu.specs.declared.answer.Event.TheVariants as event;
 ghost use Rattle.mx_core.specs.Deeds.{deed_of};
 ghost use Rattle.mx_code.specs.Instructions.{instruction};
@@ -13,9 +13,8 @@ ghost use Rattle.mx_core.specs.Way.Stepping.{needs_page};
 ghost use Rattle.mx_code.specs.Told.{answer_in};
 
 use crate::{Machine, Reason};
-use mx_alu::Event;
+use mx_alu::{Event, Trip, decide, noted_events_stay_in_18_bits};
 use mx_code::{Instruction, Operation, Stop, Storing, Told, overflows, stored_part, stored_value};
-use mx_trip::{Trip, decide, noted_events_stay_in_18_bits};
 
 impl Machine {
     /// STB to STCO. It takes memory only where it begins a page.

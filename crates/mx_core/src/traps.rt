@@ -5,7 +5,7 @@ ghost use Rattle.mx_core.specs.Kept.{state_of};
 ghost use Rattle.mx_core.specs.Traps as spec;
 
 use crate::{Machine, Trace};
-use mx_trip::TrapCall;
+use mx_alu::TrapCall;
 
 impl Machine {
     /// Completes the step of a file trap with its result. rWW, rXX, rYY and rZZ tell the instruction,

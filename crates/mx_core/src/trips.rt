@@ -2,7 +2,7 @@
 
 ghost use Rattle.std.specs.Prelude.{◌≡◌, ◌≢◌, ◌<◌, ◌+◌, ◌^◌, ◌++◌, ◌∷◌, [], Some};
 ghost use Rattle.mx_ring.specs.Stack.{set_overfills};
-ghost use Rattle.mx_spec.specs.SpecialRegisters.{rA};
+ghost use Rattle.mx_code.specs.SpecialRegisters.{rA};
 ghost use Rattle.mx_core.specs.Way.Calls as spec;
 ghost use Rattle.mx_core.specs.Way.Calls.{Makes, told_specials};
 ghost use Rattle.mx_core.specs.Deeds.{onward, tripped, with_specials};
@@ -12,9 +12,8 @@ ghost use Rattle.mx_core.specs.Kept.{state_of};
 ghost use Rattle.mx_core.specs.State.{special_register, with_value_in};
 
 use crate::{Machine, Reason};
-use mx_alu::{Answer, Event};
+use mx_alu::{Answer, Event, Trip, decide, noted_events_stay_in_18_bits};
 use mx_code::{Instruction, Stop};
-use mx_trip::{Trip, decide, noted_events_stay_in_18_bits};
 
 /// The codes of special registers.
 pub(crate) const RB: u8 = 0;

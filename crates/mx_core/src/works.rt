@@ -12,9 +12,9 @@ ghost use Rattle.mx_core.specs.Way.Noting.{TellsWork};
 
 use crate::Machine;
 use crate::trips::{RW, RX, RY, RZ};
+use mx_alu::{Insert, Kind, inserted};
 use mx_code::{Instruction, Operation};
 use mx_ring::RingWork;
-use mx_trip::{Insert, Kind, inserted};
 
 /// The codes of rG and of rL.
 const RG: u8 = 19;

@@ -4,3 +4,4 @@ pub mod Groups
 pub mod Known
 pub mod Taken
 pub mod Words
+pub mod Nearest

@@ -7,7 +7,7 @@ use Rattle.mx_registers.specs.Bounds.{AreInBounds}
 use Rattle.mx_registers.specs.Registers.{Registers, value_of}
 use Rattle.mx_ring.specs.Stack.{visible, register, in_stack_area, stack_octa, stack_index}
 use Rattle.mx_ring.specs.Window.{Window}
-use Rattle.mx_spec.specs.SpecialRegisters.{rC, rO, rS, rG, rL}
+use Rattle.mx_code.specs.SpecialRegisters.{rC, rO, rS, rG, rL}
 use Rattle.mx_core.specs.Bounds.{IsMachine}
 use Rattle.mx_core.specs.State.{State, special_register, global_start, octa}
 use Rattle.mx_record.specs.Pictures.{global_shown, octa_shown, special_shown}

@@ -10,7 +10,7 @@ use Rattle.mx_mem.specs.declared.part.Part.TheVariants as part
 use Rattle.mx_word.specs.Ranges.{AreOctas}
 use Rattle.mx_ring.specs.Stack.{in_stack_area}
 use Rattle.mx_ring.specs.Window.{Window}
-use Rattle.mx_trip.specs.declared.call.TrapCall.{TrapCall}
+use Rattle.mx_alu.specs.declared.call.TrapCall.{TrapCall}
 use Rattle.mx_trap.specs.FileTraps.{trap_answer}
 use Rattle.mx_trap.specs.Moves.{Leaves}
 use Rattle.mx_trap.specs.Touches.{touches}

@@ -11,11 +11,11 @@ use Rattle.mx_registers.specs.Bounds.{AreInBounds}
 use Rattle.mx_ring.specs.Bounds.{IsRing}
 use Rattle.mx_ring.specs.Stack.{set_overfills, Stack, listed, windowed, visible, hidden_count, in_stack_area, stack_index, with_register, with_stack_octa}
 use Rattle.mx_ring.specs.Window.{Window}
-use Rattle.mx_spec.specs.SpecialRegisters.{rJ, rZ}
-use Rattle.mx_trip.specs.declared.call.TrapCall.{TrapCall}
-use Rattle.mx_trip.specs.declared.insertion.Insert.{Insert}
-use Rattle.mx_trip.specs.declared.insertion.Insert.TheVariants as insert
-use Rattle.mx_trip.specs.declared.insertion.Kind.TheVariants.{Again, Continue, Set}
+use Rattle.mx_code.specs.SpecialRegisters.{rJ, rZ}
+use Rattle.mx_alu.specs.declared.call.TrapCall.{TrapCall}
+use Rattle.mx_alu.specs.declared.insertion.Insert.{Insert}
+use Rattle.mx_alu.specs.declared.insertion.Insert.TheVariants as insert
+use Rattle.mx_alu.specs.declared.insertion.Kind.TheVariants.{Again, Continue, Set}
 use Rattle.mx_trap.specs.FileTraps.{trap_answer}
 use Rattle.mx_trap.specs.Moves.{Leaves}
 use Rattle.mx_trap.specs.Touches.{touches}

@@ -6,7 +6,7 @@ use Rattle.std.proofs.lemmas.List.{get_or-take, length-take}
 use Rattle.std.proofs.Math.ListN.{get_or-append}
 use Rattle.std.specs.Option.{option_map, unwrap_or}
 use Rattle.mx_host.specs.HostModel.{HostModel}
-use Rattle.mx_trip.specs.declared.call.TrapCall.{TrapCall}
+use Rattle.mx_alu.specs.declared.call.TrapCall.{TrapCall}
 use Rattle.mx_trap.specs.FileTraps.{trap_answer}
 use Rattle.mx_trap.specs.Moves.{Leaves}
 use Rattle.mx_trap.specs.Touches.{touches}
@@ -26,10 +26,10 @@ use Rattle.mx_ring.specs.Frames.{frame}
 use Rattle.mx_ring.specs.Stack.{Stack, listed, windowed, as_listed, visible, hidden_octas, hidden_count, in_stack_area, with_register, with_visible, pushed, popped, saved, cut_to, with_global_start}
 use Rattle.mx_ring.specs.Window.{Window, as_list}
 use Rattle.mx_ring.specs.declared.saved.Saved.{Saved}
-use Rattle.mx_spec.specs.Puts.{put_of}
-use Rattle.mx_spec.specs.SpecialRegisters.{rG, rJ, rL}
-use Rattle.mx_spec.specs.declared.put.Put.{Put}
-use Rattle.mx_spec.specs.declared.put.Put.TheVariants as put
+use Rattle.mx_code.specs.Puts.{put_of}
+use Rattle.mx_code.specs.SpecialRegisters.{rG, rJ, rL}
+use Rattle.mx_code.specs.declared.put.Put.{Put}
+use Rattle.mx_code.specs.declared.put.Put.TheVariants as put
 use Rattle.mx_code.specs.Instructions.{operation_in, x_of}
 use Rattle.mx_code.specs.declared.instruction.Instruction.{Instruction}
 use Rattle.mx_code.specs.declared.operation.Operation.{Operation}

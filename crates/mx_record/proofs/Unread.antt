@@ -9,7 +9,7 @@ use Rattle.mx_word.specs.Results.{map_ok}
 use Rattle.mx_plan.specs.Plan.{end_after, end_of}
 use Rattle.mx_plan.specs.Calls.{Both, HostPlan, both, look, on_host}
 use Rattle.mx_plan.proofs.Plans.{end_bind, end_look, end_on_host, end_returns}
-use Rattle.mx_trip.specs.declared.call.TrapCall.{TrapCall}
+use Rattle.mx_alu.specs.declared.call.TrapCall.{TrapCall}
 use Rattle.mx_trap.specs.FileTraps.{answer_to, trap_answer, trap_plan}
 use Rattle.mx_trap.specs.Requests.{arguments, buffer, most_bytes, opening_with, request_after, request_of, text_length}
 use Rattle.mx_trap.specs.Services.{service_numbered, service_of, x_of, y_of, z_of}

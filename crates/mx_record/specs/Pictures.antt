@@ -1,7 +1,7 @@
 -- What is shown of a state: the address of the next instruction, and an octa at each of many places.
 use Rattle.std.specs.Prelude.{ℕ, ◌*◌, ◌^◌, ◌==◌, ◌||◌, nat_le, nat_lt, if◌then◌else◌, List, ◌++◌, slice_index_or, Result, Ok, Err}
 use Rattle.mx_ring.specs.Stack.{Stack, visible, hidden_octas, register, in_stack_area}
-use Rattle.mx_spec.specs.SpecialRegisters.{rC}
+use Rattle.mx_code.specs.SpecialRegisters.{rC}
 use Rattle.mx_core.specs.State.{State, global_start, special_register}
 use Rattle.mx_run.specs.Runs.{Ended}
 use Rattle.mx_outcome.specs.declared.outcome.Outcome.{Outcome}

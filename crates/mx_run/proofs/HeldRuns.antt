@@ -8,7 +8,7 @@ use Rattle.mx_plan.specs.Wild.{Course, ends, meets_wild, world_of, course}
 use Rattle.mx_plan.proofs.HeldLaws.{held-end, held-stop, held-on}
 use Rattle.mx_plan.proofs.Streams.{beside-held, streams-held}
 use Rattle.mx_plan.proofs.WildLaws.{wild_held}
-use Rattle.mx_trip.specs.declared.call.TrapCall.{TrapCall}
+use Rattle.mx_alu.specs.declared.call.TrapCall.{TrapCall}
 use Rattle.mx_trap.specs.FileTraps.{trap_plan, trap_answer}
 use Rattle.mx_trap.specs.Moves.{Leaves}
 use Rattle.mx_trap.specs.Touches.{touches}

@@ -8,7 +8,7 @@ use Rattle.mx_word.specs.Octas.{byte_in}
 use Rattle.mx_word.specs.Ranges.{AreOctas}
 use Rattle.mx_ring.specs.Stack.{Stack, listed, windowed, as_listed, in_stack_area, spilled_count}
 use Rattle.mx_ring.specs.Window.{Window, as_list}
-use Rattle.mx_trip.specs.declared.call.TrapCall.{TrapCall}
+use Rattle.mx_alu.specs.declared.call.TrapCall.{TrapCall}
 use Rattle.mx_trap.specs.Apart.{apart, leaves_apart, with_segment}
 use Rattle.mx_trap.specs.FileTraps.{trap_answer}
 use Rattle.mx_trap.specs.Moves.{Leaves}

@@ -1,7 +1,7 @@
 -- A file trap whose request is refused leaves the machine as it was.
 use Rattle.std.proofs.Common.{◌≡◌, ℕ, true, false, Ok, Err, refl, sym, ap, ◌∙◌}
 use Rattle.std.specs.Prelude.{Result}
-use Rattle.mx_trip.specs.declared.call.TrapCall.{TrapCall}
+use Rattle.mx_alu.specs.declared.call.TrapCall.{TrapCall}
 use Rattle.mx_trap.specs.Answers.{stop_number}
 use Rattle.mx_trap.specs.Clauses.{IsStopped, StopsByPages}
 use Rattle.mx_trap.specs.Requests.{request_of}

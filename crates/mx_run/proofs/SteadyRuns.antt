@@ -3,7 +3,7 @@
 use Rattle.std.proofs.Common.{◌≡◌, ℕ, Bool, true, false, cond, refl, sym, ◌∙◌, ap}
 use Rattle.mx_host.specs.HostModel.{HostModel}
 use Rattle.mx_host.proofs.Still.{still}
-use Rattle.mx_trip.specs.declared.call.TrapCall.{TrapCall}
+use Rattle.mx_alu.specs.declared.call.TrapCall.{TrapCall}
 use Rattle.mx_plan.specs.Counts.{NoneFailed, unscheduled}
 use Rattle.mx_plan.specs.Wild.{Course, ends, meets_wild, world_of, course}
 use Rattle.mx_plan.proofs.Spared.{Spares, uncalled, after, still-same}

@@ -3,7 +3,7 @@ use Rattle.std.proofs.Common.{◌≡◌, ℕ, suc, ◌+◌, ◌-◌, ◌≤◌, 
 use Rattle.std.specs.Prelude.{Result}
 use Rattle.mx_host.specs.HostModel.{HostModel}
 use Rattle.mx_mem.specs.Space.{Contents}
-use Rattle.mx_trip.specs.declared.call.TrapCall.{TrapCall}
+use Rattle.mx_alu.specs.declared.call.TrapCall.{TrapCall}
 use Rattle.mx_trap.specs.FileTraps.{trap_answer}
 use Rattle.mx_trap.specs.Moves.{Leaves}
 use Rattle.mx_trap.specs.Touches.{touches}

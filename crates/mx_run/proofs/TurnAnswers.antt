@@ -2,7 +2,7 @@
 use Rattle.std.proofs.Common.{◌≡◌, ◌≢◌, ℕ, suc, Bool, true, false, IsTrue, inl, inr, refl, sym, subst, ◌∙◌, ap}
 use Rattle.std.specs.Prelude.{◌||◌}
 use Rattle.mx_host.specs.HostModel.{HostModel}
-use Rattle.mx_trip.specs.declared.call.TrapCall.{TrapCall}
+use Rattle.mx_alu.specs.declared.call.TrapCall.{TrapCall}
 use Rattle.mx_plan.specs.Plan.{Comes, Stops}
 use Rattle.mx_plan.specs.Calls.{both}
 use Rattle.mx_trap.specs.FileTraps.{trap_plan, trap_answer}

@@ -6,7 +6,7 @@ use Rattle.mx_host.specs.HostModel.{HostModel}
 use Rattle.mx_plan.specs.Plan.{Plan, returns, bind, Acts, Stops}
 use Rattle.mx_plan.specs.Plan as plan
 use Rattle.mx_plan.specs.Calls.{both}
-use Rattle.mx_trip.specs.declared.call.TrapCall.{TrapCall}
+use Rattle.mx_alu.specs.declared.call.TrapCall.{TrapCall}
 use Rattle.mx_trap.specs.FileTraps.{trap_plan}
 use Rattle.mx_trap.specs.Touches.{touches}
 use Rattle.mx_core.specs.MachineSpace.{machine_contents, state_in}

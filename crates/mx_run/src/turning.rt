@@ -17,10 +17,10 @@ ghost use Rattle.mx_run.specs.WildRuns.{HasWindow};
 
 use crate::TurnAnswer;
 use crate::windows::know_window;
+use mx_alu::TrapCall;
 use mx_core::{Machine, Step, Trace, machines_are_whole};
 use mx_host::Host;
 use mx_trap::{TrapAnswer, TrapStop, touches, trap};
-use mx_trip::TrapCall;
 use std::alloc::Global;
 
 /// Makes one turn of a machine over a host: a step, or a file trap as a whole.

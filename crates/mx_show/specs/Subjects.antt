@@ -1,7 +1,7 @@
 -- What lines show and change: registers, special registers and octas of memory, with their texts and values.
 use Rattle.std.specs.Prelude.{ℕ, ◌*◌, ◌/◌, ◌==◌, ◌<◌, ◌^◌, Bool, false, if◌then◌else◌, List, ◌++◌, codes, decimal, Option, None, Some, unwrap_or, Result}
 use Rattle.mx_ring.specs.Stack.{register}
-use Rattle.mx_spec.specs.SpecialRegisters.{rS}
+use Rattle.mx_code.specs.SpecialRegisters.{rS}
 use Rattle.mx_text.specs.Numbers.{hex_text, shown_text}
 use Rattle.mx_text.specs.declared.numbers.Form.{Form}
 use Rattle.mx_core.specs.Changes.{register_changed, special_changed, octa_changed}

@@ -12,7 +12,7 @@ pub use Rattle.mx_expr.specs.Spelling.{Faultless, IsFirst, Spells}
 pub use Rattle.mx_expr.specs.Tree.{Tree, ahead, back, binary, here, name, number, tree_of, trees_of, unary}
 pub use Rattle.mx_expr.specs.Value.{Valued, after_both, after_operand, binary_value, of_symbol, register, unary_value, value_of}
 pub use Rattle.mx_expr.specs.declared.faults.ExprFault.{ExprFault}
-pub use Rattle.mx_greg.specs.Gregs.{IsAllocable, lowest_of, with_greg}
+pub use Rattle.mx_names.specs.Gregs.{IsAllocable, lowest_of, with_greg}
 pub use Rattle.mx_names.specs.Names.{NameTable, pure_of, start, value_of_name, with_symbol}
 pub use Rattle.mx_names.specs.declared.fault.NameFault.{NameFault}
 unfoldable pub use Rattle.mx_ops.specs.Opcodes.{chosen_operations, opcode_name, opcode_names, opcode_rows, operation_of, operations, pseudo_operations}

@@ -17,7 +17,7 @@ use Rattle.mx_ops.specs.declared.op.Pseudo.{Pseudo}
 use Rattle.mx_ops.specs.declared.op.Pseudo.TheVariants as pseudo
 use Rattle.mx_ops.specs.declared.op.Shape.TheVariants.{Mem}
 use Rattle.mx_ops.specs.Shapes.{shapes_of}
-use Rattle.mx_greg.specs.Gregs.{IsAllocable, register_for}
+use Rattle.mx_names.specs.Gregs.{IsAllocable, register_for}
 use Rattle.mx_stmt.specs.declared.data.Data.{Data}
 use Rattle.mx_stmt.specs.declared.forms.Tetra.{Tetra}
 use Rattle.mx_stmt.specs.declared.statement.Label.{Label}

@@ -10,7 +10,7 @@ use Rattle.mx_word.specs.Words.{octa_to_bytes, tetra_to_bytes}
 use Rattle.mx_names.specs.Names.{value_of_name, back_of}
 use Rattle.mx_ops.specs.declared.op.Op.{Op}
 use Rattle.mx_ops.specs.Opcodes.{operation_of}
-use Rattle.mx_greg.specs.Gregs.{lowest_of}
+use Rattle.mx_names.specs.Gregs.{lowest_of}
 use Rattle.mx_stmt.specs.declared.placed.Placed.{Placed}
 use Rattle.mx_stmt.specs.Operands.{Known, Targets}
 use Rattle.mx_stmt.specs.Forms.{near_reach, far_reach, future_word}

@@ -9,8 +9,8 @@ use Rattle.mx_word.specs.declared.waits.WaitKind.TheVariants.{Near, Far}
 use Rattle.mx_expr.specs.Tree.{Tree}
 use Rattle.mx_ops.specs.declared.op.Shape.{Shape}
 use Rattle.mx_ops.specs.declared.op.Shape.TheVariants.{Three, Regs, Round, Neg, Rel, Mem, MemPure, Wyde, Jump, Put, Get, Pop, One, Save, Unsave, Free}
-use Rattle.mx_greg.specs.declared.gregs.Base.{Base}
-use Rattle.mx_greg.specs.Gregs.{base_for}
+use Rattle.mx_names.specs.declared.gregs.Base.{Base}
+use Rattle.mx_names.specs.Gregs.{base_for}
 use Rattle.mx_stmt.specs.declared.operands.RegisterOrByte.{RegisterOrByte}
 use Rattle.mx_stmt.specs.declared.operands.RegisterOrByte.TheVariants.{Register, Byte}
 use Rattle.mx_stmt.specs.declared.operands.Target.{Target}

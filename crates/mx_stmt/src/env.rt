@@ -4,8 +4,7 @@ ghost use Rattle.mx_stmt.specs.Operands.{symbol_value};
 ghost use Rattle.mx_names.specs.Names.{back_of};
 
 use mx_expr::{ExprFault, Known};
-use mx_greg::Gregs;
-use mx_names::{NameFault, Names};
+use mx_names::{Gregs, NameFault, Names};
 use mx_word::Value;
 use std::alloc::Global;
 

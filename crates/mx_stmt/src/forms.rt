@@ -14,7 +14,7 @@ use crate::operands::{
 use crate::relative::relative_word;
 use crate::{Env, StmtFault};
 use mx_expr::Expr;
-use mx_greg::Base;
+use mx_names::Base;
 use mx_ops::Shape;
 use mx_word::{Awaited, Value, WaitKind};
 

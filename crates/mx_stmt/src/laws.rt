@@ -6,7 +6,7 @@ ghost use Rattle.mx_names.specs.Names.{start, value_in, value_of_name, with_symb
 ghost use Rattle.mx_word.specs.declared.symbols.Value.{Value};
 ghost use Rattle.mx_word.specs.declared.waits.Awaited.TheVariants as awaited;
 ghost use Rattle.mx_word.specs.declared.waits.Wait.{Wait};
-ghost use Rattle.mx_greg.specs.Gregs.{IsAllocable, with_greg};
+ghost use Rattle.mx_names.specs.Gregs.{IsAllocable, with_greg};
 ghost use Rattle.mx_stmt.specs.declared.placed.Placed.{Placed};
 ghost use Rattle.mx_stmt.specs.Encoding.{StatementTree, IsPossible, encoding};
 ghost use Rattle.mx_stmt.specs.Faults.{fault_number};

@@ -6,7 +6,7 @@ use Rattle.mx_mem.specs.Space.{Contents}
 use Rattle.mx_host.specs.HostModel.{HostModel}
 use Rattle.mx_plan.specs.Plan.{end_of}
 use Rattle.mx_plan.specs.Calls.{host}
-use Rattle.mx_trip.specs.declared.call.TrapCall.{TrapCall}
+use Rattle.mx_alu.specs.declared.call.TrapCall.{TrapCall}
 use Rattle.mx_trap.specs.Apart.{apart, leaves_apart, with_segment, IsClear}
 use Rattle.mx_trap.specs.FileTraps.{trap_answer, fopen}
 use Rattle.mx_trap.specs.Moves.{Leaves, fwrite, fputs}

@@ -16,7 +16,7 @@ use Rattle.mx_plan.specs.Held.{Held, KeepsStreams}
 use Rattle.mx_plan.proofs.HeldLaws.{held-end}
 use Rattle.mx_plan.proofs.Spared.{Spares, both-spared, still-same}
 use Rattle.mx_plan.proofs.Streams.{space-held, streams-end, streams-stop, output-front}
-use Rattle.mx_trip.specs.declared.call.TrapCall.{TrapCall}
+use Rattle.mx_alu.specs.declared.call.TrapCall.{TrapCall}
 use Rattle.mx_trap.specs.Apart.{leaves_unscheduled}
 use Rattle.mx_trap.specs.FileTraps.{trap_plan, trap_answer}
 use Rattle.mx_trap.specs.Moves.{Leaves, leaving}

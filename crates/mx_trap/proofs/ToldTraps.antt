@@ -10,7 +10,7 @@ use Rattle.mx_host.specs.declared.slots.Mode.{Mode}
 use Rattle.mx_plan.specs.Plan.{bind}
 use Rattle.mx_plan.specs.Calls.{HostPlan, SpacePlan, BothPlan, both, put_plan, read_plan, write_plan, open_plan, close_plan, seek_plan, tell_plan, need, look, on_host, on_space}
 use Rattle.mx_plan.proofs.Giving.{Gives, gives-bind, gives-end, HostMay, SpaceMay, BothMay, gives-on_host, gives-on_space, both-may}
-use Rattle.mx_trip.specs.declared.call.TrapCall.{TrapCall}
+use Rattle.mx_alu.specs.declared.call.TrapCall.{TrapCall}
 use Rattle.mx_trap.specs.FileTraps.{done_value, mode_of, fopen_in, fopen, fclose, fseek, place_value, ftell, carried_out, answer_to, trap_plan, trap_answer}
 use Rattle.mx_trap.specs.Moves.{stored, byte_stored, stored_next, bytes_stored, piece_stored, piece_got, read_piece, read_last, read_next, read_pieces, whole_pieces, fread, line_ended, line_end, newline_after, byte_put, byte_got, line_byte, line_next, line_bytes, fgets, write_last, write_piece, write_next, write_pieces, written, fwrite_value, fwrite, fputs_value, fputs}
 use Rattle.mx_trap.specs.Requests.{bytes_from, request_of}

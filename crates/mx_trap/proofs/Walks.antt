@@ -9,7 +9,7 @@ use Rattle.mx_host.specs.declared.faults.HostFault.{HostFault}
 use Rattle.mx_plan.specs.Plan.{end_of, end_after}
 use Rattle.mx_plan.specs.Calls.{HostPlan, SpacePlan, BothPlan, Both, host, space, both, on_host, on_space, read_plan, write_plan, put_plan, look, beside_space, beside_host}
 use Rattle.mx_plan.proofs.Plans.{end_bind, end_on_host, end_on_space}
-use Rattle.mx_trip.specs.declared.call.TrapCall.{TrapCall}
+use Rattle.mx_alu.specs.declared.call.TrapCall.{TrapCall}
 use Rattle.mx_trap.specs.FileTraps as traps
 use Rattle.mx_trap.specs.FileTraps.{trap_plan, trap_answer}
 use Rattle.mx_trap.specs.Moves as moves

@@ -8,7 +8,7 @@ use Rattle.mx_host.specs.declared.slots.Mode.{Mode}
 use Rattle.mx_host.specs.declared.slots.Mode.TheVariants.{TextRead, TextWrite, BinaryRead, BinaryWrite, BinaryReadWrite}
 use Rattle.mx_plan.specs.Plan.{returns, bind, end_of}
 use Rattle.mx_plan.specs.Calls.{HostPlan, BothPlan, both, need, look, on_host, open_plan, close_plan, seek_plan, tell_plan}
-use Rattle.mx_trip.specs.declared.call.TrapCall.{TrapCall}
+use Rattle.mx_alu.specs.declared.call.TrapCall.{TrapCall}
 use Rattle.mx_trap.specs.Services.{z_of}
 use Rattle.mx_trap.specs.Requests.{bytes_from, request_of}
 use Rattle.mx_trap.specs.Moves.{Leaves, leaving, minus_one, fread, fgets, fwrite, fputs}

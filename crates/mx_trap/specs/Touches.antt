@@ -1,7 +1,7 @@
 -- Which calls touch Stack_Segment, the addresses from #6000000000000000 up to below 2^63.
 use Rattle.std.specs.Prelude.{ℕ, ◌+◌, ◌-◌, ◌^◌, ◌%◌, Bool, true, false, ◌&&◌, ◌||◌, nat_le, nat_lt, Result, Ok, Err, if◌then◌else◌}
 use Rattle.mx_word.specs.Segments.{stack_segment, is_in_stack_segment}
-use Rattle.mx_trip.specs.declared.call.TrapCall.{TrapCall}
+use Rattle.mx_alu.specs.declared.call.TrapCall.{TrapCall}
 use Rattle.mx_trap.specs.Services.{service_of}
 use Rattle.mx_trap.specs.Requests.{arguments, text_length, most_bytes}
 use Rattle.mx_trap.specs.declared.answer.TrapStop.{TrapStop}

@@ -3,7 +3,7 @@
 ghost use Rattle.std.specs.Prelude.{◌≡◌, ◌≤◌, ℕ, false};
 ghost use Rattle.mx_mem.specs.Space.{Contents};
 ghost use Rattle.mx_host.specs.HostModel.{HostModel};
-ghost use Rattle.mx_trip.specs.declared.call.TrapCall.{TrapCall};
+ghost use Rattle.mx_alu.specs.declared.call.TrapCall.{TrapCall};
 ghost use Rattle.mx_trap.specs.Apart.{apart, leaves_apart, with_segment};
 ghost use Rattle.mx_trap.specs.FileTraps.{trap_answer};
 ghost use Rattle.mx_trap.specs.Touches.{touches};

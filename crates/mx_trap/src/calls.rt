@@ -13,9 +13,9 @@ use crate::lines::fgets;
 use crate::reads::fread;
 use crate::requests::{Request, request_of};
 use crate::writes::{fputs, fwrite};
+use mx_alu::TrapCall;
 use mx_host::Host;
 use mx_mem::Space;
-use mx_trip::TrapCall;
 use std::alloc::Global;
 
 /// Carries out a file trap on the bytes of a space and the slots of a host. Where there is no memory, the

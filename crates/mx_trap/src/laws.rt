@@ -16,7 +16,7 @@ ghost use Rattle.mx_word.specs.Segments.{is_in_stack_segment};
 ghost use Rattle.mx_trap.specs.Touches.{meets_segment, text_touches};
 ghost use Rattle.mx_trap.specs.declared.answer.TrapStop.{TrapStop};
 ghost use Rattle.mx_trap.specs.declared.answer.TrapAnswer.{TrapAnswer};
-ghost use Rattle.mx_trip.specs.declared.call.TrapCall.{TrapCall};
+ghost use Rattle.mx_alu.specs.declared.call.TrapCall.{TrapCall};
 ghost use Rattle.mx_word.specs.Lists.{IsFront};
 
 use mx_mem::Space;

@@ -5,8 +5,8 @@ ghost use Rattle.mx_trap.specs.Requests as spec;
 
 use crate::answer::TrapStop;
 use crate::service::{Service, service_of};
+use mx_alu::TrapCall;
 use mx_mem::Space;
-use mx_trip::TrapCall;
 use mx_word::signed;
 
 /// What is asked of the host. A text and a buffer are given by their address and their size in

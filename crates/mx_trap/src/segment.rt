@@ -6,8 +6,8 @@ ghost use Rattle.mx_trap.specs.Touches as spec;
 use crate::answer::TrapStop;
 use crate::requests::{arguments, text_length};
 use crate::service::{Service, service_of};
+use mx_alu::TrapCall;
 use mx_mem::Space;
-use mx_trip::TrapCall;
 use mx_word::{STACK_SEGMENT, is_in_stack_segment};
 
 /// Whether the TRAP lies in Stack_Segment, or an argument octa, a byte of the text that the call

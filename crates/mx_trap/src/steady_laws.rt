@@ -6,7 +6,7 @@ ghost use Rattle.mx_mem.specs.Space.{Contents};
 ghost use Rattle.mx_plan.specs.Counts.{NoneFailed, unscheduled};
 ghost use Rattle.mx_trap.specs.Apart.{leaves_unscheduled};
 ghost use Rattle.mx_trap.specs.FileTraps.{trap_answer};
-ghost use Rattle.mx_trip.specs.declared.call.TrapCall.{TrapCall};
+ghost use Rattle.mx_alu.specs.declared.call.TrapCall.{TrapCall};
 
 use mx_mem::Space;
 

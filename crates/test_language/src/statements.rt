@@ -3,11 +3,10 @@
 mod rows;
 
 ghost use Rattle.std.specs.Prelude.{◌≡◌, ◌≤◌};
-ghost use Rattle.mx_greg.specs.Gregs.{lowest_of};
+ghost use Rattle.mx_names.specs.Gregs.{lowest_of};
 
-use mx_greg::Gregs;
 use mx_line::next_statement;
-use mx_names::{NameFault, Names};
+use mx_names::{Gregs, NameFault, Names};
 use mx_ops::{Op, Shape, find, shape_of};
 use mx_stmt::{Effect, Env, Label, Placed, StmtFault, encode, read_statement};
 use mx_word::{Awaited, Value, Wait, WaitKind, tetra_of};

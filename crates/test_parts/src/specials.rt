@@ -1,6 +1,6 @@
 //! PUT by the rules, register by register.
 
-use mx_spec::{Put, may_put};
+use mx_code::{Put, may_put};
 use std::process::Abort;
 
 /// The codes of registers that take any value: rB to rBB, and rF to rZZ.

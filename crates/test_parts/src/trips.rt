@@ -1,7 +1,6 @@
 //! Values from outside: whole runs by hand, and the rules of trips and of RESUME at their edges.
 
-use mx_alu::Event;
-use mx_trip::{Insert, Kind, Trip, decide, inserted};
+use mx_alu::{Event, Insert, Kind, Trip, decide, inserted};
 use std::process::Abort;
 
 /// rA, the event, and what it comes to.

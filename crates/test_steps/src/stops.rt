@@ -2,8 +2,8 @@
 //! as it was then.
 
 use crate::row::{AT, Given, PLAIN, RX, TOP, all_stop, answers};
+use mx_alu::TrapCall;
 use mx_core::{Reason, Step};
-use mx_trip::TrapCall;
 use std::test::Fail;
 
 /// The instructions on floating-point numbers; LDSF and STSF.

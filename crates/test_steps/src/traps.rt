@@ -1,12 +1,12 @@
 //! Rows of file traps over memory and a host in memory. The values are by hand from the table of
 //! services in MMIXware, "Simulating a simple operating system".
 
+use mx_alu::TrapCall;
 use mx_host::MemHost;
 use mx_mem::Memory;
 use mx_trap::TrapAnswer::{Halt, Stopped, Value};
 use mx_trap::TrapStop::{Negative, TransferTooLarge, TrapPagesFull, UnknownTrap, WideTrap};
 use mx_trap::{TrapAnswer, TrapStop, touches, trap};
-use mx_trip::TrapCall;
 use std::alloc::Global;
 use std::process::Abort;
 

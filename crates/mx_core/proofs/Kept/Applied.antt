@@ -2,7 +2,7 @@
 use Rattle.std.proofs.Common.{◌≡◌, ℕ, ◌+◌, ◌^◌, ◌<◌, false, List, [], ◌∷◌, Option, None, Some, length, min, refl, sym, subst, ◌∙◌, ap}
 use Rattle.mx_mem.specs.Parts.{with_part}
 use Rattle.mx_ring.specs.Stack.{Stack, as_listed, hidden_count, spilled_count, in_stack_area, set_overfills, popped, saved, unsaved}
-use Rattle.mx_spec.specs.SpecialRegisters.{rJ, rW, rX, rY, rZ, rB}
+use Rattle.mx_code.specs.SpecialRegisters.{rJ, rW, rX, rY, rZ, rB}
 use Rattle.mx_core.specs.Bounds.{as_list_state}
 use Rattle.mx_core.specs.Deeds.{with_result, with_store, with_specials, moved, tripped, trip_specials, onward, applied, address_after}
 use Rattle.mx_core.specs.Effects.{Effect, Store, Tripping, Move, stays, pushes, pops, saves, unsaves, cuts, moves_globals}

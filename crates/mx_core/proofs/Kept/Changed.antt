@@ -6,11 +6,11 @@ use Rattle.mx_word.specs.Results.{map_ok}
 use Rattle.mx_registers.specs.Registers.{Registers}
 use Rattle.mx_ring.specs.Stack.{Stack, as_listed, in_stack_area, set_overfills, cut_to, with_global_start, register}
 use Rattle.mx_ring.specs.Window.{Window}
-use Rattle.mx_spec.specs.Puts.{put_of, is_global_threshold}
-use Rattle.mx_spec.specs.SpecialRegisters.{rG, rL, rWW, rXX, rYY, rZZ, rBB}
-use Rattle.mx_spec.specs.declared.put.Put.{Put}
-use Rattle.mx_spec.specs.declared.put.Put.TheVariants as put
-use Rattle.mx_trip.specs.declared.call.TrapCall.{TrapCall}
+use Rattle.mx_code.specs.Puts.{put_of, is_global_threshold}
+use Rattle.mx_code.specs.SpecialRegisters.{rG, rL, rWW, rXX, rYY, rZZ, rBB}
+use Rattle.mx_code.specs.declared.put.Put.{Put}
+use Rattle.mx_code.specs.declared.put.Put.TheVariants as put
+use Rattle.mx_alu.specs.declared.call.TrapCall.{TrapCall}
 use Rattle.mx_core.specs.Bounds.{IsMachine, as_list_state}
 use Rattle.mx_core.specs.Changes.{allowed_unless, register_changed, with_put, put_changed, special_changed, octa_changed, at_address}
 use Rattle.mx_core.specs.Deeds.{with_specials, onward}

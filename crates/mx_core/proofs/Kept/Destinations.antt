@@ -14,7 +14,7 @@ use Rattle.mx_core.specs.Effects.{Store}
 use Rattle.mx_code.specs.declared.operation.Operation.{Operation}
 use Rattle.mx_code.specs.declared.operation.Operation.TheVariants as op
 use Rattle.mx_code.specs.declared.reason.Reason.TheVariants.{StackFull}
-use Rattle.mx_spec.specs.Puts.{put_of}
+use Rattle.mx_code.specs.Puts.{put_of}
 use Rattle.mx_core.proofs.Kept.Applied.{ResultFits, value-listed}
 use Rattle.mx_core.proofs.Choices.{no-reason, putting-bare}
 use Rattle.mx_core.proofs.Kept.Rings.{IsRinged, room-again}

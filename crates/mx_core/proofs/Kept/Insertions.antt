@@ -1,10 +1,10 @@
 -- RESUME 0 sets no register that is neither local nor global.
 use Rattle.std.proofs.Common.{◌≡◌, ℕ, ◌<◌, ◌^◌, ◌==◌, ◌||◌, Bool, true, false, Option, None, Some, arith, subst}
-use Rattle.mx_trip.specs.Insertions.{insertion, insertion_of, insertion_place, inserted_tetra, event_byte, kind_of, goes_back, is_illegal, is_left_out, is_marginal, x_in, code_in, resume_code}
-use Rattle.mx_trip.specs.declared.insertion.Insert.{Insert}
-use Rattle.mx_trip.specs.declared.insertion.Insert.TheVariants as insert
-use Rattle.mx_trip.specs.declared.insertion.Kind.{Kind}
-use Rattle.mx_trip.specs.declared.insertion.Kind.TheVariants.{Again, Continue, Set}
+use Rattle.mx_alu.specs.Insertions.{insertion, insertion_of, insertion_place, inserted_tetra, event_byte, kind_of, goes_back, is_illegal, is_left_out, is_marginal, x_in, code_in, resume_code}
+use Rattle.mx_alu.specs.declared.insertion.Insert.{Insert}
+use Rattle.mx_alu.specs.declared.insertion.Insert.TheVariants as insert
+use Rattle.mx_alu.specs.declared.insertion.Kind.{Kind}
+use Rattle.mx_alu.specs.declared.insertion.Kind.TheVariants.{Again, Continue, Set}
 use Rattle.mx_core.proofs.Choices.{chosen, chosen-by}
 
 -- if it is a register that is set, it is not marginal

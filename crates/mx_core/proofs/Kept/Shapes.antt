@@ -3,13 +3,13 @@ use Rattle.std.proofs.Common.{◌≡◌, Bool, cond, ℕ, ◌^◌, ◌≤◌, �
 use Rattle.std.proofs.lemmas.Bool.Decides.{nat_tests}
 use Rattle.mx_alu.specs.declared.answer.Event.{Event}
 use Rattle.mx_ring.specs.Stack.{Stack, local_count, stack_index, unsave_refused}
-use Rattle.mx_spec.specs.Puts.{put_of, is_unchangeable, is_privileged, is_out_of_range, is_global_threshold, stored_value}
-use Rattle.mx_spec.specs.SpecialRegisters.{rA, rG, rL}
-use Rattle.mx_spec.specs.declared.put.Put.{Put}
-use Rattle.mx_spec.specs.declared.put.Put.TheVariants as put
-use Rattle.mx_trip.specs.Trips.{handler}
-use Rattle.mx_trip.specs.declared.decision.Trip.{Trip}
-use Rattle.mx_trip.specs.declared.decision.Trip.TheVariants.{Taken, Noted}
+use Rattle.mx_code.specs.Puts.{put_of, is_unchangeable, is_privileged, is_out_of_range, is_global_threshold, stored_value}
+use Rattle.mx_code.specs.SpecialRegisters.{rA, rG, rL}
+use Rattle.mx_code.specs.declared.put.Put.{Put}
+use Rattle.mx_code.specs.declared.put.Put.TheVariants as put
+use Rattle.mx_alu.specs.Trips.{handler}
+use Rattle.mx_alu.specs.declared.decision.Trip.{Trip}
+use Rattle.mx_alu.specs.declared.decision.Trip.TheVariants.{Taken, Noted}
 use Rattle.mx_core.specs.Deeds.{with_destination}
 use Rattle.mx_core.specs.Effects.{Effect, stays, unsaves, effect_of, with_decision, with_event, z_operand, putting, putting_value}
 use Rattle.mx_code.specs.Instructions.{x_of, yz_of}

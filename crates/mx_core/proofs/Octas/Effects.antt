@@ -13,11 +13,11 @@ use Rattle.mx_mem.specs.declared.part.Part.TheVariants.{Byte, Wyde, Tetra, Octa}
 use Rattle.mx_ops.specs.Opcodes.{opcode_kind, is_immediate, is_backward}
 use Rattle.mx_ring.specs.Stack.{Stack, save_overfills, stack_index}
 use Rattle.mx_ring.specs.declared.saved.Saved.{Saved}
-use Rattle.mx_spec.specs.Puts.{put_of}
-use Rattle.mx_spec.specs.SpecialRegisters.{rB, rD, rE, rH, rJ, rM, rR, rG, rL, rA, rP, rW, rX, rY, rZ}
-use Rattle.mx_spec.specs.declared.put.Put.{Put}
-use Rattle.mx_trip.specs.Trips.{handler, is_enabled, event_bit}
-use Rattle.mx_trip.specs.declared.decision.Trip.TheVariants.{Taken, Noted}
+use Rattle.mx_code.specs.Puts.{put_of}
+use Rattle.mx_code.specs.SpecialRegisters.{rB, rD, rE, rH, rJ, rM, rR, rG, rL, rA, rP, rW, rX, rY, rZ}
+use Rattle.mx_code.specs.declared.put.Put.{Put}
+use Rattle.mx_alu.specs.Trips.{handler, is_enabled, event_bit}
+use Rattle.mx_alu.specs.declared.decision.Trip.TheVariants.{Taken, Noted}
 use Rattle.mx_code.specs.Instructions.{code_of, x_of, y_of, z_of, next_of, near_address, wyde_value}
 use Rattle.mx_code.specs.declared.instruction.Instruction.{Instruction}
 use Rattle.mx_code.specs.LoadsAndStores.{sign_extended, loaded_value, stored_event}

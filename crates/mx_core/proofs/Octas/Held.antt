@@ -5,7 +5,7 @@ use Rattle.mx_mem.specs.Memory.{octa_at}
 use Rattle.mx_registers.proofs.OctaLists.{EachIsOcta, are-octas}
 use Rattle.mx_ring.specs.Window.{Window}
 use Rattle.mx_word.specs.Ranges.{AreOctas}
-use Rattle.mx_spec.specs.SpecialRegisters.{rA}
+use Rattle.mx_code.specs.SpecialRegisters.{rA}
 use Rattle.mx_core.specs.Bounds.{IsMachine}
 use Rattle.mx_core.specs.Kept.{Kept, state_of}
 use Rattle.mx_core.specs.Machines.{IsOverWindow}

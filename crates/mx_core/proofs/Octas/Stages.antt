@@ -10,7 +10,7 @@ use Rattle.mx_mem.specs.declared.part.Part.{Part}
 use Rattle.mx_mem.specs.declared.part.Part.TheVariants.{Byte, Wyde, Tetra, Octa}
 use Rattle.mx_mem.proofs.Fields.{replaced-fits}
 use Rattle.mx_ring.specs.Stack.{Stack, listed, windowed, visible, local_count, hidden_count, spilled_count, in_stack_area, stack_index, save_overfills, register}
-use Rattle.mx_spec.specs.SpecialRegisters.{rA, rC, rO, rS, rG, rL, rB, rJ, rW, rX, rY, rZ}
+use Rattle.mx_code.specs.SpecialRegisters.{rA, rC, rO, rS, rG, rL, rB, rJ, rW, rX, rY, rZ}
 use Rattle.mx_core.specs.Deeds.{with_result, with_store, with_specials, moved, tripped, trip_specials, onward}
 use Rattle.mx_core.specs.Effects.{Effect, Store, Tripping, Move, stays, pushes, pops, saves, unsaves, cuts, moves_globals}
 use Rattle.mx_code.specs.Instructions.{next_of}

@@ -4,13 +4,13 @@ use Rattle.std.specs.Option.{unwrap_or}
 use Rattle.mx_mem.specs.Memory.{tetra_of}
 use Rattle.mx_ring.specs.Stack.{Stack, windowed, register, set_overfills, cut_to, with_global_start}
 use Rattle.mx_ring.specs.Window.{Window}
-use Rattle.mx_spec.specs.SpecialRegisters.{rG, rL, rX, rW, rY, rZ, rWW, rXX, rYY, rZZ, rBB}
-use Rattle.mx_spec.specs.declared.put.Put.{Put}
-use Rattle.mx_trip.specs.declared.call.TrapCall.{TrapCall}
-use Rattle.mx_trip.specs.declared.insertion.Insert.{Insert}
-use Rattle.mx_trip.specs.declared.insertion.Insert.TheVariants as insert
-use Rattle.mx_trip.specs.declared.insertion.Kind.{Kind}
-use Rattle.mx_trip.specs.declared.insertion.Kind.TheVariants.{Again, Continue, Set}
+use Rattle.mx_code.specs.SpecialRegisters.{rG, rL, rX, rW, rY, rZ, rWW, rXX, rYY, rZZ, rBB}
+use Rattle.mx_code.specs.declared.put.Put.{Put}
+use Rattle.mx_alu.specs.declared.call.TrapCall.{TrapCall}
+use Rattle.mx_alu.specs.declared.insertion.Insert.{Insert}
+use Rattle.mx_alu.specs.declared.insertion.Insert.TheVariants as insert
+use Rattle.mx_alu.specs.declared.insertion.Kind.{Kind}
+use Rattle.mx_alu.specs.declared.insertion.Kind.TheVariants.{Again, Continue, Set}
 use Rattle.mx_core.specs.Bounds.{IsMachine}
 use Rattle.mx_core.specs.Changes.{register_changed, with_put, put_changed, special_changed, octa_changed, at_address}
 use Rattle.mx_code.specs.Instructions.{instruction, operation_in, x_of, xyz_of, destination_of}

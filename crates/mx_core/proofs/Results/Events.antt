@@ -4,10 +4,10 @@ use Rattle.mx_alu.specs.Answers.{value_alone, lone_value}
 use Rattle.mx_alu.specs.declared.answer.Answer.{Answer}
 use Rattle.mx_alu.specs.declared.answer.Event.{Event}
 use Rattle.mx_ring.specs.Stack.{register, set_overfills}
-use Rattle.mx_spec.specs.SpecialRegisters.{rA, rH, rR}
-use Rattle.mx_trip.specs.Trips.{decided}
-use Rattle.mx_trip.specs.declared.decision.Trip.{Trip}
-use Rattle.mx_trip.specs.declared.decision.Trip.TheVariants.{Taken, Noted}
+use Rattle.mx_code.specs.SpecialRegisters.{rA, rH, rR}
+use Rattle.mx_alu.specs.Trips.{decided}
+use Rattle.mx_alu.specs.declared.decision.Trip.{Trip}
+use Rattle.mx_alu.specs.declared.decision.Trip.TheVariants.{Taken, Noted}
 use Rattle.mx_core.specs.Way.Calls.{trip_taken, event_settled, raised, told_specials, answer_outcome, settled}
 use Rattle.mx_core.specs.Deeds.{applied, onward, tripped, with_specials, outcome, deed_of, unless_refused, loads_in_segment, stores_in_segment}
 use Rattle.mx_core.specs.Effects.{Effect, Tripping, giving, with_event, with_decision, effect_of, y_operand, z_operand, answered, alu_answer, if_told}

@@ -7,8 +7,8 @@ use Rattle.mx_registers.specs.Bounds.{AreInBounds}
 use Rattle.mx_ring.specs.Bounds.{IsRing}
 use Rattle.mx_ring.specs.Stack.{Stack, listed, windowed, visible, register, with_register, with_stack_octa, in_stack_area, stack_index}
 use Rattle.mx_registers.proofs.Values.{with_value-bounds}
-use Rattle.mx_spec.specs.SpecialRegisters.{rP}
-use Rattle.mx_trip.specs.declared.insertion.Kind.TheVariants.{Set}
+use Rattle.mx_code.specs.SpecialRegisters.{rP}
+use Rattle.mx_alu.specs.declared.insertion.Kind.TheVariants.{Set}
 use Rattle.mx_core.specs.Deeds.{Deed, deed_of, performed, applied, state_done}
 use Rattle.mx_code.specs.LoadsAndStores.{touch}
 use Rattle.mx_core.specs.Effects.{effect_of, data_address, x_register}

@@ -2,7 +2,7 @@
 use Rattle.std.proofs.Common.{◌≡◌, ◌≤◌, ◌==◌, ◌||◌, nat_lt, not, ℕ, false, slice_index, refl, sym, ap, ◌∙◌, arith}
 use Rattle.std.proofs.lemmas.Bool.Decides.{nat_tests}
 use Rattle.mx_ring.specs.Stack.{register, set_overfills}
-use Rattle.mx_spec.specs.SpecialRegisters.{rC, rO, rS, rG, rL}
+use Rattle.mx_code.specs.SpecialRegisters.{rC, rO, rS, rG, rL}
 use Rattle.mx_core.specs.Way.Calls.{unless, settled, get_done}
 use Rattle.mx_core.specs.Deeds.{onward, outcome, deed_of}
 use Rattle.mx_code.specs.Instructions.{x_of, y_of, z_of, next_of}

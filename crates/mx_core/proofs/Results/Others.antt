@@ -2,7 +2,7 @@
 use Rattle.std.proofs.Common.{◌≡◌, ◌+◌, ◌*◌, ◌%◌, ◌^◌, ◌==◌, ◌&&◌, ◌||◌, Bool, true, false, not, nat_lt, min, if◌then◌else◌, None, Some, Ok, Err, refl, sym, ap, ◌∙◌}
 use Rattle.mx_alu.specs.Truth.{truth}
 use Rattle.mx_ring.specs.Stack.{hidden_count, push_overfills, pushed, pop_underflows, popped, save_overfills, saved, unsave_refused, stack_index, set_overfills}
-use Rattle.mx_spec.specs.SpecialRegisters.{rJ, rS}
+use Rattle.mx_code.specs.SpecialRegisters.{rJ, rS}
 use Rattle.mx_core.specs.Way.Calls.{unless, push_outcome, pop_outcome, save_outcome, unsave_outcome, get_outcome, sync_outcome, trip_outcome, with_new_mark, frame_back, looks_unsaved, get_done}
 use Rattle.mx_core.specs.Deeds.{applied, onward, tripped, outcome, deed_of, unless_refused, is_absent, with_stack, with_stack_marked}
 use Rattle.mx_core.specs.Effects.{effect_of, y_operand, z_operand, x_register, data_address, specials_saved}

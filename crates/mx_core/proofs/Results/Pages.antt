@@ -1,7 +1,7 @@
 -- Where a store that is carried out finds no memory for its page.
 use Rattle.std.proofs.Common.{◌≡◌, ◌≢◌, ◌<◌, ℕ, ◌^◌, ◌==◌, ◌&&◌, Bool, true, false, if◌then◌else◌, Option, None, Some, Result, Ok, Err, refl, arith}
 use Rattle.std.proofs.lemmas.Bool.Decides.{nat_tests}
-use Rattle.mx_trip.specs.declared.decision.Trip.TheVariants.{Taken, Noted}
+use Rattle.mx_alu.specs.declared.decision.Trip.TheVariants.{Taken, Noted}
 use Rattle.mx_core.specs.Way.Calls.{LacksMemoryOnlyWhere, unless, is_made, makes_page, overflow_decided, exchanged}
 use Rattle.mx_core.specs.Deeds.{is_absent, unless_refused}
 use Rattle.mx_code.specs.Instructions.{x_of}

@@ -1,10 +1,10 @@
 -- What PUT comes to.
 use Rattle.std.proofs.Common.{◌≡◌, ℕ, ◌==◌, ◌&&◌, ◌||◌, Bool, true, false, not, nat_lt, if◌then◌else◌, Option, None, Some, Result, Ok, Err, refl, ap, ◌∙◌}
 use Rattle.mx_ring.specs.Stack.{cut_to, with_global_start}
-use Rattle.mx_spec.specs.Puts.{put_of}
-use Rattle.mx_spec.specs.SpecialRegisters.{rG, rL, rJ}
-use Rattle.mx_spec.specs.declared.put.Put.{Put}
-use Rattle.mx_spec.specs.declared.put.Put.TheVariants as put
+use Rattle.mx_code.specs.Puts.{put_of}
+use Rattle.mx_code.specs.SpecialRegisters.{rG, rL, rJ}
+use Rattle.mx_code.specs.declared.put.Put.{Put}
+use Rattle.mx_code.specs.declared.put.Put.TheVariants as put
 use Rattle.mx_core.specs.Way.Calls.{put_outcome, put_done}
 use Rattle.mx_core.specs.Changes.{with_put}
 use Rattle.mx_core.specs.Deeds.{applied, onward, outcome, deed_of, unless_refused, is_absent, loads_in_segment, stores_in_segment}

@@ -3,11 +3,11 @@ use Rattle.std.proofs.Common.{◌≡◌, ℕ, ◌==◌, false, not, Ok, refl, ap
 use Rattle.std.proofs.lemmas.Bool.Decides.{nat_tests}
 use Rattle.mx_ring.specs.Stack.{Stack, visible, set_overfills}
 use Rattle.mx_registers.specs.Registers as registers
-use Rattle.mx_spec.specs.SpecialRegisters.{rW, rX, rZ}
-use Rattle.mx_trip.specs.Insertions.{insertion, is_marginal}
-use Rattle.mx_trip.specs.declared.insertion.Insert.{Insert}
-use Rattle.mx_trip.specs.declared.insertion.Insert.TheVariants as insert
-use Rattle.mx_trip.specs.declared.insertion.Kind.TheVariants.{Set}
+use Rattle.mx_code.specs.SpecialRegisters.{rW, rX, rZ}
+use Rattle.mx_alu.specs.Insertions.{insertion, is_marginal}
+use Rattle.mx_alu.specs.declared.insertion.Insert.{Insert}
+use Rattle.mx_alu.specs.declared.insertion.Insert.TheVariants as insert
+use Rattle.mx_alu.specs.declared.insertion.Kind.TheVariants.{Set}
 use Rattle.mx_core.specs.Deeds.{applied, onward, outcome, resumed, inserted, performed}
 use Rattle.mx_code.specs.Instructions.{instruction, x_of, xyz_of, next_of}
 use Rattle.mx_code.specs.declared.instruction.Instruction.{Instruction}

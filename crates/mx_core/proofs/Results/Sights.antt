@@ -2,13 +2,13 @@
 use Rattle.std.proofs.Common.{◌≡◌, ℕ, ◌==◌, Bool, true, false, Option, None, Some, refl, ap, ◌∙◌}
 use Rattle.std.specs.Option.{option_map}
 use Rattle.mx_alu.specs.declared.answer.Event.{Event}
-use Rattle.mx_spec.specs.SpecialRegisters.{rA, rG, rL}
-use Rattle.mx_spec.specs.Puts.{put_of}
-use Rattle.mx_spec.specs.declared.put.Put.{Put}
-use Rattle.mx_spec.specs.declared.put.Put.TheVariants as put
-use Rattle.mx_trip.specs.Trips.{decided}
-use Rattle.mx_trip.specs.declared.decision.Trip.{Trip}
-use Rattle.mx_trip.specs.declared.decision.Trip.TheVariants.{Taken, Noted}
+use Rattle.mx_code.specs.SpecialRegisters.{rA, rG, rL}
+use Rattle.mx_code.specs.Puts.{put_of}
+use Rattle.mx_code.specs.declared.put.Put.{Put}
+use Rattle.mx_code.specs.declared.put.Put.TheVariants as put
+use Rattle.mx_alu.specs.Trips.{decided}
+use Rattle.mx_alu.specs.declared.decision.Trip.{Trip}
+use Rattle.mx_alu.specs.declared.decision.Trip.TheVariants.{Taken, Noted}
 use Rattle.mx_code.specs.Instructions.{x_of, destination_of}
 use Rattle.mx_code.specs.declared.instruction.Instruction.{Instruction}
 use Rattle.mx_core.specs.Deeds.{deed_of, with_destination}

@@ -2,10 +2,10 @@
 use Rattle.std.proofs.Common.{◌≡◌, ◌<◌, ◌≤◌, ℕ, ◌^◌, ◌==◌, ◌||◌, ◌&&◌, Bool, true, false, if◌then◌else◌, Option, None, Some, Result, Ok, Err, refl, sym, ap, ◌∙◌, arith}
 use Rattle.mx_alu.specs.declared.answer.Event.{Event}
 use Rattle.mx_mem.specs.declared.part.Part.{Part}
-use Rattle.mx_spec.specs.SpecialRegisters.{rA}
-use Rattle.mx_trip.specs.Trips.{decided}
-use Rattle.mx_trip.specs.declared.decision.Trip.{Trip}
-use Rattle.mx_trip.specs.declared.decision.Trip.TheVariants.{Taken, Noted}
+use Rattle.mx_code.specs.SpecialRegisters.{rA}
+use Rattle.mx_alu.specs.Trips.{decided}
+use Rattle.mx_alu.specs.declared.decision.Trip.{Trip}
+use Rattle.mx_alu.specs.declared.decision.Trip.TheVariants.{Taken, Noted}
 use Rattle.std.proofs.lemmas.Bool.Decides.{nat_tests}
 use Rattle.mx_alu.specs.declared.answer.Event.TheVariants.{Overflow}
 use Rattle.mx_code.specs.declared.stop.Stop.{Stop}

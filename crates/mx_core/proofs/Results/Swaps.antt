@@ -3,7 +3,7 @@ use Rattle.std.proofs.Common.{◌≡◌, ◌≢◌, ◌<◌, ◌≤◌, ℕ, ◌
 use Rattle.std.proofs.lemmas.Bool.Decides.{nat_tests}
 use Rattle.mx_mem.specs.declared.part.Part.TheVariants.{Octa}
 use Rattle.mx_ring.specs.Stack.{register, set_overfills, in_stack_area}
-use Rattle.mx_spec.specs.SpecialRegisters.{rP}
+use Rattle.mx_code.specs.SpecialRegisters.{rP}
 use Rattle.mx_code.specs.declared.stop.Stop.{Stop}
 use Rattle.mx_core.proofs.Results.Locals.{stack-fits}
 use Rattle.mx_core.specs.Way.Calls.{left, unless, is_made, makes_page, exchange_done, exchanged, left_alone, swap_made, swap_settled, store_seen, settled}

@@ -7,7 +7,7 @@ use Rattle.mx_mem.specs.declared.part.Part.TheVariants.{Byte, Wyde, Tetra, Octa}
 use Rattle.mx_ring.specs.Stack.{Stack, listed, windowed, as_listed, register, in_stack_area, stack_index, unsaved_specials}
 use Rattle.mx_ring.specs.Window.{as_list}
 use Rattle.mx_ring.specs.declared.saved.Saved.{Saved}
-use Rattle.mx_spec.specs.SpecialRegisters.{rP}
+use Rattle.mx_code.specs.SpecialRegisters.{rP}
 use Rattle.mx_core.specs.Deeds.{loads_in_segment, looks_at_stack}
 use Rattle.mx_code.specs.LoadsAndStores.{loaded_part, loaded_value, touch}
 use Rattle.mx_core.specs.Effects.{Effect, effect_of, giving, loading_from, swapped, data_address, z_operand, stored_in, x_register, going_on, specials_back, unsaves}

@@ -4,7 +4,7 @@ use Rattle.std.specs.Option.{unwrap_or}
 use Rattle.std.proofs.lemmas.Bool.Decides.{nat_tests}
 use Rattle.mx_ring.specs.Window.{as_list}
 use Rattle.mx_ring.specs.Stack.{Stack, listed, windowed, register, as_listed, spilled_count, in_stack_area, stack_index}
-use Rattle.mx_spec.specs.Puts.{put_of}
+use Rattle.mx_code.specs.Puts.{put_of}
 use Rattle.mx_core.specs.Bounds.{as_list_state}
 use Rattle.mx_code.specs.Instructions.{x_of, destination_of}
 use Rattle.mx_code.specs.declared.instruction.Instruction.{Instruction}

@@ -5,10 +5,10 @@ use Rattle.mx_alu.specs.declared.answer.Event.TheVariants.{Divide, Overflow}
 use Rattle.mx_mem.specs.Memory.{tetra_of}
 use Rattle.mx_ring.specs.Stack.{Stack, listed, windowed, as_listed, register, in_stack_area, set_overfills, push_overfills, pop_underflows, save_overfills, unsave_refused}
 use Rattle.mx_ring.specs.Window.{as_list}
-use Rattle.mx_spec.specs.Puts.{put_of}
-use Rattle.mx_spec.specs.SpecialRegisters.{rP}
-use Rattle.mx_trip.specs.Trips.{handler}
-use Rattle.mx_trip.specs.declared.decision.Trip.TheVariants.{Taken, Noted}
+use Rattle.mx_code.specs.Puts.{put_of}
+use Rattle.mx_code.specs.SpecialRegisters.{rP}
+use Rattle.mx_alu.specs.Trips.{handler}
+use Rattle.mx_alu.specs.declared.decision.Trip.TheVariants.{Taken, Noted}
 use Rattle.mx_core.specs.Effects.{Effect, Store, Tripping, effect_of, with_decision, with_event, z_operand, swapped}
 use Rattle.mx_code.specs.Instructions.{x_of}
 use Rattle.mx_code.specs.declared.instruction.Instruction.{Instruction}

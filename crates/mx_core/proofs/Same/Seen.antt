@@ -2,7 +2,7 @@
 use Rattle.std.proofs.Common.{◌≡◌, ℕ, ◌==◌, Bool, true, false, cond, refl, sym, ◌∙◌, ap}
 use Rattle.mx_ring.specs.Stack.{Stack, listed, windowed, as_listed, visible, hidden_octas, register, set_overfills, in_stack_area, stack_octa, stack_index}
 use Rattle.mx_ring.specs.Window.{as_list}
-use Rattle.mx_spec.specs.SpecialRegisters.{rC, rO, rS}
+use Rattle.mx_code.specs.SpecialRegisters.{rC, rO, rS}
 use Rattle.mx_core.specs.State.{State, special_register, octa}
 
 -- a state with this register stack

@@ -5,12 +5,12 @@ use Rattle.mx_mem.specs.Memory.{tetra_of}
 use Rattle.mx_registers.specs.Registers.{Registers}
 use Rattle.mx_ring.specs.Stack.{as_listed, register, set_overfills}
 use Rattle.mx_ring.specs.Window.{Window}
-use Rattle.mx_spec.specs.SpecialRegisters.{rW, rX, rY, rZ}
-use Rattle.mx_trip.specs.Insertions.{insertion}
-use Rattle.mx_trip.specs.declared.call.TrapCall.{TrapCall}
-use Rattle.mx_trip.specs.declared.insertion.Insert.{Insert}
-use Rattle.mx_trip.specs.declared.insertion.Insert.TheVariants as insert
-use Rattle.mx_trip.specs.declared.insertion.Kind.TheVariants.{Again, Continue, Set}
+use Rattle.mx_code.specs.SpecialRegisters.{rW, rX, rY, rZ}
+use Rattle.mx_alu.specs.Insertions.{insertion}
+use Rattle.mx_alu.specs.declared.call.TrapCall.{TrapCall}
+use Rattle.mx_alu.specs.declared.insertion.Insert.{Insert}
+use Rattle.mx_alu.specs.declared.insertion.Insert.TheVariants as insert
+use Rattle.mx_alu.specs.declared.insertion.Kind.TheVariants.{Again, Continue, Set}
 use Rattle.mx_core.specs.Bounds.{IsMachine, as_list_state, as_list_step}
 use Rattle.mx_core.specs.Deeds.{deed_for, Deed, deed_of, plain_deed, given_instruction, inserted, resumed, applied}
 use Rattle.mx_core.specs.Effects.{Effect, giving, going_to}

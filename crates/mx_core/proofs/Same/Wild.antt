@@ -2,9 +2,9 @@
 use Rattle.std.proofs.Common.{◌≡◌, ◌==◌, ◌&&◌, ◌||◌, not, Bool, true, false, Option, refl, sym, ◌∙◌, ap}
 use Rattle.mx_ring.specs.Stack.{Stack, listed, windowed, as_listed, register}
 use Rattle.mx_ring.specs.Window.{Window, as_list}
-use Rattle.mx_trip.specs.declared.insertion.Insert.{Insert}
-use Rattle.mx_trip.specs.declared.insertion.Insert.TheVariants as insert
-use Rattle.mx_trip.specs.declared.insertion.Kind.TheVariants.{Again, Continue, Set}
+use Rattle.mx_alu.specs.declared.insertion.Insert.{Insert}
+use Rattle.mx_alu.specs.declared.insertion.Insert.TheVariants as insert
+use Rattle.mx_alu.specs.declared.insertion.Kind.TheVariants.{Again, Continue, Set}
 use Rattle.mx_core.specs.Bounds.{IsMachine, as_list_state}
 use Rattle.mx_core.specs.Deeds.{deed_for, deed_of, given_instruction, inserted, resumed, with_destination, looks_at_stack, loads_in_segment, stores_in_segment, is_absent}
 use Rattle.mx_core.specs.Effects.{Effect, Store, effect_of, data_address}

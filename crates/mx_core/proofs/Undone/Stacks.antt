@@ -20,7 +20,7 @@ use Rattle.mx_core.specs.Deeds.{with_result, with_store, moved, tripped, trip_sp
 use Rattle.mx_core.specs.Effects.{Effect, Store, Tripping, Move, stays, pushes, pops, saves, unsaves, cuts, moves_globals}
 use Rattle.mx_code.specs.declared.instruction.Instruction.{Instruction}
 use Rattle.mx_core.specs.State.{State, octa, special_register}
-use Rattle.mx_spec.specs.SpecialRegisters.{rJ}
+use Rattle.mx_code.specs.SpecialRegisters.{rJ}
 use Rattle.mx_core.specs.Undoing.{MayStore, value_noted, move_noted}
 use Rattle.mx_core.proofs.Kept.Applied.{Shape, plain, moving, before, before-stack, specials-stack}
 use Rattle.mx_core.proofs.Results.Locals.{shown-set}

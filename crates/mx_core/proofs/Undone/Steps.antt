@@ -8,10 +8,10 @@ use Rattle.mx_ring.specs.Bounds.{IsRing}
 use Rattle.mx_ring.specs.Notes as rings
 use Rattle.mx_ring.specs.Stack.{Stack, windowed, visible, register}
 use Rattle.mx_ring.specs.Window.{Window}
-use Rattle.mx_spec.specs.SpecialRegisters.{rZ}
-use Rattle.mx_trip.specs.declared.insertion.Insert.{Insert}
-use Rattle.mx_trip.specs.declared.insertion.Insert.TheVariants as insert
-use Rattle.mx_trip.specs.declared.insertion.Kind.TheVariants.{Again, Continue, Set}
+use Rattle.mx_code.specs.SpecialRegisters.{rZ}
+use Rattle.mx_alu.specs.declared.insertion.Insert.{Insert}
+use Rattle.mx_alu.specs.declared.insertion.Insert.TheVariants as insert
+use Rattle.mx_alu.specs.declared.insertion.Kind.TheVariants.{Again, Continue, Set}
 use Rattle.mx_core.specs.Bounds.{IsMachine}
 use Rattle.mx_core.specs.Deeds.{deed_for, Deed, deed_of, plain_deed, given_instruction, inserted, with_destination, with_result}
 use Rattle.mx_core.specs.Effects.{Effect, stays, effect_of, giving, going_to}

@@ -14,7 +14,7 @@ use Rattle.mx_registers.specs.HiddenPart.{octas_of, with_room}
 use Rattle.mx_registers.specs.Registers.{Registers, is_marginal, with_value, with_locals_cut}
 use Rattle.mx_ring.specs.Stack.{windowed, visible, with_visible, local_count, hidden_count, spilled_count, cut_to, register, with_register, set_overfills, in_stack_area, stack_octa, stack_index}
 use Rattle.mx_ring.specs.Window.{Window}
-use Rattle.mx_spec.specs.SpecialRegisters.{rJ}
+use Rattle.mx_code.specs.SpecialRegisters.{rJ}
 use Rattle.mx_core.specs.Way.Calls.{Left, left, unless, set_outcome, settled, store_seen}
 use Rattle.mx_core.specs.Deeds.{onward}
 use Rattle.mx_core.specs.Kept.{Kept, state_of}

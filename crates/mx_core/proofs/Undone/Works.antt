@@ -5,10 +5,10 @@ use Rattle.mx_ring.specs.Window.{Window}
 use Rattle.mx_ring.specs.declared.notes.RingWork.{RingWork}
 use Rattle.mx_ring.specs.declared.notes.RingWork.TheVariants.{Push, Pop, Save, Unsave, CutLocals}
 use Rattle.mx_ring.specs.declared.saved.Saved.{Saved}
-use Rattle.mx_spec.specs.Puts.{put_of}
-use Rattle.mx_spec.specs.SpecialRegisters.{rG, rL}
-use Rattle.mx_spec.specs.declared.put.Put.{Put}
-use Rattle.mx_spec.specs.declared.put.Put.TheVariants as put
+use Rattle.mx_code.specs.Puts.{put_of}
+use Rattle.mx_code.specs.SpecialRegisters.{rG, rL}
+use Rattle.mx_code.specs.declared.put.Put.{Put}
+use Rattle.mx_code.specs.declared.put.Put.TheVariants as put
 use Rattle.mx_core.specs.Deeds.{deed_of}
 use Rattle.mx_core.specs.Effects.{Effect, Move, stays, cuts, moves_globals, going_on, effect_of, putting, z_operand}
 use Rattle.mx_code.specs.Instructions.{x_of, y_of}

@@ -2,15 +2,15 @@
 use Rattle.std.specs.Prelude.{ℕ, IsTrue, ◌≡◌, ◌≢◌, OnErr, ◌+◌, ◌*◌, ◌%◌, ◌^◌, ◌&&◌, not, min, nat_lt, nat_le, Bool, true, false, if◌then◌else◌, Result, Ok, Err, List, [], ◌∷◌, ◌++◌, ◌==◌, ◌||◌, Option, None, Some}
 use Rattle.mx_alu.specs.declared.answer.Answer.{Answer}
 use Rattle.mx_alu.specs.declared.answer.Event.{Event}
-use Rattle.mx_spec.specs.Puts.{put_of}
-use Rattle.mx_spec.specs.declared.put.Put.{Put}
-use Rattle.mx_spec.specs.declared.put.Put.TheVariants as put
+use Rattle.mx_code.specs.Puts.{put_of}
+use Rattle.mx_code.specs.declared.put.Put.{Put}
+use Rattle.mx_code.specs.declared.put.Put.TheVariants as put
 use Rattle.mx_core.specs.Changes.{with_put}
-use Rattle.mx_spec.specs.SpecialRegisters.{rA, rH, rR, rJ, rP, rS}
-use Rattle.mx_trip.specs.Insertions.{is_marginal}
-use Rattle.mx_trip.specs.Trips.{decided}
-use Rattle.mx_trip.specs.declared.decision.Trip.{Trip}
-use Rattle.mx_trip.specs.declared.decision.Trip.TheVariants.{Taken, Noted}
+use Rattle.mx_code.specs.SpecialRegisters.{rA, rH, rR, rJ, rP, rS}
+use Rattle.mx_alu.specs.Insertions.{is_marginal}
+use Rattle.mx_alu.specs.Trips.{decided}
+use Rattle.mx_alu.specs.declared.decision.Trip.{Trip}
+use Rattle.mx_alu.specs.declared.decision.Trip.TheVariants.{Taken, Noted}
 use Rattle.mx_ring.specs.declared.saved.Saved.{Saved}
 use Rattle.mx_ring.specs.Stack.{Stack, hidden_count, set_overfills, push_overfills, pushed, pop_underflows, popped, save_overfills, saved, unsave_refused, unsaved, unsaved_specials, in_stack_area, stack_index}
 use Rattle.mx_core.specs.Deeds.{onward, with_specials, with_stack, with_stack_marked, tripped, outcome, deed_of}

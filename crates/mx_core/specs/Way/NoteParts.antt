@@ -1,6 +1,6 @@
 -- What a note's fields are, and what holds of them.
 use Rattle.std.specs.Prelude.{◌≡◌, ◌≤◌, ◌<◌, ◌%◌, ◌^◌, false, slice_index}
-use Rattle.mx_spec.specs.SpecialRegisters.{rA}
+use Rattle.mx_code.specs.SpecialRegisters.{rA}
 use Rattle.mx_core.specs.Undoing.{WholeWas, StateWas, whole, usual}
 use Rattle.mx_core.specs.declared.noting.Note.TheInside as note
 use Rattle.mx_core.specs.declared.noting.Was.{Was}

@@ -6,7 +6,7 @@ use Rattle.mx_ring.specs.Notes.{RingWas, ring_noted}
 use Rattle.mx_ring.specs.Window.{Window}
 use Rattle.mx_ring.specs.declared.notes.RingWork.{RingWork}
 use Rattle.mx_ring.specs.declared.notes.RingWork.TheVariants.{CutLocals}
-use Rattle.mx_spec.specs.SpecialRegisters.{rG, rJ, rL}
+use Rattle.mx_code.specs.SpecialRegisters.{rG, rJ, rL}
 use Rattle.mx_core.specs.Way.Calls.{store_seen}
 use Rattle.mx_core.specs.Deeds.{Deed, onward}
 use Rattle.mx_core.specs.State.{State, with_special}

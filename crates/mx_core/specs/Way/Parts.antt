@@ -1,6 +1,6 @@
 -- What the machine's fields are, and what holds of them.
 use Rattle.std.specs.Prelude.{◌≡◌, ◌<◌, ◌≤◌, ◌%◌, ◌^◌, false, slice_index}
-use Rattle.mx_spec.specs.SpecialRegisters.{rA}
+use Rattle.mx_code.specs.SpecialRegisters.{rA}
 use Rattle.mx_core.specs.Kept.{Kept}
 use Rattle.mx_core.specs.declared.machine.Machine.TheInside.{Inside}
 

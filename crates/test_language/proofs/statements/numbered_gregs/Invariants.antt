@@ -1,5 +1,5 @@
 use Rattle.std.proofs.Common.{◌≡◌, ◌≤◌}
-use Rattle.mx_greg.specs.Gregs.{lowest_of}
+use Rattle.mx_names.specs.Gregs.{lowest_of}
 use Rattle.test_language.proofs.statements.numbered_gregs.Given as goal
 
 abbrev pub invariant-loop-reg : goal.invariant-loop-reg

@@ -1,7 +1,7 @@
 use Rattle.std.proofs.Common.{◌≡◌, ◌==◌, ◌||◌, ◌≤◌, nat_lt, not, ℕ, false, refl, sym, ap, ◌∙◌, arith}
 use Rattle.std.proofs.lemmas.Bool.Decides.{nat_tests}
 use Rattle.mx_ring.specs.Stack.{set_overfills}
-use Rattle.mx_spec.specs.SpecialRegisters.{rS}
+use Rattle.mx_code.specs.SpecialRegisters.{rS}
 use Rattle.mx_core.specs.Way.Calls.{unless, get_done}
 use Rattle.mx_core.specs.Deeds.{outcome, deed_of}
 use Rattle.mx_code.specs.Instructions.{x_of, y_of, z_of, next_of}

@@ -1,6 +1,6 @@
 use Rattle.std.proofs.Common.{sym, ap, ◌∙◌}
 use Rattle.mx_alu.specs.declared.answer.Event.TheVariants.{Overflow}
-use Rattle.mx_trip.specs.Trips.{decided}
+use Rattle.mx_alu.specs.Trips.{decided}
 use Rattle.mx_core.specs.Way.Calls.{left, makes_page}
 use Rattle.mx_core.specs.Kept.{state_of}
 use Rattle.mx_core.proofs.Results.Stores.{store_overflow}

@@ -1,5 +1,5 @@
 use Rattle.std.proofs.Common.{◌≡◌, ◌==◌, true, false, refl, sym, ap, ◌∙◌}
-use Rattle.mx_spec.specs.SpecialRegisters.{rP}
+use Rattle.mx_code.specs.SpecialRegisters.{rP}
 use Rattle.mx_core.specs.Way.Calls.{left, left_alone}
 use Rattle.mx_core.specs.Kept.{state_of}
 use Rattle.mx_core.specs.State.{octa, special_register}

@@ -1,2 +1,0 @@
-pub mod CountedAnswers
-pub mod ReadAlike

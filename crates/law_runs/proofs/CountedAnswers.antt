@@ -1,0 +1,194 @@
+-- A run that is counted, and the run of the program.
+use Rattle.std.proofs.Common.{◌≡◌, ℕ, true, false, List, [], Result, Ok, Err, Some, ◌++◌, refl, sym, ap, ◌∙◌}
+use Rattle.mx_word.specs.declared.symbols.Symbol.{Symbol}
+use Rattle.mx_host.specs.HostModel.{HostModel}
+use Rattle.mx_host.specs.HostAnswer.{Then}
+use Rattle.mx_mmo.specs.Image.{Image}
+use Rattle.mx_load.specs.Objects.{object_loaded}
+use Rattle.mx_core.specs.State.{State}
+use Rattle.mx_code.specs.declared.trace.Trace.{Trace}
+use Rattle.mx_run.specs.Runs.{Ended, no_flags}
+use Rattle.mx_run.specs.WildRuns.{MachineKind, window_machine, list_machine, RunEnd, run_ended, run_wild, run_by}
+use Rattle.mx_run.specs.declared.end.End.{End}
+use Rattle.mx_run.specs.declared.end.End.TheVariants as ending
+use Rattle.mx_run.proofs.BothMachines.{window-ends}
+use Rattle.mx_watch.specs.Traces.{traces}
+use Rattle.mx_words.specs.Orders.{order_of}
+use Rattle.mx_words.specs.declared.order.Command.{Command}
+use Rattle.mx_words.specs.declared.order.Command.TheVariants.{Run, Sim}
+use Rattle.mx_words.specs.declared.order.Order.{Order}
+use Rattle.mx_files.specs.Answers.{answered}
+use Rattle.mx_files.specs.Assembling.{refused_with}
+use Rattle.mx_files.specs.Source.{file_bytes, object_pieces, source_pieces}
+use Rattle.mx_files.specs.Sources.{source_meaning}
+use Rattle.mx_files.specs.declared.refusal.Refusal.{Refusal}
+use Rattle.mx_outcome.specs.declared.outcome.Outcome.{Outcome}
+use Rattle.mx_begin.specs.Arguments.{Word, word_at, arguments}
+use Rattle.mx_begin.specs.Begun.{assembled, loaded, started}
+use Rattle.mx_begin.proofs.Beginnings.{begins}
+use Rattle.mx_begin.specs.declared.images.Form.TheVariants.{Object, Source}
+use Rattle.mx_top.proofs.BegunRuns.{image_ran, file_ran, begun-ran}
+use Rattle.mx_top.specs.Commands.{carried_out, ordered, with_message, begun_traces, carried_traces, order_traces, ordered_traces, traces_from}
+use Rattle.mx_top.specs.Product.{product, product_traces}
+use Rattle.mx_top.proofs.ProductCourses.{product-is-course, traces-are-told}
+use Rattle.mx_top.specs.Runs.{dumped, machine_ran, ran_to, run_from}
+use Rattle.mx_top.specs.Runs as top
+use Rattle.mx_top.proofs.TakenBack.{forward-run}
+use Rattle.mx_count.specs.Runs.{CountAnswer, Making, by_lines, came_to, counted_to, halting_after, image_counted, in_form, machine_counted, mapped, meaning_counted, outcome_of, ran, reporting, start_counted, went_wild}
+use Rattle.mx_count.specs.Sheets.{sheet_of}
+use Rattle.mx_count.specs.declared.count.Counted.{Counted}
+use Rattle.mx_count.specs.declared.counts.Form.TheVariants.{Text}
+use Rattle.mx_count.specs.declared.lines.CountedLines.{CountedLines}
+use Rattle.mx_object.specs.Addresses.{addresses_of, items_in}
+use Rattle.mx_object.specs.Listing.{tetras_at}
+use Rattle.mx_object.specs.Runs.{by_report, loaded_with, object_in, report_on}
+use Rattle.mx_object.specs.declared.counted.CountedObject.{CountedObject}
+use Rattle.mx_object.specs.declared.tetras.ListedTetra.{ListedTetra}
+use Rattle.law_runs.specs.Counted.{RunsPlainly, StartsWith, answer_by, object_file, object_read, source_file, source_read}
+
+-- ---- a run
+
+-- the outcome of an end is the same for both
+outcome-same : (steps : ℕ) (end : End) → top.outcome_of steps end ≡ outcome_of steps end
+outcome-same steps (ending.Halted status) = refl
+outcome-same steps (ending.Stopped pc reason) = refl
+outcome-same steps (ending.Broke kind at traced) = refl
+outcome-same steps (ending.Traced trace) = refl
+outcome-same steps ending.Spent = refl
+outcome-same steps ending.OutOfMemory = refl
+
+ran-same : (kind : MachineKind) (n : ℕ) (s : State) (m : HostModel) → run_by kind n no_flags false s m ≡ ran kind n s m
+ran-same window_machine n s m = window-ends n no_flags false s m
+ran-same list_machine n s m = refl
+
+-- what is made of an outcome has it
+record HasOutcome {A : Type 0} (outcome_in : A → Outcome) (making : Making A) : Type 0 where
+  without : (outcome : Outcome) → outcome_in (making.without outcome) ≡ outcome
+  with_steps : (outcome : Outcome) (h : List Trace) → outcome_in (making.with_steps outcome h) ≡ outcome
+
+module _ {A : Type 0} (outcome_in : A → Outcome) (making : Making A) (has : HasOutcome outcome_in making) where
+  ended-same : (steps : ℕ) (h : List Trace) (r : RunEnd) → dumped false (ran_to steps r) ≡ answer_by outcome_in (counted_to steps making h r)
+  ended-same steps h (run_ended e) =
+      ap (λ outcome. answered outcome e.host) (outcome-same steps e.end ∙ sym (has.with_steps (outcome_of steps e.end) (h ++ halting_after e)))
+  ended-same steps h (run_wild m) = refl
+
+  module _ (kind : MachineKind) (words : List Word) (o : Order) (command : Command) (plain : RunsPlainly words o command) where
+    machine-same : (s : State) (m : HostModel) → run_from kind o (Ok s) m ≡ answer_by outcome_in (machine_counted kind o.steps making s m)
+    machine-same s m =
+        forward-run kind o s m plain.interactive plain.last
+        ∙ ap (λ b. dumped b (machine_ran kind o.steps s m)) plain.dump
+        ∙ ap (λ (x : RunEnd). dumped false (ran_to o.steps x)) (ran-same kind o.steps s m)
+        ∙ ended-same o.steps (traces kind o.steps s m) (ran kind o.steps s m)
+
+    start-same : (r : Result State Outcome) (m : HostModel) → run_from kind o r m ≡ answer_by outcome_in (start_counted kind o.steps making r m)
+    start-same (Err outcome) m = ap (λ x. answered x m) (sym (has.without outcome))
+    start-same (Ok s) m = machine-same s m
+
+    image-same : (image : Image) (m : HostModel) →
+        image_ran kind o (arguments words o) (Ok image) m ≡ answer_by outcome_in (image_counted kind o (arguments words o) making image m)
+    image-same image m = start-same (started kind o.ring image (arguments words o)) m
+
+    meaning-same : (r : Result Image Refusal) (m : HostModel) →
+        image_ran kind o (arguments words o) (assembled r) m ≡ answer_by outcome_in (meaning_counted kind o (arguments words o) making r m)
+    meaning-same (Err refusal) m = ap (λ x. answered x m) (sym (has.without (refused_with refusal)))
+    meaning-same (Ok image) m = image-same image m
+
+-- ---- what begins it
+
+order-run : (kind : MachineKind) (words : List Word) (o : Order) (command : Command) (m : HostModel) → RunsPlainly words o command →
+    product kind words m ≡ with_message (ordered kind words o command m)
+order-run kind words o command m h =
+    product-is-course kind words m
+    ∙ ap (λ r. with_message (carried_out kind words r m)) h.order
+    ∙ ap (λ (c : Command). with_message (ordered kind words o c m)) h.command_is
+
+source-same : {A : Type 0} (outcome_in : A → Outcome) (making : List ℕ → Making A) → ((source : List ℕ) → HasOutcome outcome_in (making source)) →
+    (kind : MachineKind) (words : List Word) (o : Order) (t : Then (Result (List ℕ) Outcome)) → RunsPlainly words o Run →
+    file_ran kind o (arguments words o) Source t ≡ answer_by outcome_in (source_read kind o (arguments words o) making t)
+source-same outcome_in making has kind words o (Err outcome, m) h = ap (λ x. answered x m) (sym ((has []).without outcome))
+source-same outcome_in making has kind words o (Ok source, m) h = meaning-same outcome_in (making source) (has source) kind words o Run h (source_meaning source) m
+
+text-has : (source : List ℕ) → HasOutcome (λ (c : Counted). c.outcome) (in_form Text source)
+text-has source = record { without = λ outcome. refl; with_steps = λ outcome h. refl }
+
+lines-have : (source : List ℕ) → HasOutcome (λ (c : CountedLines). c.outcome) (by_lines source)
+lines-have source = record { without = λ outcome. refl; with_steps = λ outcome h. refl }
+
+pub answers-text : (kind : MachineKind) (words : List Word) (o : Order) (m : HostModel) → RunsPlainly words o Run →
+    product kind words m ≡ with_message (answer_by (λ (c : Counted). c.outcome) (source_file kind words o (in_form Text) m))
+answers-text kind words o m h =
+    order-run kind words o Run m h
+    ∙ ap with_message (begun-ran kind words o Source m ∙ source-same (λ (c : Counted). c.outcome) (in_form Text) text-has kind words o (file_bytes source_pieces (word_at words o.file) m) h)
+
+pub answers-data : (kind : MachineKind) (words : List Word) (o : Order) (m : HostModel) → RunsPlainly words o Run →
+    product kind words m ≡ with_message (answer_by (λ (c : CountedLines). c.outcome) (source_file kind words o by_lines m))
+answers-data kind words o m h =
+    order-run kind words o Run m h
+    ∙ ap with_message (begun-ran kind words o Source m ∙ source-same (λ (c : CountedLines). c.outcome) by_lines lines-have kind words o (file_bytes source_pieces (word_at words o.file) m) h)
+
+-- ---- an object
+
+report-has : (report : List Trace → List ℕ) → HasOutcome (λ (c : Counted). c.outcome) (reporting report)
+report-has report = record { without = λ outcome. refl; with_steps = λ outcome h. refl }
+
+mapped-same : (tetras : List ListedTetra) (x : CountAnswer Counted) → answer_by (λ (c : Counted). c.outcome) x ≡ answer_by (λ (c : CountedObject). c.outcome) (mapped (object_in tetras) x)
+mapped-same tetras (came_to c m) = refl
+mapped-same tetras (went_wild m) = refl
+
+loaded-same : (kind : MachineKind) (words : List Word) (o : Order) (bytes : List ℕ) (r : Result (Image × List Symbol) (ℕ × ℕ)) (m : HostModel) → RunsPlainly words o Sim →
+    image_ran kind o (arguments words o) (loaded r) m ≡ answer_by (λ (c : CountedObject). c.outcome) (loaded_with by_report kind o (arguments words o) bytes r m)
+loaded-same kind words o bytes (Err (place, fault)) m h = refl
+loaded-same kind words o bytes (Ok (image, symbols)) m h =
+    let tetras : List ListedTetra = tetras_at image symbols (addresses_of (items_in bytes)) in
+    image-same (λ (c : Counted). c.outcome) (reporting (report_on tetras)) (report-has (report_on tetras)) kind words o Sim h image m
+    ∙ mapped-same tetras (image_counted kind o (arguments words o) (reporting (report_on tetras)) image m)
+
+object-same : (kind : MachineKind) (words : List Word) (o : Order) (t : Then (Result (List ℕ) Outcome)) → RunsPlainly words o Sim →
+    file_ran kind o (arguments words o) Object t ≡ answer_by (λ (c : CountedObject). c.outcome) (object_read kind o (arguments words o) t)
+object-same kind words o (Err outcome, m) h = refl
+object-same kind words o (Ok bytes, m) h = loaded-same kind words o bytes (object_loaded bytes) m h
+
+pub answers-object : (kind : MachineKind) (words : List Word) (o : Order) (m : HostModel) → RunsPlainly words o Sim →
+    product kind words m ≡ with_message (answer_by (λ (c : CountedObject). c.outcome) (object_file kind words o m))
+answers-object kind words o m h = order-run kind words o Sim m h ∙ ap with_message (begun-ran kind words o Object m ∙ object-same kind words o (file_bytes object_pieces (word_at words o.file) m) h)
+
+pub ruleset answers = (answers-text, answers-data, answers-object)
+
+-- ---- the sheet
+
+module _ (kind : MachineKind) (words : List Word) (o : Order) (source : List ℕ) (s : State) (m begun : HostModel) (starts : StartsWith kind words o source s m begun) where
+  -- what a machine of this source comes to
+  counted-is : source_file kind words o (in_form Text) m ≡ machine_counted kind o.steps (in_form Text source) s begun
+  counted-is =
+      ap (source_read kind o (arguments words o) (in_form Text)) starts.read
+      ∙ ap (λ r. meaning_counted kind o (arguments words o) (in_form Text source) r begun) starts.means
+      ∙ ap (λ r. start_counted kind o.steps (in_form Text source) r begun) starts.starts
+
+  -- the traces that watchers are told
+  begun-traces-are : ordered_traces kind words o Run m ≡ order_traces kind o s begun
+  begun-traces-are =
+      ap (begun_traces kind o) (begins kind words o Source source starts.image m begun starts.read (ap assembled starts.means))
+      ∙ ap (λ r. traces_from kind o r begun) starts.starts
+
+  module _ (plain : RunsPlainly words o Run) (reports : o.report ≡ true) where
+    plain-traces : order_traces kind o s begun ≡ traces kind o.steps s begun
+    plain-traces = rw (plain.interactive, plain.last, reports) refl
+
+    traces-are : carried_traces kind words (order_of words) m ≡ traces kind o.steps s begun
+    traces-are =
+        ap (λ r. carried_traces kind words r m) plain.order
+        ∙ ap (λ (c : Command). ordered_traces kind words o c m) plain.command_is
+        ∙ begun-traces-are
+        ∙ plain-traces
+
+    sheet-with : (e : Ended) → ran kind o.steps s begun ≡ run_ended e → source_file kind words o (in_form Text) m
+        ≡ came_to (record { outcome = outcome_of o.steps e.end; sheet = Some (sheet_of source (product_traces kind words m ++ halting_after e)) }) e.host
+    sheet-with e ended =
+        counted-is
+        ∙ ap (λ r. counted_to o.steps (in_form Text source) (traces kind o.steps s begun) r) ended
+        ∙ ap (λ h. came_to (record { outcome = outcome_of o.steps e.end; sheet = Some (sheet_of source (h ++ halting_after e)) }) e.host) (sym (traces-are-told kind words m ∙ traces-are))
+
+pub sheet-is : (kind : MachineKind) (words : List Word) (o : Order) (source : List ℕ) (s : State) (m begun : HostModel) (e : Ended) → RunsPlainly words o Run → o.report ≡ true →
+    StartsWith kind words o source s m begun → ran kind o.steps s begun ≡ run_ended e → source_file kind words o (in_form Text) m
+    ≡ came_to (record { outcome = outcome_of o.steps e.end; sheet = Some (sheet_of source (product_traces kind words m ++ halting_after e)) }) e.host
+sheet-is kind words o source s m begun e plain reports starts ended = sheet-with kind words o source s m begun starts plain reports e ended

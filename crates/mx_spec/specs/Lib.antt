@@ -1,2 +1,0 @@
-pub mod SpecialRegisters
-pub mod Puts

@@ -1,2 +1,0 @@
-pub mod Trips
-pub mod Insertions
