@@ -14,7 +14,7 @@ fn continues(b: u8) -> bool
     128 <= b && b < 192
 }
 
-/// The first bytes of a text, so many or all.
+/// The first bytes of a text, this many or all.
 #[tactic(auto, using(crate::proofs::Characters::fronts))]
 fn front(text: &[u8], count: usize) -> &[u8]
     ensures { result.now ≡ take count text.now }

@@ -158,7 +158,7 @@ fn bytes_in(alloc: Global, file: Option<Bytes>) -> Bytes {
     }
 }
 
-/// Reads what the words name beside the source: the input, the files and the lines.
+/// Reads what the words name besides the source: the input, the files and the lines.
 fn gather_beside<H: Host>(
     alloc: Global,
     host: &mut H,

@@ -88,7 +88,7 @@ fn answer<H: Host>(
     }
 }
 
-/// Tells of the step at which a session stands.
+/// Tells of the step at which a session is.
 fn tell_step(alloc: Global, session: &mut Session) -> Result<Bytes, NoMemory> {
     let mut text = Bytes::new(alloc);
     session.tell(&mut text)?;

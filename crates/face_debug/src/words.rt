@@ -91,7 +91,7 @@ impl Named {
         Ok(())
     }
 
-    /// The place among the words of `debug` that a word of those of `mmixware run` has; behind them it is that of the next word.
+    /// The place among the words of `debug` that a word of those of `mmixware run` has; after them it is that of the next word.
     fn place_of(&self, word: usize, next: usize) -> usize {
         match self.places.as_slice().get(word) {
             Some(place) => *place,

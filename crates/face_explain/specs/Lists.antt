@@ -17,7 +17,7 @@ cell width is_last left row = label row ++ gap is_last left (width - length (lab
 abbrev pub next_left : ℕ → ℕ → ℕ
 next_left most left = if left == 0 then most else left - 1
 
--- the cells of the rows of elements, the first of which has so many to its right, and the first of a line the most
+-- the cells of the rows of elements, the first of which has this many to its right, and the first of a line the most
 unfoldable pub cells : {A : Type 0} → (A → Row) → ℕ → ℕ → ℕ → List A → List ℕ
 cells g width most left [] = []
 cells g width most left (x ∷ xs) = cell width (length xs == 0) left (g x) ++ cells g width most (next_left most left) xs

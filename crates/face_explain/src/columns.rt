@@ -59,7 +59,7 @@ fn next_left(left: usize, most: usize) -> usize
     if left == 0 { most } else { left - 1 }
 }
 
-/// Adds the cells of a list in columns of a width, where so many cells of a line have one to their right.
+/// Adds the cells of a list in columns of a width, where this many cells of a line have one to their right.
 #[tactic(auto, using(crate::proofs::ListTurns::turns))]
 fn add_cells(
     alloc: Global,

@@ -17,7 +17,7 @@ use mx_words::Order;
 use page_run::{Ending, Made};
 use std::alloc::Global;
 
-/// What is told of the lines of a program: of a source or an object that was run, or of a source that was not.
+/// What is shown of the lines of a program: of a source or an object that was run, or of a source that was not.
 #[derive(Drop)]
 pub enum Program {
     /// The lines and the symbols of a source, and what was counted of them.

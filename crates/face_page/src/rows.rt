@@ -9,10 +9,10 @@ use mx_view::{Cell, ListedLine};
 use mx_word::{Bytes, NoMemory};
 use std::alloc::Global;
 
-/// Of so many tetras all are told, also those that were never carried out.
+/// Of this many tetras all are told, also those that were never carried out.
 const MOST_TETRAS: usize = 3000;
 
-/// A line with what is told of it.
+/// A line with what is shown of it.
 #[derive(Clone, Copy)]
 struct Row<'a> {
     tally: Option<Tally>,

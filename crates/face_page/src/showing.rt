@@ -48,7 +48,7 @@ fn record(
     }
 }
 
-/// What is told of a source that was run: it is run once more, for as many steps, and counted.
+/// What is shown of a source that was run: it is run once more, for as many steps, and counted.
 fn source_told(
     alloc: Global,
     order: &Order,
@@ -66,7 +66,7 @@ fn source_told(
     }
 }
 
-/// What is told of an object that was run.
+/// What is shown of an object that was run.
 fn object_told(
     alloc: Global,
     order: &Order,
@@ -89,7 +89,7 @@ fn object_told(
     }
 }
 
-/// What is told of a program that was run for so many steps.
+/// What is shown of a program that was run for this many steps.
 fn told(
     alloc: Global,
     words: &[String],
@@ -111,7 +111,7 @@ fn told(
     source_told(alloc, &made, gathered, given.as_slice())
 }
 
-/// What is told of a program that was not run.
+/// What is shown of a program that was not run.
 fn untold(alloc: Global, gathered: &Gathered) -> Result<Program, NoMemory> {
     let source = gathered.source.as_slice();
     if is_object(source) {

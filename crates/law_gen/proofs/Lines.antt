@@ -7,7 +7,7 @@ use Rattle.mx_line.specs.Pieces.{split}
 use Rattle.mx_line.specs.Source.{Item, too_far, before as in_front, items_of, items_from}
 use Rattle.mx_line.proofs.LineLemmas.{no-lines, first-line, size-next}
 
--- lines, each with a newline behind it
+-- lines, each with a newline after it
 abbrev pub text_of : List (List ℕ) → List ℕ
 text_of [] = []
 text_of (l ∷ ls) = l ++ 10 ∷ text_of ls

@@ -1,4 +1,4 @@
--- The names of the program, and the symbols that are defined behind so many blocks.
+-- The names of the program, and the symbols that are defined after this many blocks.
 use Rattle.std.proofs.Common.{◌≡◌, ℕ, ◌+◌, ◌^◌, ◌<◌, ◌≤◌, Bool, true, false, cond, List, [], ◌∷◌, length, codes, None, Some, Result, Ok, Err, bytes_eq, refl, ap, ◌∙◌, arith, is_some, rules}
 use Rattle.law_gen.proofs.Words.{decimal, AllByRecursion, AllDigits, le-ltb, nat_tests, decimal_is_IsNumeral, decimal_injective, Symbol, Value, Pure, special_registers, predefined_names, predefined_value, NameTable, value_in, pure_of, first_value, value_of_name, symbols_with, Name, symbol_form, label_fault, block_name}
 use Rattle.std.proofs.lemmas.Slice.Eq.{bytes_eq-Decides}
@@ -118,7 +118,7 @@ pub record Stands (b : ℕ) (symbols : List Symbol) : Type 0 where
 pub stands-next : (b c : ℕ) (symbols : List Symbol) (at : ℕ) → c ≡ b + 1 → c ≤ 10001 → at < 2 ^ 18 → Stands b symbols → Stands c (with_one symbols (block_full c) at)
 stands-next b c symbols at is few low h = search (rules, one-count, short-digits, other-value, one-light, decimal_injective, bytes_eq-Decides)
 
--- behind the second line
+-- after the second line
 abbrev pub first_symbols : List Symbol
 first_symbols = with_one [] main_full 0x100
 

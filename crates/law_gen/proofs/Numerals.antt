@@ -12,7 +12,7 @@ are-hexadecimal : (ds : List ℕ) → AllDigits 16 ds → list_all is_hexadecima
 are-hexadecimal [] all = refl
 are-hexadecimal (d ∷ ds) all = search (rules, are-hexadecimal ds all.1)
 
--- the value of digits behind those of n
+-- the value of digits after those of n
 same-after : (radix n : ℕ) (ds : List ℕ) → radix < 17 → AllDigits radix ds → fold (λ v d. v * radix + expr.digit_value d) n ds ≡ digits_value_after radix n ds
 same-after radix n [] le all = refl
 same-after radix n (d ∷ ds) le all = search (rules, same-after radix (n * radix + digit_value d) ds le all.1)

@@ -1,4 +1,4 @@
--- Operands are read one after another, each from its first byte to the comma behind it or to the end.
+-- Operands are read one after another, each from its first byte to the comma after it or to the end.
 use Rattle.std.proofs.Common.{◌≡◌, ℕ, ◌+◌, ◌-◌, ◌*◌, ◌^◌, ◌<◌, ◌≤◌, true, false, List, [], ◌∷◌, ◌++◌, Some, Ok, refl, sym, ap, ◌∙◌, arith, subst, append_assoc, fold, length, nat_le, rules}
 use Rattle.law_gen.proofs.ShownWords.{join_with_byte, list_all, and_parts, nat_tests, Register, Tree, number, unary, is_digit, is_hexadecimal, Waiting, sign, Mode, operand, with_strong, step, steps, reading_end, start, Constant, digits_value}
 use Rattle.mx_expr.specs.Bytes.{digit_value}
@@ -121,7 +121,7 @@ constant-read k done text n lt (decimal_digits (b ∷ bs) some all) = decimal-re
 constant-read k done text n lt (hexadecimal_digits [] some all) = absurd (omega arith)
 constant-read k done text n lt (hexadecimal_digits (b ∷ bs) some all) = hexadecimal-read b bs k done all lt
 
--- A constant below 2^64 is an operand, and so is one behind `$`.
+-- A constant below 2^64 is an operand, and so is one after `$`.
 pub constant-taken : (text : List ℕ) (n : ℕ) → n < 2 ^ 64 → Constant text n → IsTaken text (number n)
 constant-taken text n lt is done = constant-read [] done text n lt is
 
@@ -132,7 +132,7 @@ register-taken text n lt is done =
 
 -- ---- lists
 
--- a comma behind an operand
+-- a comma after an operand
 comma-read : (mode : Mode) (rest : List Waiting) (e : Tree) (done : List Tree) → ends mode rest ≡ Some (e, []) → step (st mode rest 0 done) 44 ≡ Ok (st operand [] 0 (done ++ e ∷ []))
 comma-read mode rest e done h1 = search rules
 

@@ -20,7 +20,7 @@ module _ (k : Known) where
       last_two k low x (register y) (either i z) ≡ plain_tetra (tetra_xyz code x y z)
   two-read i low code x y z ly lz is = search rules
 
--- A second code is the code behind the lowest one of its name.
+-- A second code is the code after the lowest one of its name.
 abbrev pub code_by : Bool → Bool → ℕ → ℕ
 code_by immediate backward low = cond (immediate || backward) (low + 1) low
 

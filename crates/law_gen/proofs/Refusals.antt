@@ -56,7 +56,7 @@ fixes-there line v (w ∷ ws) whole low h =
     let rest = fixes-there line v ws whole low h.1 in
     (f.0 ∷ rest.0, ap (λ r. with_fix line w.line r (fixes line (Pure v) ws)) f.1 ∙ ap (λ r. with_fix line w.line (Ok f.0) r) rest.1)
 
--- ---- lists of which all are so
+-- ---- lists, all of which are so
 
 pub all-append : {A : Type 0} (P : A → Type 0) (xs ys : List A) → AllByRecursion P xs → AllByRecursion P ys → AllByRecursion P (xs ++ ys)
 all-append P [] ys h g = g
@@ -132,7 +132,7 @@ all-defined final (s ∷ later) h = ap (λ r. first_of r (first_undefined final 
 
 -- ---- statements one after another
 
--- These statements are fine behind what is known, and their references stand for something among the final names.
+-- These statements are fine after what is known, and their references stand for something among the final names.
 pub record AreGood (final : NameTable) (k : Known) (statements : List StatementTree) : Type 0 where
   pub fine : AllByRecursion IsFine (sights_from k statements)
   pub met : AreMet final (sights_from k statements)
@@ -150,7 +150,7 @@ pub sights-then : (k : Known) (s : StatementTree) (p : Placed) (k' : Known) (lat
 unfolding sights_from
 sights-then k s p k' later h = ap (λ (q : Known). record { known = k; statement = s } ∷ sights_from q later) (known-then k s p k' h)
 
--- what is known behind statements
+-- what is known after statements
 pub record Ends (k : Known) (statements : List StatementTree) (end : Known) : Type 0 where
   pub is : fold known_after k statements ≡ end
 

@@ -1,4 +1,4 @@
--- The trie of symbols of which each tells few bytes is short.
+-- The trie of symbols each of which tells few bytes is short.
 use Rattle.std.proofs.Common.{◌≡◌, ℕ, zero, suc, ◌+◌, ◌-◌, ◌*◌, ◌/◌, ◌%◌, ◌^◌, ◌<◌, ◌≤◌, Bool, cond, List, [], ◌∷◌, ◌++◌, length, refl, ap, arith, length-append, ◌==◌, rules}
 use Rattle.law_gen.proofs.Words.{AllByRecursion, common_steps, Symbol, Pure, NameTable, zeros_after, padded_trie}
 use Rattle.mx_stab.specs.Numbers.{fewest_digits, octa_digits, value_bytes, serial_bytes}

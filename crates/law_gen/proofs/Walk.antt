@@ -15,12 +15,12 @@ use Rattle.law_gen.proofs.Steps.{good-end, plain-good, waiting-good, local-later
 abbrev pub no_backs : List Value
 no_backs = replicate 10 (Pure 0)
 
--- room for so many blocks and the end from a place on
+-- room for this many blocks and the end from a place on
 pub record Room (at more : ℕ) : Type 0 where
   pub whole : at % 4 ≡ 0
   pub low : at + 20 * more + 60 ≤ 2 ^ 18
 
--- the places behind so many tetras
+-- the places after this many tetras
 abbrev at_of : ℕ → ℕ → ℕ
 at_of at zero = at
 at_of at (suc j) = at_of at j + 4
@@ -89,7 +89,7 @@ module _ (b c : ℕ) (is : c ≡ b + 1) (few : c ≤ 10001) (symbols : List Symb
 
 -- ---- the end
 
--- the procedure's statements behind the first one
+-- the procedure's statements after the first one
 abbrev procedure_behind : ℕ → List StatementTree
 procedure_behind line =
     stated (line + 1) None (Code 0xfe) (reg 1 ∷ name (codes "rJ") ∷ [])
@@ -176,7 +176,7 @@ module _ (b c : ℕ) (is : c ≡ b + 1) (few : c ≤ 10001) (symbols : List Symb
       ends-then _ _ _ _ _ _ end0 (ends-then _ _ _ _ _ _ end1 (ends-then _ _ _ _ _ _ end2 (ends-then _ _ _ _ _ _ end3 (ends-then _ _ _ _ _ _ end4
       (ends-then _ _ _ _ _ _ end5 (ends-then _ _ _ _ _ _ end6 (ends-then _ _ _ _ _ _ end7 (ends-then _ _ _ _ _ _ end8 (ends-then _ _ _ _ [] _ end9 (ends-none (known all end_backs (to 10))))))))))))
 
-  -- the label 1H is behind the procedure's first line
+  -- the label 1H is after the procedure's first line
   local-there : is_some (next_local 1 (sights_from (known all no_backs (to 3)) (procedure_behind (line + 2)))) ≡ true
   local-there =
       local-later _ _ _ _ _ end3 refl (local-later _ _ _ _ _ end4 refl (local-later _ _ _ _ _ end5 refl (local-later _ _ _ _ _ end6 refl
@@ -198,7 +198,7 @@ module _ (b c : ℕ) (is : c ≡ b + 1) (few : c ≤ 10001) (symbols : List Symb
 
 -- ---- all blocks
 
--- What is known at the end, behind b blocks with these symbols and the rest of n blocks.
+-- What is known at the end, after b blocks with these symbols and the rest of n blocks.
 pub record IsEnd (b n : ℕ) (symbols : List Symbol) (k : Known) : Type 0 where
   pub kept : (x : List ℕ) → is_some (value_in x symbols) ≡ true → is_some (value_in x k.names.symbols) ≡ true
   pub blocks : (j : ℕ) → b < j → j ≤ n + 1 → is_some (value_in (block_full j) k.names.symbols) ≡ true

@@ -1,4 +1,4 @@
--- The source that `gen` makes: so many blocks, each of which calls a procedure that calls itself, and the line that tells
+-- The source that `gen` makes: this many blocks, each of which calls a procedure that calls itself, and the line that tells
 -- what came of it.
 -- A rule of this program.
 use Rattle.std.specs.Prelude.{ℕ, zero, suc, ◌+◌, ◌*◌, ◌/◌, ◌%◌, ◌^◌, List, [], ◌++◌, codes, decimal}
@@ -39,7 +39,7 @@ abbrev pub procedure : List ℕ
 procedure =
     codes "Rec BZ $0,1F\n GET $1,rJ\n SUBU $3,$0,1\n PUSHJ $2,Rec\n ADDU $0,$0,$2\n PUT rJ,$1\n POP 1,0\n1H POP 1,0\n"
 
--- the end, behind n blocks
+-- the end, after n blocks
 abbrev pub closing : ℕ → List ℕ
 closing n = codes "B" ++ decimal (n + 1) ++ codes " SET $255,$0\n TRAP 0,Halt,0\n" ++ procedure
 

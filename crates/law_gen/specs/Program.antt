@@ -64,7 +64,7 @@ closing_at line b =
     ∷ stated (line + 1) None (Code 0) (number 0 ∷ name (codes "Halt") ∷ number 0 ∷ [])
     ∷ procedure_at (line + 2)
 
--- so many blocks from a line on behind b blocks, and the end
+-- this many blocks from a line on after b blocks, and the end
 unfoldable pub blocks_at : ℕ → ℕ → ℕ → List StatementTree
 blocks_at line b zero = closing_at line (b + 1)
 blocks_at line b (suc more) =

@@ -9,7 +9,7 @@ use Rattle.mx_stmt.specs.Reading.{Fields}
 use Rattle.mx_text.specs.Instructions.{field_code, field_yz, field_xyz, shape, shown_operands, operands_text, instruction_text}
 use Rattle.mx_text.specs.Reading.{shown_part}
 
--- The fields of a line with the text of a tetra at the address pc: no label, the name, and the operands behind the blank.
+-- The fields of a line with the text of a tetra at the address pc: no label, the name, and the operands after the blank.
 abbrev pub shown_fields : ℕ → ℕ → Fields
 shown_fields word pc = record { label = None; op = opcode_name (field_code word); operands = operands_text (shown_operands word pc) }
 

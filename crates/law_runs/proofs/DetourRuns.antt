@@ -134,11 +134,11 @@ asm-done kind source object n a e = asm-with kind source object (record { kind =
 
 -- ---- assembling
 
--- the text of a source that stands at a place, as far as it is read
+-- the text of a source that is at a place, as far as it is read
 abbrev text_at : List StoredFile → ℕ → List ℕ
 text_at files at = take (4096 * 1025) (bytes_at files at)
 
--- what is known once a source was assembled: where it stands, its text, and the model that is left
+-- what is known once a source was assembled: where it is, its text, and the model that is left
 record Accepted (files : List StoredFile) (slots : List Slot) (m : HostModel) (source object : Word) (text : List ℕ) (a : HostModel) : Type 0 where
   at : ℕ
   there : place_of files source ≡ Some at

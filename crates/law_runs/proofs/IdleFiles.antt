@@ -57,7 +57,7 @@ read-idle files slots m k len at place h =
     ap (read_from (idle files (slice_set slots k (Open (File at) BinaryRead place)) m) k len) (slot-set slots k (Open (File at) BinaryRead place) Closed h)
     ∙ ap (λ ss. (Ok got, idle files ss m)) (set-set slots k (Open (File at) BinaryRead place) (Open (File at) BinaryRead (place + length got)))
 
--- a whole piece, and what is read behind it
+-- a whole piece, and what is read after it
 more-read : (n rest total place : ℕ) (got bytes : List ℕ) → total ≡ n + rest → length (take n (drop place bytes)) ≡ n →
     (got ++ take n (drop place bytes)) ++ take rest (drop (place + length (take n (drop place bytes))) bytes) ≡ got ++ take total (drop place bytes)
 more-read n rest total place got bytes e h =
@@ -130,7 +130,7 @@ opened-by : (most : ℕ) (name : List ℕ) (files : List StoredFile) (slots : Li
 opened-by most name files slots m p e =
     file-by most name (idle files slots m) ∙ ap (λ (t : Then (Result (Unit {0}) OpenFault)). end_after host (on_ok (λ u. read_open most)) (input_after t)) (open-reading files slots m name p e)
 
--- the bytes of a file that is there, as far as so many pieces reach; then the slot is closed
+-- the bytes of a file that is there, as far as this many pieces reach; then the slot is closed
 pub file-idle : (most : ℕ) (files : List StoredFile) (slots : List Slot) (m : HostModel) (name : List ℕ) (at : ℕ) → 256 < length slots → place_of files name ≡ Some at →
     file_bytes most name (idle files slots m) ≡ (Ok (take (4096 * most) (bytes_at files at)), idle files (slice_set slots 256 Closed) m)
 file-idle most files slots m name at h e =

@@ -98,7 +98,7 @@ module _ (kind : MachineKind) (w : Work) where
   abbrev kept_left : List State → RunEnd → (End × Work) ⊎ ProgramWorld
   kept_left kept r = run_left (record w { kept = kept }) r
 
-  -- what is kept by a turn from a state, and by those behind it
+  -- what is kept by a turn from a state, and by those after it
   abbrev kept_by : ℕ → State → List State → Turn → List State
   kept_by n s kept t = states_kept (turns_after (turns_of n) t) (kept_turn (turn_kind (step s) (turn_answer t).0) s kept)
 

@@ -47,7 +47,7 @@ pub record HasObject (words : List Word) (o : Order) (image : Image) (m begun : 
   pub read : file_bytes object_pieces (word_at words o.file) m ≡ (Ok object, begun)
   pub loads : object_loaded object ≡ Ok (image, symbols)
 
--- The machine of this image starts with the arguments of the words, and stands thus.
+-- The machine of this image starts with the arguments of the words, in this state.
 abbrev pub IsStarted : MachineKind → List Word → Order → Image → State → Type 0
 IsStarted kind words o image s = started kind o.ring image (arguments words o) ≡ Ok s
 
@@ -67,7 +67,7 @@ pub record IsPlayed (kind : MachineKind) (words : List Word) (o : Order) (image 
   pub starts : IsStarted kind words o image machine
   pub plays : session_ran kind o.steps machine begun ≡ ran outcome ended after
 
--- The words order to assemble a source of which this text is read; the object file opens, the bytes of the object are
+-- The words order to assemble a source from which this text is read; the object file opens, the bytes of the object are
 -- written, and it is closed.
 pub record IsWritten (words : List Word) (text : List ℕ) (m after : HostModel) : Type 0 where
   pub order : Order
@@ -81,7 +81,7 @@ pub record IsWritten (words : List Word) (text : List ℕ) (m after : HostModel)
   pub closes : close_answer written object_slot ≡ (Ok tt, after)
 
 -- The words order to generate a source; the machine of the image that it means starts and halts, which leaves the host
--- thus; and this line tells what came of it.
+-- `left`; and this line tells what came of it.
 pub record IsGenerated (kind : MachineKind) (words : List Word) (m left : HostModel) (line : List ℕ) : Type 0 where
   pub order : Order
   pub ordered : IsOrdered words order Gen
@@ -98,7 +98,7 @@ pub record IsGenerated (kind : MachineKind) (words : List Word) (m left : HostMo
 abbrev pub with_output : HostModel → List ℕ → HostModel
 with_output m text = record m { output = m.output ++ text }
 
--- The slots stand as at the start, and the file of this name is there; so many pieces of it are this text.
+-- The slots are as at the start, and the file of this name is there; this many pieces of it are this text.
 pub record IsThere (name : Word) (most : ℕ) (text : List ℕ) (m : HostModel) : Type 0 where
   pub slots : HasStartSlots m
   pub place : ℕ

@@ -53,7 +53,7 @@ pub record AreOrdered (options : List Word) (source object : Word) (arguments : 
   pub file : order.file ≡ length options + 1
   pub rest : order.rest ≡ length options + 2
 
--- The source, of which this text of bytes is read, is assembled into the object, which leaves the model `after`, and no
+-- The source, from which this text of bytes is read, is assembled into the object, which leaves the model `after`, and no
 -- call that this makes fails. The model has the 261 slots of a host, and the two files have different names, which agree
 -- but for a last `.mms` or `.mmo`.
 pub record IsAssembled (kind : MachineKind) (source object : Word) (text : List ℕ) (m after : HostModel) : Type 0 where

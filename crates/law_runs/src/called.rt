@@ -26,7 +26,7 @@ pub fn statuses_are_low_bytes()
         status ≡ register ended.stack 255 % 2 ^ 8 }
 {}
 
-/// Let the program be called over a host that tells, whose slots stand as at the start, and let no call of
+/// Let the program be called over a host that tells, whose slots are as at the start, and let no call of
 /// the host that it makes be in the list of those that fail.
 ///
 /// The words are `run` without `-i`, the source is there and has no refusal, its arguments fit the pages,

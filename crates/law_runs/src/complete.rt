@@ -67,7 +67,7 @@ pub fn objects_that_halt_are_done()
 {}
 
 /// With the console, where the machine starts, the program answers what the session comes to, and leaves
-/// the host as the session does, behind which the dump and the message may write.
+/// the host as the session does, after which the dump and the message may write.
 pub fn consoles_answer_as_sessions()
     ensures source { (kind : MachineKind) (words : List Word) (o : Order) (image : Image) (s : State)
         (m begun : HostModel) → HasSource words o image m begun → o.interactive ≡ true →
@@ -111,7 +111,7 @@ pub fn sources_that_mean_are_assembled()
 
 /// A source that is generated means the image of its program. It is done where the machine of this image
 /// starts and halts within 2^26 steps, and the line that tells what came of it is written. Where no call that
-/// the program makes fails and the slots stand as at the start, that line is written; the run is then that
+/// the program makes fails and the slots are as at the start, that line is written; the run is then that
 /// over the host with no call counted and none that fails.
 #[tactic(auto, using(crate::proofs::Completed::completed, crate::proofs::SparedPrograms::spared))]
 pub fn generated_sources_are_done()
@@ -124,7 +124,7 @@ pub fn generated_sources_are_done()
         answer_unscheduled (product kind words m) ≡ answered (Outcome.Done 0) (unscheduled (with_output left line)) }
 {}
 
-/// Where no call of the reading fails and the slots stand as at the start, a file that is there is read,
+/// Where no call of the reading fails and the slots are as at the start, a file that is there is read,
 /// and nothing but the number of calls is then changed. So where no call that the program makes fails, a
 /// source that is there, and that means an image, is run in the host as it stands, with no call counted
 /// and none that fails: the program answers and leaves what the run of the image and the message do, but
@@ -149,7 +149,7 @@ pub fn sources_that_are_there_are_run()
         answered (Outcome.Done status) (unscheduled (with_output after (concat (dump_lines ended)))) }
 {}
 
-/// Where no call that the program makes fails and the slots stand as at the start, an object that is there, and that
+/// Where no call that the program makes fails and the slots are as at the start, an object that is there, and that
 /// is loaded, is run in the host as it stands, with no call counted and none that fails: the program answers and
 /// leaves what the run of the image and the message do, but for the number of calls and the list of those that fail.
 /// Where its machine halts within the steps of the order, the program is done.
@@ -170,7 +170,7 @@ pub fn objects_that_are_there_are_run()
 {}
 
 /// With the console, where no call that the program makes fails, a source or an object that is there
-/// answers what the session comes to, and leaves the host as the session does, behind which the dump and
+/// answers what the session comes to, and leaves the host as the session does, after which the dump and
 /// the message may write.
 #[tactic(auto)]
 pub fn consoles_of_what_is_there_answer_as_sessions()
@@ -184,7 +184,7 @@ pub fn consoles_of_what_is_there_answer_as_sessions()
         answer_unscheduled (with_message (dumped o.dump (session_ran kind o.steps s (unscheduled m)))) }
 {}
 
-/// Where no call that the program makes fails and the slots stand as at the start, a source that is there
+/// Where no call that the program makes fails and the slots are as at the start, a source that is there
 /// is assembled: the program leaves the host with what there is of the object in the file that the words
 /// name, and otherwise as it was, but for the number of calls, the list of those that fail and the
 /// message. Where the assembler refuses nothing, it is done, and there is no message.

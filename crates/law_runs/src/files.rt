@@ -9,7 +9,7 @@ ghost use Rattle.mx_files.specs.Writing.{put_piece, put_text};
 ghost use Rattle.mx_files.specs.Source.{file_bytes};
 ghost use Rattle.mx_outcome.specs.declared.outcome.Outcome.{Outcome};
 
-/// Where no call that this makes fails, a file that is there is read whole, as far as so many pieces of
+/// Where no call that this makes fails, a file that is there is read whole, as far as this many pieces of
 /// 4,096 bytes reach, and one that is not there is said to be missing.
 #[tactic(auto, using(crate::proofs::WholeFiles::wholes))]
 pub fn files_are_read_whole()

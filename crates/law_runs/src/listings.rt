@@ -72,8 +72,8 @@ pub fn objects_are_listed_beside_what_they_mean()
         fault ≢ 95 → fault ≢ 96 → (typed bytes).1 ≡ Outcome.BadObject place fault }
 {}
 
-/// Where no call that the program makes fails and the slots stand as at the start, an object that is there is
-/// listed: the program answers what the listing comes to, and leaves the host with its lines behind standard
+/// Where no call that the program makes fails and the slots are as at the start, an object that is there is
+/// listed: the program answers what the listing comes to, and leaves the host with its lines after standard
 /// output, but for the number of calls, the list of those that fail and the message. So a call answers that, or
 /// is out of memory.
 pub fn objects_that_are_there_are_listed()

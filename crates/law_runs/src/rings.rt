@@ -36,8 +36,8 @@ pub fn two_rings_agree()
         product list_machine (gen_ring_words ring blocks) m }
 {}
 
-/// Reports change nothing but what stands behind the message. Words with `--report` come to what the words without it
-/// come to, over each machine; watchers leave the outcome as it is, and write their reports behind all else; and a call
+/// Reports change nothing but what follows the message. Words with `--report` come to what the words without it
+/// come to, over each machine; watchers leave the outcome as it is, and write their reports after all else; and a call
 /// with watchers answers as one without them, so that what holds of answers of the program holds of it.
 #[tactic(auto, using(crate::proofs::SameRings::rings, crate::proofs::WatchedCalls::watched_calls))]
 pub fn reports_change_nothing_else()

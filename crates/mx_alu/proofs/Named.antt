@@ -6,7 +6,7 @@ use Rattle.mx_ops.specs.Opcodes.{opcode_rows, opcode_names, opcode_name}
 use Rattle.mx_alu.proofs.Words.{ARITHMETIC, BITWISE, WYDES, CONDITIONS, Mul, Or, Set, Negative}
 use Rattle.mx_alu.specs.Names.{arithmetic_names, arithmetic_of, bitwise_names, bitwise_of, wyde_fronts, wyde_ends, wyde_names, wyde_of, condition_ends, condition_names, condition_of}
 
--- two functions that agree from a first number on, for so many
+-- two functions that agree from a first number on, for this many
 agree : {A : Type 0} (f g : ℕ → A) (first count k : ℕ) → map f (range_with_len first count) ≡ map g (range_with_len first count) → first ≤ k → k < first + count → f k ≡ g k
 agree f g first count k same low high =
     sym (get_or-map-range_with_len f first count (k - first) k (f k) (omega arith) (omega arith))

@@ -1,4 +1,4 @@
-//! What an instruction is given beside its operands, and what it gives.
+//! What an instruction is given besides its operands, and what it gives.
 
 ghost use Rattle.std.specs.Prelude.{◌≡◌};
 ghost use Rattle.mx_alu.specs.Answers as spec;

@@ -167,7 +167,7 @@ fn divide(y: u64, z: u64) -> Answer
     }
 }
 
-/// A signed octa less another that is taken so many times.
+/// A signed octa less another that is taken this many times.
 #[inline(always)]
 fn remainder(y: u64, z: u64, q: i128) -> i128
     requires { unsigned_abs q ≤ 2 ^ 63 }

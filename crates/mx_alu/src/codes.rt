@@ -45,7 +45,7 @@ pub fn lone_result(code: u8, y: u64, z: u64, extra: Extra) -> Option<u64>
     }
 }
 
-/// The new $X of the instruction of a code from #e0 to #ef, from the old $X and a wyde v that stands at its place in
+/// The new $X of the instruction of a code from #e0 to #ef, from the old $X and a wyde v that is at its place in
 /// an octa of zeros.
 #[inline(always)]
 pub fn wyde(code: u8, x: u64, v: u64) -> u64

@@ -39,7 +39,7 @@ pub fn trips_are_resumed()
     ensures { (w next l g : ℕ) → next % 4 ≡ 0 → insertion (marked_instruction w) next l g ≡ Back next }
 {}
 
-/// RESUME 0 goes to a multiple of 4, which is not above rW. What it performs stands at a multiple of 4
+/// RESUME 0 goes to a multiple of 4, which is not above rW. What it performs is at a multiple of 4
 /// below 2^64, and is a tetra.
 pub fn insertions_stand_at_tetras()
     ensures back { (rx next l g a : ℕ) → insertion rx next l g ≡ Back a → a % 4 ≡ 0 }

@@ -5,7 +5,7 @@ ghost use Rattle.mx_alu.specs.Wydes as spec;
 
 use crate::names::Wyde;
 
-/// The octa that the instruction of this name makes of the old $X and of its wyde, which stands at
+/// The octa that the instruction of this name makes of the old $X and of its wyde, which is at
 /// a place.
 #[tactic(auto, using(crate::proofs::Logic::wydes))]
 #[inline(always)]

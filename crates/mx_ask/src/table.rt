@@ -1,4 +1,4 @@
-//! The table of the words, of which help, the list for completion and the manual are made.
+//! The table of the words, from which help, the list for completion and the manual are made.
 
 use crate::words::{Row, Word};
 

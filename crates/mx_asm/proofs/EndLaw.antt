@@ -10,7 +10,7 @@ use Rattle.mx_asm.proofs.OneStatement.{AreLabels, labels-kept, standing_at, sigh
 use Rattle.mx_line.specs.Source.{items_from as line_items}
 use Rattle.mx_asm.proofs.OnePassLaw.{counting, counted_progress, lines_behind, size_behind, no-labels, some-lines}
 
--- ---- the first reference that still waits behind all statements is the first one that is never defined
+-- ---- the first reference that still waits after all statements is the first one that is never defined
 
 -- what a reference that still waits is refused with
 abbrev pub wait_refusal : Option Wait → Option Refused
@@ -201,7 +201,7 @@ outcome-ends : (line : Line) (lines : List Line) (statements : List StatementTre
     end_behind p.0 p.1 ≡ assembled_with statements items (first_of r (end_refusal (last_line (line ∷ lines)) statements))
 outcome-ends line lines statements h items r none = grind (arith, ended-alike, last-is)
 
--- whether the opening stands there makes no difference at the end
+-- whether the opening is there makes no difference at the end
 main-opened : (out : List Item) (a : Assembly) (fault : Option AsmFault) → ended_main out a fault ≡ ended_main out (record a { opened = true }) fault
 main-opened out a fault = grind (arith, nat_tests)
 

@@ -69,7 +69,7 @@ pub line-grows : (lines : List Line) (text : Line) (out next : List Item) (a b :
     GrowsAlike (lines_items lines) (lines_items (lines ++ text ∷ [])) out next
 line-grows lines text out next a b is h = search (rules, items-are, more-taken, line-behind)
 
--- behind a refusal nothing is taken
+-- after a refusal nothing is taken
 pub refusal-stays : (lines : List Line) (out : List Item) (refused : Refused) → fold line_after (out, Err refused) lines ≡ (out, Err refused)
 refusal-stays [] out refused = refl
 refusal-stays (line ∷ lines) out refused = refusal-stays lines out refused

@@ -1,4 +1,4 @@
--- The items of bytes that a statement places, and the state behind them.
+-- The items of bytes that a statement places, and the state after them.
 use Rattle.std.proofs.Common.{◌≡◌, ℕ, zero, suc, ◌+◌, ◌-◌, ◌*◌, ◌/◌, ◌%◌, ◌^◌, ◌<◌, ◌≤◌, List, [], ◌∷◌, ◌++◌, length, map, Bool, true, false, cond, arith, refl, sym, ◌∙◌, ap, bit_xor, replicate, min, ◌==◌, ◌&&◌, nat_le, nat_lt, rules, ◌||◌}
 use Rattle.mx_asm.proofs.Words.{xor_zero_r, xor_zero_l, length-replicate, cond_both, eqb-true, nat_tests, AreBytes, bytes-append, bytes-zeros, tetras_of, take_item, take_items, Item, Load, from_place, placed, placed-append, from-append, placed-zeros, pages_of, lowered, raised, covered, covering, tetra_count, located, told_line, lined, common_steps, ltb-false, Piece, pages_below, is_covered, with_lines, Head, byte_items}
 use Rattle.mx_mmo.specs.Meaning.{lined as lined_with}
@@ -6,7 +6,7 @@ use Rattle.mx_asm.specs.Emission.{line_behind}
 use Rattle.mx_asm.proofs.MeaningMemory.{pages-alike, HaveBytes, append-pages, pages-run, tetras-run, many-pages, same-numbers}
 use Rattle.mx_asm.proofs.MeaningStates.{State, stands, count_of, limited, Takes, lines_with, line_after, takes-both, takes-none, behind_tetras, takes-tetras}
 
--- ---- the items of bytes that a statement places, and what stands behind them
+-- ---- the items of bytes that a statement places, and what follows them
 
 -- ---- zeros around bytes
 
@@ -113,7 +113,7 @@ piece_at line start bytes = record { line = line; start = start; bytes = bytes }
 abbrev pub head_of : State → Head
 head_of s = record { lambda = s.lambda; line = s.line }
 
--- what stands behind bytes of a line that are placed from an address on
+-- what follows bytes of a line that are placed from an address on
 abbrev pub behind_bytes : State → ℕ → ℕ → List ℕ → State
 behind_bytes s line start [] = s
 behind_bytes s line start (b ∷ bytes) = record {

@@ -47,7 +47,7 @@ octa-joined n a x ps lines big m l fits have few =
 
 -- ---- a relative address
 
--- how far a target lies from its place: ahead by so many tetras, or behind
+-- how far a target lies from its place: forward by this many tetras, or backward
 record IsAhead (place value reach word : ℕ) : Type 0 where
   ahead : place + 4 * word ≡ value
   near : word < reach

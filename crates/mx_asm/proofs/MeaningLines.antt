@@ -27,7 +27,7 @@ items-same xs ys n (u ∷ us) l = grind (arith, far-same, items-same xs ys (n + 
 
 -- ---- the statements of lines
 
--- what statements come behind an entry, and behind those of items
+-- what statements come after an entry, and after those of items
 abbrev behind : Entry → List StatementTree → List StatementTree
 behind (Err refused) rest = []
 behind (Ok s) rest = rest
@@ -54,7 +54,7 @@ module _ (P : StatementTree → Type 0) where
   accepted-holds [] k earlier h = tt
   accepted-holds (st ∷ statements) k earlier h = grind (arith, accepted-holds statements (known_after k st) (earlier ++ record { known = k; statement = st } ∷ []) h.1)
 
-  -- the accepted ones of more statements are those of the first, and others behind them
+  -- the accepted ones of more statements are those of the first, and others after them
   record IsLonger (front whole : List Sight) : Type 0 where
     tail : List Sight
     more : whole ≡ front ++ tail

@@ -197,7 +197,7 @@ pages-alike a b e f (x ∷ xs) (y ∷ ys) p l k u v g h =
     cc (pages-run a x xs p, last-byte a (length xs) e u, pages-run b y ys p, last-byte b (length ys) f v)
 pages-alike a b e f xs ys p l k u v g h = absurd (omega arith)
 
--- so many pages one after another are at least so many
+-- where this many pages in a row are there, at least as many are below n
 pub many-pages : (n u k : ℕ) (pages : ℕ → Bool) → u + k ≤ n → ((p : ℕ) → u ≤ p → p < u + k → pages p ≡ true) → k ≤ pages_below n pages
 unfolding pages_below
 many-pages (suc n) u (suc k) pages l h = grind (arith, cases_lt, many-pages n u (suc k) pages, many-pages n u k pages)

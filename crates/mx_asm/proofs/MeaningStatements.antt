@@ -60,7 +60,7 @@ fixes-have t (w ∷ waits) ps have =
     subst (λ qs. HaveBytes (placed qs)) (append_assoc ps (from_place w.at first) (fix_placements t waits))
     (fixes-have t waits (ps ++ from_place w.at first) (more-bytes ps w.at first have (fix-are w.kind w.at (t w.who))))
 
--- what stands behind the records of references to a value
+-- what follows the records of references to a value
 abbrev pub with_fixes : State → ℕ → List Wait → State
 with_fixes s value waits = record s { placements = s.placements ++ fix_placements (at_value value) waits }
 
@@ -141,7 +141,7 @@ pub bytes-have : (s : State) (line start : ℕ) (bytes : List ℕ) → HaveBytes
 bytes-have s line start [] have are = have
 bytes-have s line start (b ∷ bytes) have are = more-bytes s.placements start (b ∷ bytes) have are
 
--- what stands behind a statement
+-- what follows a statement
 abbrev pub behind_placed : State → ℕ → Placed → List Wait → State
 behind_placed s line p waits = behind_bytes (behind_fixes s (awaited_value p.label) waits) line p.start p.bytes
 
@@ -170,7 +170,7 @@ takes-placed n line p waits items s big have word low laid some h = on (fix_item
               ∙ both.taken;
         }
 
--- ---- the items of statements without a fault lead from the state before them to the state behind them
+-- ---- the items of statements without a fault lead from the state before them to the state after them
 
 -- what holds of a statement and of what is known at it
 pub record IsSteady (s : Sight) : Type 0 where
@@ -181,7 +181,7 @@ pub record IsSteady (s : Sight) : Type 0 where
 
 -- ---- one statement
 
--- what stands behind a statement that comes to this
+-- what follows a statement that comes to this
 abbrev pub behind_sight : State → List Sight → Sight → Answer Placed → State
 behind_sight s earlier t (Err fault) = s
 behind_sight s earlier t (Ok p) = behind_placed s t.statement.line p (waiting_at earlier t)

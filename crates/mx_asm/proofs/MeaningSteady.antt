@@ -119,7 +119,7 @@ encoding-words t k s p h is e = words-of (at_place k s) s.label s.operands p (wo
 pub awaited-word : (label : Option Value) → IfSome label IsWord → IsWord (awaited_value label)
 awaited-word label h = grind (arith, nat_tests)
 
--- ---- behind a statement
+-- ---- after a statement
 
 set-word : (values : List Value) (d e : ℕ) (v : Value) → IsWord v → IsWord (slice_index_or values e (Pure 0)) → IsWord (slice_index_or (slice_set values d v) e (Pure 0))
 set-word (x ∷ values) zero zero v fits h = fits

@@ -81,7 +81,7 @@ symbol-at-end (st ∷ statements) k earlier full v none h =
 
 -- ---- one statement
 
--- what stands behind records, where these are the targets
+-- what follows records, where these are the targets
 pub fixes-placed : (s : State) (line : ℕ) (value : Value) (waits : List Wait) (t : Targets) (q : ℕ) → refusal_of (fixes line value waits) ≡ None → AllByRecursion (λ (w : Wait). t w.who ≡ pure_number (Some value)) waits →
     placed (behind_fixes s value waits).placements q ≡ bit_xor (placed s.placements q) (added t waits q)
 unfolding fixes

@@ -21,7 +21,7 @@ size items = length (written items)
 
 -- ---- fix records
 
--- items that have at most so many bytes, or none at all
+-- items that have at most this many bytes, or none at all
 abbrev IfWithin : ℕ → Result (List Item) Refused → Type 0
 IfWithin most (Err refused) = Unit {0}
 IfWithin most (Ok items) = size items ≤ most
@@ -59,7 +59,7 @@ placed-most h before s p is = search (rules, both-most, fix-items-within, bytes-
 parted : (who : Awaited) (waits : List Wait) → length (waits_for who waits) + length (waits_for_others who waits) ≡ length waits
 parted who waits = length-filter_both (λ (w : Wait). same_awaited w.who who) (λ (w : Wait). not (same_awaited w.who who)) (λ w. refl) waits
 
--- those that wait before a statement and those of its own come to those that it sets right, and those that wait behind it
+-- those that wait before a statement and those of its own come to those that it sets right, and those that wait after it
 abbrev Balances : List Sight → Sight → List Wait → Type 0
 Balances before s waits = length waits + length (open_waits (before ++ s ∷ [])) ≡ length (open_waits before) + length (waits_in (outline s))
 

@@ -1,4 +1,4 @@
--- What is known behind statements of bytes: symbols that a trie can tell, and registers whose values are octas.
+-- What is known after statements of bytes: symbols that a trie can tell, and registers whose values are octas.
 use Rattle.std.proofs.Common.{◌≡◌, ℕ, Bool, true, false, cond, List, [], ◌∷◌, Option, None, Some, Ordering, bytes_eq, refl, sym, ◌∙◌, ap, ◌<◌, ◌^◌, Ok, rules, ◌≤◌, suc, ◌+◌, ◌++◌, length, fold, Result, subst, arith}
 use Rattle.mx_asm.proofs.Words.{AllByRecursion, Symbol, Value, InByteOrder, Below, AreInOrder, in-order, in-byte-order, value_in, symbols_with, all-inserted, cond_both, AreBytes, bytes-append, Tree, is_complete, complete_form, Label, Effect, Placed, Known, Targets, StatementTree, encoding, IfSome, AreOctas, IsValue, IsNamed, NameFault, NameTable, IsFullName, with_symbol, not-some, length-inserted, Name, Local, HasRegisterNumber, IsSound, lowest_of, no_targets, symbol_form, sound-start, encoding-fine, IsEffect, Sight, with_label, with_effect, known_with, known_after, nothing_known, sights_from, name_fault, label_fault, statement_fault, first_fault, nat_tests, common_steps}
 use Rattle.std.specs.Ordering.{nat_cmp, is_lt, is_eq, ordering_reverse}
@@ -17,7 +17,7 @@ use Rattle.mx_asm.proofs.MeaningStatements.{IsWord, faultless}
 
 -- ---- symbols with one more: they stay in byte order, and what holds of each stays
 
--- what is below a name is below all that stand behind it
+-- what is below a name is below all that follow it
 below-all : (a b : List ℕ) (more : List Symbol) → Below a b → AllByRecursion (λ (t : Symbol). Below b t.name) more → AllByRecursion (λ (t : Symbol). Below a t.name) more
 below-all a b [] less h = tt
 below-all a b (t ∷ more) less h = (nat_list_cmp_total.trans a b t.name less h.0, below-all a b more less h.1)
@@ -63,11 +63,11 @@ effect-of k label operands p h1 h2 h3 h4 = search (rules, form-is, answer-full, 
 pub encoding-effect : (t : Targets) (k : Known) (s : StatementTree) (p : Placed) → KnowsWords k → AreBytes k.names.prefix → IsOfBytes s → encoding t k s ≡ Ok p → IsEffectOfBytes p.effect
 encoding-effect t k s p words prefix of is = effect-of (at_place k s) s.label s.operands p (words-there k s words) prefix of.operands (encoding-comes t k s p is)
 
--- ---- what is known behind statements of bytes: symbols that a trie can tell, and registers whose values are octas
+-- ---- what is known after statements of bytes: symbols that a trie can tell, and registers whose values are octas
 
 -- ---- names
 
--- Symbols that a trie can tell, with so many statements to come.
+-- Symbols that a trie can tell, with this many statements to come.
 pub record AreTellable (left : ℕ) (names : NameTable) : Type 0 where
   pub prefix : IsFullName names.prefix
   pub bytes : AreBytes names.prefix
@@ -104,7 +104,7 @@ effect-octas k e h1 h2 = grind (arith, common_steps, nat_tests)
 
 -- ---- statements
 
--- What is known behind statements of bytes, with so many statements to come.
+-- What is known after statements of bytes, with this many statements to come.
 pub record IsTellable (left : ℕ) (k : Known) : Type 0 where
   pub names : AreTellable left k.names
   pub gregs : AreOctas k.gregs

@@ -9,7 +9,7 @@ use Rattle.mx_asm.proofs.OneStatement.{standing_at, AreLabels, outcome, entries_
 
 -- ---- lines that are taken one after another: their entries are
 
--- an assembly behind so many lines and bytes
+-- an assembly after this many lines and bytes
 abbrev pub counting : ℕ → ℕ → Assembly → Assembly
 counting n m a = record a { lines = n; size = m; opened = true }
 
@@ -47,7 +47,7 @@ unfolding entries_taken
 entries-counted n m [] out a = refl
 entries-counted n m (e ∷ entries) out a = search (rules, entry-counted, behind-counted, and-counted, entries-counted n m entries)
 
--- entries behind entries
+-- entries after entries
 and-assoc : (first second : List Item → Assembly → Progress) (p : Progress) → and_entries (λ out a. and_entries second (first out a)) p ≡ and_entries second (and_entries first p)
 and-assoc first second p = search rules
 
@@ -61,7 +61,7 @@ entries-append (e ∷ xs) ys out a = search (rules, and-same, and-assoc, entries
 
 -- ---- lines
 
--- the entries of lines behind so many lines and bytes
+-- the entries of lines after this many lines and bytes
 abbrev pub unless_far : Bool → ℕ → List Entry → List Entry
 unless_far true number entries = Err (refused number SourceTooLong) ∷ []
 unless_far false number entries = entries
@@ -83,7 +83,7 @@ refused-stays : (lines : List Line) (out : List Item) (r : Refused) → fold lin
 refused-stays [] out r = refl
 refused-stays (line ∷ lines) out r = refused-stays lines out r
 
--- one line, and those behind it
+-- one line, and those after it
 line-then : (n m : ℕ) (lines : List Line) (fs : List Entry) (more : (out : List Item) (a : Assembly) → fold line_after (out, Ok (counting n m a)) lines ≡ counted_progress (lines_behind n lines) (size_behind m lines) (entries_taken fs out a)) (p : Progress) →
     fold line_after (counted_progress n m p) lines ≡ counted_progress (lines_behind n lines) (size_behind m lines) (and_entries (entries_taken fs) p)
 line-then n m lines fs more p = search (rules, refused-stays)
@@ -187,7 +187,7 @@ refusal-is (line ∷ lines) = ap (λ p. result_err p.1) (some-lines line lines) 
 pub no-statement : (text : List ℕ) (at : ℕ) (found : Option Cut) (cut : Cut) → at ≡ 0 → found ≡ Some cut → cuts_from text at ≡ list_with (cuts_from text) (Ok found) → holds_statement text ≡ false → ⊥
 no-statement text at found cut first is list none = cc
 
--- ---- behind a line the opening is there
+-- ---- after a line the opening is there
 
 IfOpen : Standing → Type 0
 IfOpen (Err refused) = Unit {0}

@@ -7,7 +7,7 @@ use Rattle.mx_asm.proofs.StatementForms.{HasLabel, encoding-label}
 
 -- ---- one statement in one pass, as the two passes have it
 
--- what the assembler carries behind these statements
+-- what the assembler carries after these statements
 abbrev pub standing_at : Known → Head → List Sight → ℕ → Assembly
 standing_at k h before l = record { known = k; waiting = open_waits before; head = h; locals = l; lines = 0; size = 0; opened = true }
 
@@ -19,7 +19,7 @@ abbrev pub sight_local : ℕ → Answer Placed → ℕ
 sight_local l (Err fault) = l
 sight_local l (Ok p) = with_local l p.effect
 
--- a refusal, or the items and what stands behind them
+-- a refusal, or the items and what follows them
 abbrev pub stepped : Option Refused → List Item → Assembly → Taken
 stepped (Some refused) items a = Err refused
 stepped None items a = Ok (items, a)
@@ -172,7 +172,7 @@ module _ (k : Known) (before : List Sight) (st : StatementTree) where
 
 -- ---- entries that are taken one after another, as the two passes have them
 
--- the head and the greatest register of LOCAL behind statements
+-- the head and the greatest register of LOCAL after statements
 unfoldable pub head_from : Head → List Sight → List Sight → Head
 head_from h before [] = h
 head_from h before (s ∷ later) = head_from (sight_head h before s (outline s)) (before ++ s ∷ []) later
@@ -186,7 +186,7 @@ abbrev pub outcome : List Item → Option Refused → Assembly → Progress
 outcome out (Some refused) a = (out, Err refused)
 outcome out None a = (out, Ok a)
 
--- what entries come to, behind statements
+-- what entries come to, after statements
 abbrev pub entries_outcome : Known → Head → List Sight → ℕ → List Item → List StatementTree → Option Refused → Progress
 entries_outcome k h before l out statements refusal =
     let sights = sights_from k statements in

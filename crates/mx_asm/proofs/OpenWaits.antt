@@ -1,4 +1,4 @@
--- The references that wait for labels, behind statements and at one.
+-- The references that wait for labels, after statements and at one.
 use Rattle.std.proofs.Common.{◌≡◌, Bool, true, false, not, cond, List, [], ◌∷◌, refl, ap, ◌∙◌, ◌&&◌, ◌||◌, ℕ, ◌++◌, Option, None, Some, sym, append_assoc, append-nil, rules, arith}
 use Rattle.mx_asm.proofs.Words.{filter, list_any, filter-append, list_any-append, Awaited, Wait, same_awaited, NameTable, complete_form, waits_for_others, Label, Name, Local, Sight, outline, waits_in, bytes_eq-Decides, waits_for, references, is_local, from_last}
 use Rattle.mx_word.specs.declared.waits.Awaited.TheVariants as awaited
@@ -54,7 +54,7 @@ filter-within p q h xs = filter-filter p q xs ∙ filter-same (λ x. p x && q x)
 pub filter-without : {X : Type 0} (p q : X → Bool) → ((x : X) → q x ≡ true → p x ≡ false) → (xs : List X) → filter q (filter p xs) ≡ []
 filter-without p q h xs = filter-filter p q xs ∙ filter-none (λ x. p x && q x) (λ x. without-and (p x) (q x) (h x)) xs
 
--- ---- the references that still wait behind statements: those that neither their own statement nor a later one settles
+-- ---- the references that still wait after statements: those that neither their own statement nor a later one settles
 
 -- what the label of a statement is waited for as
 abbrev pub settled_by : NameTable → Option Label → Awaited → Bool

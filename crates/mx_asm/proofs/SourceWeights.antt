@@ -18,7 +18,7 @@ use Rattle.mx_asm.proofs.MeaningSources.{source-bytes}
 
 -- ---- how many bytes of a line a statement takes at least
 
--- An operand field that is not empty stands behind a blank, and behind the field there is a `;` or nothing more.
+-- An operand field that is not empty follows a blank, and after the field there is a `;` or nothing more.
 pub record HasRoom (end : ℕ) (cut : Cut) : Type 0 where
   pub gap : (cut.operands.to ≡ cut.operands.from) ⊎ (cut.op.to < cut.operands.from)
   pub last : (cut.operands.to < cut.next) ⊎ (cut.next ≡ end)
@@ -136,7 +136,7 @@ before-weight (statement line label op operands ∷ items) b = by (entry_of (sta
     by (Ok s) h = omega (arith, h, sum_by-cons weight s (statements_in (entries_of (before items b))), sum_by-cons weight s (statements_in (entries_of items)))
 before-weight a b = omega arith
 
--- the bytes of lines, with a newline behind each
+-- the bytes of lines, with a newline after each
 abbrev with_newline : List ℕ → ℕ
 with_newline line = length line + 1
 

@@ -17,7 +17,7 @@ operand_weight here = 28
 operand_weight (unary op e) = 28
 operand_weight (binary op l r) = 28
 
--- a statement asks for 40 bytes beside those of its operands
+-- a statement asks for 40 bytes besides those of its operands
 abbrev pub weight : StatementTree → ℕ
 weight s = 40 + sum_by operand_weight s.operands
 

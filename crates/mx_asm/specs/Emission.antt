@@ -52,7 +52,7 @@ lowered a = a / 4 * 4
 abbrev pub raised : ℕ → ℕ
 raised a = (a + 3) / 4 * 4
 
--- zeros behind so many bytes, which complete the last tetra
+-- zeros after this many bytes, which complete the last tetra
 abbrev pub zeros_after : ℕ → List ℕ
 zeros_after n = replicate ((4 - n % 4) % 4) 0
 
@@ -63,7 +63,7 @@ covered start bytes = replicate (start % 4) 0 ++ bytes ++ zeros_after (start + l
 abbrev pub covering : ℕ → List ℕ → List ℕ
 covering start bytes = tetras_of (covered start bytes)
 
--- how many tetras cover so many bytes from a place on
+-- how many tetras cover this many bytes from a place on
 abbrev pub tetra_count : ℕ → ℕ → ℕ
 tetra_count start count = raised (start + count) / 4 - start / 4
 
@@ -78,7 +78,7 @@ told_line line = if nat_lt 65535 line then 0 else line
 abbrev pub lined : ℕ → ℕ → List Item
 lined in_force line = if in_force == told_line line then [] else Line (told_line line) ∷ []
 
--- the line in force behind so many tetras: 0 stays, and none passes 2^32 - 1
+-- the line in force after this many tetras: 0 stays, and none passes 2^32 - 1
 abbrev pub line_behind : ℕ → ℕ → ℕ
 line_behind line tetras = if line == 0 then 0 else min (line + tetras) (2 ^ 32 - 1)
 
@@ -97,7 +97,7 @@ head_at_bytes h line start (b ∷ bytes) = record {
 
 -- ---- a statement
 
--- the items of a statement, and the head behind it: fix records for the references that wait for its label, then its bytes
+-- the items of a statement, and the head after it: fix records for the references that wait for its label, then its bytes
 abbrev pub with_bytes : Result (List Item) Refused → List Item → Result (List Item) Refused
 with_bytes (Err refused) items = Err refused
 with_bytes (Ok fixes) items = Ok (fixes ++ items)
@@ -117,7 +117,7 @@ statement_head h line p waits = piece_head h line (awaited_value p.label) p.star
 
 -- ---- the front and the end
 
--- what stands first: a time of 0, and the file
+-- what is first: a time of 0, and the file
 abbrev pub opening : List Item
 opening = Pre (0 ∷ []) ∷ File 0 (Some (codes ".mms")) ∷ []
 
@@ -133,13 +133,13 @@ abbrev pub sight_head : Head → List Sight → Sight → Answer Placed → Head
 sight_head h earlier s (Err fault) = h
 sight_head h earlier s (Ok p) = statement_head h s.statement.line p (waiting_at earlier s)
 
--- the items of statements behind earlier ones
+-- the items of statements after earlier ones
 unfoldable pub items_from : Head → List Sight → List Sight → List Item
 items_from h earlier [] = []
 items_from h earlier (s ∷ later) =
     sight_items h earlier s (outline s) ++ items_from (sight_head h earlier s (outline s)) (earlier ++ s ∷ []) later
 
--- what stands before the end: the opening, and the items of all statements
+-- what is before the end: the opening, and the items of all statements
 abbrev pub front : List StatementTree → List Item
 front statements = opening ++ items_from first_head [] (sights_of statements)
 

@@ -7,7 +7,7 @@ use Rattle.mx_mmo.specs.Valid.{Fits, Valid}
 unfoldable pub AreFit : List Item → Type 0
 AreFit items = AllByRecursion Fits items
 
--- One list grows to another: it stays as it is, and items that fit are added behind it.
+-- One list grows to another: it stays as it is, and items that fit are added after it.
 pub record GrowsFit (old new : List Item) : Type 0 where
   pub items : List Item
   pub added : new ≡ old ++ items

@@ -31,7 +31,7 @@ from_last d [] = []
 from_last d (s ∷ later) =
     if list_any (λ (t : Sight). is_local d t.statement.label) later then from_last d later else s ∷ later
 
--- The references that wait for the label of a statement behind earlier ones. A statement's own reference to its own symbol
+-- The references that wait for the label of a statement after earlier ones. A statement's own reference to its own symbol
 -- is one of them; one to `dF` is not.
 abbrev pub waiting_for : List Sight → Sight → Option Label → List Wait
 waiting_for earlier s None = []

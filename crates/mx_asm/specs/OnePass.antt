@@ -42,7 +42,7 @@ pub record Assembly : Type 0 where
   -- how many lines there were, and their bytes with a newline after each
   pub lines : ℕ
   pub size : ℕ
-  -- whether the opening stands among the items
+  -- whether the opening is among the items
   pub opened : Bool
 
 -- an assembly, or the refusal that ended it
@@ -113,7 +113,7 @@ assembled a line p n waits = record a {
   locals = with_local a.locals p.effect;
 }
 
--- the items of a statement and what stands behind it, or its refusal
+-- the items of a statement and what follows it, or its refusal
 abbrev pub Taken : Type 0
 Taken = Result (List Item × Assembly) Refused
 
@@ -141,7 +141,7 @@ entry_taken a (Ok s) = statement_taken a s
 
 -- ---- a line
 
--- the items so far, and what stands behind them
+-- the items so far, and what follows them
 abbrev pub Progress : Type 0
 Progress = List Item × Standing
 
@@ -181,7 +181,7 @@ line_unless None out a text = entries_taken (line_entries (a.lines + 1) text) ou
 abbrev pub line_taken : List Item → Assembly → List ℕ → Progress
 line_taken out a text = line_unless (count_fault a text) out a text
 
--- the opening stands before all else
+-- the opening is before all else
 abbrev pub with_opening : Bool → List Item → List Item
 with_opening true out = out
 with_opening false out = out ++ opening

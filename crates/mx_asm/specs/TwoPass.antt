@@ -33,7 +33,7 @@ with_effect k (effect.Prefix full) = record k { names = record k.names { prefix 
 with_effect k (effect.Greg reg value) = record k { gregs = with_greg k.gregs reg value }
 with_effect k (effect.Local reg) = k
 
--- what is known behind a statement that is placed
+-- what is known after a statement that is placed
 abbrev pub known_behind : Known → StatementTree → Placed → Known
 known_behind k s p = with_effect (record { names = with_label k.names s.label p.label; at = p.after; gregs = k.gregs }) p.effect
 
@@ -41,7 +41,7 @@ abbrev pub known_with : Known → StatementTree → Answer Placed → Known
 known_with k s (Err fault) = k
 known_with k s (Ok p) = known_behind k s p
 
--- what is known behind a statement; where its references lead makes no difference
+-- what is known after a statement; where its references lead makes no difference
 unfoldable pub known_after : Known → StatementTree → Known
 known_after k s = known_with k s (encoding no_targets k s)
 

@@ -36,7 +36,7 @@ accepted_in entries = map (λ (s : Sight). s.statement) (accepted [] (sights_of 
 abbrev pub entries_items : List Entry → List Item
 entries_items entries = items_from first_head [] (accepted [] (sights_of (statements_in entries)))
 
--- the opening stands before the items of a first line
+-- the opening is before the items of a first line
 abbrev pub behind_opening : List Line → List Item → List Item
 behind_opening [] items = []
 behind_opening (line ∷ lines) items = opening ++ items
@@ -63,7 +63,7 @@ assembled_entries last entries =
 abbrev pub assembled_lines : List Line → Ended
 assembled_lines lines = assembled_entries (last_line lines) (lines_entries lines)
 
--- what a source is assembled into, or its refusal behind the items of the statements before it
+-- what a source is assembled into, or its refusal after the items of the statements before it
 abbrev pub assembled_source : List ℕ → Ended
 assembled_source source = assembled_lines (lines_of source)
 

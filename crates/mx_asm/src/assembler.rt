@@ -56,10 +56,10 @@ impl Assembler {
     }
 
     /// Takes the next line, a text without a newline byte, and adds the items of its statements to any
-    /// list: what stands there stays, out of memory too. The first call of `line`, `try_line` or `finish`
-    /// adds what stands first in an object. After a refusal every later call answers it again, and the
+    /// list: what is there stays, out of memory too. The first call of `line`, `try_line` or `finish`
+    /// adds what is first in an object. After a refusal every later call answers it again, and the
     /// items that were added are those of the statements before the faulty one. From `new` on, items and
-    /// refusals are those of two passes over the lines so far. Behind a line that was taken, one that holds
+    /// refusals are those of two passes over the lines so far. After a line that was taken, one that holds
     /// no statement takes no memory.
     #[tactic(auto, using(crate::proofs::Fitting::grown, crate::proofs::Fronts::fronts))]
     pub fn line(&mut self, text: &[u8], out: &mut Items) -> Result<(), Refused>
@@ -87,7 +87,7 @@ impl Assembler {
     }
 
     /// Takes the next line as `line` does. A refusal within an `Ok` leaves the line out: the assembler is as
-    /// it was, but that what stands first in an object was added. Such is each refusal for an early fault of
+    /// it was, but that what is first in an object was added. Such is each refusal for an early fault of
     /// the first statement of a line, or for too many bytes. Any other one stays.
     #[tactic(auto, using(crate::proofs::Fitting::grown, crate::proofs::Fronts::fronts))]
     pub fn try_line(&mut self, text: &[u8], out: &mut Items) -> Result<Result<(), Refused>, Refused>
@@ -147,7 +147,7 @@ impl Assembler {
     }
 }
 
-/// Ends a source, behind what stands first in an object.
+/// Ends a source, after what is first in an object.
 fn end(assembly: &mut Assembly, out: &mut Items) -> Result<Bytes, Refused>
     ensures ended { result ≢ Err no_memory → (out.new, result) ≡ spec.end_behind out.old (Ok assembly.old) }
     ensures opened { OnOk result (assembly.new ≡ spec.opened assembly.old) }
@@ -160,7 +160,7 @@ fn end(assembly: &mut Assembly, out: &mut Items) -> Result<Bytes, Refused>
     assembly.end(out)
 }
 
-/// Takes a line, behind what stands first in an object. After a refusal that is within an `Ok` nothing
+/// Takes a line, after what is first in an object. After a refusal that is within an `Ok` nothing
 /// of the line was taken.
 fn take_line(
     alloc: Global,

@@ -93,7 +93,7 @@ impl Assembly {
         })
     }
 
-    /// Adds what stands first in an object, unless it is there.
+    /// Adds what is first in an object, unless it is there.
     #[tactic(auto, using(crate::proofs::Fitting::growing))]
     pub(crate) fn open(&mut self, out: &mut Items) -> Result<(), NoMemory>
         ensures out { OnOk result (out.new ≡ spec.with_opening self.old.opened out.old) }
@@ -202,7 +202,7 @@ impl Assembly {
         Ok(())
     }
 
-    /// The items of bytes of a line from an address on, behind the records of the references that
+    /// The items of bytes of a line from an address on, after the records of the references that
     /// wait for a label with this value.
     fn items(
         &mut self,

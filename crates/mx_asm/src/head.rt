@@ -31,7 +31,7 @@ impl Head {
         }
     }
 
-    /// The head behind the tetras of bytes of a line.
+    /// The head after the tetras of bytes of a line.
     pub(crate) fn at_bytes(self, line: u32, start: u64, bytes: &[u8]) -> Head
         requires { 0 < length bytes.now → start + length bytes.now ≤ 2 ^ 63 }
         ensures { result ≡ spec.head_at_bytes self line start bytes.now }
@@ -91,7 +91,7 @@ fn told_line(line: u32) -> u16
     if line > 65535 { 0 } else { line as u16 }
 }
 
-/// The line in force behind so many tetras.
+/// The line in force after this many tetras.
 fn line_behind(line: u16, tetras: u64) -> u32
     ensures { result ≡ spec.line_behind line tetras }
 {
@@ -154,7 +154,7 @@ fn cover(alloc: Global, start: u64, bytes: &[u8]) -> Result<Bytes, NoMemory>
     Ok(covered)
 }
 
-/// So many zeros.
+/// This many zeros.
 pub(crate) fn zeros(n: usize) -> &'static [u8]
     requires { n < 4 }
     ensures { result.now ≡ replicate n 0 }

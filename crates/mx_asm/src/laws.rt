@@ -48,7 +48,7 @@ pub fn one_pass_gives_the_whole()
     ensures { (lines : List (List ℕ)) → one_pass lines ≡ assembled_lines lines }
 {}
 
-/// Before the first line nothing was taken. Behind the lines that were taken a line more is taken, and
+/// Before the first line nothing was taken. After the lines that were taken a line more is taken, and
 /// the end gives what the two passes give of all lines. The items may be added to any list: it grows as
 /// the items of the lines grow.
 pub fn lines_are_taken_in_turn()
@@ -95,8 +95,8 @@ pub fn entries_are_read()
         ((s : StatementTree) × IsRead fields line s) ⊎ ((fault : StmtFault) × IsFault fields fault) }
 {}
 
-/// Behind the statements of a source the operand `dB` stands for the value of the last label `dH` among
-/// them: that of a statement behind which none has this label. Where none of them has it, it stands for
+/// After the statements of a source the operand `dB` stands for the value of the last label `dH` among
+/// them: that of a statement after which none has this label. Where none of them has it, it stands for
 /// pure 0.
 pub fn back_labels_are_the_last()
     ensures last { (front between : List StatementTree) (s : StatementTree) (d : ℕ) (value : Value) → d ≤ 9 →

@@ -28,7 +28,7 @@ pub fn items_mean_the_image()
 
 /// The items of the lines of a source, refused or not, are loaded unless the statements that are
 /// accepted touch more than 65,536 pages; no other fault comes. A statement is refused for its pages
-/// exactly where there are too many, and it stands on the line with which they become too many.
+/// exactly where there are too many, and it is on the line with which they become too many.
 pub fn lines_are_loaded_where_there_is_room()
     ensures fault { (lines : List Line) → AllByRecursion AreBytes lines →
         result_err (take_items (lines_items lines) (Ok nothing)) ≡ page_fault (accepted_in (lines_entries lines)) }

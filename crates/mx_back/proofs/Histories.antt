@@ -85,7 +85,7 @@ unfolding states_before
 length-states [] s = refl
 length-states (n ∷ notes) s = ap suc (length-states notes (state_undone n s))
 
--- the item at a place, and those behind it
+-- the item at a place, and those after it
 record IsFront (j : ℕ) (kept : List State) (t : State) (left : List State) : Type 0 where
   first : slice_get kept j ≡ Some t
   rest : left ≡ drop (suc j) kept

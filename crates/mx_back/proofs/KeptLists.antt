@@ -59,7 +59,7 @@ kind-beside s m h u e =
     ap (λ (x : Stepped). turn_kind x (turn_answer (turn (as_list_state s) m)).0) (step-listed s h.window h.machine (record { untouched = u; not_wild = quiet }))
     ∙ ap (λ (t : Turn). turn_kind (as_list_step (step s)) (turn_answer t).0) (turn-listed-on s m h u e) ∙ kind-listed (step s) (turn s m)
 
--- what the list machine keeps by such a turn, and by those behind it
+-- what the list machine keeps by such a turn, and by those after it
 turns-beside : (n i : ℕ) (s : State) (m : HostModel) (kept : List State) → i < n → TurnWindow s → s.touched ≡ false → turn_is_wild s ≡ false →
     states_kept (turns_of (n - i) (as_list_state s) m) (as_lists kept)
     ≡ states_kept (turns_after (turns_of (n - (i + 1))) (as_list_turn (turn s m))) (as_lists (kept_turn (kind_at s m) s kept))
@@ -85,7 +85,7 @@ KeptSoFar whole left s m kept goal = SoFar whole kept (states_kept (turns_of lef
 pub begun-beside : (n : ℕ) (whole : RunEnd) (s : State) (m : HostModel) (kept : List State) → AreUntouched kept → KeptSoFar whole (n - 0) s m kept (states_kept (turns_of n (as_list_state s) m) (as_lists kept))
 begun-beside n whole s m kept h = holds h (begun-kept n (as_list_state s) m (as_lists kept))
 
--- the turns behind one that goes on, and behind one that ends the run
+-- the turns after one that goes on, and after one that ends the run
 on-by : (more : State → HostModel → List (Turned × State)) (pc : ℕ) (u : Unit {0}) (t : State) (k : HostModel) (x : Turn) → (Ok u, t, k) ≡ turn_ended no_flags pc (turn_answer x) → turns_after more (as_list_turn x) ≡ more (as_list_state t) k
 on-by more pc u t k (went_on v n trace) e = ap (λ (a : Answered (Result (Unit {0}) End)). more (as_list_state a.1) a.2) (sym e)
 on-by more pc u t k (halts status v n) e = let first : Ok u ≡ Err (end.Halted status) = ap (λ (a : Answered (Result (Unit {0}) End)). a.0) e in absurd (cc)

@@ -168,7 +168,7 @@ call-lacks s t u m n pc call r x kept mid now e c h is o =
     let called : step s ≡ calls call = ap step (sym same) ∙ call-told s t call e in
     inr (subst CallsTrap (sym called) tt, subst (λ v. Stops running (u, n) turn_plan (v, m)) same (c.stopping lacks), h ∙ ap (λ a. kept_turn (trap_kind a) t mid) lacks)
 
--- the turns behind a step
+-- the turns after a step
 on-by : (more : State → HostModel → List (Turned × State)) (pc : ℕ) (u : Unit {0}) (t : State) (n : HostModel) (x : Turn) → (Ok u, t, n) ≡ turn_ended no_flags pc (turn_answer x) → turns_after more x ≡ more t n
 on-by more pc u t n (went_on v k trace) e = ap (λ (a : Answered (Result (Unit {0}) End)). more a.1 a.2) (sym e)
 on-by more pc u t n (halts status v k) e = let first : Ok u ≡ Err (end.Halted status) = ap (λ (a : Answered (Result (Unit {0}) End)). a.0) e in absurd (cc)
@@ -213,7 +213,7 @@ none-after (went_on s m trace) = refl
 none-after (halts status s m) = refl
 none-after (stops reason s m) = refl
 
--- such turns behind one
+-- such turns after one
 abbrev KeepsMore : ℕ → State → HostModel → State → HostModel → List State → Type 0
 KeepsMore i s m t n kept = run i no_flags false s m ≡ ended end.Spent t n → states_kept (turns_of (suc i) s m) kept ≡ kept_turn (kind_at t n) t (states_kept (turns_of i s m) kept)
 

@@ -3,7 +3,7 @@ use Rattle.std.proofs.Common.{◌≡◌, [], ◌∷◌, refl}
 use Rattle.mx_core.specs.State.{State}
 use Rattle.mx_back.specs.History.{stepped, trapped, ended, states_kept, Backed, none, more}
 
--- two steps, and a stop behind them: both states, the newest first
+-- two steps, and a stop after them: both states, the newest first
 steps : (s t u : State) → states_kept ((stepped, s) ∷ (stepped, t) ∷ (ended, u) ∷ []) [] ≡ t ∷ s ∷ []
 unfolding states_kept
 steps s t u = refl

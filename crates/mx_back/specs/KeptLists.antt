@@ -23,7 +23,7 @@ IsUntouched s = s.touched ≡ false
 abbrev pub AreUntouched : List State → Type 0
 AreUntouched = AllByRecursion IsUntouched
 
--- the states that the list machine keeps behind earlier ones in at most n steps from the list that a state stands for
+-- the states that the list machine keeps after earlier ones in at most n steps from the list that a state stands for
 abbrev pub list_kept : Option HostModel → State → ℕ → List State → List State
 list_kept old before n earlier = states_kept (turns_of n (as_list_state before) (contents old)) (as_lists earlier)
 

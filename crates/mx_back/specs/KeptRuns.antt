@@ -35,7 +35,7 @@ turn_kind (stopped reason) result = ended
 abbrev pub kind_at : State → HostModel → Turned
 kind_at s m = turn_kind (step s) (turn_answer (turn s m)).0
 
--- the turns behind one, where it went on
+-- the turns after one, where it went on
 abbrev pub turns_after : (State → HostModel → List (Turned × State)) → Turn → List (Turned × State)
 turns_after more (went_on s m trace) = more s m
 turns_after more (halts status s m) = []
@@ -65,7 +65,7 @@ abbrev pub LeavesLacking : RunWorld → RunWorld → List State → List State �
 LeavesLacking reached now before kept =
     ((now ≡ reached) × (kept ≡ before)) ⊎ (CallsTrap (step reached.0) × Stops running now turn_plan reached × (kept ≡ []))
 
--- Out of memory so many turns of a run were made, fewer than n, and the next one lacked it: the machine, the host and the kept
+-- Out of memory this many turns of a run were made, fewer than n, and the next one lacked it: the machine, the host and the kept
 -- states are those after these turns, but for what that one leaves.
 pub record FrontKept (n : ℕ) (start now : RunWorld) (earlier kept : List State) : Type 0 where
   pub made : ℕ
@@ -74,7 +74,7 @@ pub record FrontKept (n : ℕ) (start now : RunWorld) (earlier kept : List State
   pub turns : run made no_flags false start.0 start.1 ≡ run_end.ended end.Spent reached.0 reached.1
   pub left : LeavesLacking reached now (states_kept (turns_of made start.0 start.1) earlier) kept
 
--- so it is over a host that tells its contents, of the states that the notes stand for
+-- the same holds over a host that tells its contents, of the states that the notes stand for
 abbrev pub KeepsFront : Option HostModel → Option HostModel → State → State → ℕ → End → List StateWas → List StateWas → Type 0
 KeepsFront old new before after n result earlier later =
     IsTrue (tells old) → result ≡ end.OutOfMemory →
@@ -82,7 +82,7 @@ KeepsFront old new before after n result earlier later =
 
 -- ---- on the way
 
--- so it is of a step
+-- the same holds of a step
 abbrev pub KeepsTurn : Option HostModel → State → State → Result (Unit {0}) End → List StateWas → List StateWas → Type 0
 KeepsTurn old before after result earlier later =
     IsTrue (tells old) → result ≢ Err end.OutOfMemory →
@@ -112,7 +112,7 @@ pub record TakesKeptStep (old new : Option HostModel) (faults_before faults_afte
   pub kept : KeepsTurn old before after result earlier later
   pub lacking : KeepsLacking old new before after result earlier later
 
--- whether the run goes on behind a turn from an address, or its end
+-- whether the run goes on after a turn from an address, or its end
 abbrev pub ended_at : ℕ → TurnAnswer → Result (Unit {0}) End
 ended_at pc (answer.Went trace) = Ok tt
 ended_at pc (answer.Halted status) = Err (end.Halted status)

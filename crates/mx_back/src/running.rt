@@ -102,7 +102,7 @@ fn keep_any_step<H: Host>(
     }
 }
 
-/// Whether the run goes on behind a turn from an address, or its end.
+/// Whether the run goes on after a turn from an address, or its end.
 fn ended_at(pc: u64, answer: TurnAnswer) -> Result<(), End>
     ensures { result ≡ spec.ended_at pc answer }
 {

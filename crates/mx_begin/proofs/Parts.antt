@@ -1,4 +1,4 @@
--- Parts of the work, one behind another.
+-- Parts of the work, one after another.
 use Rattle.std.proofs.Common.{IsTrue, ◌≡◌, ◌≢◌, inl, inr, Ok, Err, refl, sym, ◌∙◌, ap, subst}
 use Rattle.std.specs.Prelude.{Option, Result}
 use Rattle.mx_host.specs.HostModel.{HostModel, tells, contents}

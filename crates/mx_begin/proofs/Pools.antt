@@ -63,7 +63,7 @@ pub room-more : (texts : List (List ℕ)) (i : ℕ) (d : List ℕ) → i < lengt
     sum_by room (take (i + 1) texts) ≡ sum_by room (take i texts) + (16 + length (get_or texts i d))
 room-more texts i d l = sum_by_more room texts i d l
 
--- the words behind the file, and the word that names it
+-- the words after the file, and the word that names it
 module _ {W : Type 0} (f : W → List ℕ) where
   pub word-there : (words : List W) (i : ℕ) (w : W) → i < length words → w ≡ get_or words i w → unwrap_or (slice_get (map f words) i) [] ≡ f w
   word-there words i w l e =

@@ -19,6 +19,6 @@ abbrev pub program_name : Word → Word
 program_name word =
     if bytes_eq (suffix word) (codes ".mms") || bytes_eq (suffix word) (codes ".mmo") then take (length word - 4) word else word
 
--- argument 0, and the words behind the file
+-- argument 0, and the words after the file
 abbrev pub arguments : List Word → Order → List Word
 arguments words o = program_name (word_at words o.file) ∷ drop o.rest words

@@ -34,14 +34,14 @@ abbrev pub image_in : Form → List ℕ → Result Image Outcome
 image_in Source bytes = assembled (source_meaning bytes)
 image_in Object bytes = loaded (object_loaded bytes)
 
--- a file is read in at most so many pieces
+-- a file is read in at most this many pieces
 abbrev pub most_pieces : Form → ℕ
 most_pieces Source = source_pieces
 most_pieces Object = object_pieces
 
 -- ---- a machine at its start
 
--- the register stack at the start: a ring of so many registers, or a list
+-- the register stack at the start: a ring of this many registers, or a list
 abbrev pub stack_at_start : MachineKind → ℕ → Stack
 stack_at_start window_machine ring = windowed (window_at_start ring)
 stack_at_start list_machine ring = listed list_at_start

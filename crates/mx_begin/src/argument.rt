@@ -39,7 +39,7 @@ pub fn word(words: &[String], place: usize) -> &[u8]
     words[place].as_bytes()
 }
 
-/// The words behind the file as arguments.
+/// The words after the file as arguments.
 fn copied(alloc: Global, words: &[String], first: Bytes) -> Result<Vec<Bytes>, NoMemory>
     ensures { IfOk result (λ arguments. arguments.items ≡ first ∷ map string_bytes words.now) }
 {
@@ -51,7 +51,7 @@ fn copied(alloc: Global, words: &[String], first: Bytes) -> Result<Vec<Bytes>, N
     Ok(arguments)
 }
 
-/// The arguments of a program that the words order to run: argument 0, and the words behind the file.
+/// The arguments of a program that the words order to run: argument 0, and the words after the file.
 /// They fit the pool segment.
 pub fn arguments(alloc: Global, words: &[String], order: &Order) -> Result<Vec<Bytes>, NoMemory>
     requires file { order.now.file < length words.now }

@@ -54,7 +54,7 @@ pub fn start(
 }
 
 /// The machine that an order on these words begins with: that of the source, or of the object, in the file that they name,
-/// at its start with the arguments behind it.
+/// at its start with the arguments after it.
 ///
 /// Errors: the outcome where there is no such file, where it cannot be read or is refused, where the pages of the machine
 /// are full, and out of memory.

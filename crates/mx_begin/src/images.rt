@@ -24,7 +24,7 @@ pub enum Form {
     Object,
 }
 
-/// A file is read in at most so many pieces.
+/// A file is read in at most this many pieces.
 fn most_pieces(form: Form) -> u32
     ensures { result ≡ spec.most_pieces form }
 {

@@ -24,7 +24,7 @@ begin_with_place (t ∷ more) = bytes_eq t.text (codes "@")
 abbrev pub is_constant : Statement → Bool
 is_constant s = bytes_eq s.op.text (codes "IS") && not (begin_with_place s.tokens)
 
--- A name behind a colon: with a prefix or without one, a complete name ends so.
+-- A name after a colon: with a prefix or without one, a complete name ends so.
 abbrev pub full_name : List ℕ → List (List ℕ)
 full_name label = (codes ":" ++ label) ∷ []
 

@@ -1,5 +1,5 @@
 -- The tetras that a program loads, each with the line that it came from. Of a source, a tetra is an instruction where its line has
--- one; of an object, which does not tell, where it stands before the data segment.
+-- one; of an object, which does not tell, where it is before the data segment.
 use Rattle.std.specs.Prelude.{ℕ, ◌^◌, Bool, true, false, nat_lt, List, map, Option, None, Some, unwrap_or}
 use Rattle.std.specs.List.{list_any}
 use Rattle.mx_ops.specs.Opcodes.{operation_of}

@@ -14,7 +14,7 @@ use mx_view::{Wanted, list_source};
 use mx_word::{Bytes, NoMemory, Sequence, Symbols};
 use std::alloc::Global;
 
-/// What is known of a program: the name that stands in front of the numbers of its lines; the texts of its lines, none of an
+/// What is known of a program: the name that is in front of the numbers of its lines; the texts of its lines, none of an
 /// object; the tetras that it loads; its symbols, in the order of their names; and its labels.
 #[derive(Drop)]
 pub struct Book {

@@ -34,7 +34,7 @@ fn is_constant(statement: &Statement) -> bool
         && !begin_with_place(statement.tokens.as_slice())
 }
 
-/// Adds a name behind a colon.
+/// Adds a name after a colon.
 fn add_name(alloc: Global, names: &mut Names, label: &[u8]) -> Result<(), NoMemory>
     ensures { OnOk result (names.new ≡ names.old ++ spec.full_name label.now) }
 {
@@ -77,7 +77,7 @@ pub(crate) fn constants_in(alloc: Global, lines: &[SourceLine]) -> Result<Names,
     Ok(names)
 }
 
-/// The end of a text, so many bytes or all.
+/// The end of a text, this many bytes or all.
 fn end_of(text: &[u8], count: usize) -> &[u8]
     ensures { result.now ≡ spec.end_of text.now count }
 {
@@ -159,7 +159,7 @@ fn add_tetra(alloc: Global, labels: &mut Labels, tetra: &ListedTetra) -> Result<
     add_labels(alloc, labels, tetra.labels.as_slice())
 }
 
-/// Adds the label that a symbol of an object is, if its value is in the data segment or behind it.
+/// Adds the label that a symbol of an object is, if its value is in the data segment or after it.
 fn add_far(alloc: Global, labels: &mut Labels, symbol: &Symbol) -> Result<(), NoMemory>
     ensures { OnOk result (labels.new ≡ labels.old ++ spec.far_label symbol.now) }
 {
@@ -183,7 +183,7 @@ fn near_labels(alloc: Global, tetras: &[ListedTetra]) -> Result<Labels, NoMemory
     Ok(labels)
 }
 
-/// Adds the symbols whose values are in the data segment or behind it.
+/// Adds the symbols whose values are in the data segment or after it.
 fn add_far_labels(alloc: Global, labels: &mut Labels, symbols: &[Symbol]) -> Result<(), NoMemory>
     ensures { OnOk result (labels.new ≡ labels.old ++ flat_map spec.far_label symbols.now) }
 {
@@ -194,7 +194,7 @@ fn add_far_labels(alloc: Global, labels: &mut Labels, symbols: &[Symbol]) -> Res
 }
 
 /// The labels of an object: those of the tetras that it loads before the data segment, and all symbols whose values are in
-/// that segment or behind it.
+/// that segment or after it.
 pub(crate) fn object_labels(
     alloc: Global,
     tetras: &[ListedTetra],

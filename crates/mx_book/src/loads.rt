@@ -87,7 +87,7 @@ pub(crate) fn texts_of(alloc: Global, lines: &[SourceLine]) -> Result<Sequence<B
 /// The first address of the data segment.
 const DATA_SEGMENT: u64 = 1 << 61;
 
-/// A tetra of an object, which is an instruction where it stands before the data segment.
+/// A tetra of an object, which is an instruction where it is before the data segment.
 fn load_of(tetra: &ListedTetra) -> Load
     ensures { result ≡ spec.load_of tetra.now }
 {

@@ -18,7 +18,7 @@ use Rattle.mx_code.specs.declared.groups.Group.TheVariants as group
 use Rattle.mx_code.specs.declared.operation.Operation.{Operation}
 use Rattle.mx_code.specs.declared.operation.Operation.TheVariants as op
 
--- two functions that agree on the numbers below so many
+-- two functions that agree on the numbers below this many
 agree : {A : Type 0} (f g : ℕ → A) (count k : ℕ) → map f (range_with_len 0 count) ≡ map g (range_with_len 0 count) → k < count → f k ≡ g k
 agree f g count k same below =
     sym (get_or-map-range_with_len f 0 count k k (f k) (omega arith) (omega arith))

@@ -38,11 +38,11 @@ xyz_of i = i.word % 2 ^ 24
 abbrev pub operation_in : Instruction → Operation
 operation_in i = operation_of (code_of i)
 
--- the address of the instruction behind it
+-- the address of the instruction after it
 abbrev pub next_of : Instruction → ℕ
 next_of i = (i.at + 4) % 2 ^ 64
 
--- the address that n tetras after it mean; at a code for a backward address the field of so many values counts
+-- the address that n tetras after it mean; at a code for a backward address the field of this many values counts
 -- from its end
 abbrev pub relative : Instruction → ℕ → ℕ → ℕ
 relative i n values =

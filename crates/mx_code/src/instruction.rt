@@ -7,12 +7,12 @@ use crate::codes::operation_of;
 use crate::operation::Operation;
 use mx_ops::is_backward;
 
-/// How far a backward address of 16 and of 24 bits begins behind its instruction, modulo 2^64.
+/// How far a backward address of 16 and of 24 bits begins after its instruction, modulo 2^64.
 const NEAR_BACK: u64 = 0xffff_ffff_fffc_0000;
 
 const FAR_BACK: u64 = 0xffff_ffff_fc00_0000;
 
-/// A tetra as an instruction, at the address where it stands or, where RESUME inserts it, as if it
+/// A tetra as an instruction, at the address where it is or, where RESUME inserts it, as if it
 /// stood there; with the operands y and z, where RESUME gives them.
 #[derive(Clone, Copy)]
 pub struct Instruction {
@@ -102,7 +102,7 @@ impl Instruction {
         u64::from(self.word & 0xff_ffff)
     }
 
-    /// The address of the instruction behind it.
+    /// The address of the instruction after it.
     #[inline(always)]
     pub fn next(&self) -> u64
         ensures { result ≡ spec.next_of self.now }
@@ -110,7 +110,7 @@ impl Instruction {
         self.at.wrapping_add(4)
     }
 
-    /// The address that YZ means, so many tetras from it.
+    /// The address that YZ means, this many tetras from it.
     #[inline(always)]
     pub fn near_address(&self) -> u64
         ensures { result ≡ spec.near_address self.now }
@@ -122,7 +122,7 @@ impl Instruction {
         }
     }
 
-    /// The address that XYZ means, so many tetras from it.
+    /// The address that XYZ means, this many tetras from it.
     #[inline(always)]
     pub fn far_address(&self) -> u64
         ensures { result ≡ spec.far_address self.now }

@@ -14,7 +14,7 @@ pub enum Stop {
     OutOfMemory,
 }
 
-/// What a call answers, in two bytes: it comes back in registers, where the `Result` would stand in
+/// What a call answers, in two bytes: it comes back in registers, where the `Result` would be in
 /// memory.
 #[derive(Clone, Copy)]
 pub enum Told {

@@ -30,7 +30,7 @@ octas-next s form a n i l = let e : n - i ≡ suc (n - (i + 1)) = omega arith in
 abbrev pub LinesLeft : {Host : Type 0} → (Host → Option HostModel) → (Host → ℕ) → Host → Host → List (List ℕ) → HostPlan (Result (Unit {0}) SessionEnd) → Type 0
 LinesLeft says faults a b lines whole = Leaves host says faults a b (contents (says a)) (contents (says b)) (lines_plan lines) whole
 
--- a line is written, and those behind it are left; or it ends the session; or none is left
+-- a line is written, and those after it are left; or it ends the session; or none is left
 next-line : {Host : Type 0} (says : Host → Option HostModel) (faults : Host → ℕ) (a b c : Host) (lines behind : List (List ℕ)) (line : List ℕ) (whole : HostPlan (Result (Unit {0}) SessionEnd)) →
     lines ≡ line ∷ behind → LinesLeft says faults a b lines whole → Talks says faults b c (Ok tt) (line_plan line) → LinesLeft says faults a c behind whole
 unfolding lines_plan

@@ -43,7 +43,7 @@ listed-traced trace s m f o u =
     subst (λ (text : List ℕ). GoesAsList (course (session_goes list_machine) (on_host (line_plan text)) ((as_list_state s, m), f)) last.0 last.1) (sym (same-trace trace s o))
     (listed-host (line_plan (trace_text trace s)) s m f u)
 
--- an answer behind a part
+-- an answer after a part
 listed-going : (more : Bool) (p : Part (Unit {0})) (w : SessionWorld) → Listed p w → Listed (going more p) w
 listed-going more p w h = listed-then (λ (u : Unit {0}). returns (Ok more)) p w h (λ x v u. listed-returns (Ok more) v u)
 
@@ -70,7 +70,7 @@ listed-after pc (answer.Halted status) s m f o u = listed-returns (Err (Halted s
 listed-after pc (answer.Stopped reason) s m f o u = listed-returns (Err (Stopped pc reason)) ((s, m), f) u
 listed-after pc answer.OutOfMemory s m f o u = listed-returns (Err OutOfMemory) ((s, m), f) u
 
--- what the list machine goes on with behind a turn, where that is not wild
+-- what the list machine goes on with after a turn, where that is not wild
 abbrev on-turn : ℕ → FlagsOf → Answered TurnAnswer → Course (Result (Unit {0}) SessionEnd) SessionWorld
 on-turn pc f a = course (session_goes list_machine) (after_turn pc a.0) ((a.1, a.2), f)
 

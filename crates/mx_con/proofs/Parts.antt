@@ -27,7 +27,7 @@ there a b e t = subst IsTrue (sym e) t
 
 -- ---- one part
 
--- behind what leaves the host standing
+-- after what leaves the host as it is
 pub part-behind : {Host A B : Type 0} {says : Host → Option HostModel} {faults : Host → ℕ} {a b c : Host} {r : Result A SessionEnd} {q : Result B SessionEnd} {P Q : Type 0} →
     Stands (says a) (says b) (faults a) (faults b) → IsPart says faults b c r P → (q ≡ Err HostFault → r ≡ Err HostFault) → (IsTrue (tells (says a)) → P → Q) → IsPart says faults a c q Q
 part-behind {says = says} {faults = faults} {a = a} {b = b} {c = c} h k only comes = record {

@@ -32,7 +32,7 @@ use Rattle.mx_con.specs.declared.end.SessionEnd.TheVariants.{Spent, Quit}
 use Rattle.mx_con.specs.declared.judgement.Bad.{Bad}
 use Rattle.mx_con.specs.declared.judgement.Bad.TheVariants.{UnknownCommand}
 
--- what the calls of a world may answer, how many bytes an answer took, and whether it is another than that of no memory
+-- what the calls of a world may answer, how many bytes an answer took, and whether it is other than that of no memory
 record Answering (O : Type 0) (R : O → Type 0) : Type 1 where
   may : (o : O) → R o → Type 0
   bytes : (o : O) → R o → ℕ
@@ -102,7 +102,7 @@ abbrev pub is_answer_told : {A : Type 0} → Result A SessionEnd → Bool
 is_answer_told (Ok x) = true
 is_answer_told (Err end) = is_end_told end
 
--- of the bytes that are left an answer spares so many, and it is another than that of no memory if no call lacked it
+-- of the bytes that are left an answer spares this many, and it is other than that of no memory if no call lacked it
 abbrev Spared : {A : Type 0} → (Result A SessionEnd → ℕ) → Result A SessionEnd → ℕ → Bool → Type 0
 Spared spare r n b = (spare r ≤ n) × (b ≡ true → is_answer_told r ≡ true)
 
@@ -155,7 +155,7 @@ free-lines (line ∷ lines) = free-then of_a_host (λ u. lines_plan lines) (line
 
 -- ---- a line that is read
 
--- behind a byte, one less may be taken; at the end of the input as many as before
+-- after a byte, one less may be taken; at the end of the input as many as before
 abbrev spare_byte : ℕ → Result (Option ℕ) SessionEnd → ℕ
 spare_byte left (Ok None) = suc left
 spare_byte left (Ok (Some b)) = left
@@ -331,7 +331,7 @@ command-walks steps shown (Some command) = answered-walks shown command
 
 -- ---- lines and sessions
 
--- what may still be taken behind a line
+-- what may still be taken after a line
 abbrev spare_dialog : Result Dialog SessionEnd → ℕ
 spare_dialog (Ok d) = d.left
 spare_dialog (Err end) = 0
@@ -357,7 +357,7 @@ lines-walk zero steps d n b l = (omega arith, λ e. refl)
 lines-walk (suc most) steps d n b l =
     then-walks of_a_session spare_dialog spare_dialog (lines_of_session most steps) (one_line_plan steps d) n b (λ end. omega arith) (one-line-walks steps d n b l) (λ e m c i. lines-walk most steps e m c i)
 
--- an end of the session is another than that of no memory, if no call lacked it
+-- an end of the session is other than that of no memory, if no call lacked it
 abbrev EndsTold : SessionEnd → ℕ → Bool → Type 0
 EndsTold end n b = b ≡ true → is_end_told end ≡ true
 

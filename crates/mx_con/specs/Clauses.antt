@@ -65,7 +65,7 @@ abbrev pub Responds : {Host : Type 0} → (Host → Option HostModel) → (Host 
 Responds says faults old new r s shown after result command =
     Converses says faults old new r s (map_ok (λ u. after) result) (answered_plan shown command)
 
--- the count of steps is as it was, or has grown and is at most so many; so it is over every host, and out of memory too
+-- the count of steps is as it was, or has grown and is at most this many; the same holds over every host, and out of memory too
 pub record StepsWithin (steps : ℕ) (s t : State) : Type 0 where
   pub grown : s.steps ≤ t.steps
   pub few : t.steps ≤ s.steps + (steps - s.steps)

@@ -61,7 +61,7 @@ abbrev pub last_line : List ℕ → Result Bool SessionEnd
 last_line [] = Err Quit
 last_line (b ∷ bs) = Ok false
 
--- the same behind a byte, and the line with it: a newline ends a line
+-- the same after a byte, and the line with it: a newline ends a line
 abbrev pub byte_added : List ℕ → ℕ → Result Bool SessionEnd × List ℕ
 byte_added got b = if b == 10 then (Ok false, got) else (Ok true, got ++ b ∷ [])
 
@@ -94,7 +94,7 @@ abbrev pub after_growing : (List ℕ → HostPlan LineRead) → Bool × List ℕ
 after_growing more (true, got, left) = more got
 after_growing more (false, got, left) = returns (Ok (got, left))
 
--- a line, behind the bytes of it that were read, where so many more bytes may be taken
+-- a line, after the bytes of it that were read, where this many more bytes may be taken
 unfoldable pub reading_plan : ℕ → List ℕ → HostPlan LineRead
 reading_plan zero got = returns (Err Limit)
 reading_plan (suc left) got = bind (on_ok (after_growing (reading_plan left))) (grown_plan left got)

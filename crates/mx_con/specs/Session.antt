@@ -34,7 +34,7 @@ session_goes kind other w = carried conversing other w
 
 -- ---- sessions
 
--- a session of the machine of a kind from these flags on, with at most so many steps of the machine in all
+-- a session of the machine of a kind from these flags on, with at most this many steps of the machine in all
 unfoldable pub session_course : MachineKind → ℕ → State → FlagsOf → HostModel → Course SessionEnd SessionWorld
 session_course kind steps s f m = course (session_goes kind) (session_plan steps) ((s, m), f)
 

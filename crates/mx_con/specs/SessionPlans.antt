@@ -143,7 +143,7 @@ turn_at pc = bind (after_turn pc) turn_made
 unfoldable pub turned_plan : Part (Unit {0})
 turned_plan = bind turn_at place_plan
 
--- one step, whatever the flags, where so many may be made in all and so many were
+-- one step, whatever the flags, where this many may be made in all and this many were
 abbrev pub step_if : ℕ → ℕ → Part (Unit {0})
 step_if steps made = if steps - made == 0 then returns (Err Spent) else turned_plan
 
@@ -179,7 +179,7 @@ one_run_plan steps pass = bind (run_from steps pass) count_plan
 abbrev pub run_on : Part (Unit {0}) → Bool → Part (Unit {0})
 run_on more goes = if goes then more else returns (Ok tt)
 
--- at most so many runs, each of which makes a step
+-- at most this many runs, each of which makes a step
 unfoldable pub runs_plan : ℕ → ℕ → Bool → Part (Unit {0})
 runs_plan zero steps pass = returns (Err Spent)
 runs_plan (suc n) steps pass = bind (on_ok (run_on (runs_plan n steps false))) (one_run_plan steps pass)
@@ -227,7 +227,7 @@ line_done steps shown line =
 unfoldable pub one_line_plan : ℕ → Dialog → Part Dialog
 one_line_plan steps d = bind (on_ok (line_done steps d.shown)) (on_host (asking_plan d.left))
 
--- at most so many lines: each takes a byte of the input or ends the session
+-- at most this many lines: each takes a byte of the input or ends the session
 unfoldable pub lines_of_session : ℕ → ℕ → Dialog → Part Dialog
 lines_of_session zero steps d = returns (Err Limit)
 lines_of_session (suc n) steps d = bind (on_ok (lines_of_session n steps)) (one_line_plan steps d)
@@ -241,6 +241,6 @@ abbrev pub end_of_session : Result Dialog SessionEnd → SessionPlan SessionEnd
 end_of_session (Ok d) = returns Limit
 end_of_session (Err end) = returns end
 
--- a session, with at most so many steps of the machine in all
+-- a session, with at most this many steps of the machine in all
 unfoldable pub session_plan : ℕ → SessionPlan SessionEnd
 session_plan steps = bind end_of_session (lines_of_session (most_input + 1) steps (with_left most_input None))

@@ -4,7 +4,7 @@ use Rattle.mx_con.specs.Session.{SessionRun, session_ended, session_wild}
 use Rattle.mx_con.specs.declared.end.SessionEnd.{SessionEnd}
 use Rattle.mx_con.specs.declared.end.SessionEnd.TheVariants.{OutOfMemory}
 
--- whether an end is another than that of no memory
+-- whether an end is other than that of no memory
 abbrev pub is_end_told : SessionEnd → Bool
 is_end_told OutOfMemory = false
 is_end_told end = true

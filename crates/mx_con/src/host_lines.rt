@@ -106,7 +106,7 @@ fn last_line(line: &Bytes) -> Result<bool, SessionEnd>
     }
 }
 
-/// Reads a line without its newline, of at most so many bytes of input that may still be taken.
+/// Reads a line without its newline, of at most this many bytes of input that may still be taken.
 #[tactic(auto, using(crate::proofs::LineReads::reading))]
 pub(crate) fn read_line<H: Host>(
     alloc: Global,

@@ -23,7 +23,7 @@ pub fn sessions_end_by_themselves()
 {}
 
 /// A session is what its plan comes to. Where a plan over such calls stops for want of memory, it only
-/// added to standard output, and what stands there is a front of what would stand there at its end; the
+/// added to standard output, and what is there is a front of what would be there at its end; the
 /// slots of the tool lead where they led.
 #[tactic(auto, using(crate::proofs::HeldSessions::laws, crate::proofs::SessionCourses::courses))]
 pub fn sessions_are_their_plans()

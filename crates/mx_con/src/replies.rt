@@ -175,7 +175,7 @@ pub(crate) fn show_more<H: Host>(
     }
 }
 
-/// Shows so many octas after the one that was shown last, where there are as many.
+/// Shows this many octas after the one that was shown last, where there are as many.
 #[tactic(auto, using(crate::proofs::StepBounds::noting))]
 fn show_octas<H: Host>(
     alloc: Global,

@@ -36,7 +36,7 @@ const MOST_INPUT: u64 = 1 << 32;
 /// touched it goes as over an unbounded list of registers, up to the first step or command that looks at
 /// rS or at the memory of the register stack.
 ///
-/// Out of memory, the steps that were made stay, and the flags and what was written; what stands on
+/// Out of memory, the steps that were made stay, and the flags and what was written; what is on
 /// standard output is a front of what the session writes.
 #[tactic(auto, using(crate::proofs::SessionClauses::sessions))]
 pub fn session<H: Host>(alloc: Global, runner: &mut Runner, host: &mut H, steps: u64) -> SessionEnd

@@ -18,7 +18,7 @@ use mx_run::{BreakKind, End, Runner, TurnAnswer};
 use mx_show::trace_line;
 use std::alloc::Global;
 
-/// How many steps may still be made, of so many in all.
+/// How many steps may still be made, of this many in all.
 fn steps_left(steps: u64, runner: &Runner) -> u64
     ensures { result ≡ steps - (state_of runner.now.machine).steps }
 {

@@ -14,7 +14,7 @@ pub record Shared : Type 0 where
   pub pages : ℕ → Bool
   pub page_count : ℕ
 
--- memory as it is kept, and that in which nothing stands
+-- memory as it is kept, and that in which nothing was stored
 abbrev pub shared_in : Stored → Shared
 shared_in m = record { octas = octa_at m; pages = has_page m; page_count = page_count m }
 

@@ -29,7 +29,7 @@ use Rattle.mx_code.specs.declared.operation.Operation.{Operation}
 use Rattle.mx_code.specs.declared.operation.Operation.TheVariants as op
 use Rattle.mx_code.specs.declared.trace.Touch.{Touch}
 
--- what becomes of the register stack, beside a result
+-- what becomes of the register stack, besides a result
 pub data Move : Type 0 where
   stays : Move
   pushes : ℕ → Move  -- PUSH X
@@ -169,7 +169,7 @@ swapped s i a found =
 
 -- SPECIAL REGISTERS AND FRAMES
 
--- what SAVE saves beside registers
+-- what SAVE saves besides registers
 abbrev pub specials_saved : State → Saved
 specials_saved s = record {
   b = special_register s rB;
@@ -187,7 +187,7 @@ specials_saved s = record {
   a = special_register s rA;
 }
 
--- what UNSAVE brings back beside registers
+-- what UNSAVE brings back besides registers
 abbrev pub specials_back : Saved → List (ℕ × ℕ)
 specials_back f =
     (rB, f.b) ∷ (rD, f.d) ∷ (rE, f.e) ∷ (rH, f.h) ∷ (rJ, f.j) ∷ (rM, f.m) ∷ (rR, f.r) ∷ (rP, f.p)

@@ -13,7 +13,7 @@ abbrev pub with_area : Stack → List ℕ → Stack
 with_area (listed r) octas = listed r
 with_area (windowed w) octas = windowed (record w { hidden = record w.hidden { stack = octas } })
 
--- the state without its memory; below the stack area memory has nothing, whatever stands there
+-- the state without its memory; below the stack area memory has nothing, whatever is there
 abbrev pub rest_of : State → State
 rest_of s = record s {
   octas = λ a. if in_stack_area a then s.octas a else 0;

@@ -10,7 +10,7 @@ use Rattle.mx_code.specs.SpecialRegisters.{rC, rO, rS, rG, rL}
 pub record State : Type 0 where
   -- the address of the next instruction, a multiple of 4
   pub pc : ℕ
-  -- memory outside the stack area: at each address the octa that holds it, 0 where nothing stands
+  -- memory outside the stack area: at each address the octa that holds it, 0 where nothing was stored
   pub octas : ℕ → ℕ
   -- the pages that are there, by their numbers, and how many they are
   pub pages : ℕ → Bool

@@ -19,7 +19,7 @@ pub record IsWindowed (s : State) : Type 0 where
   pub window : Window
   pub machine : IsMachine s window
 
--- so many steps, each of which goes on, and begins over a window, lead from a state to another
+-- this many steps, each of which goes on, and begins over a window, lead from one state to another
 unfoldable pub Goes : ℕ → State → State → Type 0
 Goes zero s t = s ≡ t
 Goes (suc k) s t = IsWindowed s × GoesOn s × Goes k (next_state s) t

@@ -132,7 +132,7 @@ impl Machine {
         }
     }
 
-    /// PUT of rJ, which stands in each subroutine that calls others.
+    /// PUT of rJ, which is in each subroutine that calls others.
     #[tactic(auto, using(crate::proofs::Results::Puts::put_link))]
     #[inline(always)]
     pub(crate) fn put_link_if_usual(&mut self, i: &Instruction) -> bool

@@ -18,7 +18,7 @@ use mx_word::{NoMemory, Sequence};
 use std::alloc::Global;
 
 impl Machine {
-    /// The machine at the start of a program that stands in no memory yet: $0 and $1 have these values, $g to $255 those
+    /// The machine at the start of a program that is in no memory yet: $0 and $1 have these values, $g to $255 those
     /// of the globals, and it begins at the address that $255 has. Its memory is empty.
     ///
     /// Errors: out of memory, for the ring and the stack area.

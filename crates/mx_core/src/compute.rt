@@ -27,8 +27,8 @@ impl Machine {
         }
     }
 
-    /// An instruction on whole numbers, of its operands, with what it gives beside the result. It is given
-    /// words and no reference, so that the instruction need not stand in memory.
+    /// An instruction on whole numbers, of its operands, with what it gives besides the result. It is given
+    /// words and no reference, so that the instruction need not be in memory.
     #[inline(never)]
     fn compute_wholly(&mut self, at: u64, word: u32, y: u64, z: u64) -> Told
         requires { IsTrue (is_alu (code_of (instruction at word))) }

@@ -28,7 +28,7 @@ impl Machine {
     }
 
     /// A load from Stack_Segment on, for its operands. It is given words and no reference, so that the
-    /// instruction need not stand in memory.
+    /// instruction need not be in memory.
     #[inline(never)]
     fn load_apart(&mut self, how: Loading, at: u64, word: u32, y: u64, z: u64) -> Told
         requires { 0x6000_0000_0000_0000 ≤ (y + z) % 2 ^ 64 }

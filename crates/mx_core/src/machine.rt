@@ -122,7 +122,7 @@ impl Machine {
         }
     }
 
-    /// The octa that holds an address below 2^63; 0 where nothing stands.
+    /// The octa that holds an address below 2^63; 0 where nothing was stored.
     #[inline(always)]
     pub fn octa(&self, a: u64) -> u64
         requires { a < 2 ^ 63 }
@@ -161,7 +161,7 @@ impl Machine {
         self.steps = self.steps.wrapping_add(1);
     }
 
-    /// Keeps the page of the instruction that was fetched last, so that those behind it are fetched quickly.
+    /// Keeps the page of the instruction that was fetched last, so that those after it are fetched quickly.
     #[inline(always)]
     pub(crate) fn keep_code(&mut self)
         ensures { state_of self.new ≡ state_of self.old }
@@ -169,7 +169,7 @@ impl Machine {
         self.memory.keep_code();
     }
 
-    /// The machine goes on behind the instruction at an address, one step later.
+    /// The machine goes on after the instruction at an address, one step later.
     #[inline(always)]
     pub(crate) fn go_on(&mut self, at: u64)
         requires aligned { at % 4 ≡ 0 }

@@ -8,7 +8,7 @@ pub(crate) struct OctaWas {
     pub began: bool,
 }
 
-/// What a usual step overwrites beside the next address and the steps: nothing; a register, with what it had; L, with
+/// What a usual step overwrites besides the next address and the steps: nothing; a register, with what it had; L, with
 /// the number of locals that were; rJ, with what it had; or an octa of memory, with an address in it and what it was.
 #[derive(Clone, Copy)]
 pub(crate) enum Overwritten {

@@ -39,7 +39,7 @@ pub enum Advance {
 }
 
 /// How many steps went on, one after another, and what the last call of a step came to: `Went` where as many
-/// steps as were asked for went on, and else what the step behind them comes to, which changed nothing.
+/// steps as were asked for went on, and else what the step after them comes to, which changed nothing.
 #[derive(Clone, Copy)]
 pub struct Advanced {
     pub made: u64,
@@ -306,7 +306,7 @@ impl Machine {
         }
     }
 
-    /// Carries a PUT out. That of rJ stands in each subroutine that calls others.
+    /// Carries a PUT out. That of rJ is in each subroutine that calls others.
     #[tactic(auto, using(crate::proofs::Results::Unchanged::unchanged, crate::proofs::Results::Puts::put_link))]
     #[inline(always)]
     pub(crate) fn carry_out_put(&mut self, i: &Instruction) -> Result<(), Stop>
@@ -326,7 +326,7 @@ impl Machine {
     }
 
     /// Carries an instruction of a program out, which is no TRAP. It is given words and no reference, so
-    /// that a frequent instruction need not stand in memory.
+    /// that a frequent instruction need not be in memory.
     #[tactic(auto, using(crate::proofs::Results::Unchanged::unchanged))]
     #[inline(never)]
     fn carry_out(&mut self, at: u64, word: u32) -> Told

@@ -46,7 +46,7 @@ impl Machine {
     }
 
     /// A store that loses the sign. It is given words and no reference, so that the instruction need not
-    /// stand in memory.
+    /// be in memory.
     #[inline(never)]
     fn store_apart(&mut self, how: Storing, at: u64, word: u32, a: u64, x: u64) -> Told
         requires address { a < 2 ^ 63 }

@@ -62,7 +62,7 @@ impl Machine {
     }
 
     /// What an instruction does, told by its operation. The loop over many steps tells it by the code: with a second
-    /// caller of that its arms would no longer stand in the loop.
+    /// caller of that its arms would no longer be in the loop.
     #[inline(always)]
     fn usual(&self, i: &Instruction) -> Usual
         ensures { IsUsual result (state_of self.now) i.now }

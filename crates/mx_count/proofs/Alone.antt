@@ -19,7 +19,7 @@ left-alone w h ws left earlier kept alone none hears =
     hears.staying ∙ ap (λ (v : List Watching). map (λ (x : ℕ × Watching). x.1) (flat_map (remains h) (placed v))) alone
     ∙ ap (λ b. map (λ (x : ℕ × Watching). x.1) (cond b ((0, after h w) ∷ []) [] ++ [])) (open-still w h none)
 
--- its report is on all that it heard, and on what it hears behind it
+-- its report is on all that it heard, and on what it hears after it
 pub report-alone : (w : Watching) (h last : List Trace) (ws left : List Watching) (earlier kept : List Report) (text : List ℕ) → ws ≡ w ∷ [] → ((g : List Trace) → w.full g ≡ false) →
     Hears h ws left earlier kept → ((v : Watching) → left ≡ v ∷ [] → text ≡ v.text last) → text ≡ w.text (h ++ last)
 report-alone w h last ws left earlier kept text alone none hears is = is (after h w) (left-alone w h ws left earlier kept alone none hears)

@@ -50,7 +50,7 @@ mems-most code =
     (either-most (is_within 0xa0 0xb7 code) 1 _ 20 (omega arith)
     (either-most (is_within 0xfa 0xfb code) 20 0 20 (omega arith) (omega arith)))))
 
--- ---- and so many steps so often as much
+-- ---- and n steps n times as much
 
 record IsFew (n : ℕ) (y : Tally) : Type 0 where
   times : y.times ≤ n
@@ -112,7 +112,7 @@ run-fits kind steps s m few =
 
 -- ---- what is made of a report is what is made of the steps
 
--- of so many as the tallies in octas hold
+-- of as many as the tallies in octas hold
 pub record Remakes {A : Type 0} (f : Counted → A) (report : List Trace → List ℕ) (making : Making A) : Type 0 where
   pub without : (outcome : Outcome) → f (uncounted outcome) ≡ making.without outcome
   pub with_steps : (outcome : Outcome) (h : List Trace) → HasOctas (tally_in (λ a. true) h) → f (record { outcome = outcome; sheet = Some (report h) }) ≡ making.with_steps outcome h

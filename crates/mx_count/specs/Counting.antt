@@ -27,7 +27,7 @@ counting source loads es = counting_as Text source loads es
 
 -- ---- on the way
 
--- the entry of an address stands at a place
+-- the entry of an address is at a place
 pub record IsAt (es : List Entry) (place address : ℕ) : Type 0 where
   pub inside : place < length es
   pub here : (d : Entry) → (slice_index_or es place d).address ≡ address

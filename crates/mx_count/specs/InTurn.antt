@@ -1,4 +1,4 @@
--- Tallies as the code finds them: entry by entry, and tetra by tetra of a line. What they are stands in `Counting` and `Sheets`;
+-- Tallies as the code finds them: entry by entry, and tetra by tetra of a line. `Counting` and `Sheets` say what they are;
 -- the proof says that both are the same.
 use Rattle.std.specs.Prelude.{ℕ, ◌==◌, ◌||◌, Bool, false, if◌then◌else◌, List, [], ◌∷◌, Option, None, Some}
 use Rattle.std.specs.Map.{lookup}

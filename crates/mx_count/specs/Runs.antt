@@ -36,7 +36,7 @@ use Rattle.mx_count.specs.declared.lines.LineSheet.{LineSheet}
 
 -- ---- a machine: as the program runs it
 
--- the outcome of a run of at most so many steps; without flags a run does not break
+-- the outcome of a run of at most this many steps; without flags a run does not break
 abbrev pub outcome_of : ℕ → End → Outcome
 outcome_of steps (ending.Halted status) = Done status
 outcome_of steps (ending.Stopped pc reason) = Stopped pc reason
@@ -182,7 +182,7 @@ EndsAsReported w h (run_ended e) end new text = (end ≡ e.end) × (new ≡ e.ho
 EndsAsReported w h (run_wild m) end new text = IsFront m.output new.output
 
 -- over a host that tells its contents, a run of at most n steps ends so, and a watcher has this report on its steps; and, from a state
--- where nothing was touched, so it is of the list machine
+-- where nothing was touched, the same holds of the list machine
 abbrev pub EndsReported : Option HostModel → Option HostModel → State → State → ℕ → Watching → Result (End × List ℕ) NoMemory → Type 0
 EndsReported old new before after n w (Err e) = Unit {0}
 EndsReported old new before after n w (Ok (end, text)) =

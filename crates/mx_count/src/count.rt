@@ -41,7 +41,7 @@ fn uncounted(outcome: Outcome) -> Counted
     }
 }
 
-/// The outcome of a run of at most so many steps, by its end. Without flags a run does not break.
+/// The outcome of a run of at most this many steps, by its end. Without flags a run does not break.
 fn outcome_of(steps: u64, end: End) -> Outcome
     ensures value { result ≡ spec.outcome_of steps end }
     ensures well { result ≢ Outcome.HostFault }

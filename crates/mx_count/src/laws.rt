@@ -18,7 +18,7 @@ ghost use Rattle.mx_words.specs.declared.order.Order.{Order};
 ghost use Rattle.mx_count.specs.Tallies.{added, code_in, goes_away, nothing, tally_in};
 
 /// The tally of addresses has the number of the traces there, how many of them have another next address than the one
-/// behind, and the sums of their υ and μ.
+/// after it, and the sums of their υ and μ.
 #[tactic(auto, using(crate::proofs::TraceCounts::numbers))]
 pub fn tallies_count_traces()
     ensures times { (test : ℕ → Bool) (h : List Trace) →
@@ -49,7 +49,7 @@ pub fn sheets_are_read_back()
         ≡ sheet_data source (loads_of source) (λ test. tally_in test h) }
 {}
 
-/// A column begins with a blank, so the numbers of a row stand apart, however many digits they have.
+/// A column begins with a blank, so the numbers of a row are apart, however many digits they have.
 pub fn columns_stand_apart()
     ensures { (n : ℕ) → take 1 (column n) ≡ codes " " }
 {}

@@ -18,13 +18,13 @@ use std::alloc::Global;
 /// As many blanks as a number is filled up to.
 static BLANKS: [u8; 10] = *b"          ";
 
-/// What stands in front of a line that loads nothing.
+/// What is in front of a line that loads nothing.
 static NO_FIGURES: [u8; 44] = *b"                                            ";
 
-/// What stands in front of a line that was never carried out.
+/// What is in front of a line that was never carried out.
 static NEVER: [u8; 44] = *b"          -                                 ";
 
-/// What stands in front of the rows.
+/// What is in front of the rows.
 static HEADING: [u8; 103] =
     *b"\n--------------------------------------------------------\n      times       away       oops       mems\n";
 
@@ -50,7 +50,7 @@ pub fn add_figures(alloc: Global, text: &mut Bytes, tally: Tally) -> Result<(), 
     add_column(alloc, text, tally.mems)
 }
 
-/// Adds what stands in front of a line that loads these tetras.
+/// Adds what is in front of a line that loads these tetras.
 fn add_line_figures(
     alloc: Global,
     text: &mut Bytes,

@@ -78,7 +78,7 @@ impl Table {
     }
 }
 
-/// Whether the entry of an address stands at a place.
+/// Whether the entry of an address is at a place.
 fn is_at(entries: &Vec<Entry>, place: usize, address: u64) -> bool
     ensures { IsTrue result → IsAt entries.now.items place address }
 {

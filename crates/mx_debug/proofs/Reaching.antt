@@ -51,7 +51,7 @@ reached-after p q k at at2 e ne r s =
     let same : k - 1 + 1 ≡ k = omega (arith, ne) in
     subst (λ x. IsReached p x at2) same (after-turn p (k - 1) at at2 r (subst (λ x. IsReached x (at + 1) at2) e s))
 
--- so many steps on, but not past the last one that may be gone to, which an octa can have
+-- this many steps on, but not past the last one that can be reached, which an octa can have
 few-on : (at n most k : ℕ) → most < 2 ^ 64 → k ≡ min (min (at + n) (2 ^ 64 - 1)) most → min k most ≡ min (at + n) most
 few-on at n most k h e = omega (arith, h, e)
 
@@ -59,7 +59,7 @@ pub reached-on : (p : Program) (at n most told k at2 : ℕ) → told < 2 ^ 64 �
 reached-on p at n most told k at2 h same e r =
     subst (λ x. IsReached p x at2) (few-on at n most k (subst (λ x. x < 2 ^ 64) same h) (e ∙ ap (min (min (at + n) (2 ^ 64 - 1))) same)) r
 
--- one who found a step stands there
+-- a session that found a step is there
 pub found-there : (p : Program) (until from at there : ℕ) (found : Option ℕ) → FoundAt p until from at found → there ≡ at → FoundAt p until from there found
 found-there p until from at there found f e = subst (λ x. FoundAt p until from x found) (sym e) f
 

@@ -1,4 +1,4 @@
-//! Where a word leads to, with what is told of it.
+//! Where a word leads to, with what is shown of it.
 
 ghost use Rattle.std.specs.Prelude.{◌≡◌, ◌+◌, min, OnOk};
 ghost use Rattle.mx_replay.specs.Programs.{IsReached};

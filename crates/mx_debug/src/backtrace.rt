@@ -8,13 +8,13 @@ use mx_tell::{Call, add_backtrace};
 use mx_word::{Bytes, NoMemory, Sequence};
 use std::alloc::Global;
 
-/// So many calls are told with their arguments: the innermost ones.
+/// This many calls are told with their arguments: the innermost ones.
 const TOLD: usize = 8;
 
 /// What a call was handed: the registers that it has at its start.
 type Arguments = Option<Sequence<u64>>;
 
-/// What the call was handed that was made where at most so many registers were hidden.
+/// What the call was handed that was made where at most this many registers were hidden.
 fn arguments_at(replay: &mut Replay, depth: u64) -> Result<Arguments, NoMemory>
     ensures { replay.new ≡ replay.old }
 {

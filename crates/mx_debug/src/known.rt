@@ -1,4 +1,4 @@
-//! What a session knows beside the run.
+//! What a session knows besides the run.
 
 ghost use Rattle.std.specs.Prelude.{◌≡◌, []};
 
@@ -15,7 +15,7 @@ pub(crate) struct Stops {
     pub(crate) last: u32,
 }
 
-/// What is known of the program by name, its breaks, what is watched, the last step that may be gone to, and how many registers
+/// What is known of the program by name, its breaks, what is watched, the last step that can be reached, and how many registers
 /// the ring has.
 #[derive(Drop)]
 pub(crate) struct Known {

@@ -1,4 +1,4 @@
-//! A session of the debugger: the run of a program that is gone through step by step, forth and back, as lines ask.
+//! A session of the debugger: the run of a program that is gone through step by step, back and forth, as lines ask.
 #![tactic(auto)]
 
 mod arriving;

@@ -18,7 +18,7 @@ fn line_in(book: &Book, text: &[u8]) -> Option<u32> {
     book.line_at(target_in(book, text)?.address)
 }
 
-/// The first of the lines that are shown: those near a place, those behind the ones that were shown, or those near the instruction
+/// The first of the lines that are shown: those near a place, those after the ones that were shown, or those near the instruction
 /// that comes next.
 fn first_line(book: &Book, pc: u64, again: Again, rest: &[u8]) -> Option<u32> {
     if !rest.is_empty() {

@@ -113,7 +113,7 @@ impl Session {
 
     /// Obeys a word with the form after its stroke and what follows it, and adds the answer.
     ///
-    /// Errors: out of memory; then it stands at a step of the run all the same.
+    /// Errors: out of memory; then it is at a step of the run all the same.
     pub fn obey_word(
         &mut self,
         word: Word,
@@ -172,7 +172,7 @@ impl Session {
 
     /// Obeys a line, and adds the answer.
     ///
-    /// Errors: out of memory; then it stands at a step of the run all the same.
+    /// Errors: out of memory; then it is at a step of the run all the same.
     pub fn obey(&mut self, line: &[u8], out: &mut Bytes) -> Result<Flow, NoMemory>
         ensures program { KeepsProgram self.old self.new }
     {

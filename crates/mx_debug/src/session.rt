@@ -27,7 +27,7 @@ pub(crate) struct Again {
     pub(crate) listed: Option<u64>,
 }
 
-/// A run that is gone through step by step, forth and back. Whatever words came before, what is shown at step k is step k of the run of
+/// A run that is gone through step by step, back and forth. Whatever words came before, what is shown at step k is step k of the run of
 /// the program.
 #[derive(Drop)]
 pub struct Session {
@@ -51,7 +51,7 @@ impl Model for Session {
 }
 
 impl Session {
-    /// A session at the start of a program's run, with what is known of it by name. No step after `most` is gone to.
+    /// A session at the start of a program's run, with what is known of it by name. No step after `most` is visited.
     ///
     /// Errors: the outcome where no machine starts, as that of a source that is refused, and out of memory.
     pub fn begin(alloc: Global, program: Program, book: Book, most: u64) -> Result<Session, Outcome>
@@ -93,7 +93,7 @@ impl Session {
         arrive_here(&mut self.replay, &self.known, since, out)
     }
 
-    /// Goes to step k, but not past the last one that may be gone to nor past the end, and tells of it.
+    /// Goes to step k, but not past the last one that can be reached nor past the end, and tells of it.
     pub fn go_to(&mut self, k: u64, out: &mut Bytes) -> Result<(), NoMemory>
         ensures program { KeepsProgram self.old self.new }
         ensures stops { KeepsStops self.old self.new }
@@ -104,14 +104,14 @@ impl Session {
         arrive(&mut self.replay, &self.known, since, k, out)
     }
 
-    /// The last step that may be gone to.
+    /// The last step that can be reached.
     pub fn most(&self) -> u64
         ensures { result ≡ self.now.most }
     {
         self.known.most
     }
 
-    /// Goes n steps on, but not past the last one that may be gone to nor past the end, and tells of the step.
+    /// Goes n steps on, but not past the last one that can be reached nor past the end, and tells of the step.
     #[tactic(auto, using(crate::proofs::Reaching::reaching))]
     pub fn step_on(&mut self, n: u64, out: &mut Bytes) -> Result<(), NoMemory>
         ensures program { KeepsProgram self.old self.new }
@@ -134,7 +134,7 @@ impl Session {
         arrive_back(&mut self.replay, &self.known, since, k, out)
     }
 
-    /// Goes on to the next step at a break or a change of what is watched, or at which at most so many registers are hidden, if
+    /// Goes on to the next step at a break or a change of what is watched, or at which at most this many registers are hidden, if
     /// that is asked: the least after this one. Where there is none, it goes on to the end, or to the last step that may be gone
     /// to. It tells of the step.
     #[tactic(auto, using(crate::proofs::Reaching::reaching))]
@@ -158,7 +158,7 @@ impl Session {
         Ok(found)
     }
 
-    /// Goes back to the last step at a break or a change of what is watched, or at which at most so many registers are hidden, if
+    /// Goes back to the last step at a break or a change of what is watched, or at which at most this many registers are hidden, if
     /// that is asked: the greatest before this one. Where there is none, it goes back to the start. It tells of the step.
     #[tactic(auto, using(crate::proofs::Reaching::reaching))]
     pub fn go_back(&mut self, depth: Option<u64>, out: &mut Bytes) -> Result<Option<u64>, NoMemory>

@@ -60,7 +60,7 @@ fn address_of(machine: &Machine, thing: Thing) -> u64 {
     }
 }
 
-/// The address that a text names: where nothing is written, the one behind those that were shown.
+/// The address that a text names: where nothing is written, the one after those that were shown.
 fn examined_in(book: &Book, machine: &Machine, again: Again, rest: &[u8]) -> Option<u64> {
     let address = if rest.is_empty() {
         again.examined
@@ -110,7 +110,7 @@ pub(crate) fn info(
 }
 
 impl Session {
-    /// Shows so many units of memory from an address.
+    /// Shows this many units of memory from an address.
     fn examine(
         &mut self,
         from: u64,
@@ -151,7 +151,7 @@ impl Session {
         }
     }
 
-    /// Shows the units behind those that were shown.
+    /// Shows the units after those that were shown.
     pub(crate) fn examine_more(&mut self, out: &mut Bytes) -> Result<(), NoMemory>
         ensures { self.new ≡ self.old }
     {

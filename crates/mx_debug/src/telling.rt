@@ -1,4 +1,4 @@
-//! What is told of a step: what the program wrote on the way, where it stands, and why it stopped there.
+//! What is shown of a step: what the program wrote on the way, where it is, and why it stopped there.
 
 use crate::known::Known;
 use mx_core::Machine;
@@ -69,7 +69,7 @@ pub(crate) fn is_over(end: End) -> bool {
     !matches!(end, End::Spent)
 }
 
-/// Adds that the start is reached, the end, or the last step that may be gone to.
+/// Adds that the start is reached, the end, or the last step that can be reached.
 fn add_bounds(out: &mut Bytes, replay: &Replay, known: &Known) -> Result<(), NoMemory> {
     if is_over(replay.end()) {
         return add_end(out, &known.book, replay.end());

@@ -50,7 +50,7 @@ is_address_shown s a = s.touched || not (in_stack_area a)
 abbrev pub octa_line : State → ℕ → List Line
 octa_line s a = line_if (not (octa s a == 0) && is_address_shown s a) (named_octa (codes "M" ++ hex_text a) (octa s a))
 
--- so many octas, from the first of memory on
+-- this many octas, from the first of memory on
 unfoldable pub octa_lines : State → ℕ → List Line
 octa_lines s zero = []
 octa_lines s (suc n) = octa_lines s n ++ octa_line s (8 * n)

@@ -1,4 +1,4 @@
--- What is spelled is read: operands, fields, and what stands before a primary.
+-- What is spelled is read: operands, fields, and what is before a primary.
 use Rattle.std.proofs.Common.{◌≡◌, ℕ, ◌+◌, ◌<◌, List, [], ◌∷◌, ◌++◌, length, map, Bool, true, false, Some, Result, Ok, refl, sym, ap, ◌∙◌, arith, append_assoc, append-nil, length-append, ◌==◌, rules}
 use Rattle.mx_expr.proofs.Words.{and_parts, not-true, list_all, ExprFault, BinOp, Div, Tree, number, is_no_quote, with_strong, Waiting, sign, strong, weak, parenthesis, Mode, operand, slash, closed, State, with_weak, field_end, reading_end, start, listed, next_operand, StrongOperator, Product, Sum, Operand, Operands, Spells, Before, mul, div, fraction, rem, left, right, and, primary, times, expression, none, more, empty, operands, first}
 use Rattle.mx_expr.specs.Reading as reading
@@ -98,7 +98,7 @@ pub wants-moves : {s : State} {k : List Waiting} {d : ℕ} {es : List Tree} → 
 unfolding moves
 wants-moves {s = s} {k = k} {d = d} {es = es} w text h = cc (wants-move w h.b h.other)
 
--- what stands before a primary is read
+-- what is before a primary is read
 pub record Stood (depth : ℕ) (front : List ℕ) : Type 0 where
   pub state : State
   pub k : List Waiting

@@ -144,7 +144,7 @@ pub sign-step : (b : ℕ) (op : UnOp) (k : List Waiting) (d : ℕ) (es : List Tr
 sign-step b op k d es plus = refl
 sign-step b op k d es _ = refl
 
--- after `/` stands what stands after the operator, unless it is `/`
+-- after `/` is what is after the operator, unless it is `/`
 pub slash-move : (l : Tree) (k : List Waiting) (d : ℕ) (es : List Tree) (b : ℕ) → (b == 47) ≡ false → move (st (slash l) k d es) b ≡ move (st operand (strong Div l ∷ k) d es) b
 slash-move l k d es b h = rw h refl
 

@@ -147,7 +147,7 @@ closes (parenthesis ∷ k) d front part e h g =
     (around h.front 40 (part ++ 41 ∷ []) front h.spelled ∙ sym (append_assoc front part (41 ∷ [])))
     (closes k h.below h.front (40 ∷ (part ++ 41 ∷ [])) e h.before (a_primary (enclosed part e (piece-sum (parenthesis ∷ k) part e g))))
 
--- what stands before a primary, with operands before it
+-- what is before a primary, with operands before it
 pub before-product : (d : ℕ) (text : List ℕ) {part : List ℕ} {e : Tree} → Product part e → Before d text → (word : List ℕ) (op : BinOp) → StrongOperator word op → Before d (text ++ (part ++ word))
 before-product d text (primary part e h) t word op w = before_strong d text part word e op t h w
 before-product d text (times left word1 right op1 l r h w1 g) t word op w =

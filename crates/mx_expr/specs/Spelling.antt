@@ -79,7 +79,7 @@ pub data Spells : List ℕ → List Tree → Type 0 where
   empty : Spells [] (number 0 ∷ [])
   operands : (text part : List ℕ) (es fs : List Tree) → Operands text es → Operand part fs → Spells (text ++ part) (es ++ fs)
 
--- what stands before a primary, and how many parentheses are open there
+-- what is before a primary, and how many parentheses are open there
 pub data Before : ℕ → List ℕ → Type 0 where
   first : (text : List ℕ) (es : List Tree) → Operands text es → Before 0 text
   sign : (depth : ℕ) (text : List ℕ) (b : ℕ) (op : UnOp) → Before depth text → Sign b op → Before depth (text ++ b ∷ [])

@@ -71,7 +71,7 @@ abbrev pub page_of : (List ℕ → Page) → Then (Result (List ℕ) Outcome) �
 page_of view (Ok source, m) = page_put (view source) m
 page_of view (Err outcome, m) = (outcome, m)
 
--- what comes of the source in the file of this name, of which a view makes this page
+-- what comes of the source in the file of this name, from which a view makes this page
 abbrev pub shown_file : (List ℕ → Page) → List ℕ → HostModel → Then Outcome
 shown_file view name m = page_of view (source_in name m)
 
@@ -89,7 +89,7 @@ pub record FaultsBetween {A : Type 0} (old new : Option HostModel) (earlier late
   pub no_file : ComesByFault old absent result earlier later
   pub keeps : Keeps old new earlier later
 
--- so it is of a whole
+-- the same holds of a whole
 abbrev pub FaultsOnlyBy : {H : Type 0} → (H → Option HostModel) → (H → ℕ) → H → H → Outcome → Type 0
 FaultsOnlyBy told faults old new result = FaultsBetween (told old) (told new) (faults old) (faults new) Broken NoFile result
 

@@ -21,7 +21,7 @@ no-named [] k h l e = absurd (omega (arith, l))
 no-named (b ∷ bs) zero h l e = (let below = h.0 in omega (arith, below, e))
 no-named (b ∷ bs) (suc k) h l e = no-named bs k h.1 (omega (arith, l)) e
 
--- none stands below a place
+-- none is below a place
 abbrev NamedBelow : List ℕ → ℕ → Type 0
 NamedBelow bytes place = (k : ℕ) → k < place → is_unnamed (get_or bytes k 0) ≡ false
 
@@ -40,7 +40,7 @@ found-least bytes place k l m h empty = absurd (omega (arith, l))
 found-least bytes place k l m h (long _ g) = omega (arith, m)
 found-least bytes place k l m h (unnamed _ _ g e) = from-place bytes place k (nat_lt k place) refl h e
 
--- each byte that names none stands behind the longest schedule
+-- each byte that names none is past the longest schedule
 abbrev Late : List ℕ → Type 0
 Late bytes = (k : ℕ) → k < length bytes → 8 ≤ get_or bytes k 0 → longest ≤ k
 

@@ -37,7 +37,7 @@ comes-held {O} {R} {W} {A} d Rel h v w none r p (inr ne) c = rw (ap (λ (t : A �
 pub stop-streams : {A : Type 0} (p : HostPlan A) (v w : HostModel) → Stops host v p w → KeepsStreams w v
 stop-streams p v w s = held-stop host KeepsStreams streams-held p v w s
 
--- what stands on standard output where memory ran out is a front of what would stand there at the end
+-- what is on standard output where memory ran out is a front of what would be there at the end
 pub stop-front : {A : Type 0} (p : HostPlan A) (v w : HostModel) → Stops host v p w → IsFront v.output (end_of host p w).1.output
 stop-front p v w s = (held-on host KeepsStreams streams-held p v w s).growing
 

@@ -1,4 +1,4 @@
--- A file is read to at most so many pieces.
+-- A file is read in at most this many pieces.
 use Rattle.std.proofs.Common.{ℕ, zero, suc, ◌≤◌, ◌+◌, ◌-◌, ◌*◌, ◌==◌, List, [], ◌++◌, length, Bool, true, false, Ok, Err, arith}
 use Rattle.std.specs.Prelude.{Result}
 use Rattle.mx_host.specs.declared.faults.HostFault.{HostFault}

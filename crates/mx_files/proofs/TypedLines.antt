@@ -130,7 +130,7 @@ pub shown-some : (a b : Option HostModel) (k m : ℕ) (text : List ℕ) (r : Res
 shown-some a b k m [] r h w = absurd (cc)
 shown-some a b k m (x ∷ text) r h w = w
 
--- ---- an item, and the rest behind it
+-- ---- an item, and the rest after it
 
 none-shown : (a b : Option HostModel) (k m : ℕ) → WorksBetween a b k m (Ok tt) (item_plan []) → IsTrue (tells a) → contents b ≡ contents a
 unfolding item_plan bind need end_of host
@@ -205,7 +205,7 @@ still-item lambda next m n item well h e =
     ∙ first-line lambda item (items_of n.phase n.at n.rest)
     ∙ ap (λ l. behind (shown (item_text lambda item)) (still_typed l n)) (sym e)
 
--- ---- an item that stands next
+-- ---- an item that is next
 
 pub next-leaves : (a b : Option HostModel) (k o lambda next : ℕ) (m n : ReaderModel) (item : Item) → m.fault ≡ None → (Ok (Some item), n) ≡ next_answer m → next ≡ lambda_after lambda item →
     WorksBetween a b k o (Ok tt) (item_plan (item_text lambda item)) → Leaves a b k o (typed_plan (still_typed next n)) (typed_plan (still_typed lambda m))

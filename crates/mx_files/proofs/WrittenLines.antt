@@ -1,4 +1,4 @@
--- Lines that are written in turn, some behind others.
+-- Lines that are written in turn, some after others.
 use Rattle.std.proofs.Common.{◌≡◌, ℕ, ◌+◌, ◌<◌, ◌≤◌, Bool, true, false, cond, List, [], ◌∷◌, ◌++◌, take, drop, get_or, Ok, Err, refl, sym, ◌∙◌, ap, subst, arith, append-nil, zero-add}
 use Rattle.std.proofs.Math.Path.{fun_ext}
 use Rattle.std.proofs.lemmas.Grind.{flat_map-append}
@@ -15,7 +15,7 @@ use Rattle.mx_outcome.specs.declared.outcome.Outcome.TheVariants.{OutOfMemory}
 use Rattle.mx_files.proofs.FileParts.{line-made, line-lacks}
 use Rattle.mx_files.proofs.Parts.{works-then, works-ends, works-done}
 
--- ---- plans behind each other
+-- ---- plans one after another
 
 bind-assoc : {O : Type 0} {R : O → Type 0} {A B C : Type 0} (f : B → Plan O R C) (g : A → Plan O R B) (p : Plan O R A) → bind f (bind g p) ≡ bind (λ a. bind f (g a)) p
 unfolding bind
@@ -43,12 +43,12 @@ pub writes-none : (a : Option HostModel) (k : ℕ) → Writes a a k k (Ok tt) []
 unfolding lines_plan
 writes-none a k = works-done a k tt
 
--- lines behind those that were written
+-- lines after those that were written
 pub writes-then : (a b c : Option HostModel) (k m n : ℕ) (r : Result (Unit {0}) Outcome) (xs ys : List (List ℕ)) → Writes a b k m (Ok tt) xs → Writes b c m n r ys → Writes a c k n r (xs ++ ys)
 writes-then a b c k m n r xs ys first second =
     subst (λ (p : Part (Unit {0})). WorksBetween a c k n r p) (sym (lines-append xs ys)) (works-then a b c k m n tt r (λ u. lines_plan ys) (lines_plan xs) first second)
 
--- no other line behind one that was not written
+-- no other line after one that was not written
 pub writes-ended : (a b : Option HostModel) (k m : ℕ) (outcome : Outcome) (xs ys : List (List ℕ)) → Writes a b k m (Err outcome) xs → Writes a b k m (Err outcome) (xs ++ ys)
 writes-ended a b k m outcome xs ys h =
     subst (λ (p : Part (Unit {0})). WorksBetween a b k m (Err outcome) p) (sym (lines-append xs ys)) (works-ends a b k m outcome (λ u. lines_plan ys) (lines_plan xs) h)

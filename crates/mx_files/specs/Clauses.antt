@@ -50,7 +50,7 @@ Serves (writing slot from) m = can_write (slot_at m slot) ≡ true
 Serves (closing slot) m = is_open (slot_at m slot) ≡ true
 Serves call m = Unit {0}
 
--- Over every host, an answer comes only where the count of faults rose, or where that stands at its end; over one that tells its
+-- Over every host, an answer comes only where the count of faults rose, or where that is at its end; over one that tells its
 -- contents, as long as each call of the plan is on a slot that serves it.
 abbrev pub ComesByFailing : {A B : Type 0} → Option HostModel → A → A → ℕ → ℕ → HostPlan B → Type 0
 ComesByFailing old answer result earlier later plan =

@@ -16,7 +16,7 @@ FailsOnlyBy told faults old new result =
     × (is_usage result ≡ false)
     × Keeps (told old) (told new) (faults old) (faults new)
 
--- so it is of a part, which gives something or ends with an outcome
+-- the same holds of a part, which gives something or ends with an outcome
 abbrev pub PartFailsOnlyBy : {H A : Type 0} → (H → Option HostModel) → (H → ℕ) → H → H → Result A Outcome → Type 0
 PartFailsOnlyBy told faults old new result =
     OnlyByFailure (told old) (Err HostFault) result (faults old) (faults new)

@@ -57,7 +57,7 @@ read_piece got = bind (piece_added got) (read_plan input_slot piece_size)
 abbrev pub read_next : (List ℕ → Part (List ℕ)) → List ℕ × Bool → Part (List ℕ)
 read_next more (got, whole) = if whole then more got else returns (Ok got)
 
--- at most so many more pieces
+-- at most this many more pieces
 unfoldable pub read_pieces : ℕ → List ℕ → Part (List ℕ)
 read_pieces zero got = returns (Ok got)
 read_pieces (suc left) got = bind (on_ok (read_next (read_pieces left))) (read_piece got)
@@ -69,7 +69,7 @@ then_closed bytes = bind (on_ok (λ u. returns (Ok bytes))) (close_file input_sl
 unfoldable pub read_open : ℕ → Part (List ℕ)
 read_open most = bind (on_ok then_closed) (read_pieces most [])
 
--- the bytes of the file of this name, in pieces of 4,096 bytes up to a shorter one, or so many
+-- the bytes of the file of this name, in pieces of 4,096 bytes up to a shorter one, or this many
 unfoldable pub file_plan : ℕ → List ℕ → Part (List ℕ)
 file_plan most name = bind (on_ok (λ u. read_open most)) (open_input name)
 
@@ -79,12 +79,12 @@ file_plan most name = bind (on_ok (λ u. read_open most)) (open_input name)
 unfoldable pub write_piece : ℕ → List ℕ → Part (Unit {0})
 write_piece slot piece = bind (λ r. returns (carried r)) (write_plan slot piece)
 
--- in so many whole pieces and the one behind them
+-- in this many whole pieces and the one after them
 unfoldable pub write_pieces : ℕ → ℕ → List ℕ → Part (Unit {0})
 write_pieces zero slot text = write_piece slot text
 write_pieces (suc more) slot text = bind (on_ok (λ u. write_pieces more slot (drop piece_size text))) (write_piece slot (take piece_size text))
 
--- in pieces of 4,096 bytes, of which the last is shorter or whole; no bytes make one empty piece
+-- in pieces of 4,096 bytes, the last of which is shorter or whole; no bytes make one empty piece
 unfoldable pub text_plan : ℕ → List ℕ → Part (Unit {0})
 text_plan slot text = write_pieces ((length text - 1) / piece_size) slot text
 

@@ -29,7 +29,7 @@ abbrev pub is_no_memory : AsmFault → Bool
 is_no_memory Asm.OutOfMemory = true
 is_no_memory fault = false
 
--- what stands between two lines, or the refusals of it
+-- what is between two lines, or the refusals of it
 pub record Standing : Type 0 where
   pub assembly : Result Assembly Refused
   pub loading : Result Loading LoadFault

@@ -64,7 +64,7 @@ assemble_plan source object = whole_plan (assemble_part source object)
 
 -- ---- AN OBJECT that is listed
 
--- Behind the last line of an object nothing takes memory; to find the fault of bytes that are none does.
+-- After the last line of an object nothing takes memory; to find the fault of bytes that are none does.
 abbrev pub typed_end : Outcome → Part (Unit {0})
 typed_end (Done status) = returns (Ok tt)
 typed_end outcome = bind (λ u. returns (Err outcome)) need

@@ -13,7 +13,7 @@ use Rattle.mx_files.specs.declared.refusal.Refusal.{Refusal}
 abbrev pub Assembled : Type 0
 Assembled = List ℕ × Result (Unit {0}) Refusal
 
--- what was written of the items, with the end of an object behind it, or with the refusal
+-- what was written of the items, with the end of an object after it, or with the refusal
 abbrev pub object_with : List ℕ → Result (List ℕ) Refused → Assembled
 object_with bytes (Ok trie) = (bytes ++ ending trie, Ok tt)
 object_with bytes (Err refused) = (bytes, Err (refusal_of refused))

@@ -13,7 +13,7 @@ use Rattle.mx_outcome.specs.declared.outcome.Outcome.TheVariants.{BadSchedule}
 abbrev pub longest : ℕ
 longest = 2 ^ 22
 
--- A place at which a schedule is at fault: it has no bytes, it goes on behind 2^22 bytes, or its byte there names none of eight
+-- A place at which a schedule is at fault: it has no bytes, it goes on after 2^22 bytes, or its byte there names none of eight
 -- processors.
 pub data IsAtFault : List ℕ → ℕ → Type 0 where
   empty : IsAtFault [] 0

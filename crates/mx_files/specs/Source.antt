@@ -15,6 +15,6 @@ source_pieces = 1025
 abbrev pub object_pieces : ℕ
 object_pieces = 16385
 
--- the bytes of the file of this name, in at most so many pieces
+-- the bytes of the file of this name, in at most this many pieces
 abbrev pub file_bytes : ℕ → List ℕ → HostModel → Then (Result (List ℕ) Outcome)
 file_bytes most name m = end_of host (file_plan most name) m

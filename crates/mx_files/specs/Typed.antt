@@ -32,7 +32,7 @@ unfoldable pub item_lines : ℕ → List Item → List (List ℕ)
 item_lines lambda [] = []
 item_lines lambda (item ∷ items) = shown (item_text lambda item) ++ item_lines (lambda_after lambda item) items
 
--- the lines behind them: that of the trie, and one for each of its symbols
+-- the lines after them: that of the trie, and one for each of its symbols
 abbrev pub tail_lines : List ℕ → List Symbol → List (List ℕ)
 tail_lines trie symbols = ended (stab_line trie) ∷ map (λ s. ended (symbol_line s)) symbols
 
@@ -40,11 +40,11 @@ tail_lines trie symbols = ended (stab_line trie) ∷ map (λ s. ended (symbol_li
 abbrev pub unread : MmoFault → Outcome
 unread fault = BadObject (fault_at fault).0 (fault_at fault).1
 
--- so with those of a trie, whose places count from where it stands in the object
+-- so with those of a trie, whose places count from where it is in the object
 abbrev pub unread_trie : ℕ → StabFault → Outcome
 unread_trie place fault = BadObject (place + unwrap_or (place_of fault) 0) (number_of fault)
 
--- what stands behind the items: the trie and its symbols, or what is wrong there
+-- what follows the items: the trie and its symbols, or what is wrong there
 abbrev pub trie_typed : ℕ → List ℕ → Result (List Symbol) StabFault → Typed
 trie_typed place trie (Ok symbols) = (tail_lines trie symbols, Done 0)
 trie_typed place trie (Err fault) = ([], unread_trie place fault)
@@ -61,7 +61,7 @@ end_typed (Err fault) = ([], unread fault)
 abbrev pub behind : List (List ℕ) → Typed → Typed
 behind lines t = (lines ++ t.0, t.1)
 
--- the items up to the first fault, and then what stands behind them, or the fault
+-- the items up to the first fault, and then what follows them, or the fault
 abbrev pub walk_typed : ℕ → Walk → Typed
 walk_typed lambda w = behind (item_lines lambda w.0) (end_typed w.1)
 
@@ -70,6 +70,6 @@ walk_typed lambda w = behind (item_lines lambda w.0) (end_typed w.1)
 unfoldable pub typed : List ℕ → Typed
 typed object = if nat_lt limit (length object) then ([], unread (TooLong limit)) else walk_typed 0 (items_of Start 0 object)
 
--- what a reader still gives, with what stands behind it
+-- what a reader still gives, with what follows it
 abbrev pub still_typed : ℕ → ReaderModel → Typed
 still_typed lambda m = walk_typed lambda (items_of m.phase m.at m.rest)

@@ -145,7 +145,7 @@ fn source_object(alloc: Global, text: &[u8]) -> Result<(Bytes, Result<(), Refusa
     }
 }
 
-/// What was written with the end of an object behind it, or with the refusal.
+/// What was written with the end of an object after it, or with the refusal.
 fn object_of(
     writer: Writer,
     answer: Result<Bytes, Refused>,

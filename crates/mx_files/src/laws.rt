@@ -22,8 +22,8 @@ pub fn files_are_their_plans()
         end_of host (lines_plan lines) m ≡ part_of (lines_put lines m) }
 {}
 
-/// Where a plan stops for want of memory, it only added to standard output, and what stands there is a front of what
-/// would stand there at its end; the slots of the tool lead where they led.
+/// Where a plan stops for want of memory, it only added to standard output, and what is there is a front of what
+/// would be there at its end; the slots of the tool lead where they led.
 #[tactic(auto, using(crate::proofs::Rests::stopping))]
 pub fn files_stop_in_front()
     ensures stopping { (p : HostPlan Outcome) (v w : HostModel) → Stops host v p w → KeepsStreams w v }
@@ -42,7 +42,7 @@ pub fn files_are_served()
     ensures listed { (name : List ℕ) (m : HostModel) → HasToolSlots m → Makes host Serves (list_part name) m }
 {}
 
-/// A file that is read in so many pieces takes at most 4,096 bytes for each, whatever the host answers to its calls: a source
+/// A file that is read in this many pieces takes at most 4,096 bytes for each, whatever the host answers to its calls: a source
 /// at most 2^22 + 4,096, an object at most 2^26 + 4,096.
 pub fn files_take_at_most()
     ensures { (most : ℕ) (name : List ℕ) → TakesAtMost input_slot (4096 * most) (file_plan most name) }

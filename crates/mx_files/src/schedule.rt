@@ -14,7 +14,7 @@ use mx_outcome::Outcome;
 use mx_word::Bytes;
 use std::alloc::Global;
 
-/// A schedule has at most so many bytes.
+/// A schedule has at most this many bytes.
 const LONGEST: usize = 1 << 22;
 
 /// The greatest byte of a schedule, and 0 where it has none.
@@ -49,7 +49,7 @@ fn first_unnamed(bytes: &[u8]) -> Option<usize>
     }
 }
 
-/// The place at which a schedule of so many bytes is at fault by its length.
+/// The place at which a schedule of this many bytes is at fault by its length.
 fn length_fault(count: usize) -> Option<usize>
     ensures { result ≡ spec.length_fault count }
 {
@@ -89,7 +89,7 @@ fn judged(bytes: Bytes) -> Result<Bytes, Outcome>
     }
 }
 
-/// Reads the schedule in the file of this name: 1 to 2^22 bytes of which each names one of eight processors. Where it is
+/// Reads the schedule in the file of this name: 1 to 2^22 bytes, each of which names one of eight processors. Where it is
 /// none, the first place of its fault is told when the file was closed.
 pub fn read_schedule<H: Host>(alloc: Global, host: &mut H, name: &[u8]) -> Result<Bytes, Outcome>
     ensures works { Works H.told H.faults host.old host.new result (spec.schedule_plan name.now) }

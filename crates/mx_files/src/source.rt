@@ -18,10 +18,10 @@ use std::alloc::Global;
 /// The slot of the tool's input file.
 const INPUT_SLOT: u16 = 256;
 
-/// A source is read in at most so many pieces: more than 2^22 bytes.
+/// A source is read in at most this many pieces: more than 2^22 bytes.
 pub const SOURCE_PIECES: u32 = 1025;
 
-/// An object is read in at most so many pieces: more than 2^26 bytes.
+/// An object is read in at most this many pieces: more than 2^26 bytes.
 pub const OBJECT_PIECES: u32 = 16385;
 
 /// Reads one piece to the end of what was got, and says whether it was a whole one.
@@ -42,7 +42,7 @@ fn one_piece<H: Host>(host: &mut H, got: &mut Bytes, piece: &mut [u8]) -> Result
     }
 }
 
-/// Reads the input file in pieces up to a shorter one, at most so many.
+/// Reads the input file in pieces up to a shorter one, at most this many.
 fn pieces<H: Host>(alloc: Global, host: &mut H, most: u32) -> Result<Bytes, Outcome>
     ensures { Works H.told H.faults host.old host.new result (plans.read_pieces most []) }
 {
@@ -99,7 +99,7 @@ fn whole_file<H: Host>(
     }
 }
 
-/// Reads the file of this name, in at most so many pieces of 4,096 bytes. Where there is no memory, the calls made by
+/// Reads the file of this name, in at most this many pieces of 4,096 bytes. Where there is no memory, the calls made by
 /// then stay: the pieces that were read are read, and the file stays open.
 pub fn read_file<H: Host>(
     alloc: Global,

@@ -91,7 +91,7 @@ fn put_item<H: Host>(
     }
 }
 
-/// Lists the item that stands next, and says whether one did.
+/// Lists the item that is next, and says whether one did.
 fn list_next<H: Host>(
     host: &mut H,
     lister: &mut Lister,
@@ -123,7 +123,7 @@ fn list_next<H: Host>(
     }
 }
 
-/// Lists all items that stand next.
+/// Lists all items that are next.
 fn list_items<H: Host>(
     host: &mut H,
     lister: &mut Lister,
@@ -200,7 +200,7 @@ fn put_tail<H: Host>(
     }
 }
 
-/// Lists what stands behind the items.
+/// Lists what follows the items.
 #[tactic(auto, using(mx_load::proofs::Tails::tails))]
 fn list_tail<H: Host>(
     alloc: Global,
@@ -218,7 +218,7 @@ fn list_tail<H: Host>(
     }
 }
 
-/// Lists the end of an object, where no item stands next.
+/// Lists the end of an object, where no item is next.
 fn list_end<H: Host>(
     alloc: Global,
     host: &mut H,

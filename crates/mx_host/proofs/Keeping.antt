@@ -1,4 +1,4 @@
--- What is kept by two steps is kept by both, one behind the other.
+-- What is kept by two steps is kept by both, one after the other.
 use Rattle.std.proofs.Common.{ℕ, ◌∙◌, refl, IsTrue, subst, sym, arith}
 use Rattle.std.specs.Prelude.{Option}
 use Rattle.mx_word.proofs.Fronts.{front-self, front-through}

@@ -1,4 +1,4 @@
--- A file that is put among files: where it stands, and what the other files have.
+-- A file that is put among files: where it is, and what the other files have.
 use Rattle.std.proofs.Common.{◌≡◌, ◌≢◌, ℕ, ◌+◌, ◌<◌, ◌≤◌, Bool, true, false, cond, nat_lt, List, [], ◌∷◌, ◌++◌, length, take, drop, Some, None, refl, sym, ◌∙◌, ap, arith, get_or, append-nil}
 use Rattle.std.specs.Prelude.{Option, slice_get, slice_set, replicate, ◌==◌, ◌-◌}
 use Rattle.std.specs.List.{position, position_or_len}
@@ -83,14 +83,14 @@ overwritten-end b (x ∷ xs) =
     let few : length (replicate {A = ℕ} k 0) ≤ length (x ∷ xs) = rw (length-replicate {A = ℕ} k 0) (omega arith) in
     ended b (replicate k 0) (x ∷ xs) few
 
--- ---- where files stand
+-- ---- where files are
 
 pushed-other : (k n : ℕ) (b : Bool) → k ≤ n → (k == n) ≡ b →
     ◌≡◌ {A = Option ℕ} (cond (nat_lt (cond b (n + 1) k) (n + 1)) (Some (cond b (n + 1) k)) None) (cond (nat_lt k n) (Some k) None)
 pushed-other k n true h e = grind (arith, nat_tests)
 pushed-other k n false h e = grind (arith, nat_tests)
 
--- behind a file that is not looked for
+-- after a file that is not looked for
 position-push : (p : StoredFile → Bool) (files : List StoredFile) (f : StoredFile) → p f ≡ false → position p (files ++ f ∷ []) ≡ position p files
 position-push p files f e =
     let k : ℕ = position_or_len p files in
@@ -102,7 +102,7 @@ pushed-same : (k n : ℕ) (b : Bool) → k ≤ n → ◌≡◌ {A = Option ℕ} 
 pushed-same k n true h none e = grind (arith, nat_tests)
 pushed-same k n false h none e = grind (arith, nat_tests)
 
--- the file that is looked for behind others
+-- the file that is looked for after others
 position-last : (p : StoredFile → Bool) (files : List StoredFile) (f : StoredFile) → p f ≡ true → position p files ≡ None → position p (files ++ f ∷ []) ≡ Some (length files)
 position-last p files f e none =
     let k : ℕ = position_or_len p files in

@@ -113,7 +113,7 @@ standard_streams = to_input ∷ to_output ∷ to_errors ∷ []
 unfoldable pub start_slots : List Slot
 start_slots = standard_streams ++ replicate 255 Closed ++ standard_streams
 
--- the model's slots stand as at the start
+-- the model's slots are as at the start
 abbrev pub HasStartSlots : HostModel → Type 0
 HasStartSlots m = m.slots ≡ start_slots
 

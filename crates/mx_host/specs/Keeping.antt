@@ -1,4 +1,4 @@
--- What stands in the clauses of every function over a host: what it keeps, what it answers and
+-- What is in the clauses of every function over a host: what it keeps, what it answers and
 -- leaves, and when it may answer a failure. `old` and `new` are what the host told before and after,
 -- `before` and `after` its counts of faults.
 use Rattle.std.specs.Prelude.{ℕ, IsTrue, false, ◌≡◌, ◌≢◌, ◌≤◌, Option}
@@ -16,7 +16,7 @@ abbrev pub OnlyAddsOutput : Option HostModel → Option HostModel → Type 0
 OnlyAddsOutput old new = IsTrue (tells old) → IsFront (contents old).output (contents new).output
 
 -- what a function always keeps: whether the host tells its contents, a count of faults that never
--- falls, the tool's streams, each where its slot leads to it, and what stands on standard output
+-- falls, the tool's streams, each where its slot leads to it, and what is on standard output
 pub record Keeps (old new : Option HostModel) (before after : ℕ) : Type 0 where
   pub telling : tells new ≡ tells old
   pub counting : before ≤ after

@@ -76,7 +76,7 @@ pub enum Slot {
         /// How it was opened.
         mode: Mode,
         /// The place in the file where it reads and writes next, in bytes from the start. It may
-        /// stand past the end, since the file can be emptied through another slot.
+        /// be past the end, since the file can be emptied through another slot.
         place: usize,
     },
 }

@@ -49,7 +49,7 @@ unfoldable pub flag : Bool → List ℕ
 flag true = codes "true"
 flag false = codes "false"
 
--- a list of values, of which each has the text f
+-- a list of values, each of which has the text f
 abbrev pub further : {A : Type 0} → (A → List ℕ) → List A → List ℕ
 further f values = flat_map (λ x. codes "," ++ f x) values
 

@@ -61,7 +61,7 @@ pub open-char : (front after : List ℕ) → IsField front → closes after ≡ 
 unfolding field_from
 open-char front after f h = measured front f (39 ∷ after) ∙ ap (λ r. more (length front) (more 1 r)) (unclosed after h)
 
--- What is measured is spelled by the rules: what is left of a field, by where it stands.
+-- What is measured is spelled by the rules: what is left of a field, by where it is.
 pub record InString (bytes : List ℕ) : Type 0 where
   pub inner : List ℕ
   pub rest : List ℕ

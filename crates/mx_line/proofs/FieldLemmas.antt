@@ -1,4 +1,4 @@
--- Operand fields by what stands first in them.
+-- Operand fields by what is first in them.
 use Rattle.std.proofs.Common.{◌≡◌, ◌≢◌, ℕ, suc, ◌+◌, ◌<◌, ◌≤◌, List, [], ◌∷◌, length, drop, get_or, Bool, true, false, cond, not, Result, Ok, Err, IfOk, arith, refl, sym, ap, ◌∙◌, ◌==◌, rules}
 use Rattle.mx_line.proofs.Words.{cond-false, cond_both, nat_tests, position_or_len, drop-drop, LineFault, OpenString, OpenChar, Within, field_from, field_length, after_first, more, ends_field, nothing, string, constant, closing}
 
@@ -10,7 +10,7 @@ pub empty-field : (text : List ℕ) → length text ≡ 0 → field_length text 
 unfolding field_from
 empty-field text h = search rules
 
--- the field's length, where something stands first
+-- the field's length, where something is first
 after-some : (text : List ℕ) (count : ℕ) → 0 < count → more count (field_length (drop count text)) ≡ after_first text (Ok count)
 after-some text count h = sym (cond-false (count == 0) (Ok 0) (more count (field_length (drop count text))) (grind (arith, nat_tests)))
 

@@ -1,4 +1,4 @@
--- What stands at a place by the rules of statements is what is cut there, and nothing else is.
+-- What is at a place by the rules of statements is what is cut there, and nothing else is.
 use Rattle.std.proofs.Common.{◌≡◌, ℕ, zero, suc, ◌+◌, ◌<◌, List, [], ◌∷◌, ◌++◌, length, drop, Bool, true, false, cond, Option, Some, None, Result, Ok, Err, refl, sym, ap, ◌∙◌, arith, subst, length-append, drop_at, ◌==◌, ◌&&◌, nat_lt, rules}
 use Rattle.mx_line.proofs.Words.{cond_both, and_parts, eqb-true, eq-eqb, nat_tests, Span, LineFault, TooLong, BadLabel, BadLocal, BadOpcode, OpenString, OpenChar, is_blank, is_name_byte, run, past, field_length, ends_here, nothing, span, next_from, next_after, with_field, operands_at, no_opcode, opcode_at, operation_at, ends_label, is_bad_local, labelled_at, statement_at, is_too_long, statement_of, Found, begins, Run, Next, Operands, Operation, Statement, StatementOf}
 use Rattle.mx_line.proofs.RunLaws.{run-is, run-only, past-only}

@@ -86,7 +86,7 @@ list_with later (Err fault) = Err fault ∷ []
 list_with later (Ok None) = []
 list_with later (Ok (Some cut)) = Ok cut ∷ later cut.next
 
--- at most so many statements of a line from a place on
+-- at most this many statements of a line from a place on
 unfoldable pub cuts_within : ℕ → List ℕ → ℕ → List (Result Cut LineFault)
 cuts_within zero line place = []
 cuts_within (suc most) line place = list_with (cuts_within most line) (statement_of line place)

@@ -14,7 +14,7 @@ pub data Within : Type 0 where
   constant : Within  -- after the apostrophe that opens a character constant
   closing : Within  -- after the byte of a character constant
 
--- A blank or `;` ends an operand field, where it stands in nothing.
+-- A blank or `;` ends an operand field, outside of strings and character constants.
 abbrev pub ends_field : ℕ → Bool
 ends_field b = is_blank b || b == 59
 
@@ -46,7 +46,7 @@ field_from closing (b ∷ bs) = if b == 39 then more 1 (field_from nothing bs) e
 abbrev pub field_length : List ℕ → Result ℕ LineFault
 field_length text = field_from nothing text
 
--- the field's length by the length of what stands first in it: a string, a character constant or
+-- the field's length by the length of what is first in it: a string, a character constant or
 -- one byte, and 0 where the field ends
 abbrev pub after_first : List ℕ → Result ℕ LineFault → Result ℕ LineFault
 after_first text (Err fault) = Err fault

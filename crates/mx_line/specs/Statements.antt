@@ -1,5 +1,5 @@
--- The statements of a line, rule by rule: a relation between a line, a place in it and what stands there. A text here
--- is what stands in the line from a place on.
+-- The statements of a line, rule by rule: a relation between a line, a place in it and what is there. A text here
+-- is what is in the line from a place on.
 -- (MMIXware, the part on MMIXAL: the form of a line; TAOCP 1, Fascicle 1, section 1.3.2'. The bound of 4,096 bytes and
 -- the order of faults: a rule of this program.)
 use Rattle.std.specs.Prelude.{◌≡◌, ℕ, ◌+◌, ◌<◌, ◌≤◌, List, [], ◌∷◌, ◌++◌, length, drop, Bool, true, false, not, ◌==◌, ◌||◌, Option, None, Some, Result, Ok, Err}
@@ -13,7 +13,7 @@ use Rattle.mx_line.specs.Fields.{ends_field, ends_here}
 use Rattle.mx_line.specs.Spans.{span}
 use Rattle.mx_line.specs.Cutting.{is_bad_local, ends_label}
 
--- what stands at a place: a statement, nothing more, or a fault
+-- what is at a place: a statement, nothing more, or a fault
 abbrev pub Found : Type 0
 Found = Result (Option Cut) LineFault
 

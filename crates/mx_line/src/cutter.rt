@@ -156,7 +156,7 @@ fn labelled_at(place: usize, label: &[u8], rest: &[u8]) -> Result<Option<Cut>, L
     }
 }
 
-/// The statement at the front of a text that stands at a place of the line.
+/// The statement at the front of a text that is at a place of the line.
 fn statement_at(place: usize, text: &[u8]) -> Result<Option<Cut>, LineFault>
     requires { place + length text.now < 2 ^ 64 }
     ensures { result ≡ spec.statement_at place text.now }
@@ -197,7 +197,7 @@ fn statement_of(line: &[u8], place: usize) -> Result<Option<Cut>, LineFault>
 #[tactic(auto, using(crate::proofs::StatementLemmas::listing, crate::proofs::RuleLaws::answers))]
 pub fn next_statement(text: &[u8], at: usize) -> Result<Option<Cut>, LineFault>
     requires { at ≤ length text.now }
-    // What is answered stands there by the rules, and nothing else does.
+    // What is answered is there by the rules, and nothing else is.
     ensures rules { StatementOf text.now at result }
     ensures only { (found : Found) → StatementOf text.now at found → found ≡ result }
     // The same, as a function.

@@ -57,7 +57,7 @@ fn constant_length(rest: &[u8]) -> Result<usize, LineFault>
     }
 }
 
-/// How many bytes stand first in a field, by its first byte.
+/// How many bytes are first in a field, by its first byte.
 #[tactic(auto, using(crate::proofs::FieldLemmas::firsts))]
 fn part_from(b: u8, rest: &[u8]) -> Result<usize, LineFault>
     ensures within { IfOk result (λ count. count ≤ length rest.now + 1) }
@@ -74,7 +74,7 @@ fn part_from(b: u8, rest: &[u8]) -> Result<usize, LineFault>
     }
 }
 
-/// How many bytes stand first in a field: those of a string, of a character constant, or one
+/// How many bytes are first in a field: those of a string, of a character constant, or one
 /// other; none where the field ends.
 #[tactic(auto, using(crate::proofs::FieldLemmas::firsts))]
 fn part_length(text: &[u8]) -> Result<usize, LineFault>

@@ -16,7 +16,7 @@ use Rattle.mx_word.specs.declared.symbols.Symbol.{Symbol}
 
 -- ---- the items
 
--- from what stands before these bytes, so many items mean something, and the next one, which begins at a place, does not
+-- from what is before these bytes, this many items mean something, and the next one, which begins at a place, does not
 record Stops (s : Loading) (phase : Phase) (at : ℕ) (bytes : List ℕ) (place : ℕ) (e : Meaningless) : Type 0 where
   count : ℕ
   before : Loading
@@ -33,7 +33,7 @@ Comes s phase at bytes (Ok t) (Err fault) loaded = loaded ≡ Err (fault_at faul
 Comes s phase at bytes (Err e) end loaded =
     (place : ℕ) × Stops s phase at bytes place e × (loaded ≡ Err (place, loads.number_of (loads.fault_of e)))
 
--- no item stands behind one that has no meaning
+-- no item follows one that has no meaning
 take-fault : (items : List Item) (e : Meaningless) → take_items items (Err e) ≡ Err e
 take-fault [] e = refl
 take-fault (item ∷ items) e = refl
@@ -57,7 +57,7 @@ stops-here s phase at bytes item size e d h = record {
   begins = refl;
 }
 
--- an item stands before those that are loaded
+-- an item is before those that are loaded
 more-comes : (s u : Loading) (phase : Phase) (at : ℕ) (bytes : List ℕ) (item : Item) (size : ℕ) (r : Result Loading Meaningless) (end : Result Left MmoFault) (loaded : Loaded) →
     first_item phase at bytes ≡ Ok (Some (item, size)) → take_item s item ≡ Ok u →
     Comes u (phase_after item phase) (at + size) (drop size bytes) r end loaded → Comes s phase at bytes r end loaded

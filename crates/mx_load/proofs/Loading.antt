@@ -30,7 +30,7 @@ taken-err place f (Err e) h ne =
 due : (m : ReaderModel) → m.fault ≡ None → next_answer m ≡ next_item m (first_item m.phase m.at m.rest)
 due m h = ap (λ o. next_due o m) h
 
--- nothing whole stands next
+-- nothing whole is next
 none-on : (k : ℕ) (s : Loading) (m n : ReaderModel) (d : Due) → (Ok None, n) ≡ next_item m d → first_loaded (items_loaded k) s m.phase m.at m.rest d ≡ Ok (s, left_of n)
 none-on k s m n (Ok None) h = ap (λ r. Ok (s, left_of r)) (sym (ap (λ p. p.1) h))
 none-on k s m n d h = let e = ap (λ p. p.0) h in absurd (cc)
@@ -39,7 +39,7 @@ pub next-none : (k : ℕ) (l : Progress) (m n : ReaderModel) → m.fault ≡ Non
 unfolding items_loaded
 next-none k l m n none h = none-on k (loading_of l) m n (first_item m.phase m.at m.rest) (h ∙ due m none)
 
--- a fault stands next
+-- a fault is next
 fault-on : (k : ℕ) (s : Loading) (m n : ReaderModel) (f : MmoFault) (d : Due) → (Err f, n) ≡ next_item m d → first_loaded (items_loaded k) s m.phase m.at m.rest d ≡ Err (fault_at f)
 fault-on k s m n f (Ok None) h = let e = ap (λ p. p.0) h in absurd (cc)
 fault-on k s m n f (Ok (Some (item, size))) h = let e = ap (λ p. p.0) h in absurd (cc)
@@ -50,7 +50,7 @@ unfolding items_loaded
 next-fault k l m n f none h ne =
     fault-on k (loading_of l) m n f (first_item m.phase m.at m.rest) (h ∙ due m none) ∙ ap Err (sym (unread-is f ne))
 
--- an item stands next
+-- an item is next
 follow-is : (k : ℕ) (m : ReaderModel) (item : Item) (size : ℕ) (r : Result Loading (ℕ × ℕ)) → item_loaded (items_loaded k) m.phase m.at m.rest item size r ≡ loaded_behind k (given m item size) r
 follow-is k m item size (Ok s) = refl
 follow-is k m item size (Err fault) = refl
@@ -84,7 +84,7 @@ pub next-failed : (l k : Progress) (m n : ReaderModel) (item : Item) (place : �
 next-failed l k m n item place (Ok b) none h e taken-is ne = tt
 next-failed l k m n item place (Err f) none h e taken-is ne = λ i. next-item i l m n item place (Err (place_and_number f)) none h e (taken-is ne)
 
--- the items that are left, of which there are fewer than so many
+-- the items that are left, of which there are fewer than this many
 abbrev pub Left-of : Loaded → Progress → ReaderModel → Type 0
 Left-of whole l m = (n : ℕ) × (length m.rest < n) × (whole ≡ loaded_from n l m)
 

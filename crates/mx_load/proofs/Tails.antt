@@ -1,4 +1,4 @@
--- What stands behind the items of an object.
+-- What follows the items of an object.
 use Rattle.std.proofs.Common.{◌≢◌, ℕ, ◌<◌, ◌≤◌, ◌^◌, List, Option, Some, None, length, arith, IfSome}
 use Rattle.mx_stab.specs.Faults.{place_of}
 use Rattle.mx_stab.specs.FaultTable.{FaultOf}

@@ -27,7 +27,7 @@ begins items = step items (Ok nothing)
 pub fits-more : (items : List Item) (i : ℕ) (d : Item) → i < length items → AllByRecursion Fits (drop i items) → AllByRecursion Fits (drop (i + 1) items)
 fits-more items i d l h = (rw (drop_more items i d l) at h).1
 
--- the item at a place stands in front of those behind it
+-- the item at a place is in front of those after it
 pub goes-on : (items : List Item) (i : ℕ) (item d : Item) (whole old new : Result Loading LoadFault) → i < length items → item ≡ get_or items i d →
     whole ≡ after_all old (drop i items) → new ≡ after old item → whole ≡ after_all new (drop (i + 1) items)
 goes-on items i item d whole old new l e same h =

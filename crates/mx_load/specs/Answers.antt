@@ -41,7 +41,7 @@ bad_at (Some place) number = Bad place number
 abbrev pub unread : MmoFault → ObjectFault
 unread fault = bad_at (objects.place_of fault) (objects.number_of fault)
 
--- the fault of a trie that stands at a place
+-- the fault of a trie that is at a place
 abbrev pub bad_behind : ℕ → Option ℕ → ℕ → ObjectFault
 bad_behind place None number = OutOfMemory
 bad_behind place (Some at) number = Bad (place + at) number
@@ -56,7 +56,7 @@ unloaded place BadPlace = Bad place (loads.number_of BadPlace)
 unloaded place NoFile = Bad place (loads.number_of NoFile)
 unloaded place NoRoom = OutOfMemory
 
--- what loading comes to with fewer than so many of the items that a reader still gives
+-- what loading comes to with fewer than this many of the items that a reader still gives
 abbrev pub loaded_from : ℕ → Progress → ReaderModel → Loaded
 loaded_from n progress reader = items_loaded n (loading_of progress) reader.phase reader.at reader.rest
 
@@ -65,7 +65,7 @@ abbrev pub item_answer : Result Bool ObjectFault → Loading → Result Loading 
 item_answer (Ok more) s = Ok s
 item_answer (Err fault) s = Err (place_and_number fault)
 
--- what follows an item behind which a reader stands
+-- what follows an item after which a reader stands
 abbrev pub loaded_behind : ℕ → ReaderModel → Result Loading (ℕ × ℕ) → Loaded
 loaded_behind n reader (Ok s) = items_loaded n s reader.phase reader.at reader.rest
 loaded_behind n reader (Err fault) = Err fault

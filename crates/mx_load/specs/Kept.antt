@@ -9,7 +9,7 @@ use Rattle.mx_mmo.specs.Image.{Image}
 use Rattle.mx_mmo.specs.Meaning.{value_at}
 
 -- memory, the lines other than 0 by a quarter of their tetra's address, the values of $g to $255
--- (none stand before they are told), and the symbols
+-- (none until they are given), and the symbols
 pub record Kept : Type 0 where
   pub memory : Stored
   pub lines : List (ℕ × ℕ)

@@ -29,27 +29,27 @@ abbrev pub taken : ℕ → Result Loading Meaningless → Result Loading (ℕ ×
 taken place (Ok s) = Ok s
 taken place (Err e) = Err (place, number_of (fault_of e))
 
--- what stands once items were loaded, with what is left behind them; or the place and the number of the first fault
+-- what stands once items were loaded, with what is left after them; or the place and the number of the first fault
 abbrev pub Loaded : Type 0
 Loaded = Result (Loading × Left) (ℕ × ℕ)
 
--- what follows an item of so many bytes
+-- what follows an item of this many bytes
 abbrev pub item_loaded : (Loading → Phase → ℕ → List ℕ → Loaded) → Phase → ℕ → List ℕ → Item → ℕ → Result Loading (ℕ × ℕ) → Loaded
 item_loaded others phase at bytes item size (Err fault) = Err fault
 item_loaded others phase at bytes item size (Ok s) = others s (phase_after item phase) (at + size) (drop size bytes)
 
--- the item that stands first: its own fault, then that of its meaning, and then the items that follow, by `others`
+-- the item that is first: its own fault, then that of its meaning, and then the items that follow, by `others`
 abbrev pub first_loaded : (Loading → Phase → ℕ → List ℕ → Loaded) → Loading → Phase → ℕ → List ℕ → Due → Loaded
 first_loaded others s phase at bytes (Ok None) = Ok (s, record { phase = phase; at = at; rest = bytes })
 first_loaded others s phase at bytes (Ok (Some (item, size))) = item_loaded others phase at bytes item size (taken at (take_item s item))
 first_loaded others s phase at bytes (Err fault) = Err (fault_at fault)
 
--- items of bytes from the left, fewer than so many; each takes a byte
+-- items of bytes from the left, fewer than this many; each takes a byte
 unfoldable pub items_loaded : ℕ → Loading → Phase → ℕ → List ℕ → Loaded
 items_loaded zero s phase at bytes = Ok (s, record { phase = phase; at = at; rest = bytes })
 items_loaded (suc n) s phase at bytes = first_loaded (items_loaded n) s phase at bytes (first_item phase at bytes)
 
--- the symbols of a trie, or the place and the number of its fault; the bytes of the trie are counted from where it stands in
+-- the symbols of a trie, or the place and the number of its fault; the bytes of the trie are counted from where it is in
 -- the object
 abbrev pub trie_read : ℕ → Result (List Symbol) StabFault → Result (List Symbol) (ℕ × ℕ)
 trie_read place (Ok symbols) = Ok symbols
@@ -59,12 +59,12 @@ abbrev pub tail_read : Result Tail MmoFault → Result (List Symbol) (ℕ × ℕ
 tail_read (Ok tail) = trie_read tail.place (trie_answer tail.trie)
 tail_read (Err fault) = Err (fault_at fault)
 
--- the image that items set up, with the symbols of the trie behind them
+-- the image that items set up, with the symbols of the trie after them
 abbrev pub with_symbols : Image → Result (List Symbol) (ℕ × ℕ) → Result (Image × List Symbol) (ℕ × ℕ)
 with_symbols image (Ok symbols) = Ok (image, symbols)
 with_symbols image (Err fault) = Err fault
 
--- what stands behind the items: what is wrong at the end, and then what is wrong in the trie
+-- what follows the items: what is wrong at the end, and then what is wrong in the trie
 abbrev pub whole_loaded : Loaded → Result (Image × List Symbol) (ℕ × ℕ)
 whole_loaded (Err fault) = Err fault
 whole_loaded (Ok (s, left)) = with_symbols s.image (tail_read (tail_of left.phase left.at left.rest))
@@ -77,7 +77,7 @@ object_loaded bytes =
     if nat_lt limit (length bytes) then Err (fault_at (TooLong limit))
     else whole_loaded (items_loaded (length bytes + 1) nothing Start 0 bytes)
 
--- the first item of bytes that means nothing, and why: so many items mean something, and one more does not, which begins
+-- the first item of bytes that means nothing, and why: this many items mean something, and one more does not, which begins
 -- at the place where those end
 pub record MeansNothing (bytes : List ℕ) (place : ℕ) (e : Meaningless) : Type 0 where
   pub count : ℕ

@@ -19,7 +19,7 @@ ghost use Rattle.mx_load.specs.Objects.{MeansNothing, fault_at, object_loaded, t
 /// mean an image is loaded as that image with the symbols of its trie, or refused with the fault of
 /// the trie; nothing else is loaded; where all items that are read mean something, the fault is that
 /// of reading; and where one of them means nothing, that is the fault, at the place where this item
-/// begins, before any fault of reading behind it.
+/// begins, before any fault of reading after it.
 #[tactic(auto, using(crate::proofs::Apart::apart))]
 pub fn objects_are_loaded_as_they_mean()
     ensures image { (bytes : List ℕ) (object : Object) (m : Image) → object_of bytes ≡ Ok object →

@@ -83,7 +83,7 @@ fn load_tetra(progress: &mut Progress, t: u32, place: u64) -> Result<bool, Objec
     }
 }
 
-/// Loads the item that stands next, and says whether one did. Mostly it is a tetra.
+/// Loads the item that is next, and says whether one did. Mostly it is a tetra.
 #[inline(always)]
 fn load_next(reader: &mut Reader, progress: &mut Progress) -> Result<bool, ObjectFault>
     requires { reader.old.fault ≡ None }
@@ -102,7 +102,7 @@ fn load_next(reader: &mut Reader, progress: &mut Progress) -> Result<bool, Objec
     }
 }
 
-/// Loads the item that stands next, whatever it is, and says whether one did.
+/// Loads the item that is next, whatever it is, and says whether one did.
 #[inline(never)]
 fn load_other(reader: &mut Reader, progress: &mut Progress) -> Result<bool, ObjectFault>
     requires { reader.old.fault ≡ None }
@@ -122,7 +122,7 @@ fn load_other(reader: &mut Reader, progress: &mut Progress) -> Result<bool, Obje
     }
 }
 
-/// Loads all items that stand next.
+/// Loads all items that are next.
 fn load_items(reader: &mut Reader, progress: &mut Progress) -> Result<(), ObjectFault>
     requires { reader.old.fault ≡ None }
     ensures last { OnOk result (spec.loaded_from (length reader.old.rest + 1) progress.old reader.old
@@ -141,7 +141,7 @@ fn load_items(reader: &mut Reader, progress: &mut Progress) -> Result<(), Object
     }
 }
 
-/// The fault of a trie that stands at a place.
+/// The fault of a trie that is at a place.
 fn unread_trie(place: u64, fault: StabFault) -> ObjectFault
     requires front { place ≤ 2 ^ 26 }
     requires within { IfSome (tries.place_of fault) (λ at. at < 2 ^ 63) }
@@ -156,7 +156,7 @@ fn unread_trie(place: u64, fault: StabFault) -> ObjectFault
     }
 }
 
-/// The symbols of the trie behind the items of an object.
+/// The symbols of the trie after the items of an object.
 #[tactic(auto, using(crate::proofs::Tails::tails))]
 fn read_trie(alloc: Global, tail: &Tail) -> Result<Symbols, ObjectFault>
     requires { tail.now.place ≤ 2 ^ 26 }

@@ -24,14 +24,14 @@ pub struct Progress {
     pub named: BTreeSet<u8>,
 }
 
-/// The address so many tetras before another.
+/// The address this many tetras before another.
 fn tetras_before(n: u32, a: u64) -> u64
     ensures { result ≡ spec.tetras_before n a }
 {
     a.wrapping_sub(4 * u64::from(n))
 }
 
-/// The address so many tetras behind another.
+/// The address this many tetras after another.
 fn tetras_behind(n: u32, a: u64) -> u64
     ensures { result ≡ spec.tetras_behind n a }
 {
@@ -91,7 +91,7 @@ impl Progress {
         }
     }
 
-    /// Goes on behind the tetra that was joined at lambda.
+    /// Goes on after the tetra that was joined at lambda.
     fn advance(&mut self) -> Result<(), LoadFault>
         ensures { let s = loading_of self.old in result ≢ Err LoadFault.OutOfMemory →
             given result (loading_of self.new) ≡ told (after_load s (Ok s.image)) }

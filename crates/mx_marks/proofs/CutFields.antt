@@ -18,7 +18,7 @@ use Rattle.mx_marks.specs.declared.fields.Field.TheVariants.{Operands, Operation
 abbrev Found : Type 0
 Found = Result (Option Cut) LineFault
 
--- where the operation and the operands stand, by what is behind them
+-- where the operation and the operands stand, by what is after them
 record Stand (end : ℕ) (from : Line) (cut : Cut) : Type 0 where
   operation : cut.op.from + length from ≡ end
   operands : cut.operands.from + length (behind_word from) ≡ end

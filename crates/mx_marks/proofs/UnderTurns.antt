@@ -1,11 +1,11 @@
--- What stands under a text, character after character.
+-- What is under a text, character after character.
 use Rattle.std.proofs.Common.{◌≡◌, ◌≤◌, ℕ, zero, suc, ◌-◌, Bool, true, false, List, [], ◌∷◌, ◌++◌, drop, take, length, slice_index_or, arith, append-nil, append_assoc, refl, sym, ap, ◌∙◌}
 use Rattle.std.specs.Str.{IsUtf8, is_utf8}
 use Rattle.std.proofs.lemmas.List.{take_all}
 use Rattle.std.proofs.lemmas.Str.{IsUtf8-from_is_utf8, is_utf8-from_IsUtf8}
 use Rattle.mx_marks.specs.Under.{char_length, tildes_behind, under, under_behind, under_text}
 
--- what stands behind the bytes of a character
+-- what follows the bytes of a character
 pub behind-is : (n : ℕ) (text : List ℕ) → under_behind n text ≡ under_text (drop n text)
 unfolding under_behind
 behind-is zero [] = refl

@@ -43,7 +43,7 @@ short-inside : is_near false (codes "JSR") (codes "SR") ≡ false
 unfolding is_near
 short-inside = refl
 
--- the line of a label, what it stands in front of, and a label that is further down than is looked for
+-- the line of a label, what it is in front of, and a label that is further down than is looked for
 label-line : label_number (codes "B") 2 1 (codes "A SWYM" ∷ codes "B BYTE 1" ∷ []) ≡ 2
 unfolding label_number
 label-line = refl

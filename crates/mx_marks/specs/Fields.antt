@@ -38,11 +38,11 @@ statement_field why = Operands
 abbrev pub word : Line → Line
 word text = run is_name_byte text
 
--- what stands behind them, and behind the blanks that follow them
+-- what follows them, and what follows the blanks after them
 abbrev pub behind_word : Line → Line
 behind_word text = past is_blank (past is_name_byte text)
 
--- A statement from one of its fields on: the operation stands behind the label, and the operands behind the operation.
+-- A statement from one of its fields on: the operation follows the label, and the operands after the operation.
 abbrev pub from_field : Field → Line → Line
 from_field Label text = text
 from_field Operation text = behind_word text
@@ -65,7 +65,7 @@ behind_comma operands = drop (length (run is_no_comma operands) + 1) operands
 
 -- ---- which statement
 
--- the place behind the statements that are cut from a line
+-- the place after the statements that are cut from a line
 abbrev pub behind_cuts : ℕ → List (Result Cut LineFault) → ℕ
 behind_cuts place [] = place
 behind_cuts place (Err why ∷ cuts) = place

@@ -25,7 +25,7 @@ abbrev pub is_slip : List ℕ → List ℕ → Bool
 is_slip a b =
     bytes_eq (drop 1 a) (drop 1 b) || bytes_eq (drop 1 a) b || bytes_eq a (drop 1 b) || (are_exchanged a b && bytes_eq (drop 2 a) (drop 2 b))
 
--- two texts of which the one is one letter and the other ends, or that are the same but for a digit in place of a letter
+-- two texts of which one is one letter and the other ends, or that are the same but for a digit in place of a letter
 abbrev pub is_digit_slip : ℕ → ℕ → Bool
 is_digit_slip x y = (is_digit x && is_letter y) || (is_letter x && is_digit y)
 
@@ -63,7 +63,7 @@ is_like Alike name other = is_alike name other
 
 -- ---- where they are looked for
 
--- the first of so many lines whose label is like a name; no text where none is
+-- the first of this many lines whose label is like a name; no text where none is
 unfoldable pub first_line : Likeness → List ℕ → ℕ → List Line → Line
 first_line kind name most [] = []
 first_line kind name most (line ∷ lines) =
@@ -76,13 +76,13 @@ first_label kind name most lines = word (first_line kind name most lines)
 abbrev pub is_label : List ℕ → ℕ → List Line → Bool
 is_label name most lines = nat_le 1 (length (first_label Same name most lines))
 
--- the number of the first of so many lines that has a label, where the lines are counted from this number on; 0 where none has it
+-- the number of the first of this many lines that has a label, where the lines are counted from this number on; 0 where none has it
 unfoldable pub label_number : List ℕ → ℕ → ℕ → List Line → ℕ
 label_number name most number [] = 0
 label_number name most number (line ∷ lines) =
     if most == 0 then 0 else if bytes_eq name (word line) then number else label_number name (most - 1) (number + 1) lines
 
--- ---- what a label stands in front of
+-- ---- what a label is in front of
 
 -- the operation in the line of a label
 abbrev pub label_operation : List ℕ → List ℕ → Option Op
@@ -114,7 +114,7 @@ labels_code name source = is_code (label_operation name source)
 
 -- ---- words that are looked through
 
--- the first of so many words of a text that is like a name; no text where none is
+-- the first of this many words of a text that is like a name; no text where none is
 unfoldable pub first_word : ℕ → List ℕ → List ℕ → List ℕ
 first_word zero name text = []
 first_word (suc n) name text = if is_alike name (word text) then word text else first_word n name (behind_word text)

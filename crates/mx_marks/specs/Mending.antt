@@ -42,7 +42,7 @@ abbrev pub is_value : Line → Line
 is_value [] = codes " IS 1"
 is_value (b ∷ bs) = if b == 36 then codes " IS $0" else codes " IS 1"
 
--- The label of a GREG becomes a register, and that of all else the address where it stands.
+-- The label of a GREG becomes a register, and that of all else the address where it is.
 abbrev pub value_text : Line → Line → Line
 value_text operation operands =
     if bytes_eq operation (codes "GREG") then codes " IS $0"

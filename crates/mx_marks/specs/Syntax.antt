@@ -10,7 +10,7 @@ use Rattle.mx_marks.specs.Tokens.{is_in_string}
 abbrev pub is_prefix : ℕ → Bool
 is_prefix b = b == 40 || b == 43 || b == 45 || b == 126 || b == 36
 
--- These stand between two: 44 is a comma, 42 `*`, 47 `/`, 37 `%`, 38 `&`, 43 `+`, 45 `-`, 124 `|` and 94 `^`.
+-- These are between two primaries: 44 is a comma, 42 `*`, 47 `/`, 37 `%`, 38 `&`, 43 `+`, 45 `-`, 124 `|` and 94 `^`.
 abbrev pub is_infix : ℕ → Bool
 is_infix b = b == 44 || b == 42 || b == 47 || b == 37 || b == 38 || b == 43 || b == 45 || b == 124 || b == 94
 
@@ -28,7 +28,7 @@ is_turn (b ∷ bs) = b == 66 || b == 70
 abbrev pub number_length : List ℕ → ℕ
 number_length text = if length (run is_digit text) == 1 && is_turn (drop 1 text) then 2 else length (run is_digit text)
 
--- a hexadecimal number, behind its mark; it has a digit at least
+-- a hexadecimal number, after its mark; it has a digit at least
 abbrev pub hash_length : ℕ → ℕ
 hash_length count = if count == 0 then 0 else count + 1
 
@@ -44,7 +44,7 @@ primary_length (b ∷ bs) =
     else if is_letter b then length (word (b ∷ bs))
     else 0
 
--- how many bytes are taken where a primary is wanted, and behind one: 41 is `)`
+-- how many bytes are taken where a primary is wanted, and after one: 41 is `)`
 abbrev pub wanting_length : List ℕ → ℕ
 wanting_length [] = 0
 wanting_length (b ∷ bs) = if is_prefix b then 1 else primary_length (b ∷ bs)
@@ -71,7 +71,7 @@ pub record Scan : Type 0 where
 abbrev pub ended : Bool → List ℕ → Scan
 ended wants rest = record { wants = wants; rest = rest }
 
--- what is left where no part is taken, after so many parts at most, and whether a primary is wanted there
+-- what is left where no part is taken, after this many parts at most, and whether a primary is wanted there
 unfoldable pub scan_from : ℕ → Bool → List ℕ → Scan
 scan_from zero wants text = ended wants text
 scan_from (suc n) wants text =

@@ -60,7 +60,7 @@ abbrev pub begins_name : List ℕ → Bool
 begins_name [] = false
 begins_name (b ∷ bs) = is_letter b
 
--- whether a text begins with a name that is no label of the first so many lines of a source
+-- whether a text begins with a name that is no label of this many lines of a source
 abbrev pub is_unknown : List ℕ → ℕ → List ℕ → Bool
 is_unknown source most text =
     if begins_name text then not (is_label (word text) most (lines_of source)) && not (is_predefined (word text)) else false
@@ -78,7 +78,7 @@ is_wanted Ahead source most text = is_ahead (word text)
 is_wanted (Above limit) source most text = is_above limit text
 is_wanted Address source most text = begins_name text && labels_data (word text) source
 
--- a text from the first of its parts on, of so many at most, that is wanted
+-- a text from the first of its parts on, of this many at most, that is wanted
 unfoldable pub from_part : ℕ → Wanted → List ℕ → ℕ → List ℕ → List ℕ
 from_part zero kind source most text = []
 from_part (suc n) kind source most text =

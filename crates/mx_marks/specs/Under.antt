@@ -1,4 +1,4 @@
--- What stands below a line: a blank or a tab under each character in front of the marked text, and marks under this. A rule of this
+-- What is below a line: a blank or a tab under each character in front of the marked text, and marks under this. A rule of this
 -- program.
 use Rattle.std.specs.Prelude.{ℕ, zero, suc, ◌+◌, ◌-◌, ◌==◌, List, [], ◌∷◌, ◌++◌, take, drop, if◌then◌else◌, Option, None, Some, codes}
 use Rattle.std.specs.Str.{continuation_len, is_utf8}
@@ -9,7 +9,7 @@ unfoldable pub char_length : List ℕ → ℕ
 char_length [] = 0
 char_length (b ∷ bs) = if is_utf8 (take (continuation_len b + 1) (b ∷ bs)) then continuation_len b + 1 else 1
 
--- a tab stands under a tab, and a blank under each other character
+-- a tab is under a tab, and a blank under each other character
 abbrev pub under : ℕ → ℕ
 under b = if b == 9 then 9 else 32
 
@@ -32,7 +32,7 @@ tildes_behind zero (b ∷ bs) = 126 ∷ tildes_behind (char_length (b ∷ bs) - 
 abbrev pub tildes : List ℕ → List ℕ
 tildes text = tildes_behind 0 (drop (char_length text) text)
 
--- below a line, behind what stands under the bytes in front of the marked text, which has so many bytes
+-- below a line, after what is under the bytes in front of the marked text, which has this many bytes
 abbrev pub marks_text : Line → Option ℕ → ℕ → List ℕ
 marks_text line (Some place) count =
     codes "    " ++ under_text (take place line) ++ codes "^" ++ tildes (take count (drop place line)) ++ codes "\n"

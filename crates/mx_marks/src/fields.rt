@@ -59,7 +59,7 @@ pub fn behind_comma(operands: &[u8]) -> &[u8]
     parted(operands, first_length(operands).saturating_add(1)).1
 }
 
-/// The place behind the statements that are cut from a line.
+/// The place after the statements that are cut from a line.
 pub fn behind_cuts(line: &[u8]) -> usize
     ensures place { result ≡ spec.behind_cuts 0 (cuts_from line.now 0) }
     ensures within { result ≤ length line.now }
@@ -91,14 +91,14 @@ fn is_blank(b: u8) -> bool
     b == b'\t' || b == 11 || b == 12 || b == b'\r' || b == b' '
 }
 
-/// How many letters and digits stand at the front of a text.
+/// How many letters and digits are at the front of a text.
 fn word_length(text: &[u8]) -> usize
     ensures { result ≡ length (bytes.run bytes.is_name_byte text.now) }
 {
     text.iter().take_while(|b| is_name_byte(**b)).count()
 }
 
-/// How many blanks stand at the front of a text.
+/// How many blanks are at the front of a text.
 fn blank_length(text: &[u8]) -> usize
     ensures { result ≡ length (bytes.run bytes.is_blank text.now) }
 {
@@ -113,7 +113,7 @@ pub fn word(text: &[u8]) -> &[u8]
     text.split_at(word_length(text)).0
 }
 
-/// What stands behind the letters and digits at the front of a text, and the blanks behind these.
+/// What follows the letters and digits at the front of a text, and the blanks after these.
 pub(crate) fn behind_word(text: &[u8]) -> &[u8]
     ensures { result.now ≡ spec.behind_word text.now }
 {

@@ -117,7 +117,7 @@ fn is_like(kind: Likeness, name: &[u8], other: &[u8]) -> bool
     }
 }
 
-/// The first of so many lines of a source whose label is like a name; no text where none is.
+/// The first of this many lines of a source whose label is like a name; no text where none is.
 #[tactic(auto, using(crate::proofs::LabelTurns::labels))]
 fn first_line<'a>(kind: Likeness, name: &[u8], most: u32, source: &'a [u8]) -> &'a [u8]
     ensures { result.now ≡ spec.first_line kind name.now most (lines_of source.now) }
@@ -138,14 +138,14 @@ fn first_line<'a>(kind: Likeness, name: &[u8], most: u32, source: &'a [u8]) -> &
     &[]
 }
 
-/// The first label of so many lines of a source that is like a name; no text where none is.
+/// The first label of this many lines of a source that is like a name; no text where none is.
 pub fn first_label<'a>(kind: Likeness, name: &[u8], most: u32, source: &'a [u8]) -> &'a [u8]
     ensures { result.now ≡ spec.first_label kind name.now most (lines_of source.now) }
 {
     word(first_line(kind, name, most, source))
 }
 
-/// The number of the first of so many lines of a source that has a label; 0 where none has it.
+/// The number of the first of this many lines of a source that has a label; 0 where none has it.
 #[tactic(auto, using(crate::proofs::LabelTurns::numbers))]
 pub fn label_number(name: &[u8], most: u32, source: &[u8]) -> u64
     ensures { result ≡ spec.label_number name.now most 1 (lines_of source.now) }
@@ -195,7 +195,7 @@ pub fn labels_code(name: &[u8], source: &[u8]) -> bool
     }
 }
 
-/// Whether a name is a label of so many lines of a source.
+/// Whether a name is a label of this many lines of a source.
 pub fn is_label(name: &[u8], most: u32, source: &[u8]) -> bool
     ensures { result ≡ spec.is_label name.now most (lines_of source.now) }
 {

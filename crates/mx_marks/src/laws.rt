@@ -28,7 +28,7 @@ pub fn marks_begin_within_their_fields()
         (operands_mark from operands part).from ≤ from + length operands }
 {}
 
-/// A caret stands behind as many characters as stand in front of it: under a text that is the UTF-8 of characters there is a blank or a tab
+/// A caret follows as many characters as are in front of it: under a text that is the UTF-8 of characters there is a blank or a tab
 /// for each of them.
 #[tactic(auto, using(crate::proofs::Characters::characters))]
 pub fn carets_count_characters()

@@ -14,7 +14,7 @@ use mx_ops::find;
 use mx_word::NoMemory;
 use std::alloc::Global;
 
-/// The marked text of a line: how many bytes stand in front of it, how many it has, and whether it is what the fault is about, and not all
+/// The marked text of a line: how many bytes are in front of it, how many it has, and whether it is what the fault is about, and not all
 /// operands among which this is.
 #[derive(Clone, Copy, Debug, PartialEq, Eq)]
 pub struct Mark {

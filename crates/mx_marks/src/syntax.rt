@@ -17,7 +17,7 @@ fn is_prefix(b: u8) -> bool
     b == b'(' || b == b'+' || b == b'-' || b == b'~' || b == b'$'
 }
 
-/// Whether a byte stands between two primaries.
+/// Whether a byte is between two primaries.
 fn is_infix(b: u8) -> bool
     ensures { result ≡ spec.is_infix b }
 {
@@ -64,7 +64,7 @@ fn number_length(text: &[u8]) -> usize
     }
 }
 
-/// How many hexadecimal digits stand at the front of a text.
+/// How many hexadecimal digits are at the front of a text.
 fn hexadecimal_length(text: &[u8]) -> usize
     ensures { result ≡ length (run kinds.is_hexadecimal text.now) }
 {
@@ -120,7 +120,7 @@ fn wanting_length(text: &[u8]) -> usize
     }
 }
 
-/// How many bytes are taken behind a primary.
+/// How many bytes are taken after a primary.
 #[tactic(auto, using(crate::proofs::SyntaxTurns::rests))]
 fn behind_length(text: &[u8]) -> usize
     ensures { result ≡ spec.behind_length text.now }
@@ -148,7 +148,7 @@ fn step_length(wants: bool, text: &[u8]) -> usize
     }
 }
 
-/// Whether a primary is wanted behind the part that a text begins with.
+/// Whether a primary is wanted after the part that a text begins with.
 fn is_wanting(wants: bool, text: &[u8]) -> bool
     ensures { result ≡ spec.is_wanting wants text.now }
 {

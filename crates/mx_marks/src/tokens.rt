@@ -31,7 +31,7 @@ pub(crate) fn string_length(text: &[u8]) -> usize
     text.iter().take_while(|b| **b != b'"').count()
 }
 
-/// How many digits stand at the front of a text.
+/// How many digits are at the front of a text.
 pub(crate) fn digits_length(text: &[u8]) -> usize
     ensures { result ≡ length (run kinds.is_digit text.now) }
 {
@@ -142,7 +142,7 @@ fn begins_name(text: &[u8]) -> bool
     }
 }
 
-/// Whether a text begins with a name that is no label of so many lines of a source.
+/// Whether a text begins with a name that is no label of this many lines of a source.
 fn is_unknown(alloc: Global, source: &[u8], most: u32, text: &[u8]) -> Result<bool, NoMemory>
     ensures { IfOk result (λ is. is ≡ spec.is_unknown source.now most text.now) }
 {

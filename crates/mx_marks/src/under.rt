@@ -1,4 +1,4 @@
-//! What stands below a line: blanks, and marks under the text that a fault is about.
+//! What is below a line: blanks, and marks under the text that a fault is about.
 
 ghost use Rattle.std.specs.Prelude.{◌≡◌, ◌≤◌, ◌++◌, OnOk, drop, length, take};
 ghost use Rattle.std.specs.Str.{continuation_len};
@@ -6,14 +6,14 @@ ghost use Rattle.mx_marks.specs.Under as spec;
 
 use mx_word::{Bytes, NoMemory};
 
-/// What stands under a byte in front of the caret.
+/// What is under a byte in front of the caret.
 fn under(b: u8) -> u8
     ensures { result ≡ spec.under b }
 {
     if b == b'\t' { b'\t' } else { b' ' }
 }
 
-/// The first bytes of a text, so many or all, and the others.
+/// The first bytes of a text, this many or all, and the others.
 #[tactic(auto, using(crate::proofs::Fronts::fronts))]
 pub(crate) fn parted(text: &[u8], count: usize) -> (&[u8], &[u8])
     ensures front { result.0.now ≡ take count text.now }
@@ -57,7 +57,7 @@ fn char_length(text: &[u8]) -> usize
     }
 }
 
-/// Adds what stands under the characters of a text.
+/// Adds what is under the characters of a text.
 #[tactic(auto, using(crate::proofs::UnderTurns::turns), unfolding(crate::specs::Under::under_behind))]
 fn add_under(text: &mut Bytes, front: &[u8]) -> Result<(), NoMemory>
     ensures { OnOk result (text.new ≡ text.old ++ spec.under_text front.now) }
@@ -83,7 +83,7 @@ fn add_tildes(text: &mut Bytes, marked: &[u8]) -> Result<(), NoMemory>
     Ok(())
 }
 
-/// Adds the marks below a line, if it has any: a caret behind so many of its bytes, and tildes under the other characters of the marked
+/// Adds the marks below a line, if it has any: a caret after so many of its bytes, and tildes under the other characters of the marked
 /// text, which has this many bytes.
 pub fn add_marks(
     text: &mut Bytes,

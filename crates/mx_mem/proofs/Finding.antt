@@ -6,7 +6,7 @@ use Rattle.std.specs.BTreeMap.{BTreeMap, get}
 use Rattle.std.proofs.lemmas.Option.{slice_get_within, get_or_from_slice_get}
 use Rattle.mx_mem.specs.Held.{Indexed}
 
--- the place of a page that stands at a place
+-- the place of a page that is at a place
 pub place-here : (pages : List (ℕ × List ℕ)) (places : BTreeMap ℕ ℕ) (i : ℕ) (p : ℕ × List ℕ) → Indexed pages places → slice_get pages i ≡ Some p → Some i ≡ get nat_cmp places p.0
 place-here pages places i p ix e =
     sym (ap (λ (q : ℕ × List ℕ). get nat_cmp places q.0) (sym (get_or_from_slice_get pages i p (0, []) e)) ∙ ix.named i (slice_get_within pages i p e))

@@ -23,7 +23,7 @@ pub outcome-fits : {E : Type 0} (r : Result (Unit {0}) E) (pages pages' : List (
 outcome-fits (Ok u) pages pages' places after a x l h made kept = store-fits (octa_at (view_of pages places.entries)) _ a x made l h
 outcome-fits (Err e) pages pages' places after a x l h made kept = rw (kept.0, kept.1) h
 
--- where nothing stands
+-- where nothing was stored
 pub nothing-fits : (m : Stored) → octa_at m ≡ (λ _. 0) → Fits (octa_at m)
 nothing-fits m e = subst Fits (sym e) (λ q. omega arith)
 

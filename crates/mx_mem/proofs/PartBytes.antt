@@ -9,7 +9,7 @@ use Rattle.mx_mem.specs.declared.part.Part.TheVariants.{Byte, Wyde, Tetra, Octa}
 use Rattle.mx_mem.proofs.Fields.{byte-below, byte-above, byte-within}
 use Rattle.mx_mem.proofs.Joins.{same-octa}
 
--- where a byte of the part stands in its octa
+-- where a byte of the part is in its octa
 place-within : (part : Part) (a q : ℕ) → q / 8 ≡ a / 8 → q / size_of part ≡ a / size_of part →
     (8 * (7 - q % 8) ≡ bits_below part a + 8 * (size_of part - 1 - q % size_of part)) × (8 * size_of part ≡ 8 * (q % size_of part) + (8 + 8 * (size_of part - 1 - q % size_of part)))
 place-within Byte a q e f = (omega arith, omega arith)
@@ -17,7 +17,7 @@ place-within Wyde a q e f = (omega arith, omega arith)
 place-within Tetra a q e f = (omega arith, omega arith)
 place-within Octa a q e f = (omega arith, omega arith)
 
--- a byte before the part stands above it, and one behind it below
+-- a byte before the part is above it, and one after it below
 place-before : (part : Part) (a q : ℕ) → q / 8 ≡ a / 8 → q / size_of part < a / size_of part →
     8 * (7 - q % 8) ≡ bits_below part a + (8 * size_of part + (8 * (7 - q % 8) - bits_below part a - 8 * size_of part))
 place-before Byte a q e f = omega arith

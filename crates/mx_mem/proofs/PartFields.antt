@@ -8,7 +8,7 @@ use Rattle.mx_mem.specs.declared.part.Part.{Part}
 use Rattle.mx_mem.specs.declared.part.Part.TheVariants.{Byte, Wyde, Tetra, Octa}
 use Rattle.mx_mem.proofs.Fields.{replaced-fits}
 
--- how many bits of an octa stand above a part
+-- how many bits of an octa are above a part
 bits-above : Part → ℕ → ℕ
 bits-above part a = 64 - bits_below part a - 8 * size_of part
 

@@ -13,7 +13,7 @@ use Rattle.mx_mem.specs.Memory.{Stored, octa_at, octa_in, has_page, page_count, 
 use Rattle.mx_mem.proofs.Fits.{Fits}
 use Rattle.mx_mem.proofs.Views.{octa_at-view, has_page-view, page_count-view, nonzero-paged}
 
--- the pages once the last one stands at the place of another
+-- the pages once the last one is at the place of another
 pub record Swaps (pages : List (ℕ × List ℕ)) (i : ℕ) (left : List (ℕ × List ℕ)) : Type 0 where
   pub shorter : length left + 1 ≡ length pages
   pub here : i + 1 < length pages → get_or left i (0, []) ≡ get_or pages (length pages - 1) (0, [])

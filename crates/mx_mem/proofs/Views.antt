@@ -47,7 +47,7 @@ nonzero-in : (o : Option (List ℕ)) (i : ℕ) → octa_in o i ≢ 0 → IsTrue 
 nonzero-in None i ne = absurd (ne refl)
 nonzero-in (Some octas) i ne = refl
 
--- an octa other than 0 stands on a page that is there
+-- an octa other than 0 is on a page that is there
 pub nonzero-paged : (m : List (ℕ × List ℕ)) (a : ℕ) → octa_at m a ≢ 0 → IsTrue (has_page m (a / 4096))
 unfolding octa_at has_page
 nonzero-paged m a ne = sym (is_some-lookup (is_at (nat_cmp (a / 4096))) m) ∙ nonzero-in (lookup (is_at (nat_cmp (a / 4096))) m) (a / 8 % 512) ne

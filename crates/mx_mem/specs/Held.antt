@@ -32,7 +32,7 @@ pub record Bounded (pages : List (ℕ × List ℕ)) : Type 0 where
   pub below : (i : ℕ) → i < length pages → number_in pages i < 2 ^ 51
   pub few : length pages ≤ 65536
 
--- a first address, a size and a place that are kept: of a low page that stands there, unless the size is 0
+-- a first address, a size and a place that are kept: of a low page that is there, unless the size is 0
 abbrev pub IsKept : ℕ → ℕ → ℕ → List (ℕ × List ℕ) → Type 0
 IsKept start size place pages = 0 < size → (size ≤ 4096) × (place < length pages) × (number_in pages place < low_pages)
     × (4096 * number_in pages place ≡ start)

@@ -1,4 +1,4 @@
--- Low pages: those that stand below Stack_Segment, which begins at 6 times 2^60.
+-- Low pages: those that are below Stack_Segment, which begins at 6 times 2^60.
 use Rattle.std.specs.Prelude.{ℕ, ◌-◌, ◌^◌, ◌≡◌, nat_lt, if◌then◌else◌}
 
 abbrev pub low_pages : ℕ

@@ -18,7 +18,7 @@ abbrev pub octa_in : Option (List ℕ) → ℕ → ℕ
 octa_in None i = 0
 octa_in (Some octas) i = slice_index_or octas i 0
 
--- the octa that holds an address; 0 where nothing stands
+-- the octa that holds an address; 0 where nothing was stored
 unfoldable pub octa_at : Stored → ℕ → ℕ
 octa_at m a = octa_in (lookup (is_at (nat_cmp (a / 4096))) m) (a / 8 % 512)
 

@@ -11,7 +11,7 @@ size_of Wyde = 2
 size_of Tetra = 4
 size_of Octa = 8
 
--- how many bits of an octa stand below the part where an address lies
+-- how many bits of an octa are below the part where an address lies
 abbrev pub bits_below : Part → ℕ → ℕ
 bits_below part a = 8 * (8 - size_of part - a % 8 / size_of part * size_of part)
 

@@ -10,7 +10,7 @@ ghost use Rattle.mx_mem.specs.Memory.{Stored, octa_at, has_page, stored_at, with
 use crate::page::Page;
 use std::collections::BTreeMap;
 
-/// Takes the page with a number away, if it is there; the last one stands in its place then. It takes no memory.
+/// Takes the page with a number away, if it is there; the last one is in its place then. It takes no memory.
 pub(crate) fn take_away(pages: &mut Vec<Page>, places: &mut BTreeMap<u64, usize>, number: u64)
     requires indexed { Indexed pages.old.items places.old }
     requires count { length places.old.entries ≡ length pages.old.items }

@@ -1,6 +1,6 @@
 //! The memory of the machine: pages of 512 octas by their numbers, and what a space of bytes is.
 //!
-//! Memory is 0 where nothing was stored. Bytes stand in wydes, tetras and octas from the high end
+//! Memory is 0 where nothing was stored. Bytes lie in wydes, tetras and octas from the high end
 //! (MMIXware, LNCS 1750; TAOCP 1, Fascicle 1, section 1.3.1').
 #![tactic(auto)]
 

@@ -42,7 +42,7 @@ pub struct Memory {
     code_start: u64,
     code_size: u64,
     code_place: usize,
-    // Where pages may stand that were used lately. It is tested at each use, so it may be wrong.
+    // Where pages may be that were used lately. It is tested at each use, so it may be wrong.
     code: Cell<usize>,
     guesses: [Cell<usize>; GUESSES],
 }
@@ -61,7 +61,7 @@ impl Model for Memory {
 
 #[tactic(auto, unfolding(crate::specs::Memory::octa_at, crate::specs::Memory::has_page, crate::specs::Memory::page_count))]
 impl Memory {
-    /// Memory in which nothing stands, with no page. It takes no memory.
+    /// Memory in which nothing was stored, with no page. It takes no memory.
     pub fn new(alloc: Global) -> Memory
         ensures octas { octa_at result ≡ (λ _. 0) }
         ensures pages { has_page result ≡ (λ _. false) }
@@ -133,7 +133,7 @@ impl Memory {
         }
     }
 
-    /// The octa that `load` gives, where its page is a low one and stands at the place that is remembered for it; else
+    /// The octa that `load` gives, where its page is a low one and is at the place that is remembered for it; else
     /// nothing.
     #[inline(always)]
     pub fn near_octa(&self, a: u64) -> Option<u64>
@@ -147,7 +147,7 @@ impl Memory {
         }
     }
 
-    /// The tetra that holds an address, where its page is a low one and stands at the place that is remembered for it;
+    /// The tetra that holds an address, where its page is a low one and is at the place that is remembered for it;
     /// else nothing. It is for data, and `near_tetra` for instructions.
     #[inline(always)]
     pub fn tetra_if_near(&self, a: u64) -> Option<u32>
@@ -257,7 +257,7 @@ impl Memory {
         self.store(a, self.load(a) ^ in_its_half(a, t))
     }
 
-    /// The octa that holds an address, which is below 2^63. Its page may stand where it is remembered.
+    /// The octa that holds an address, which is below 2^63. Its page may be where it is remembered.
     #[inline(always)]
     fn octa(&self, guess: &Cell<usize>, a: u64) -> u64
         requires { a < 2 ^ 63 }
@@ -309,8 +309,8 @@ impl Memory {
         self.code_size = 0;
     }
 
-    /// Exchanges what stands in two memories. It takes no memory, and the same time for any two: where pages
-    /// may stand that were used lately is remembered apart.
+    /// Exchanges what is in two memories. It takes no memory, and the same time for any two: where pages
+    /// may be that were used lately is remembered apart.
     pub fn exchange(&mut self, other: &mut Memory)
         ensures here { self.new ≡ other.old }
         ensures there { other.new ≡ self.old }

@@ -21,7 +21,7 @@ pub const OCTAS: usize = 512;
 /// How many tetras a page has.
 const TETRAS: usize = 1024;
 
-/// How many pages stand below Stack_Segment, which begins at 6 times 2^60: these are the low ones.
+/// How many pages are below Stack_Segment, which begins at 6 times 2^60: these are the low ones.
 pub const LOW_PAGES: u64 = 0x6_0000_0000_0000;
 
 /// A page of 512 octas with its number; it has the addresses from 4096 times its number on. It is one word, so that

@@ -15,7 +15,7 @@ pub enum Part {
 }
 
 impl Part {
-    /// How many bits of an octa stand below the part where an address lies: a multiple of 8.
+    /// How many bits of an octa are below the part where an address lies: a multiple of 8.
     #[inline(always)]
     pub fn bits_below(self, a: u64) -> u64
         ensures value { result ≡ bits_below self a }

@@ -89,7 +89,7 @@ pub fn guessed_place(
     }
 }
 
-/// A place, where the page with a number stands there.
+/// A place, where the page with a number is there.
 #[inline(always)]
 pub fn near_place(
     pages: &[Page],
@@ -109,7 +109,7 @@ pub fn near_place(
     None
 }
 
-/// A place, where the low page with a number below 2^52 stands there.
+/// A place, where the low page with a number below 2^52 is there.
 #[inline(always)]
 pub fn low_place(
     pages: &[Page],

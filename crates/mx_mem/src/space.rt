@@ -18,7 +18,7 @@ pub enum SpaceFault {
 /// Bytes at the addresses below 2^63, with pages. Where the stack area lies outside its pages, a
 /// byte there makes no page and is never refused for one.
 pub trait Space {
-    // The type of all that a space has beside its bytes and its pages.
+    // The type of all that a space has besides its bytes and its pages.
     ghost Rest: { Type 0 };
 
     ghost contents: { Self → Contents Self.Rest };

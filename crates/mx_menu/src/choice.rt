@@ -46,7 +46,7 @@ fn chosen<'a>(matches: &ArgMatches<'a>) -> Option<Choice<'a>> {
     })
 }
 
-/// What the words of the command line choose, of which the first is the program's name. There is no choice where there is no command,
+/// What the words of the command line choose, the first of which is the program's name. There is no choice where there is no command,
 /// which `clap` refuses.
 ///
 /// Errors: the words are none of the table's, or ask for help or the version, or there is no word: its text says so. Out of memory.

@@ -13,7 +13,7 @@ pub enum Face {
     Count,
     /// What a number or a name means.
     Explain,
-    /// A run that is gone through step by step, forth and back. Its words are read as those of `mmixware run`, after its own options.
+    /// A run that is gone through step by step, back and forth. Its words are read as those of `mmixware run`, after its own options.
     Debug,
     /// A program and its run on one page. Its words are read as those of `mmixware run`, after its own options.
     Page,

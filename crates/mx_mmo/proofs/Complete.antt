@@ -32,7 +32,7 @@ walk-spelled phase at rest (Spelled.next item items bytes more sp others) s d e 
 ended-first : (at : ℕ) (bytes : List ℕ) → first_item Ended at bytes ≡ Ok None
 ended-first at bytes = grind arith
 
--- what is left behind the items of an object
+-- what is left after the items of an object
 abbrev pub left_behind : ℕ → List ℕ → Left
 left_behind at rest = record { phase = Ended; at = at; rest = rest }
 

@@ -1,10 +1,10 @@
--- What stands first in bytes does not depend on what comes later.
+-- What is first in bytes does not depend on what comes later.
 use Rattle.std.proofs.Common.{◌≡◌, ◌≢◌, ℕ, ◌+◌, ◌-◌, ◌*◌, ◌^◌, ◌<◌, ◌≤◌, length, List, [], ◌∷◌, ◌++◌, Bool, false, cond, arith, Ok, Err, Some, None, Option, ◌==◌, ◌&&◌, ◌||◌, rules}
 use Rattle.mx_mmo.proofs.Words.{nat_tests, common_steps, skipped, DueOf, Due, IsWithin, first_item, due_item, lop_item, lop_of, ended_spec, Loc, Skip, File, Line, Spec, Post, Lop, OutOfMemory, Phase, Start, Middle, Posted, Ended}
 use Rattle.mx_mmo.specs.declared.lops.Lop.TheVariants as lops
 use Rattle.mx_mmo.proofs.Skips.{SkipGrows, SkipWithin, skip-grows, skip-within}
 
--- where something stands first, it stands there too after more bytes came
+-- where something is first, it is there too after more bytes came
 abbrev pub Grows : {A : Type 0} → DueOf A → DueOf A → Type 0
 Grows (Ok None) later = Unit {0}
 Grows first later = later ≡ first

@@ -1,4 +1,4 @@
--- Names, and the zeros behind them.
+-- Names, and the zeros after them.
 use Rattle.std.proofs.Common.{◌≡◌, ◌≢◌, ℕ, zero, suc, ◌+◌, ◌<◌, ◌≤◌, length, List, [], ◌∷◌, ◌++◌, take, get_or, replicate, Bool, true, false, cond, arith, refl, ◌∙◌, ap, ◌==◌, rules}
 use Rattle.mx_mmo.proofs.Words.{AreBytes, IsName, onto_trimmed, trimmed, same-number, other-test, nat_tests, common_steps}
 
@@ -48,7 +48,7 @@ zeros-trimmed (suc n) = rw (zeros-trimmed n) refl
 pub all-zeros : (bytes : List ℕ) → AreBytes bytes → trimmed bytes ≡ [] → bytes ≡ replicate (length bytes) 0
 all-zeros bytes h e = search (rules, is-trimmed)
 
--- a name with zeros behind it is that name
+-- a name with zeros after it is that name
 kept : (name : List ℕ) → 0 < length name → ((front : List ℕ) → name ≢ front ++ 0 ∷ []) → trimmed name ≡ name
 kept [] l h = absurd (omega arith)
 kept (b ∷ []) l h = let o : (b == 0) ≡ false = other-test b 0 (λ e. h [] (ap (λ x. x ∷ []) e)) in rw o refl

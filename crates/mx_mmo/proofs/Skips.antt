@@ -28,7 +28,7 @@ skip-within quoted (a ∷ code ∷ y ∷ z ∷ more) =
     on-within (quote_behind quoted a code y z) (λ q. skipped q more) (length more) (length (a ∷ code ∷ y ∷ z ∷ more)) (omega arith) (λ q. skip-within q more)
 skip-within quoted xs = tt
 
--- what is skipped, behind a quote and elsewhere
+-- what is skipped, after a quote and elsewhere
 record Behind (front : List ℕ) : Type 0 where
   t : ℕ
   more : List ℕ
@@ -48,7 +48,7 @@ abbrev SkipTells : Bool → List ℕ → Option ℕ → Type 0
 SkipTells quoted bytes None = Unit {0}
 SkipTells quoted bytes (Some size) = Skips quoted bytes size
 
--- what a tetra that is skipped tells of those behind it
+-- what a tetra that is skipped tells of those after it
 abbrev Follows : Bool → ℕ → ℕ → ℕ → ℕ → Bool → Type 0
 Follows true a code y z true = ⊥
 Follows true a code y z false = Unit {0}
@@ -135,7 +135,7 @@ behind-more quoted q r (k ∷ l ∷ m ∷ n ∷ more) a b c d e h =
     step-more (λ p. quoted_behind p more) (λ p. quoted_behind p (more ++ a ∷ b ∷ c ∷ d ∷ [])) (quote_behind quoted k l m n) q r e (λ p i. behind-more p q r more a b c d i h)
 behind-more quoted q r front a b c d e h = absurd (cc)
 
--- the tetra that stands first in what is left
+-- the tetra that is first in what is left
 pub four-first : (r : List ℕ) → 4 ≤ length r → r ≡ get_or r 0 0 ∷ get_or r 1 0 ∷ get_or r 2 0 ∷ get_or r 3 0 ∷ drop 4 r
 four-first r h = grind arith
 

@@ -6,7 +6,7 @@ use Rattle.mx_mmo.proofs.Firsts.{first-within}
 use Rattle.mx_mmo.proofs.Phases.{Reaches, placed-items}
 use Rattle.mx_mmo.proofs.Told.{Found, Tells, first-tells}
 
--- these items stand first in bytes, and this is left
+-- these items are first in bytes, and this is left
 pub record Stood (phase : Phase) (at : ℕ) (bytes : List ℕ) (items : List Item) (left : Left) : Type 0 where
   pub front : List ℕ
   pub first : StandFirst phase bytes items front left.rest
@@ -14,7 +14,7 @@ pub record Stood (phase : Phase) (at : ℕ) (bytes : List ℕ) (items : List Ite
   pub end : left.phase ≡ phase_end phase items
   pub place : left.at ≡ at + length front
 
--- these items stand first in bytes, and what follows has a fault
+-- these items are first in bytes, and what follows has a fault
 pub record Stopped (phase : Phase) (at : ℕ) (bytes : List ℕ) (items : List Item) (fault : MmoFault) : Type 0 where
   pub front : List ℕ
   pub rest : List ℕ
@@ -73,7 +73,7 @@ stand-step others phase at bytes (Ok None) e b t w h = nothing-stands phase at b
 stand-step others phase at bytes (Err fault) e b t w h = grind (arith, nat_tests, none-first phase bytes, add-zero at)
 stand-step others phase at bytes (Ok (Some (item, size))) e b t w h = search (rules, behind-stands)
 
--- so many items, or fewer
+-- this many items, or fewer
 pub walk-stands : (n : ℕ) (phase : Phase) (at : ℕ) (bytes : List ℕ) → AreBytes bytes → Stands phase at bytes (walk n phase at bytes)
 unfolding walk
 walk-stands zero phase at bytes b = nothing-stands phase at bytes
@@ -85,7 +85,7 @@ pub stands : (bytes : List ℕ) → AreBytes bytes → Stands Start 0 bytes (ite
 unfolding items_of
 stands bytes b = walk-stands (length bytes) Start 0 bytes b
 
--- what stands behind the items
+-- what follows the items
 record Ends (phase : Phase) (at : ℕ) (rest : List ℕ) (tail : Tail) : Type 0 where
   count : ℕ
   ended : phase ≡ Ended
@@ -181,7 +181,7 @@ is-read bytes b = cond-read (nat_lt limit (length bytes)) bytes (TooLong limit) 
 pub object-stands : (bytes : List ℕ) (object : Object) → AreBytes bytes → object_of bytes ≡ Ok object → SpellsObject bytes object
 object-stands bytes object b e = subst (λ (r : Result Object MmoFault). IsRead bytes r) e (is-read bytes b)
 
--- the items of a walk stand at their places
+-- the items of a walk are at their places
 at-places : (bytes : List ℕ) (items : List Item) (left : Left) (w : Walk) → Stands Start 0 bytes w → w ≡ (items, Ok left) → StandAt bytes items left
 at-places bytes items left w s e = grind arith
 

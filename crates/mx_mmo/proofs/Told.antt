@@ -1,4 +1,4 @@
--- What is read stands there: an item is spelled by the bytes that it takes, and a fault is that of a tetra of the table.
+-- What is read is there: an item is spelled by the bytes that it takes, and a fault is that of a tetra of the table.
 use Rattle.std.proofs.Common.{◌≡◌, ◌≢◌, ℕ, zero, suc, ◌+◌, ◌-◌, ◌*◌, ◌/◌, ◌%◌, ◌^◌, ◌<◌, ◌≤◌, ◌⊎◌, length, List, [], ◌∷◌, ◌++◌, take, drop, arith, refl, sym, ◌∙◌, ap, subst, Ok, Err, Some, None, Bool, true, false, cond, length-take, take-append-drop, replicate, Option, nat_lt, nat_le, ◌==◌, ◌&&◌, ◌||◌, IfOk, IfSome, flat_map, rules}
 use Rattle.mx_mmo.proofs.Words.{both_ways, nat_tests, TetraFault, tetra_to_bytes, octa_to_bytes, tetra_from_bytes, lop, wide_lop, AreBytes, AreTetras, AreOctas, Fits, Spells, SpellsAddress, EndsSpec, skipped, DueOf, Due, first_item, due_item, lop_item, lop_of, on_tetra, on_octa, quoted_tetra, short_address, long_address, address_due, item_due, far_tetra, named_file, file_item, ended_spec, pre_item, post_item, tetras_of, octas_of, trimmed, MayCome, EndsItem, Item, Load, Loc, Skip, FixOcta, FixNear, FixFar, File, Line, Spec, Pre, Post, Stab, Lop, MmoFault, BadFields, OutOfMemory, Phase, Start, Middle, Posted, Ended, four-bytes, four-fit, top-byte, bytes-front, take-four, drop-four, same-number, other-number, both-true, both-tests, all-tests, not-less, is-least, is-less}
 use Rattle.mx_mmo.specs.declared.lops.Lop.TheVariants as lops
@@ -37,7 +37,7 @@ item-tells : (phase : Phase) (at : ℕ) (bytes spelling : List ℕ) (item : Item
     EndsItem item (drop size bytes) → Told phase at bytes (Ok (Some (item, size)))
 item-tells phase at bytes spelling item size e s c f n = record { is = record { spells = spelled-as item spelling (take size bytes) e s; comes = c; fits = f; ends = n } }
 
--- the tetra and the octa that stand next
+-- the tetra and the octa that are next
 pub tetra-told : {A : Type 0} (P : DueOf A → Type 0) (due : ℕ → DueOf A) (more : List ℕ) → AreBytes more → P (Ok None) →
     ((t : ℕ) → t < 2 ^ 32 → tetra_to_bytes t ≡ take 4 more → P (due t)) → P (on_tetra due more)
 tetra-told P due more h1 h2 h3 = grind arith
@@ -81,7 +81,7 @@ quoted-tells at code y z more e f g h =
     tetra-told (Told Middle at (0x98 ∷ code ∷ y ∷ z ∷ more)) quoted_tetra more h (nothing-tells _ _ _)
     (λ t fit is. item-tells Middle at _ _ (Load t) 8 (same-lop 0 0 1 code y z _ _ e f g is) (Spells.quoted t fit) tt fit tt)
 
--- an address behind a lopcode of this code
+-- an address after a lopcode of this code
 abbrev AddressTells : ℕ → ℕ → List ℕ → DueOf ℕ → Type 0
 AddressTells at code bytes (Ok (Some (a, size))) = SpellsAddress code a (take size bytes) × (a < 2 ^ 64)
 AddressTells at code bytes (Ok None) = Unit {0}

@@ -19,7 +19,7 @@ enough (suc n) (suc m) phase at bytes p q =
     walk_on-same (walk n) (walk m) phase at bytes _ (first-within phase at bytes) (λ f a bs l. enough n m f a bs (omega arith) (omega arith))
 enough n m phase at bytes p q = refl
 
--- the items of bytes are the first and those of the bytes behind it
+-- the items of bytes are the first and those of the bytes after it
 pub items-step : (phase : Phase) (at : ℕ) (bytes : List ℕ) → items_of phase at bytes ≡ walk_on items_of phase at bytes (first_item phase at bytes)
 unfolding walk items_of
 items-step phase at bytes = search (rules, walk_on-same, first-within, enough)

@@ -13,7 +13,7 @@ use Rattle.mx_mmo.specs.declared.faults.MmoFault.TheVariants.{NotTetras, NoPre, 
 use Rattle.mx_mmo.specs.declared.due.Phase.{Phase}
 use Rattle.mx_mmo.specs.declared.due.Phase.TheVariants.{Start, Middle, Posted, Ended}
 
--- the lopcodes that may stand behind `pre`, up to `post`
+-- the lopcodes that may follow `pre`, up to `post`
 abbrev pub MayStand : Option Lop → Type 0
 MayStand (Some Pre) = ⊥
 MayStand (Some Stab) = ⊥
@@ -48,7 +48,7 @@ pub data TetraFault : Phase → ℕ → List ℕ → MmoFault → Type 0 where
   no_name : (at number tetras : ℕ) (more : List ℕ) → 0 < tetras →
       TetraFault Middle at (0x98 ∷ 6 ∷ number ∷ tetras ∷ replicate (4 * tetras) 0 ++ more) (BadFields at)
 
--- items stand first in bytes, and behind them a tetra with a fault, whose place is where they end
+-- items are first in bytes, and after them a tetra with a fault, whose place is where they end
 pub record ItemFault (bytes : List ℕ) (fault : MmoFault) : Type 0 where
   pub items : List Item
   pub front : List ℕ
@@ -56,7 +56,7 @@ pub record ItemFault (bytes : List ℕ) (fault : MmoFault) : Type 0 where
   pub first : StandFirst Start bytes items front rest
   pub has : TetraFault (phase_end Start items) (length front) rest fault
 
--- all items stand first in bytes, and behind these bytes of a trie the lopcode `end` with this count
+-- all items are first in bytes, and after these bytes of a trie the lopcode `end` with this count
 pub record EndsWith (bytes trie : List ℕ) (count : ℕ) : Type 0 where
   pub items : List Item
   pub front : List ℕ
@@ -65,7 +65,7 @@ pub record EndsWith (bytes trie : List ℕ) (count : ℕ) : Type 0 where
   pub most : count < 2 ^ 16
 
 -- the fault of bytes that are not too many: that of an item; and where none has one, one to three bytes are left over, or
--- they do not end with the lopcode `end` behind all items, or it counts wrong
+-- they do not end with the lopcode `end` after all items, or it counts wrong
 pub data FaultOf : List ℕ → MmoFault → Type 0 where
   of_item : (bytes : List ℕ) (fault : MmoFault) → ItemFault bytes fault → FaultOf bytes fault
   left_over : (bytes : List ℕ) → ((f : MmoFault) → ¬ ItemFault bytes f) → length bytes % 4 ≢ 0 →

@@ -40,7 +40,7 @@ paged m page =
     else if nat_le 65536 m.page_count then Err PagesFull
     else Ok (record m { pages = with_page m.pages page; page_count = m.page_count + 1 })
 
--- whether the tetra that holds an address may stand there: it lies below the stack segment
+-- whether the tetra that holds an address may be there: it lies below the stack segment
 abbrev pub is_below : ℕ → Bool
 is_below a = not (nat_le 0x6000_0000_0000_0000 a)
 
@@ -65,7 +65,7 @@ join_octa m a x =
     let low = (high + 4) % 2 ^ 64 in
     if is_below high && is_below low then then_join low (x % 2 ^ 32) (join m high (x / 2 ^ 32)) else Err BadPlace
 
--- the address so many tetras before another, and so many behind it; addresses are modulo 2^64
+-- the address this many tetras before another, and this many after it; addresses are modulo 2^64
 abbrev pub tetras_before : ℕ → ℕ → ℕ
 tetras_before n a = (a + 2 ^ 64 - 4 * n) % 2 ^ 64
 

@@ -12,7 +12,7 @@ use Rattle.mx_mmo.specs.declared.items.Item.TheVariants.{Load, Loc, Skip, FixOct
 abbrev pub IsNoLop : ℕ → Type 0
 IsNoLop t = (t < 2 ^ 32) × (t / 2 ^ 24 ≢ 0x98)
 
--- an address behind a lopcode of this code: Z tells whether a tetra or an octa follows, and Y
+-- an address after a lopcode of this code: Z tells whether a tetra or an octa follows, and Y
 -- counts 2^56; addresses are modulo 2^64
 pub data SpellsAddress : ℕ → ℕ → List ℕ → Type 0 where
   by_tetra : (code y t : ℕ) → y < 2 ^ 8 → t < 2 ^ 32 →
@@ -43,7 +43,7 @@ pub data Spells : Item → List ℕ → Type 0 where
   fixrx : (bits t : ℕ) → (bits ≡ 16) ⊎ (bits ≡ 24) → t < 2 ^ 25 →
       Spells (FixFar bits t) (lop 5 0 bits ++ tetra_to_bytes t)
   selected : (number : ℕ) → number < 2 ^ 8 → Spells (File number None) (lop 6 number 0)
-  -- a name with any zeros behind it, which fill whole tetras
+  -- a name with any zeros after it, which fill whole tetras
   named : (number tetras zeros : ℕ) (name : List ℕ) → number < 2 ^ 8 → tetras < 2 ^ 8 → IsName name →
       length name + zeros ≡ 4 * tetras →
       Spells (File number (Some name)) (lop 6 number tetras ++ name ++ replicate zeros 0)

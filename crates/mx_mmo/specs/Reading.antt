@@ -1,4 +1,4 @@
--- What stands first in bytes: an item and how many bytes it takes, a fault, or nothing that is whole.
+-- What is first in bytes: an item and how many bytes it takes, a fault, or nothing that is whole.
 -- (MMIXware, the part on MMIXAL, "Binary MMO output".)
 use Rattle.std.specs.Prelude.{ℕ, ◌+◌, ◌-◌, ◌*◌, ◌%◌, ◌^◌, ◌==◌, ◌&&◌, ◌||◌, ◌<◌, ◌≤◌, nat_le, nat_lt, false, List, [], ◌∷◌, length, take, Option, Some, None, Result, Ok, Err, if◌then◌else◌}
 use Rattle.mx_word.specs.Words.{tetra_from_bytes, octa_from_bytes}
@@ -38,7 +38,7 @@ DueOf A = Result (Option (A × ℕ)) MmoFault
 abbrev pub Due : Type 0
 Due = DueOf Item
 
--- what a tetra tells that stands next, and an octa
+-- what a tetra tells that is next, and an octa
 abbrev pub on_tetra : {A : Type 0} → (ℕ → DueOf A) → List ℕ → DueOf A
 on_tetra due (a ∷ b ∷ c ∷ d ∷ more) = due (tetra_from_bytes (a ∷ b ∷ c ∷ d ∷ []))
 on_tetra due _ = Ok None
@@ -47,12 +47,12 @@ abbrev pub on_octa : {A : Type 0} → (ℕ → DueOf A) → List ℕ → DueOf A
 on_octa due (a ∷ b ∷ c ∷ d ∷ e ∷ f ∷ g ∷ h ∷ more) = due (octa_from_bytes (a ∷ b ∷ c ∷ d ∷ e ∷ f ∷ g ∷ h ∷ []))
 on_octa due _ = Ok None
 
--- `pre` with so many tetras
+-- `pre` with this many tetras
 abbrev pub pre_item : ℕ → List ℕ → Due
 pre_item z more =
     if nat_lt (length more) (4 * z) then Ok None else Ok (Some (Pre (tetras_of (take (4 * z) more)), 4 + 4 * z))
 
--- a tetra behind a quote
+-- a tetra after a quote
 abbrev pub quoted_tetra : ℕ → Due
 quoted_tetra t = Ok (Some (Load t, 8))
 
@@ -63,7 +63,7 @@ short_address y t = Ok (Some (y * 2 ^ 56 + t, 8))
 abbrev pub long_address : ℕ → ℕ → DueOf ℕ
 long_address y x = Ok (Some ((y * 2 ^ 56 + x) % 2 ^ 64, 12))
 
--- an address behind a lopcode
+-- an address after a lopcode
 abbrev pub address_due : ℕ → ℕ → ℕ → List ℕ → DueOf ℕ
 address_due at y z more =
     if z == 1 then on_tetra (short_address y) more
@@ -84,7 +84,7 @@ abbrev pub named_file : ℕ → ℕ → ℕ → List ℕ → Due
 named_file at number size [] = Err (BadFields at)
 named_file at number size (b ∷ name) = Ok (Some (File number (Some (b ∷ name)), size))
 
--- a file, with so many tetras of its name
+-- a file, with this many tetras of its name
 abbrev pub file_item : ℕ → ℕ → ℕ → List ℕ → Due
 file_item at number z more =
     if z == 0 then Ok (Some (File number None, 4))
@@ -147,7 +147,7 @@ due_item Posted at a code y z more =
     else Err (BadLop at)
 due_item Ended at a code y z more = Ok None
 
--- the item that stands first in bytes that begin at a place
+-- the item that is first in bytes that begin at a place
 abbrev pub first_item : Phase → ℕ → List ℕ → Due
 first_item phase at (a ∷ code ∷ y ∷ z ∷ more) = due_item phase at a code y z more
 first_item phase at _ = Ok None

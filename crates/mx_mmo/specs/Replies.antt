@@ -52,7 +52,7 @@ phase_after (Post g values) phase = Posted
 phase_after Stab phase = Ended
 phase_after _ phase = phase
 
--- an item that takes so many bytes is given
+-- an item that takes this many bytes is given
 abbrev pub given : ReaderModel → Item → ℕ → ReaderModel
 given m item size =
     record m { rest = drop size m.rest; phase = phase_after item m.phase; at = m.at + size; place = m.at }
@@ -74,14 +74,14 @@ abbrev pub end_count : List ℕ → Option ℕ
 end_count (a ∷ code ∷ y ∷ z ∷ []) = if a == 0x98 && code == 12 then Some (256 * y + z) else None
 end_count _ = None
 
--- what stands behind `stab`, with the count that its last tetra has; at `at` the trie begins
+-- what follows `stab`, with the count that its last tetra has; at `at` the trie begins
 abbrev pub counted_tail : ℕ → List ℕ → Option ℕ → Result Tail MmoFault
 counted_tail at rest None = Err (Truncated (at + length rest))
 counted_tail at rest (Some count) =
     if count == length rest / 4 - 1 then Ok (record { trie = take (length rest - 4) rest; place = at })
     else Err (BadFields (at + length rest - 4))
 
--- what stands behind the items that were given
+-- what follows the items that were given
 abbrev pub tail_behind : Phase → ℕ → List ℕ → Result Tail MmoFault
 tail_behind Ended at rest = counted_tail at rest (end_count (drop (length rest - 4) rest))
 tail_behind _ at rest = Err (Truncated (at + length rest))

@@ -2,7 +2,7 @@
 -- (MMIXware, the part on MMIXAL, "Binary MMO output".)
 use Rattle.std.specs.Prelude.{ℕ, ◌+◌, ◌==◌, ◌&&◌, Bool, true, false, List, [], ◌∷◌, Option, Some, None, if◌then◌else◌}
 
--- whether the tetra behind this one is quoted, by whether this one is; nothing where this one ends a spec: a lopcode other
+-- whether the tetra after this one is quoted, by whether this one is; nothing where this one ends a spec: a lopcode other
 -- than a quote with YZ = 1
 abbrev pub quote_behind : Bool → ℕ → ℕ → ℕ → ℕ → Option Bool
 quote_behind true a code y z = Some false
@@ -14,12 +14,12 @@ abbrev pub four_more : Option ℕ → Option ℕ
 four_more None = None
 four_more (Some n) = Some (4 + n)
 
--- what a tetra that is skipped has behind it, by `behind`
+-- what a tetra that is skipped has after it, by `behind`
 abbrev pub skip_on : (Bool → Option ℕ) → Option Bool → Option ℕ
 skip_on behind None = Some 0
 skip_on behind (Some quoted) = four_more (behind quoted)
 
--- how many bytes stand before the lopcode that ends a spec, where it is there; `quoted` tells whether the first tetra is
+-- how many bytes are before the lopcode that ends a spec, where it is there; `quoted` tells whether the first tetra is
 abbrev pub skipped : Bool → List ℕ → Option ℕ
 skipped quoted (a ∷ code ∷ y ∷ z ∷ more) = skip_on (λ q. skipped q more) (quote_behind quoted a code y z)
 skipped quoted _ = None
@@ -28,7 +28,7 @@ abbrev pub quoted_on : (Bool → Option Bool) → Option Bool → Option Bool
 quoted_on behind None = None
 quoted_on behind (Some quoted) = behind quoted
 
--- whether the tetra behind these is quoted, where all of these are skipped
+-- whether the tetra after these is quoted, where all of these are skipped
 abbrev pub quoted_behind : Bool → List ℕ → Option Bool
 quoted_behind quoted [] = Some quoted
 quoted_behind quoted (a ∷ code ∷ y ∷ z ∷ more) = quoted_on (λ q. quoted_behind q more) (quote_behind quoted a code y z)

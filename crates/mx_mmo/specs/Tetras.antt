@@ -17,7 +17,7 @@ address code a =
     if a / 2 ^ 32 % 2 ^ 24 == 0 then lop code (a / 2 ^ 56) 1 ++ tetra_to_bytes (a % 2 ^ 32)
     else lop code 0 2 ++ octa_to_bytes a
 
--- how many tetras so many bytes fill, and bytes with the zeros that complete the last of them
+-- how many tetras this many bytes fill, and bytes with the zeros that complete the last of them
 abbrev pub tetras_for : ℕ → ℕ
 tetras_for n = (n + 3) / 4
 

@@ -1,4 +1,4 @@
--- Which items stand first in bytes, one after the other.
+-- Which items are first in bytes, one after the other.
 -- (MMIXware, the part on MMIXAL, "Binary MMO output".)
 use Rattle.std.specs.Prelude.{◌≡◌, ℕ, List, [], ◌∷◌, ◌++◌}
 use Rattle.mx_mmo.specs.Object.{EndsSpec, Spelled}
@@ -34,7 +34,7 @@ abbrev pub phase_end : Phase → List Item → Phase
 phase_end phase [] = phase
 phase_end phase (item ∷ items) = phase_end (phase_after item phase) items
 
--- a spec is whole where the lopcode that ends it stands behind it, and any other item by itself
+-- a spec is whole where the lopcode that ends it follows it, and any other item by itself
 abbrev pub EndsItem : Item → List ℕ → Type 0
 EndsItem (Spec n) rest = EndsSpec rest
 EndsItem _ rest = Unit {0}
@@ -44,7 +44,7 @@ EndsLast [] rest = Unit {0}
 EndsLast (item ∷ []) rest = EndsItem item rest
 EndsLast (item ∷ next ∷ items) rest = EndsLast (next ∷ items) rest
 
--- these items stand first in bytes, where items may come as this phase says: they take `front`, and `rest` is left
+-- these items are first in bytes, where items may come as this phase says: they take `front`, and `rest` is left
 pub record StandFirst (phase : Phase) (bytes : List ℕ) (items : List Item) (front rest : List ℕ) : Type 0 where
   pub whole : bytes ≡ front ++ rest
   pub spelled : Spelled items front

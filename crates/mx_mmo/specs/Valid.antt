@@ -28,14 +28,14 @@ Fits (Pre tetras) = (length tetras < 2 ^ 8) × AreTetras tetras
 Fits (Post g values) = (32 ≤ g) × (g < 2 ^ 8) × (length values + g ≡ 256) × AreOctas values
 Fits Stab = Unit {0}
 
--- the items that stand between `pre` and `post`
+-- the items that are between `pre` and `post`
 abbrev pub IsMiddle : Item → Type 0
 IsMiddle (Pre tetras) = ⊥
 IsMiddle (Post g values) = ⊥
 IsMiddle Stab = ⊥
 IsMiddle _ = Unit {0}
 
--- no item that is loaded stands directly behind a spec, which would take it for its own
+-- no item that is loaded directly follows a spec, which would take it for its own
 abbrev pub MayFollow : Item → Item → Type 0
 MayFollow (Spec n) (Load t) = ⊥
 MayFollow _ _ = Unit {0}
@@ -45,7 +45,7 @@ SpecsEnd [] = Unit {0}
 SpecsEnd (i ∷ []) = Unit {0}
 SpecsEnd (i ∷ j ∷ more) = MayFollow i j × SpecsEnd (j ∷ more)
 
--- `pre` stands first and only there, `post` and `stab` are the last two and stand only there
+-- `pre` is first and only there, `post` and `stab` are the last two and only there
 pub record IsPlaced (items : List Item) : Type 0 where
   pub tetras : List ℕ
   pub middle : List Item

@@ -14,7 +14,7 @@ use Rattle.mx_mmo.specs.declared.faults.MmoFault.TheVariants.{TooLong}
 use Rattle.mx_mmo.specs.declared.due.Phase.{Phase}
 use Rattle.mx_mmo.specs.declared.due.Phase.TheVariants.{Start}
 
--- what is left where no whole item stands first, and how far the items before it went
+-- what is left where no whole item is first, and how far the items before it went
 pub record Left : Type 0 where
   pub phase : Phase
   pub at : ℕ
@@ -34,7 +34,7 @@ walk_on others phase at bytes (Ok (Some (item, size))) =
     behind item (others (phase_after item phase) (at + size) (drop size bytes))
 walk_on others phase at bytes (Err fault) = ([], Err fault)
 
--- at most so many items
+-- at most this many items
 unfoldable pub walk : ℕ → Phase → ℕ → List ℕ → Walk
 walk zero phase at bytes = ([], Ok (record { phase = phase; at = at; rest = bytes }))
 walk (suc n) phase at bytes = walk_on (walk n) phase at bytes (first_item phase at bytes)
@@ -90,7 +90,7 @@ fed m = m.at + length m.rest
 abbrev pub with_more : ReaderModel → List ℕ → ReaderModel
 with_more m more = record m { rest = m.rest ++ more }
 
--- the bytes of the pieces up to the one with which all of them pass 2^26 bytes, where so many came before
+-- the bytes of the pieces up to the one with which all of them pass 2^26 bytes, where this many came before
 abbrev pub pieces_within : ℕ → List (List ℕ) → List ℕ
 pieces_within n [] = []
 pieces_within n (piece ∷ pieces) =
@@ -106,7 +106,7 @@ pub record SpellsObject (bytes : List ℕ) (object : Object) : Type 0 where
   pub spelled : IsObject bytes object.items object.tail.trie
   pub place : object.tail.place ≡ length spelled.front
 
--- these items stand first in bytes, and what is left begins where they end
+-- these items are first in bytes, and what is left begins where they end
 pub record StandAt (bytes : List ℕ) (items : List Item) (left : Left) : Type 0 where
   pub front : List ℕ
   pub first : StandFirst Start bytes items front left.rest

@@ -1,4 +1,4 @@
-//! The item that stands first in what was fed.
+//! The item that is first in what was fed.
 
 ghost use Rattle.std.specs.Prelude.{◌≡◌, ◌≢◌, ◌≤◌, ◌*◌, ◌+◌, ℕ, Ok, Some, false, IfOk, IfSome, OnSome, length, take, drop};
 ghost use Rattle.mx_mmo.specs.Reading as spec;
@@ -49,7 +49,7 @@ fn spec_item(scan: &mut Scan, n: u16, more: &[u8]) -> Due
     }
 }
 
-/// The item of a lopcode that stands between `pre` and `post`.
+/// The item of a lopcode that is between `pre` and `post`.
 fn lop_item(
     alloc: Global,
     scan: &mut Scan,
@@ -104,7 +104,7 @@ fn due_item(alloc: Global, scan: &mut Scan, phase: Phase, at: u64, rest: &[u8]) 
     }
 }
 
-/// The tetra that stands first in bytes between `pre` and `post`, where it is one that is loaded as it stands.
+/// The tetra that is first in bytes between `pre` and `post`, where it is one that is loaded as it stands.
 #[inline(always)]
 pub fn plain_tetra(rest: &[u8]) -> Option<u32>
     ensures item { IfSome result (λ t. (at : ℕ) →
@@ -117,7 +117,7 @@ pub fn plain_tetra(rest: &[u8]) -> Option<u32>
     }
 }
 
-/// The item that stands first in bytes that begin at a byte place, where the tetras behind a spec
+/// The item that is first in bytes that begin at a byte place, where the tetras after a spec
 /// were looked through so far.
 pub fn first_item(alloc: Global, scan: &mut Scan, phase: Phase, at: u64, rest: &[u8]) -> Due
     requires within { scan.old.size ≤ length (drop 4 rest.now) }

@@ -1,4 +1,4 @@
-//! What stands in an object.
+//! What is in an object.
 
 use crate::{Items, Octas, Words};
 use mx_word::Bytes;
@@ -10,11 +10,11 @@ pub enum Item {
     Load(u32),
     /// Lambda becomes this address.
     Loc(u64),
-    /// Lambda grows by so many bytes.
+    /// Lambda grows by this many bytes.
     Skip(u16),
     /// Lambda is joined, as an octa, at this address.
     FixOcta(u64),
-    /// The tetra of this number is joined so many tetras before lambda.
+    /// The tetra of this number is joined this many tetras before lambda.
     FixNear(u16),
     /// The tetra `word` is joined at lambda less four times a distance: the distance is that tetra,
     /// or its low 24 bits less 2^bits where its first byte is 1. `bits` is 16 or 24, and the first
@@ -34,14 +34,14 @@ pub enum Item {
     Stab,
 }
 
-/// What stands behind `stab`: the symbol trie, and the byte place where it begins.
+/// What follows `stab`: the symbol trie, and the byte place where it begins.
 #[derive(Drop)]
 pub struct Tail {
     pub trie: Bytes,
     pub place: u64,
 }
 
-/// A whole object: its items, of which `stab` is the last, and the trie behind it.
+/// A whole object: its items, of which `stab` is the last, and the trie after it.
 #[derive(Drop)]
 pub struct Object {
     pub items: Items,

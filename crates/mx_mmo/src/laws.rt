@@ -45,7 +45,7 @@ pub fn items_stand_at_their_places()
         walk count Phase.Start 0 bytes ≡ (items, Ok left) → StandAt bytes items left }
 {}
 
-/// The items of bytes are the first one and those of the bytes behind it; and where more bytes come,
+/// The items of bytes are the first one and those of the bytes after it; and where more bytes come,
 /// the items before stay, and the walk goes on with what was left.
 pub fn items_come_in_turn()
     ensures first { (phase : Phase) (at : ℕ) (bytes : List ℕ) →

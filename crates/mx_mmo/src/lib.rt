@@ -1,4 +1,4 @@
-//! Object files in the mmo format: what stands in them, how it is written and how it is read.
+//! Object files in the mmo format: what is in them, how it is written and how it is read.
 //!
 //! An object is a sequence of tetras. One whose first byte is #98 is a lopcode, which says what the
 //! tetras after it are; any other tetra is loaded (MMIXware, the part on MMIXAL, "Binary MMO output").

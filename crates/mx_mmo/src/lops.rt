@@ -14,7 +14,7 @@ pub(crate) enum Lop {
     Skip,
     /// Lambda is joined, as an octa, at an address.
     Fixo,
-    /// A number is joined so many tetras before lambda.
+    /// A number is joined this many tetras before lambda.
     Fixr,
     /// A tetra is joined at a distance that it tells.
     Fixrx,

@@ -1,4 +1,4 @@
-//! What stands behind a lopcode: tetras, octas, addresses and names.
+//! What follows a lopcode: tetras, octas, addresses and names.
 
 ghost use Rattle.std.specs.Prelude.{◌≡◌, ◌≢◌, ◌+◌, length};
 ghost use Rattle.mx_mmo.specs.Reading as spec;
@@ -56,7 +56,7 @@ fn trimmed(bytes: &[u8]) -> &[u8]
     name
 }
 
-/// `pre` with so many tetras behind it.
+/// `pre` with this many tetras after it.
 pub fn pre_item(alloc: Global, z: u8, more: &[u8]) -> Due
     ensures { result ≢ Err MmoFault.OutOfMemory → result ≡ spec.pre_item z more.now }
 {
@@ -70,7 +70,7 @@ pub fn pre_item(alloc: Global, z: u8, more: &[u8]) -> Due
     }
 }
 
-/// A tetra behind a quote.
+/// A tetra after a quote.
 pub fn quoted_item(more: &[u8]) -> Due
     ensures { result ≡ spec.on_tetra spec.quoted_tetra more.now }
 {
@@ -80,7 +80,7 @@ pub fn quoted_item(more: &[u8]) -> Due
     }
 }
 
-/// An address whose high byte is told, with a tetra behind it.
+/// An address whose high byte is told, with a tetra after it.
 fn short_address(y: u8, more: &[u8]) -> Result<Option<(u64, usize)>, MmoFault>
     ensures { result ≡ spec.on_tetra (spec.short_address y) more.now }
 {
@@ -139,7 +139,7 @@ pub fn fixo_item(at: u64, y: u8, z: u8, more: &[u8]) -> Due
     }
 }
 
-/// A far fix of so many bits, whose tetra begins with 0 or 1.
+/// A far fix of this many bits, whose tetra begins with 0 or 1.
 pub fn far_item(at: u64, bits: u8, more: &[u8]) -> Due
     ensures { result ≡ spec.on_tetra (spec.far_tetra at bits) more.now }
 {
@@ -156,7 +156,7 @@ pub fn far_item(at: u64, bits: u8, more: &[u8]) -> Due
     }
 }
 
-/// A file whose name stands in these bytes, with zeros behind it.
+/// A file whose name is in these bytes, with zeros after it.
 fn named_file(alloc: Global, at: u64, number: u8, bytes: &[u8]) -> Due
     ensures { result ≢ Err MmoFault.OutOfMemory →
         result ≡ spec.named_file at number (4 + length bytes.now) (spec.trimmed bytes.now) }
@@ -177,7 +177,7 @@ fn named_file(alloc: Global, at: u64, number: u8, bytes: &[u8]) -> Due
     }
 }
 
-/// A file with so many tetras of its name behind it.
+/// A file with this many tetras of its name after it.
 pub fn file_item(alloc: Global, at: u64, number: u8, z: u8, more: &[u8]) -> Due
     ensures { result ≢ Err MmoFault.OutOfMemory → result ≡ spec.file_item at number z more.now }
 {
@@ -191,7 +191,7 @@ pub fn file_item(alloc: Global, at: u64, number: u8, z: u8, more: &[u8]) -> Due
     named_file(alloc, at, number, &more[..size])
 }
 
-/// `post` with the values of $g to $255 behind it.
+/// `post` with the values of $g to $255 after it.
 pub fn post_item(alloc: Global, g: u8, more: &[u8]) -> Due
     ensures { result ≢ Err MmoFault.OutOfMemory → result ≡ spec.post_item g more.now }
 {

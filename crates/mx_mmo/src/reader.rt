@@ -24,7 +24,7 @@ const LIMIT: u64 = 1 << 26;
 pub struct Reader {
     alloc: Global,
     input: Input,
-    /// How far the tetras behind a spec that stands next were looked through.
+    /// How far the tetras after a spec that is next were looked through.
     scan: Scan,
     phase: Phase,
     at: u64,
@@ -99,7 +99,7 @@ impl Reader {
         self.hold(piece)
     }
 
-    /// The next whole item; nothing where neither a whole item nor a fault stands next, and always after `stab`.
+    /// The next whole item; nothing where neither a whole item nor a fault is next, and always after `stab`.
     ///
     /// Errors: `NoPre`, `BadLop` and `BadFields`, each with the byte place of the tetra that has it. The fault
     /// that was answered before. Out of memory.
@@ -137,7 +137,7 @@ impl Reader {
         }
     }
 
-    /// The tetra that stands next, where it is one that is loaded as it stands: it is given then, as `next` gives it as an
+    /// The tetra that is next, where it is one that is loaded as it stands: it is given then, as `next` gives it as an
     /// item. Nothing where anything else is due, and then nothing changes. It takes no memory.
     #[inline]
     pub fn next_plain(&mut self) -> Option<u32>
@@ -162,7 +162,7 @@ impl Reader {
         self.place
     }
 
-    /// Says that no more comes, once `next` gives nothing, and gives what stands behind `stab`.
+    /// Says that no more comes, once `next` gives nothing, and gives what follows `stab`.
     ///
     /// Errors: `NotTetras` where the bytes left over are no whole tetras; `Truncated` where `stab` or the last
     /// tetra `end` is missing, or an item is not whole; `BadFields` where `end` has not the number of the trie's
@@ -192,7 +192,7 @@ impl Reader {
         Err(fault)
     }
 
-    /// Goes on behind an item that was given.
+    /// Goes on after an item that was given.
     fn advance(&mut self, item: &Item, size: usize)
         requires { size ≤ length self.old.rest }
         ensures { self.new ≡ spec.given self.old item.now size }
@@ -201,7 +201,7 @@ impl Reader {
         self.phase = phase_after(item, self.phase);
     }
 
-    /// So many bytes are given, and the phase stays.
+    /// This many bytes are given, and the phase stays.
     #[inline(always)]
     fn pass(&mut self, size: usize)
         requires { size ≤ length self.old.rest }

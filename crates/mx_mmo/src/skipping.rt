@@ -3,8 +3,8 @@
 ghost use Rattle.std.specs.Prelude.{◌≡◌, ◌≤◌, ◌-◌, ◌∷◌, [], true, false, Some, IfSome, length, take, drop};
 ghost use Rattle.mx_mmo.specs.Skipping as spec;
 
-/// How far the tetras behind a spec were looked through, so that none is looked at twice: so many
-/// bytes are skipped, and whether the tetra behind them is quoted.
+/// How far the tetras after a spec were looked through, so that none is looked at twice: this many
+/// bytes are skipped, and whether the tetra after them is quoted.
 #[derive(Clone, Copy, Debug, PartialEq, Eq)]
 pub struct Scan {
     pub size: usize,
@@ -24,7 +24,7 @@ impl Scan {
     }
 }
 
-/// Whether the tetra behind this one is quoted; nothing where this one ends a spec.
+/// Whether the tetra after this one is quoted; nothing where this one ends a spec.
 fn quote_behind(quoted: bool, a: u8, code: u8, y: u8, z: u8) -> Option<bool>
     ensures { result ≡ spec.quote_behind quoted a code y z }
 {
@@ -37,7 +37,7 @@ fn quote_behind(quoted: bool, a: u8, code: u8, y: u8, z: u8) -> Option<bool>
     }
 }
 
-/// How many bytes stand before the lopcode that ends a spec, where it is there. What was looked at
+/// How many bytes are before the lopcode that ends a spec, where it is there. What was looked at
 /// before is not looked at again.
 pub fn skip(scan: &mut Scan, more: &[u8]) -> Option<usize>
     requires within { scan.old.size ≤ length more.now }

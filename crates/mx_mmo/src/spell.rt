@@ -54,7 +54,7 @@ fn append_octa(bytes: &mut Vec<u8>, x: u64) -> Result<(), NoMemory>
     append(bytes, &octa_bytes(x))
 }
 
-/// Adds tetras. Where there is no memory, what was there before still stands in front.
+/// Adds tetras. Where there is no memory, what was there before still is in front.
 fn append_tetras(bytes: &mut Vec<u8>, tetras: &[u32]) -> Result<(), NoMemory>
     ensures ok { OnOk result (bytes.new.items ≡ bytes.old.items ++ flat_map tetra_to_bytes tetras.now) }
     ensures err { OnErr result (take (length bytes.old.items) bytes.new.items ≡ bytes.old.items) }
@@ -65,7 +65,7 @@ fn append_tetras(bytes: &mut Vec<u8>, tetras: &[u32]) -> Result<(), NoMemory>
     Ok(())
 }
 
-/// Adds octas. Where there is no memory, what was there before still stands in front.
+/// Adds octas. Where there is no memory, what was there before still is in front.
 fn append_octas(bytes: &mut Vec<u8>, values: &[u64]) -> Result<(), NoMemory>
     ensures ok { OnOk result (bytes.new.items ≡ bytes.old.items ++ flat_map octa_to_bytes values.now) }
     ensures err { OnErr result (take (length bytes.old.items) bytes.new.items ≡ bytes.old.items) }
@@ -178,7 +178,7 @@ fn append_post(bytes: &mut Vec<u8>, g: u8, values: &[u64]) -> Result<(), NoMemor
     append_octas(bytes, values)
 }
 
-/// Adds the bytes of an item. Where there is no memory, what was there before still stands in
+/// Adds the bytes of an item. Where there is no memory, what was there before still is in
 /// front.
 pub fn append_item(bytes: &mut Vec<u8>, item: &Item) -> Result<(), NoMemory>
     requires { Fits item.now }

@@ -1,4 +1,4 @@
-//! What stands behind the items of an object.
+//! What follows the items of an object.
 
 ghost use Rattle.std.specs.Prelude.{◌≡◌, ◌≢◌, ◌≤◌, ◌+◌, ◌^◌, length};
 ghost use Rattle.mx_mmo.specs.Replies as spec;
@@ -39,7 +39,7 @@ fn counted_tail(
     }
 }
 
-/// What stands behind `stab`: the trie and the lopcode `end`.
+/// What follows `stab`: the trie and the lopcode `end`.
 fn tail_behind(alloc: Global, at: u64, rest: &[u8]) -> Result<Tail, MmoFault>
     requires { at + length rest.now ≤ 2 ^ 26 }
     ensures { result ≢ Err MmoFault.OutOfMemory → result ≡ spec.tail_behind Phase.Ended at rest.now }
@@ -55,7 +55,7 @@ fn tail_behind(alloc: Global, at: u64, rest: &[u8]) -> Result<Tail, MmoFault>
     }
 }
 
-/// What stands behind the items that were given, where no more comes.
+/// What follows the items that were given, where no more comes.
 pub fn tail_of(alloc: Global, phase: Phase, at: u64, rest: &[u8]) -> Result<Tail, MmoFault>
     requires { at + length rest.now ≤ 2 ^ 26 }
     ensures { result ≢ Err MmoFault.OutOfMemory → result ≡ spec.tail_of phase at rest.now }

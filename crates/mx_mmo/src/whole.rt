@@ -17,7 +17,7 @@ use crate::{Items, MmoFault, Object, Phase, Reader};
 use mx_word::Bytes;
 use std::alloc::Global;
 
-/// Takes the next item, where a whole one stands next.
+/// Takes the next item, where a whole one is next.
 fn take_one(reader: &mut Reader, items: &mut Items) -> Result<bool, MmoFault>
     requires { reader.old.fault ≡ None }
     ensures same { result ≡ Ok true → with_rest items.new reader.new ≡ with_rest items.old reader.old }

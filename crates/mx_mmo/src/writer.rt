@@ -37,7 +37,7 @@ impl Writer {
         }
     }
 
-    /// Puts an item behind those that were put. Its numbers fit their fields: so does each item that a reader
+    /// Puts an item after those that were put. Its numbers fit their fields: so does each item that a reader
     /// gives or an assembler makes (`Fits` in `specs/Valid.antt`). It refuses only where it is out of memory, and
     /// then nothing changed.
     pub fn put(&mut self, item: &Item) -> Result<(), MmoFault>

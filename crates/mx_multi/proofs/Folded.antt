@@ -77,7 +77,7 @@ module _ (kind : MachineKind) (schedule : List ℕ) where
   )
 
   module _ (n : ℕ) where
-    -- ---- behind turns of processors that have halted
+    -- ---- after turns of processors that have halted
 
     ends-as : (s t : ℕ) (next : List ℕ) (w v : JointWorld) (end : TurnsEnd) → s ≡ t → w ≡ v → EndsSo kind schedule n s next w end → EndsSo kind schedule n t next v end
     ends-as s t next w v end e f h = subst (λ u. EndsSo kind schedule n t next u end) f (subst (λ k. EndsSo kind schedule n k next w end) e h)

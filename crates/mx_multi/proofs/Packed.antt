@@ -1,4 +1,4 @@
--- The names of processors that have not halted, packed where they stand.
+-- The names of processors that have not halted, packed in place.
 use Rattle.std.proofs.Common.{◌≡◌, ◌<◌, ◌≤◌, ⊎_elim, ℕ, zero, suc, ◌+◌, not, Bool, true, false, List, [], ◌∷◌, ◌++◌, drop, take, length, get_or, set, arith, refl, sym, subst, ap, ◌∙◌}
 use Rattle.std.specs.Int.{from_bool}
 use Rattle.std.proofs.lemmas.Bool.{cases_eq}

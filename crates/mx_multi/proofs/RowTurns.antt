@@ -1,4 +1,4 @@
--- Rows of turns of one processor, one behind another.
+-- Rows of turns of one processor, one after another.
 use Rattle.std.proofs.Common.{◌≡◌, ◌<◌, ◌≤◌, ℕ, zero, suc, ◌+◌, ◌-◌, true, false, Option, arith, refl, sym, subst, ap, ◌∙◌}
 use Rattle.mx_host.specs.HostModel.{HostModel, contents}
 use Rattle.mx_host.proofs.Keeping.{keeps-all}
@@ -43,7 +43,7 @@ unfolding Stretch
 stayed zero who j l h s = s
 stayed (suc n) who j l h s = absurd (omega (arith, h))
 
--- ---- of so many that were asked for
+-- ---- of this many that were asked for
 
 pub none-yet : (most who : ℕ) (v : Over) → Row (most - most) who v v
 unfolding Row

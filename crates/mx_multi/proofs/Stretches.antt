@@ -115,7 +115,7 @@ module _ (H : List Bool) (at : ℕ) (runs : has_halted H at ≡ false) where
       halted = refl;
     }
 
-  -- ---- so many
+  -- ---- this many
 
   pub goes-stretch : (n : ℕ) (P Q : List State) (M N : Shared) → at < length P → AllAlone P → AllAlone Q → length Q ≡ length P → Q ≡ set P at (get_or Q at no_processor) →
       Goes n (with_shared M (get_or P at no_processor)) (with_shared N (get_or Q at no_processor)) → Stretch n at (joint P H M) (joint Q H N)

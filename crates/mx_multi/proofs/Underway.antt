@@ -114,7 +114,7 @@ module _ (schedule : List ℕ) (n : ℕ) (start : Over) where
           list = λ un ne. turn-goes who v.2 w.2 (contents v.0) (contents w.0) a (taken.listed (there v u.keeps t) ne un);
         })
 
-    -- what was passed before the turn was passed behind it
+    -- what was passed before the turn was passed after it
     writes : IsTrue (tells start.0) → (x : JointWorld) → WriteOn x (world v) → WriteOn x (world w)
     writes t x h = front-through x.1.output (contents v.0).output (contents w.0).output h (taken.keeps.growing (there v u.keeps t))
 

@@ -27,7 +27,7 @@ unfoldable pub steps_in : List ℕ → JointWorld → ℕ
 steps_in [] w = 0
 steps_in (who ∷ turns) w = steps_of (turn_of who w).0 + steps_in turns (turn_of who w).1
 
--- a schedule so many times over
+-- a schedule this many times over
 abbrev pub repeated : List ℕ → ℕ → List ℕ
 repeated schedule zero = []
 repeated schedule (suc rounds) = schedule ++ repeated schedule rounds
@@ -59,7 +59,7 @@ pub record IsNext (n steps who : ℕ) (next : List ℕ) (w : JointWorld) : Type 
   pub named : next ≡ who ∷ []
   pub runs : has_halted w.0.halted who ≡ false
 
--- How they end after turns that do not end them, of which so many are steps: all steps are made, and one that the schedule
+-- How they end after turns that do not end them, of which this many are steps: all steps are made, and one that the schedule
 -- names has not halted; all that it names have halted; the next turn stops; or it is wild, and is not made.
 abbrev pub EndsSo : MachineKind → List ℕ → ℕ → ℕ → List ℕ → JointWorld → TurnsEnd → Type 0
 EndsSo kind schedule n steps next w (turns_ended end.Spent j m) = ((j, m) ≡ w) × (steps ≡ n) × ¬ AllHaveHalted w.0.halted schedule

@@ -42,7 +42,7 @@ with_processor j who s = record j { processors = slice_set j.processors who (alo
 
 -- THE START
 
--- so many processors start on the memory of an image: each has their number in $0 and its own in $1
+-- this many processors start on the memory of an image: each has their number in $0 and its own in $1
 abbrev pub started : Image → ℕ → Stack → Joint
 started image count stack = record {
   processors = map (λ who. bare image.g (globals_of image) count who stack) (range_with_len 0 count);

@@ -15,7 +15,7 @@ abbrev pub or_again : Option (ℕ × List ℕ) → Option (ℕ × List ℕ) → 
 or_again None again = again
 or_again (Some next) again = Some next
 
--- the same where the schedule begins again behind its end; none where each processor that it names has halted
+-- the same where the schedule begins again after its end; none where each processor that it names has halted
 abbrev pub next_turn : List Bool → List ℕ → List ℕ → Option (ℕ × List ℕ)
 next_turn halted schedule rest = or_again (next_in halted rest) (next_in halted schedule)
 

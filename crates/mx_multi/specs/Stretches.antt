@@ -20,7 +20,7 @@ pub record GoesOn (who : ℕ) (j k : Joint) : Type 0 where
   pub bound : MakesOne who j k
   pub halted : k.halted ≡ j.halted
 
--- so many of them lead from some processors to others
+-- this many of them lead from some processors to others
 unfoldable pub Stretch : ℕ → ℕ → Joint → Joint → Type 0
 Stretch zero who j l = j ≡ l
 Stretch (suc n) who j l = (k : Joint) × (GoesOn who j k × Stretch n who k l)
@@ -34,19 +34,19 @@ Over = Option HostModel × ℕ × Joint
 abbrev pub Taken : ℕ → Turn → Over → Over → Type 0
 Taken who answer v w = TakesTurn v.0 w.0 v.1 w.1 v.2 w.2 who answer
 
--- so many turns of a processor, each of which goes on, lead from one to another
+-- this many turns of a processor, each of which goes on, lead from one to another
 unfoldable pub Row : ℕ → ℕ → Over → Over → Type 0
 Row zero who v w = v ≡ w
 Row (suc n) who v w = (u : Over) × (Taken who turned.Went v u × Row n who u w)
 
--- of so many turns that were asked for some go on, and the next one gives another answer
+-- of this many turns that were asked for some go on, and the next one gives another answer
 pub record EndsRow (who most made : ℕ) (answer : Turn) (v w : Over) : Type 0 where
   pub before : Over
   pub few : made < most
   pub row : Row made who v before
   pub last : Taken who answer before w
 
--- how so many turns of a processor that was asked for them end
+-- how this many turns of a processor that was asked for them end
 abbrev pub RunsRow : ℕ → ℕ → Over → Over → RowEnd → Type 0
 RunsRow who most v w Went = Row most who v w
 RunsRow who most v w (Halted made) = (status : ℕ) × EndsRow who most made (turned.Halted status) v w
@@ -64,7 +64,7 @@ pub record IsPlaceFrom (names : List ℕ) (at place : ℕ) : Type 0 where
   pub same : at < length names → place ≡ at
   pub again : length names ≤ at → place ≡ 0
 
--- so many bytes of a schedule, from a place on, name a processor
+-- this many bytes of a schedule, from a place on, name a processor
 pub record IsRow (schedule : List ℕ) (place n who : ℕ) : Type 0 where
   pub inside : place + n ≤ length schedule
   pub names : (i : ℕ) → i < n → get_or schedule (place + i) 0 ≡ who

@@ -45,8 +45,8 @@ impl Model for Multi {
 }
 
 impl Multi {
-    /// So many processors at the start of a program, on the memory of its image: each has their number in $0 and its own
-    /// number, from 0, in $1, and nothing stands in the pool.
+    /// This many processors at the start of a program, on the memory of its image: each has their number in $0 and its own
+    /// number, from 0, in $1, and nothing is in the pool.
     ///
     /// Errors: out of memory.
     pub fn start(alloc: Global, image: Image, count: u8, r: RingSize) -> Result<Multi, NoMemory>
@@ -90,7 +90,7 @@ impl Multi {
         self.halted.as_slice()
     }
 
-    /// The octa of the one memory that holds an address below the stack area; 0 where nothing stands.
+    /// The octa of the one memory that holds an address below the stack area; 0 where nothing was stored.
     pub fn octa(&self, a: u64) -> u64
         requires { a < 0x6000_0000_0000_0000 }
         ensures { result ≡ (joint_of self.now).memory.octas a }
@@ -108,7 +108,7 @@ impl Multi {
     }
 }
 
-/// So many machines with no memory of their own: each has their number in $0 and its own in $1.
+/// This many machines with no memory of their own: each has their number in $0 and its own in $1.
 #[tactic(auto, using(crate::proofs::Begun::growing))]
 fn bare_machines(
     alloc: Global,
@@ -130,7 +130,7 @@ fn bare_machines(
     Ok(machines)
 }
 
-/// That none of so many has halted.
+/// That none of this many has halted.
 #[tactic(auto, using(crate::proofs::Begun::growing))]
 fn none_halted(alloc: Global, count: u8) -> Result<Vec<bool>, NoMemory>
     ensures { IfOk result (λ halted. halted.items ≡ replicate count false) }

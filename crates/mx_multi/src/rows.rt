@@ -7,14 +7,14 @@ ghost use Rattle.mx_multi.specs.Stretches.{IsRow, RunsRow, Stretch};
 use crate::{Multi, MultiEnd, Turn};
 use mx_host::Host;
 
-/// How a row of turns ends: all of them went on; the processor halted in the turn after so many; or a turn ended the run.
+/// How a row of turns ends: all of them went on; the processor halted in the turn after this many; or a turn ended the run.
 pub(crate) enum RowEnd {
     Went,
     Halted(u64),
     Ended(MultiEnd),
 }
 
-/// How many names of a list, from a place on and at most so many, are the same.
+/// How many names of a list, from a place on and at most this many, are the same.
 #[tactic(auto, using(crate::proofs::Stretches::walking))]
 pub(crate) fn row_length(names: &[u8], at: usize, most: u64) -> u64
     requires some { 1 ≤ most }
@@ -34,7 +34,7 @@ pub(crate) fn row_length(names: &[u8], at: usize, most: u64) -> u64
     length
 }
 
-/// Makes a row of so many turns of a processor that has not halted. A file trap does not end it.
+/// Makes a row of this many turns of a processor that has not halted. A file trap does not end it.
 pub(crate) fn run_row<H: Host>(multi: &mut Multi, host: &mut H, who: u8, most: u64) -> RowEnd
     requires inside { who < processor_count multi.now }
     requires runs { has_halted multi.now.halted who ≡ false }
@@ -66,7 +66,7 @@ pub(crate) fn run_row<H: Host>(multi: &mut Multi, host: &mut H, who: u8, most: u
     RowEnd::Went
 }
 
-/// Makes turns of a processor that has not halted, up to so many, as far as each goes on: how many. None where one is asked
+/// Makes turns of a processor that has not halted, up to this many, as far as each goes on: how many. None where one is asked
 /// for, which is made faster by itself.
 #[tactic(auto, using(crate::proofs::Stretches::walking))]
 fn walk_some(multi: &mut Multi, who: u8, most: u64) -> u64

@@ -54,7 +54,7 @@ fn turn_at<H: Host>(
     turn_on(alloc, &mut machines[at], memory, host)
 }
 
-/// Steps of a machine on a memory that is not its own, up to so many, as far as they go on: how many.
+/// Steps of a machine on a memory that is not its own, up to this many, as far as they go on: how many.
 #[tactic(auto, using(crate::proofs::Exchanges::exchanging))]
 fn walk_on(machine: &mut Machine, memory: &mut Memory, most: u64) -> u64
     requires { shared_of (state_of machine.now) ≡ nothing_shared }
@@ -69,7 +69,7 @@ fn walk_on(machine: &mut Machine, memory: &mut Memory, most: u64) -> u64
     walk.made
 }
 
-/// Steps of the machine at a place on a memory that is not its own, up to so many: how many.
+/// Steps of the machine at a place on a memory that is not its own, up to this many: how many.
 fn walk_at(machines: &mut Vec<Machine>, memory: &mut Memory, at: usize, most: u64) -> u64
     requires inside { at < length machines.now.items }
     requires apart { AllAlone (map state_of machines.now.items) }
@@ -144,7 +144,7 @@ impl Multi {
         )
     }
 
-    /// Makes turns of a processor that has not halted, up to so many, as far as each goes on: how many.
+    /// Makes turns of a processor that has not halted, up to this many, as far as each goes on: how many.
     pub(crate) fn walk(&mut self, who: u8, most: u64) -> u64
         requires inside { who < processor_count self.now }
         requires runs { has_halted self.now.halted who ≡ false }

@@ -14,7 +14,7 @@ use Rattle.mx_object.specs.declared.tetras.ListedTetra.{ListedTetra}
 abbrev pub figured : Tally → List ℕ → List ℕ
 figured y text = if y.times == 0 then [] else figures y ++ text
 
--- the labels, each behind a blank
+-- the labels, each after a blank
 abbrev pub labels_text : List Label → List ℕ
 labels_text labels = flat_map (λ l. codes " " ++ label_text l) labels
 
@@ -22,7 +22,7 @@ abbrev pub part_row : List Label → Option Tally → List ℕ
 part_row labels None = []
 part_row labels (Some y) = figured y (labels_text labels ++ codes "\n")
 
--- a tetra behind its figures
+-- a tetra after its figures
 unfoldable pub tetra_line : ListedTetra → List ℕ
 tetra_line t = codes "  " ++ tetra_row t
 

@@ -30,14 +30,14 @@ pub(crate) fn lambda_after(lambda: u64, item: &Item) -> u64
     }
 }
 
-/// The address so many tetras before another.
+/// The address this many tetras before another.
 fn tetras_before(n: u32, a: u64) -> u64
     ensures { result ≡ meaning.tetras_before n a }
 {
     a.wrapping_sub(4 * u64::from(n))
 }
 
-/// The address so many tetras after another.
+/// The address this many tetras after another.
 fn tetras_after(n: u32, a: u64) -> u64
     ensures { result ≡ meaning.tetras_behind n a }
 {

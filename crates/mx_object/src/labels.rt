@@ -19,7 +19,7 @@ pub struct Label {
 /// A list of labels.
 pub type Labels = Sequence<Label>;
 
-/// Where an address is: so many bytes after the address that a symbol has.
+/// Where an address is: this many bytes after the address that a symbol has.
 #[derive(Drop)]
 pub struct Place {
     pub name: Bytes,

@@ -27,7 +27,7 @@ const NO_COUNT: TetraCount = TetraCount {
     part: None,
 };
 
-/// Adds labels, each behind a blank.
+/// Adds labels, each after a blank.
 fn add_labels(text: &mut Bytes, labels: &[Label]) -> Result<(), NoMemory>
     ensures { OnOk result (text.new ≡ text.old ++ spec.labels_text labels.now) }
 {
@@ -58,7 +58,7 @@ fn add_part(
     text.push(b'\n')
 }
 
-/// Adds a tetra behind its figures.
+/// Adds a tetra after its figures.
 #[tactic(auto, unfolding(crate::specs::Sheets::tetra_line))]
 fn add_line(alloc: Global, text: &mut Bytes, tetra: &ListedTetra) -> Result<(), NoMemory>
     ensures { OnOk result (text.new ≡ text.old ++ spec.tetra_line tetra.now) }

@@ -1,4 +1,4 @@
--- Where the codes of a row stand in the table.
+-- Where the codes of a row are in the table.
 use Rattle.std.proofs.Common.{◌≡◌, ◌<◌, ℕ, zero, suc, ◌+◌, ◌*◌, true, List, [], ◌∷◌, ◌++◌, length, map, get_or, refl, sym, ◌∙◌, ap, subst, arith, eqb, Contains, flat_map}
 use Rattle.mx_ops.proofs.Words.{and_parts, eqb-true, Kind, own_code, Row, row_names, row_kinds, row_length, opcode_rows, opcode_names, opcode_kinds, opcode_name, opcode_kind, rows_follow, IsCodeOf}
 use Rattle.std.proofs.lemmas.List.{append_assoc, get_or_append_left, get_or-append-add, length-map}
@@ -24,7 +24,7 @@ module _ {X A : Type 0} (f : X → List A) (n : ℕ) (long : (x : X) → length 
       further : {m : ℕ} (i j : ℕ) → m ≡ n → n * suc i + j ≡ m + (n * i + j)
       further i j is = omega (arith, is)
 
-  -- what stands behind all pieces
+  -- what follows all pieces
   behind : (xs : List X) (rest : List A) (k : ℕ) (d : A) → get_or (flat_map f xs ++ rest) (n * length xs + k) d ≡ get_or rest k d
   behind [] rest k d = ap (λ i. get_or rest i d) (none-of k)
   behind (x ∷ xs) rest k d =
@@ -44,7 +44,7 @@ same-everywhere name (kind ∷ kinds) (suc j) lt = same-everywhere name kinds j 
 names-long : (kinds : List Kind) (name : List ℕ) → length (map (λ kind. name) kinds) ≡ length kinds
 names-long kinds name = length-map kinds (λ kind. name)
 
--- where a code of a row stands in the lists of all codes from a first one on
+-- where a code of a row is in the lists of all codes from a first one on
 record IsPlace (row : Row) (i j start : ℕ) (table : List Row) : Type 0 where
   offset : ℕ
   code : row.first + length row.kinds * i + j ≡ start + offset

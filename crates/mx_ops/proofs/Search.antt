@@ -26,7 +26,7 @@ covers key xs (entry ∷ entries) = among key entry.0 xs && covers key xs entrie
 pub same-name : (a b : List ℕ) → bytes_eq a b ≡ true → a ≡ b
 same-name a b h = (bytes_eq-Decides a b).0 h
 
--- what stands at a place after the first is what stands in the rest at the place before
+-- what is at a place after the first is what is in the rest at the place before
 later : {X : Type 0} (x : X) (xs : List X) (k : ℕ) (d : X) → get_or (x ∷ xs) (suc k + 1) d ≡ get_or xs (k + 1) d
 later x xs k d = rw add-one (rw add-one refl)
 

@@ -138,7 +138,7 @@ chosen_operations = (codes "LDA", Lda) ∷ (codes "SET", Set) ∷ []
 abbrev pub instruction : List ℕ × ℕ → List ℕ × Op
 instruction entry = (entry.0, Code entry.1)
 
--- all operations; the instructions stand in order of their codes
+-- all operations; the instructions are in order of their codes
 unfoldable pub operations : List (List ℕ × Op)
 operations = pseudo_operations ++ chosen_operations ++ map instruction (numbered 0 opcode_names)
 

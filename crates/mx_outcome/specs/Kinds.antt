@@ -18,7 +18,7 @@ is_usage Quit = false
 is_usage ConsoleLimit = false
 is_usage OutOfMemory = false
 
--- where the machine is left with something to tell
+-- where the machine is left with something to show
 abbrev pub leaves_machine : Outcome → Bool
 leaves_machine (Done status) = true
 leaves_machine (Stopped pc reason) = true

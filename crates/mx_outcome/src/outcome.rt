@@ -69,7 +69,7 @@ impl Outcome {
         }
     }
 
-    /// Whether the machine is left with something to tell.
+    /// Whether the machine is left with something to show.
     pub fn leaves_machine(&self) -> bool
         ensures { result ≡ leaves_machine self.now }
     {

@@ -5,14 +5,14 @@ ghost use Rattle.std.specs.Prelude.{◌≤◌, length};
 use mx_text::byte_hex;
 use mx_word::{Bytes, NoMemory};
 
-/// The bytes that are shown otherwise than by their number, beside printed characters.
+/// The bytes that are shown otherwise than by their number, besides printed characters.
 #[derive(Clone, Copy)]
 pub enum Style {
     /// Newlines and tabs as they are.
     Plain,
     /// Tabs as they are.
     Line,
-    /// Within quotation marks: newlines as `\n`, tabs as `\t`, quotation marks and backslashes behind a backslash.
+    /// Within quotation marks: newlines as `\n`, tabs as `\t`, quotation marks and backslashes after a backslash.
     Quoted,
 }
 
@@ -24,7 +24,7 @@ fn is_text(bytes: &[u8]) -> bool {
     }
 }
 
-/// The first bytes of a text, so many or all.
+/// The first bytes of a text, this many or all.
 fn front(bytes: &[u8], count: usize) -> &[u8] {
     if count < bytes.len() {
         &bytes[..count]
@@ -33,7 +33,7 @@ fn front(bytes: &[u8], count: usize) -> &[u8] {
     }
 }
 
-/// How many bytes the character has that stands at the front of a text; 0 where none does.
+/// How many bytes the character has that is at the front of a text; 0 where none does.
 fn character_length(bytes: &[u8]) -> usize {
     if is_text(front(bytes, 1)) {
         1

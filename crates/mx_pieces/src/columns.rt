@@ -5,7 +5,7 @@ use mx_word::{Bytes, NoMemory};
 
 static BLANKS: [u8; 40] = *b"                                        ";
 
-/// How many blanks fill a text up to a width, of which so many bytes are there.
+/// How many blanks fill a text up to a width, of which this many bytes are there.
 fn blanks_for(used: usize, width: usize) -> &'static [u8] {
     let count = width.saturating_sub(used);
     if count < 40 {
@@ -33,7 +33,7 @@ fn digit_count(n: u64) -> usize {
     }
 }
 
-/// Adds a number behind blanks that fill it up to a width of 5.
+/// Adds a number after blanks that fill it up to a width of 5.
 pub fn add_right(text: &mut Bytes, n: u64) -> Result<(), NoMemory> {
     text.extend(blanks_for(digit_count(n), 5))?;
     add_decimal(text, n)

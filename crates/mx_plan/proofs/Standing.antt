@@ -16,7 +16,7 @@ stands-then old mid new a b d h k = let first : a ≤ b = h.1 in let second : b 
 pub stands-kept : (old new : Option HostModel) (a b : ℕ) → Keeps old new a b → Stands old new a b
 stands-kept old new a b h = (h.telling, h.counting, streams-kept old new a b h)
 
--- what came by a failure behind a step came by one over both
+-- what came by a failure after a step came by one over both
 pub rose-on : (k m n : ℕ) → k ≤ m → Rose m n → Rose k n
 rose-on k m n l (inl h) = inl (omega (arith, l, h))
 rose-on k m n l (inr e) = inr e

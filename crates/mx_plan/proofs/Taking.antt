@@ -1,4 +1,4 @@
--- What plans of the host take from a slot, one behind the other.
+-- What plans of the host take from a slot, one after the other.
 use Rattle.std.proofs.Common.{ℕ, ◌≤◌, ◌-◌, List, arith}
 use Rattle.mx_host.specs.declared.slots.Mode.{Mode}
 use Rattle.mx_plan.specs.Plan.{returns, calls, bind}

@@ -1,4 +1,4 @@
--- A plan: the calls that a function makes, one after another, up to its answer. No world stands in it.
+-- A plan: the calls that a function makes, one after another, up to its answer. No world is in it.
 --
 -- What a larger world has for its calls was decided so. A call may be a whole plan of a smaller world: it answers and leaves
 -- that plan's end, and lacks memory where that plan may stop. Calls of its own stand beside it. So no plan is written twice,

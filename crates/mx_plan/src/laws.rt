@@ -10,8 +10,8 @@ ghost use Rattle.mx_plan.specs.Plan.{Stops, end_of};
 use mx_mem::Space;
 
 /// To its end, and to each world that it may stop with, a plan only adds to standard output, and leaves the slots of
-/// the tool where they lead to their streams. What stands there where memory runs out is a front of what would
-/// stand there at its end.
+/// the tool where they lead to their streams. What is there where memory runs out is a front of what would
+/// be there at its end.
 #[tactic(auto, using(crate::proofs::Streams::streaming))]
 pub fn plans_keep_streams<M: Space, N: Space>()
     ensures ending { (p : BothPlan N.Rest) (w : Both M.Rest) → KeepsStreams w.1 (end_of both p w).1.1 }

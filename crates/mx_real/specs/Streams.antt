@@ -1,4 +1,4 @@
--- What the slots of the real host lead to, and the bytes and the place behind one.
+-- What the slots of the real host lead to, and the bytes and the place after one.
 use Rattle.std.specs.Prelude.{◌≡◌, ℕ, ℤ, IfSome, Bool, false, true, not, List, Option, None, Result, Ok, Err}
 use Rattle.mx_host.specs.HostAnswer.{place_sought}
 use Rattle.mx_host.specs.HostModel.{is_read_only, is_write_only}

@@ -28,7 +28,7 @@ fn add_standard<F: Drop>(streams: &mut Vec<Stream<F>>) -> Option<()>
     streams.push(Stream::Errors).ok()
 }
 
-/// Adds so many closed slots.
+/// Adds this many closed slots.
 fn add_closed<F: Drop>(streams: &mut Vec<Stream<F>>, count: usize) -> Option<()>
     ensures { OnSome result (streams.new.items ≡ streams.old.items ++ replicate count Stream.Closed) }
 {

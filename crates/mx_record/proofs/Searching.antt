@@ -10,7 +10,7 @@ use Rattle.mx_record.specs.declared.changes.Change.{Change}
 use Rattle.mx_record.proofs.Beyond.{octa-zero, octa-beyond, octa-hidden}
 use Rattle.mx_record.proofs.Telling.{Zeros, new-done, new-first, new-noted, new-on, none-old, old-below, old-done, old-noted, old-or-below}
 
--- none is shown before the next one, and none behind the last one
+-- none is shown before the next one, and none after the last one
 before-next : (s : State) (n a x : ℕ) → IsNextNonzero (octa s) (8 * n) (Some (a, x)) → Zeros (octa_shown s) n (a / 8)
 before-next s n a x f q l m = octa-zero s q (f.4 (8 * q) (omega (arith, l)) (omega arith) (omega (arith, m)))
 

@@ -11,7 +11,7 @@ use Rattle.mx_record.specs.Pictures.{all_registers, octa_of}
 
 -- PLACES
 
--- a zero behind the last octa is what was there
+-- a zero after the last octa is what was there
 pub zero-pushed : (octas : List ℕ) (q : ℕ) → octa_of (octas ++ 0 ∷ []) q ≡ octa_of octas q
 zero-pushed octas q = ⊎_elim
     (λ l. get_or-append octas (0 ∷ []) 0 q l)
@@ -61,7 +61,7 @@ followed-next now later start final i new h put e q = put q ∙ by (q == i) refl
 pub followed-all : (now start final : ℕ → ℕ) (i : ℕ) → Followed now start final i → ((q : ℕ) → i ≤ q → start q ≡ final q) → (q : ℕ) → now q ≡ final q
 followed-all now start final i h same q = h q ∙ cond_both (nat_lt q i) (final q) (start q) (λ x. x ≡ final q) (λ _. refl) (λ e. same q (grind (arith, nat_tests)))
 
--- behind the registers there are zeros
+-- after the registers there are zeros
 pub zeros-behind : (z : Stack) (old : ℕ → ℕ) (end after i q : ℕ) → ((i : ℕ) → end ≤ i → old i ≡ 0) → after ≡ hidden_count z + local_count z → max end after ≤ i → i ≤ q → old q ≡ octa_of (all_registers z) q
 zeros-behind z old end after i q zeros e l m =
     let most : length (all_registers z) ≤ q = omega (arith, length-append (hidden_octas z) (visible z).locals, e, l, m) in

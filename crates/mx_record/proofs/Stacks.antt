@@ -83,7 +83,7 @@ last-kept z x b =
     let most : (visible z).first_global ≤ 255 = b.one_is_global in
     cond_both (is_marginal (visible z) 255) _ _ (λ (y : Stack). KeptStack z y) (λ e. absurd (grind (arith, nat_tests))) (λ _. shown-kept z _)
 
--- other octas stand in the stack area
+-- other octas are in the stack area
 take-length : (n : ℕ) (xs ys : List ℕ) → n ≤ length xs → n ≤ length ys → length (take n xs) ≡ length (take n ys)
 take-length n xs ys l m = length-take n xs ∙ sym (length-take n ys ∙ omega (arith, l, m))
 

@@ -85,7 +85,7 @@ abbrev pub reaches_hidden : Option Trace → Bool
 reaches_hidden None = true
 reaches_hidden (Some trace) = is_deep (operation_of_word trace.word) || writes_area trace.writes
 
--- how many registers of the stack stay in front of those that a turn may change, where so many are hidden before and after
+-- how many registers of the stack stay in front of those that a turn may change, where this many are hidden before and after
 abbrev pub kept_count : Option Trace → ℕ → ℕ → ℕ
 kept_count trace before after = if reaches_hidden trace then 0 else min before after
 

@@ -20,7 +20,7 @@ pub record Picture : Type 0 where
   -- the octas of memory outside the stack area by their numbers: that of number n has the addresses from 8 n on
   pub octa : ℕ → ℕ
 
--- the octa at a place of a list; 0 behind its end
+-- the octa at a place of a list; 0 after its end
 abbrev pub octa_of : List ℕ → ℕ → ℕ
 octa_of octas i = slice_index_or octas i 0
 

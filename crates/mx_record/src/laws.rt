@@ -21,7 +21,7 @@ pub fn states_follow_from_records()
         → all_applied (take i records) (picture_at p k) ≡ picture_at p (k + i) }
 {}
 
-/// So many records of the turns after step k are made at an address as turns of the run are.
+/// This many records of the turns after step k are made at an address as turns of the run are.
 #[tactic(auto, using(crate::proofs::States::states))]
 pub fn records_are_counted()
     ensures { (p : Program) (k a : ℕ) (records : List Record) → AreRecords p k records

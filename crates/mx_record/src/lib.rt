@@ -1,4 +1,4 @@
-//! Records of a run: what each turn changed of what is shown of the machine, so that a run is told forth and back.
+//! Records of a run: what each turn changed of what is shown of the machine, so that a run is told back and forth.
 #![tactic(auto)]
 
 mod changes;

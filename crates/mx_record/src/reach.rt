@@ -77,7 +77,7 @@ fn reaches_hidden(trace: Option<Trace>) -> bool
     }
 }
 
-/// How many registers of the stack stay in front of those that a turn may change, where so many are hidden before and after
+/// How many registers of the stack stay in front of those that a turn may change, where this many are hidden before and after
 /// it.
 pub(crate) fn kept_count(trace: Option<Trace>, before: u64, after: u64) -> u64
     ensures { result ≡ spec.kept_count trace before after }

@@ -18,7 +18,7 @@ const RO: u8 = 10;
 
 const RS: u8 = 11;
 
-/// Octas by their places; behind the last one there are zeros.
+/// Octas by their places; after the last one there are zeros.
 #[derive(Drop)]
 pub(crate) struct Stacked {
     octas: Vec<u64>,
@@ -104,7 +104,7 @@ fn hidden_by(before: u64, after: u64, old: u64, i: u64) -> u64
     }
 }
 
-/// What a register of the stack has, by what it had where so many were hidden.
+/// What a register of the stack has, by what it had where this many were hidden.
 #[tactic(auto, using(crate::proofs::Stacking::seeing))]
 fn stacked_octa(machine: &Machine, before: u64, old: u64, i: u64) -> u64
     ensures { result ≡ spec.stacked_by before old (state_of machine.now).stack i }
@@ -124,7 +124,7 @@ fn stacked_octa(machine: &Machine, before: u64, old: u64, i: u64) -> u64
     }
 }
 
-/// What changed of the registers of the stack; they are followed to those of the machine. So many were hidden before, so
+/// What changed of the registers of the stack; they are followed to those of the machine. This many were hidden before, so
 /// many were hidden or local, and those in front of a place stayed the same.
 #[tactic(auto, using(crate::proofs::Stacking::seeing))]
 pub(crate) fn stacked_changes(

@@ -48,7 +48,7 @@ pub filled-take : (n k : ℕ) (octas : List ℕ) → k ≤ length octas → take
 unfolding filled
 filled-take n k octas f = take-append-le k octas (zeros (n - length octas)) f
 
--- what stands among the octas that are kept
+-- what is among the octas that are kept
 pub filled-slice : (n from to : ℕ) (octas : List ℕ) → from ≤ to → to ≤ length octas → take (to - from) (drop from (filled n octas)) ≡ take (to - from) (drop from octas)
 unfolding filled
 filled-slice n from to octas f g =

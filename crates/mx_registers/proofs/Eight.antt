@@ -42,7 +42,7 @@ all-eight xs e =
 pub eight : (xs : List ℕ) (n : ℕ) → length xs ≡ 8 → n ≤ 8 → (if nat_lt 0 n then get_or xs 0 0 else 0) ∷ (if nat_lt 1 n then get_or xs 1 0 else 0) ∷ (if nat_lt 2 n then get_or xs 2 0 else 0) ∷ (if nat_lt 3 n then get_or xs 3 0 else 0) ∷ (if nat_lt 4 n then get_or xs 4 0 else 0) ∷ (if nat_lt 5 n then get_or xs 5 0 else 0) ∷ (if nat_lt 6 n then get_or xs 6 0 else 0) ∷ (if nat_lt 7 n then get_or xs 7 0 else 0) ∷ [] ≡ take n xs ++ replicate (8 - n) 0
 eight xs n e f = sym (ap (picked 0 n) (all-eight xs e)) ∙ picked-is 0 n n xs (omega arith) (omega arith) ∙ ap (λ m. take n xs ++ replicate (m - n) 0) e
 
--- eight registers are written, and then the one behind those that came back
+-- eight registers are written, and then the one after those that came back
 registers-written : (v : Registers) (os : List ℕ) (n y : ℕ) → AreInBounds v → length v.locals ≤ 8 → length os ≡ n → n < 8 → set (with_part (all_values v) 0 (os ++ replicate (8 - n) 0)) n y ≡ os ++ y ∷ (replicate (v.first_global - (n + 1)) 0 ++ v.globals)
 registers-written v os n y b f size g =
     let xs : List ℕ = all_values v in
@@ -66,7 +66,7 @@ results-few ls zero f g = refl
 results-few ls (suc zero) f g = grind (arith, nat_tests)
 results-few ls (suc (suc x)) f g = absurd (omega arith)
 
--- behind the octas that came back stands the result, or a 0 that is no local
+-- after the octas that came back stands the result, or a 0 that is no local
 last-result : (v : Registers) (os : List ℕ) (n x : ℕ) → AreInBounds v → n < 8 → x ≤ 1 → x ≤ length v.locals → os ++ (if x == 0 then 0 else get_or (all_values v) 0 0) ∷ (replicate (v.first_global - (n + 1)) 0 ++ v.globals) ≡ (os ++ results v.locals x) ++ replicate (v.first_global - (n + x)) 0 ++ v.globals
 last-result v os n zero b g one among =
     let zs : List ℕ = 0 ∷ replicate (v.first_global - (n + 1)) 0 in

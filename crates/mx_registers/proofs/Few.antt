@@ -12,7 +12,7 @@ use Rattle.mx_registers.specs.declared.visible.Visible.TheInside.{Inside}
 
 -- HIDDEN AT ONCE
 
--- the first n of some items and a number, behind others
+-- the first n of some items and a number, after others
 pub counted : (xs os : List ℕ) (n y : ℕ) → n < length os → set (take (length xs + n + 1) (xs ++ os)) (length xs + n) y ≡ xs ++ (take n os ++ y ∷ [])
 counted xs os n y f =
     let sum : length xs + n + 1 ≡ length xs + (n + 1) = omega arith in
@@ -47,7 +47,7 @@ first_below v n few f = ⊎_elim (λ e. longer e) (λ e. shorter e) (cases_lt (l
 
 -- MOVED AT ONCE
 
--- what stands above the locals
+-- what is above the locals
 pub behind : (v : Registers) (m : ℕ) → length v.locals ≤ m → m ≤ v.first_global → drop m (all_values v) ≡ replicate (v.first_global - m) 0 ++ v.globals
 behind v m f g =
     let l : ℕ = length v.locals in

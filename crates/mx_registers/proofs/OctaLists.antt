@@ -20,7 +20,7 @@ drop-octas zero xs h = h
 drop-octas (suc n) [] h = tt
 drop-octas (suc n) (x ∷ xs) h = drop-octas n xs h.1
 
--- the first items of a list of octas, and those behind them
+-- the first items of a list of octas, and those after them
 pub taken-octas : (n : ℕ) (xs ys : List ℕ) → EachIsOcta xs → ys ≡ take n xs → AreOctas ys
 taken-octas n xs ys h e = rw e (take-octas n xs (are-octas xs h))
 

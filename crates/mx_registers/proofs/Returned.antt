@@ -21,7 +21,7 @@ front-of-front xs m n = ⊎_elim (λ e. short e) (λ e. long e) (cases_lt n m)
         let s : m ≡ min n m = omega arith in
         take-take m n xs e ∙ ap (λ k. take k xs) s
 
--- the main result, and the others behind it as far as there is room
+-- the main result, and the others after it as far as there is room
 first-results : (xs : List ℕ) (main count room n : ℕ) → 0 < room → n ≡ min count (room - 1) → take room (main ∷ take count xs) ≡ main ∷ take n xs
 first-results xs main count room n f e =
     let s : room ≡ suc (room - 1) = omega arith in
@@ -54,7 +54,7 @@ alone-placed xs main count hole h e =
     let one : suc hole ≡ hole + 1 = omega arith in
     rw (first-results xs main count (length xs - hole) 0 (omega arith) none) (set_split xs hole main h ∙ ap (λ n. take hole xs ++ main ∷ drop n xs) one ∙ simp append_assoc)
 
--- the results behind the octas that come back
+-- the results after the octas that come back
 parts-placed : (xs ys zs octas rs : List ℕ) → ys ≡ with_part xs (length octas) rs → length octas ≤ length xs → zs ≡ with_part ys 0 octas → zs ≡ (octas ++ rs) ++ drop (length (octas ++ rs)) xs
 parts-placed xs ys zs octas rs ey f ez =
     let k : ℕ = length octas in

@@ -16,7 +16,7 @@ take-with_part xs ys s n f e =
     let size : length (take s xs ++ ys) ≡ s + n = omega (arith, length-append (take s xs) ys, length-take-le s xs f) in
     take_at (take s xs ++ ys) (drop (s + length ys) xs) (s + n) size
 
--- the spilled octas stand in both places
+-- the spilled octas are in both places
 pub spilled-same : (octas stack stack' : List ℕ) (s n : ℕ) → s ≤ length stack → n ≤ length octas - s → take s octas ≡ take s stack → stack' ≡ with_part stack s (take n (drop s octas)) → take (s + n) octas ≡ take (s + n) stack'
 spilled-same octas stack stack' s n g h e es =
     let size : n ≡ length (take n (drop s octas)) = sym (length-take-le n (drop s octas) (omega (arith, length-drop s octas))) in

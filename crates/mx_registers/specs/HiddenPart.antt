@@ -27,7 +27,7 @@ octas_of h = take h.spilled h.stack ++ h.resident
 abbrev pub with_hidden : HiddenPart → List ℕ → HiddenPart
 with_hidden h octas = record h { resident = h.resident ++ octas }
 
--- the n oldest octas of the ring go to the stack area, behind those that lie there
+-- the n oldest octas of the ring go to the stack area, after those that lie there
 unfoldable pub with_spilled : HiddenPart → ℕ → HiddenPart
 with_spilled h n = record {
   stack = with_part h.stack h.spilled (take n h.resident);
@@ -35,7 +35,7 @@ with_spilled h n = record {
   resident = drop n h.resident;
 }
 
--- after a growth, where the ring has a number of registers and l of them are local: what stands above that number
+-- after a growth, where the ring has a number of registers and l of them are local: what is above that number
 -- less one goes to the stack area, the oldest first
 unfoldable pub with_room : HiddenPart → ℕ → ℕ → HiddenPart
 with_room h l registers =
@@ -56,7 +56,7 @@ with_octa h i x = record h { stack = slice_set h.stack i x }
 
 -- TAKEN BACK
 
--- so many octas are spilled, and these stand behind them; of the hidden octas in the ring so many stay, and these follow
+-- this many octas are spilled, and these follow them; of the hidden octas in the ring this many stay, and these follow
 abbrev pub rewound : HiddenPart → ℕ → ℕ → HiddenPart
 rewound h spilled stays = record h { spilled = spilled; resident = take stays (drop spilled (octas_of h)) }
 

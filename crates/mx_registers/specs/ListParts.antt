@@ -12,7 +12,7 @@ pub record ListPart : Type 0 where
 abbrev pub list_in : Inside → ListPart
 list_in i = record { octas = take i.count i.octas.items; room = length i.octas.items - 16 }
 
--- 16 octas are kept behind those that count, and there is memory for all that may be kept
+-- 16 octas are kept after those that count, and there is memory for all that may be kept
 pub record HoldsList (i : Inside) : Type 0 where
   pub has_spare : i.count + 16 ≤ length i.octas.items
   pub has_room : length i.octas.items ≤ 2 ^ 20 + 16

@@ -24,7 +24,7 @@ pub record HoldsRegisters (i : VisibleInside) : Type 0 where
   pub all_locals : length (take i.local_count i.values) ≡ i.local_count
   pub all_shown : i.values ≡ all_values (registers_in i)
 
--- the hidden octas in a list of all of them; those that are spilled stand in the stack area too
+-- the hidden octas in a list of all of them; those that are spilled are in the stack area too
 abbrev pub part_in : HiddenInside → HiddenPart
 part_in i = record { stack = i.stack; spilled = i.spilled; resident = drop i.spilled i.list.octas }
 

@@ -17,7 +17,7 @@ use crate::slices::{append, put};
 use std::alloc::Global;
 use std::marker::Model;
 
-/// The 2^20 octas of the stack area. Those behind the last that was used are 0, and no start writes them.
+/// The 2^20 octas of the stack area. Those after the last that was used are 0, and no start writes them.
 #[derive(Drop)]
 pub(crate) struct Area {
     octas: Vec<u64>,
@@ -137,7 +137,7 @@ fn write(list: &mut Vec<u64>, place: usize, items: &[u64])
     put(list, place, items);
 }
 
-/// Keeps zeros behind the octas that are kept, up to a number of octas that is at most 2^20.
+/// Keeps zeros after the octas that are kept, up to a number of octas that is at most 2^20.
 #[tactic(auto, using(crate::proofs::Areas::growing))]
 #[inline]
 fn fill_up(octas: &mut Vec<u64>, n: usize)

@@ -100,7 +100,7 @@ impl Hidden {
         self.list.len() + n <= self.limit
     }
 
-    /// So many octas from a place among the hidden ones on, at most 16: the first of them are those that are hidden.
+    /// This many octas from a place among the hidden ones on, at most 16: the first of them are those that are hidden.
     #[inline(always)]
     pub fn some_from(&self, from: usize, n: usize) -> &[u64]
         requires inside { from ≤ length (octas_of self.now) }
@@ -184,7 +184,7 @@ impl Hidden {
     }
 
     /// After a growth, where the ring has a number of registers, at least 256, and `l` of them, at most 255, are local:
-    /// what stands above that number less one goes to the stack area.
+    /// what is above that number less one goes to the stack area.
     #[inline(always)]
     pub fn make_room(&mut self, l: usize, registers: usize)
         requires locals { l < 256 }
@@ -256,7 +256,7 @@ impl Hidden {
     }
 }
 
-/// Up to how many hidden and local registers nothing is spilled, where so many octas are.
+/// Up to how many hidden and local registers nothing is spilled, where this many octas are.
 #[inline(always)]
 fn limit_for(spilled: usize) -> usize
     requires { spilled ≤ 2 ^ 20 }

@@ -12,10 +12,10 @@ use mx_word::NoMemory;
 use std::alloc::Global;
 use std::marker::Model;
 
-/// How many octas are kept behind those that count, at least.
+/// How many octas are kept after those that count, at least.
 pub const SPARE: usize = 16;
 
-/// At most 2^20 octas that count, and others behind them. Contracts see those that count, and for how many the list has
+/// At most 2^20 octas that count, and others after them. Contracts see those that count, and for how many the list has
 /// octas already.
 #[derive(Drop)]
 pub(crate) struct HiddenList {
@@ -37,7 +37,7 @@ impl Model for HiddenList {
 
 #[tactic(auto, using(crate::proofs::ListParts::listed))]
 impl HiddenList {
-    /// No octa counts, and there are octas for so many, at most 2^20. The memory for all is taken at once.
+    /// No octa counts, and there are octas for this many, at most 2^20. The memory for all is taken at once.
     ///
     /// Errors: `OutOfMemory` alone.
     pub(crate) fn new(alloc: Global, n: usize) -> Result<HiddenList, RingFault>
@@ -103,7 +103,7 @@ impl HiddenList {
         self.count = self.count.min(n);
     }
 
-    /// So many octas from a place on, at most 16: the first of them are those that count.
+    /// This many octas from a place on, at most 16: the first of them are those that count.
     #[inline(always)]
     pub(crate) fn some_from(&self, from: usize, n: usize) -> &[u64]
         requires inside { from ≤ length self.now.octas }
@@ -124,7 +124,7 @@ impl HiddenList {
         self.octas[i] = x;
     }
 
-    /// There are octas for so many, at most 2^20.
+    /// There are octas for this many, at most 2^20.
     pub(crate) fn widen(&mut self, n: usize)
         requires { n ≤ 2 ^ 20 }
         ensures octas { self.new.octas ≡ self.old.octas }
@@ -156,7 +156,7 @@ fn write(list: &mut Vec<u64>, place: usize, items: &[u64])
     put(list, place, items);
 }
 
-/// Keeps zeros behind the octas, up to so many in all.
+/// Keeps zeros after the octas, up to this many in all.
 #[tactic(auto, using(crate::proofs::ListParts::lengthening))]
 fn lengthen(list: &mut Vec<u64>, n: usize)
     requires { n ≤ vec_capacity list.old }

@@ -48,7 +48,7 @@ fn put_results(front: &mut [u64], l: usize, x: usize, hole: usize) -> usize
     put_first(front, 0, l, hole)
 }
 
-/// Puts `main` at the place `hole`, and behind it the first `count` registers, as far as there is room.
+/// Puts `main` at the place `hole`, and after it the first `count` registers, as far as there is room.
 /// Gives how many there are.
 fn put_first(front: &mut [u64], main: u64, count: usize, hole: usize) -> usize
     requires among { count ≤ length front.old }
@@ -67,7 +67,7 @@ fn put_first(front: &mut [u64], main: u64, count: usize, hole: usize) -> usize
     others + 1
 }
 
-/// The first `n` of 8 octas as the first registers, zeros for the others of 8, and behind them what the first
+/// The first `n` of 8 octas as the first registers, zeros for the others of 8, and after them what the first
 /// register had, or a 0 where POP with `x` gives nothing.
 #[inline(always)]
 pub(crate) fn put_few(front: &mut [u64], octas: &[u64], n: usize, x: usize)

@@ -1,4 +1,4 @@
-//! Pieces of lists that are written in place or behind them.
+//! Pieces of lists that are written in place or after them.
 
 ghost use Rattle.std.specs.Prelude.{◌≡◌, ◌≤◌, ◌+◌, ◌-◌, ◌++◌, length, take, drop};
 ghost use Rattle.std.specs.Vec.{vec_len, vec_capacity};

@@ -14,7 +14,7 @@ use crate::results::{bring_back, put_few};
 use crate::slices::{clear, copy, put};
 use std::marker::Model;
 
-/// How many registers are copied at once where so many are enough.
+/// How many registers are copied at once where this many are enough.
 pub const FEW: usize = 8;
 
 /// The 256 registers: what each of them has, L and G. Contracts see them as the locals, G and the globals.
@@ -193,7 +193,7 @@ impl Visible {
     }
 
     /// The first `n` locals are gone, where at most `size` were local, `n` is at most G less `size`, and `count` stay.
-    /// Nothing behind them is to be cleared.
+    /// Nothing after them is to be cleared.
     #[inline(always)]
     pub fn keep_fewer(&mut self, n: usize, count: usize, size: usize)
         requires count { count ≡ length self.old.locals - n }

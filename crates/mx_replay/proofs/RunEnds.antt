@@ -44,7 +44,7 @@ run-below j n s m l h = let all : j + (n - j) ≡ n = omega (arith, l) in run-be
 
 -- ---- the last turn
 
--- so many turns went on, and the next one was the last
+-- this many turns went on, and the next one was the last
 record LastTurn (n : ℕ) (s : State) (m : HostModel) (e : Ended) : Type 0 where
   before : ℕ
   few : before < n

@@ -47,7 +47,7 @@ start-refused p why m e = ap (run_from 0) (sym e)
 
 -- BEHIND SOME TURNS
 
--- a step, and so many turns from it
+-- a step, and this many turns from it
 from-by : (i j : ℕ) (s : State) (m : HostModel) (t : Then (Result State Outcome)) → run_from i t ≡ Ok (ended Spent s m) → run_from (i + j) t ≡ Ok (run j no_flags false s m)
 from-by i j s m (Err why, k) e = absurd (cc)
 from-by i j s m (Ok u, k) e = let reached : run i no_flags false u k ≡ ended Spent s m = cc in ap Ok (run-spent i j no_flags u s k m reached)

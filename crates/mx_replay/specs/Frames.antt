@@ -23,7 +23,7 @@ is_save word = word / 2 ^ 24 == 250 || word / 2 ^ 24 == 251
 abbrev pub without_last : List Frame → List Frame
 without_last frames = take (length frames - 1) frames
 
--- The calls after a step that was made with so many registers hidden before and after it. One that hides registers is a call
+-- The calls after a step that was made with this many registers hidden before and after it. One that hides registers is a call
 -- (PUSHJ, PUSHGO), and one that brings some back is a return (POP). What SAVE and UNSAVE leave are no calls.
 abbrev pub traced : ℕ → ℕ → Trace → List Frame → List Frame
 traced before after trace frames =

@@ -50,7 +50,7 @@ meets_flag f s (stops reason t m) = false
 
 -- ---- changes
 
--- what stands at a place: in a register that the program sees, or in the octa that holds an address, which is 0 where
+-- what is at a place: in a register that the program sees, or in the octa that holds an address, which is 0 where
 -- there is no memory, or in a special register, if there is one of that code
 abbrev pub value_at : Place → State → ℕ
 value_at (Register k) s = register s.stack k
@@ -97,7 +97,7 @@ changes_watched watches s t = list_any (λ w. changes_value w.place s t) watches
 abbrev pub depth : State → ℕ
 depth s = hidden_count s.stack
 
--- whether at most so many are
+-- whether at most this many are
 abbrev pub is_at_most : ℕ → State → Bool
 is_at_most most s = nat_le (depth s) most
 
@@ -121,14 +121,14 @@ comes_to_flag f = record { start = λ _. false; turn = meets_flag f }
 abbrev pub changes : Place → Mark
 changes place = record { start = λ _. false; turn = changes_value place }
 
--- the turn changes a value that is watched, comes to a break, or leads to where at most so many are hidden, if that is asked
+-- the turn changes a value that is watched, comes to a break, or leads to where at most this many are hidden, if that is asked
 abbrev pub stops_at : List Break → List Watch → Option ℕ → Mark
 stops_at breaks watches most = record {
   start = λ _. false;
   turn = λ s t. changes_watched watches s t || (meets_break breaks t || is_at_most_if most (state_after t));
 }
 
--- at most so many registers are hidden at the step
+-- at most this many registers are hidden at the step
 abbrev pub is_shallow : ℕ → Mark
 is_shallow most = record { start = is_at_most most; turn = λ s t. is_at_most most (state_after t) }
 

@@ -62,7 +62,7 @@ trace_after e = if is_over e.end then None else trace_of (turn e.state e.host)
 
 -- ---- some turns
 
--- at most n turns from a machine and a host: so many were made, and what they came to. Fewer than n were made only where
+-- at most n turns from a machine and a host: this many were made, and what they came to. Fewer than n were made only where
 -- the run has ended.
 pub record ComesTo (s : State) (m : HostModel) (n made : ℕ) (e : Ended) : Type 0 where
   pub few : made ≤ n

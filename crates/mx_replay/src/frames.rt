@@ -32,7 +32,7 @@ fn is_save(word: u32) -> bool
     word >> 24 == 0xfa || word >> 24 == 0xfb
 }
 
-/// The calls after a step that was made with so many registers hidden before and after it.
+/// The calls after a step that was made with this many registers hidden before and after it.
 fn follow(frames: &mut Vec<Frame>, before: u64, after: u64, trace: &Trace) -> Result<(), NoMemory>
     ensures { OnOk result (frames.new.items ≡ spec.traced before after trace.now frames.old.items) }
 {

@@ -1,4 +1,4 @@
-//! A run over a host in memory, each step of which can be visited, forth and back. Going back is running again from the
+//! A run over a host in memory, each step of which can be visited, back and forth. Going back is running again from the
 //! start.
 #![tactic(auto)]
 

@@ -29,9 +29,9 @@ pub(crate) enum Sought<'a> {
     Flags(&'a FlagMap),
     /// Its turn changes the value at a place.
     Change(Place),
-    /// At most so many registers are hidden there.
+    /// At most this many registers are hidden there.
     Shallow(u64),
-    /// Its turn comes to one of these breaks, changes the value at a place that is watched, or leads to where at most so many
+    /// Its turn comes to one of these breaks, changes the value at a place that is watched, or leads to where at most this many
     /// registers are hidden, if that is asked.
     Stops(&'a [Break], &'a [Watch], Option<u64>),
 }
@@ -47,7 +47,7 @@ pub(crate) fn depth(machine: &Machine) -> u64
     (machine.special(RO) - STACK_SEGMENT) / 8
 }
 
-/// Whether at most so many registers are hidden, if that is asked.
+/// Whether at most this many registers are hidden, if that is asked.
 pub(crate) fn is_shallow_if(machine: &Machine, most: Option<u64>) -> bool
     ensures { result ≡ spec.is_at_most_if most (state_of machine.now) }
 {

@@ -1,4 +1,4 @@
-//! A run that is visited step by step, forth and back.
+//! A run that is visited step by step, back and forth.
 
 ghost use Rattle.std.specs.Prelude.{◌≡◌, ◌≢◌, ◌≤◌, ◌<◌, ◌+◌, ℕ, Ok, Err, IfOk, IfErr, OnOk, OnErr};
 ghost use Rattle.mx_core.specs.Kept.{state_of};

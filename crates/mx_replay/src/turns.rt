@@ -97,7 +97,7 @@ fn turn_changes(alloc: Global, visit: &mut Visit, place: Place) -> Result<bool, 
     Ok(before != value_at(&visit.machine, place))
 }
 
-/// Makes a turn, and says whether at most so many registers are hidden then.
+/// Makes a turn, and says whether at most this many registers are hidden then.
 #[tactic(auto, using(crate::proofs::Turning::marking))]
 fn turn_to_depth(alloc: Global, visit: &mut Visit, most: u64) -> Result<bool, NoMemory>
     requires { visit.old.at + 1 < 2 ^ 64 }
@@ -122,7 +122,7 @@ fn turn_to_break(alloc: Global, visit: &mut Visit, breaks: &[Break]) -> Result<b
     }
 }
 
-/// Makes a turn, and says whether it comes to a break, or leads to where at most so many registers are hidden, if that is asked.
+/// Makes a turn, and says whether it comes to a break, or leads to where at most this many registers are hidden, if that is asked.
 #[tactic(auto, using(crate::proofs::Turning::marking))]
 fn turn_to_break_or_depth(
     alloc: Global,
@@ -140,7 +140,7 @@ fn turn_to_break_or_depth(
     Ok(is_met || is_shallow_if(&visit.machine, most))
 }
 
-/// Makes a turn, and says whether it changes a value that is watched, comes to a break, or leads to where at most so many
+/// Makes a turn, and says whether it changes a value that is watched, comes to a break, or leads to where at most this many
 /// registers are hidden, if that is asked.
 #[tactic(auto, using(crate::proofs::Turning::marking))]
 fn turn_to_stop(

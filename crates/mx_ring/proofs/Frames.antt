@@ -15,7 +15,7 @@ no-frame octas i e =
     let zero : get_or (take (i + 1) octas) (i - 0) 0 ≡ 0 = rw same (get_or-take (i + 1) octas i 0 (omega arith) ∙ e) in
     rw zero refl
 
--- what stands below a frame, its locals, L, its globals, its special registers and its last octa
+-- what is below a frame, its locals, L, its globals, its special registers and its last octa
 abbrev whole : List ℕ → List ℕ → ℕ → List ℕ → List ℕ → ℕ → List ℕ
 whole hs ls l gs ss t = hs ++ (ls ++ l ∷ gs ++ ss ++ t ∷ [])
 

@@ -30,7 +30,7 @@ set-is w k x = ⊎_elim
     (λ m. register-kept (windowed w) k x m ∙ ap (λ b. windowed (record w { hidden = cond b (with_room w.hidden (length (with_value w.visible k x).locals) w.size) w.hidden; visible = with_value w.visible k x })) (sym m))
     (cases_Bool (is_marginal w.visible k))
 
--- so many of them spill, and they were in the ring
+-- this many of them spill, and they were in the ring
 record Spills (w : Window) (k x : ℕ) : Type 0 where
   number : ℕ
   count : number ≡ spilled_by (Set k 0) w

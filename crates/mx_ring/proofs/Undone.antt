@@ -100,7 +100,7 @@ none-undone v = ap (λ u. given_back (given_back u 255 (value_of v 255)) 255 (va
 
 -- HIDDEN OCTAS
 
--- the octas in the ring are those behind the spilled ones
+-- the octas in the ring are those after the spilled ones
 behind : (h : HiddenPart) (xs : List ℕ) → h.spilled ≤ length h.stack → drop h.spilled (take h.spilled h.stack ++ xs) ≡ xs
 behind h xs f = drop_at (take h.spilled h.stack) xs h.spilled (length-take-le h.spilled h.stack f)
 

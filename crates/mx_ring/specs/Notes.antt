@@ -68,7 +68,7 @@ pub record RingWas : Type 0 where
   pub registers : RegistersWere
   -- how many octas were spilled
   pub spilled : ℕ
-  -- the octas of the stack area behind the spilled ones, as far as a spill may have replaced them
+  -- the octas of the stack area after the spilled ones, as far as a spill may have replaced them
   pub over : List ℕ
   -- how many of the hidden octas in the ring are hidden still, and the others
   pub stays : ℕ
@@ -101,7 +101,7 @@ ring_undone n w = record w { hidden = hidden_undone n w.hidden; visible = regist
 
 -- WHAT A WORK NOTES
 
--- how many of so many octas and locals must leave a ring of a size
+-- how many of this many octas and locals must leave a ring of a size
 abbrev pub above_room : ℕ → ℕ → ℕ
 above_room count size = if nat_lt count size then 0 else count + 1 - size
 
@@ -140,7 +140,7 @@ ring_noted work w = record {
   octa = octa_noted work w.hidden.stack;
 }
 
--- what an octa of the stack area is, once so many of the hidden octas in the ring are spilled
+-- what an octa of the stack area is, once this many of the hidden octas in the ring are spilled
 abbrev pub octa_after_spill : HiddenPart → ℕ → ℕ → ℕ
 octa_after_spill h n i = slice_index (with_spilled h n).stack i
 

@@ -157,7 +157,7 @@ in_stack_area a = nat_le (stack_address 0) a && nat_lt a (stack_address (2 ^ 20)
 abbrev pub stack_index : ℕ → ℕ
 stack_index a = (a - stack_address 0) / 8
 
--- its octa at an index; a list has no stack area, and 0 stands there
+-- its octa at an index; a list has no stack area, and 0 is there
 unfoldable pub stack_octa : Stack → ℕ → ℕ
 stack_octa (listed r) i = 0
 stack_octa (windowed w) i = slice_index w.hidden.stack i

@@ -1,4 +1,4 @@
--- The register stack as a window: a ring of so many registers, and a stack area in memory (MMIXware, the part on MMIX,
+-- The register stack as a window: a ring of this many registers, and a stack area in memory (MMIXware, the part on MMIX,
 -- rO and rS).
 use Rattle.std.specs.Prelude.{ℕ}
 use Rattle.mx_registers.specs.HiddenPart.{HiddenPart, octas_of, nothing_hidden}
@@ -13,7 +13,7 @@ pub record Window : Type 0 where
   -- the registers that an instruction sees
   pub visible : Registers
 
--- at the start, with so many registers
+-- at the start, with this many registers
 abbrev pub window_at_start : ℕ → Window
 window_at_start size = record { size = size; hidden = nothing_hidden; visible = registers_at_start }
 

@@ -38,7 +38,7 @@ pub(crate) fn hide_below(hidden: &mut Hidden, visible: &Visible, count: usize)
     hidden.append(&[count as u64]);
 }
 
-/// Hides the first `count` registers and that number, where they are fewer than `size`: so many are written at once.
+/// Hides the first `count` registers and that number, where they are fewer than `size`: this many are written at once.
 #[inline(always)]
 pub(crate) fn hide_few_below(hidden: &mut Hidden, visible: &Visible, count: usize, size: usize)
     requires bounds { AreInBounds visible.now }

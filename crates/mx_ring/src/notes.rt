@@ -160,13 +160,13 @@ pub fn notes_take_back()
         → windowed v ≡ worked work (windowed w) → TakesBack (ring_noted work w) v w }
 {}
 
-/// The note of a value for $X takes back, too, what a trip does behind it: it gives $255 a value.
+/// The note of a value for $X takes back, too, what a trip does after it: it gives $255 a value.
 pub fn notes_take_trips_back()
     ensures { (w u v : Window) (k x y : ℕ) → IsRing w → windowed u ≡ with_register (windowed w) k x
         → windowed v ≡ with_register (windowed u) 255 y → TakesBack (ring_noted (Set k x) w) v w }
 {}
 
-/// The note of an octa of the stack area and of $k takes both back: a store, and a value for $k behind it.
+/// The note of an octa of the stack area and of $k takes both back: a store, and a value for $k after it.
 pub fn notes_take_stores_back()
     ensures { (w u v : Window) (i z k x : ℕ) → IsRing w → i < 2 ^ 20 → windowed u ≡ with_stack_octa (windowed w) i z
         → windowed v ≡ with_register (windowed u) k x → TakesBack (ring_noted_stored i k w) v w }

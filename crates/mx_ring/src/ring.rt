@@ -29,7 +29,7 @@ use mx_word::STACK_SEGMENT;
 use std::alloc::Global;
 use std::marker::Model;
 
-/// The address behind the stack area, which begins where Stack_Segment does.
+/// The address after the stack area, which begins where Stack_Segment does.
 pub const AREA_END: u64 = 0x6000_0000_0080_0000;
 
 /// How many registers are copied at once where more than `FEW` are wanted.

@@ -71,7 +71,7 @@ pub none-made : (s : State) (m : HostModel) → run 0 no_flags false s m ≡ end
 unfolding run run_plan end_of
 none-made s m = refl
 
--- after the first turn, of which so many may follow
+-- after the first turn, of which this many may follow
 abbrev behind : ℕ → ℕ → Turn → Ended
 behind i pc t = ended_by (end_of running (run_next (run_plan i no_flags false) (end_of_turn no_flags pc (turn_answer t).0)) ((turn_answer t).1, (turn_answer t).2))
 

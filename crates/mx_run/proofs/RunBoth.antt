@@ -93,7 +93,7 @@ unfolding run_plan
 spent-both f pass w start whole r =
     whole-both running (run_goes list_machine) as_list_world IsUntouched WritesOn (returns Spent) whole OutOfMemory Spent w w start (λ v h. h) (none-done w) r
 
--- ---- after so many of n steps
+-- ---- after this many of n steps
 
 pub rest-begun-both : (n : ℕ) (f : FlagsOf) (pass : Bool) (w : RunWorld) → RestsBoth (run_plan (n - 0) f pass) w (run_plan n f pass) w
 rest-begun-both n f pass w = let all : n - 0 ≡ n = omega arith in rw all (begun-both running (run_goes list_machine) as_list_world IsUntouched WritesOn (run_plan n f pass) w)

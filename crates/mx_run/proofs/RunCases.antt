@@ -31,7 +31,7 @@ abbrev pub OnOr : (RunWorld → Type 0) → (End → RunWorld → Type 0) → Re
 OnOr On Such (Ok u) w = On w
 OnOr On Such (Err end) w = Such end w
 
--- With n steps left a world is on the way: where none is, or the run breaks before the next one, the end is such a one; and behind a
+-- With n steps left a world is on the way: where none is, or the run breaks before the next one, the end is such a one; and after a
 -- turn it is such a one, or one step less is left.
 pub record LeadsTo (f : FlagsOf) (May : OfTurn) (Way : ℕ → RunWorld → Type 0) (Such : End → RunWorld → Type 0) : Type 0 where
   pub spent : (w : RunWorld) → Way 0 w → Such Spent w

@@ -59,7 +59,7 @@ turn-later s (halts status u m) h = one-later s u h
 turn-later s (stops reason u m) h = none-later 1 s u h
 
 module _ (n : ℕ) (s : State) where
-  -- so many steps of n are left
+  -- this many steps of n are left
   abbrev Left : ℕ → RunWorld → Type 0
   Left left w = (left ≤ n) × IsLater (n - left) s w.0
 

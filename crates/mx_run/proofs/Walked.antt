@@ -113,7 +113,7 @@ walk-spares-on k n s t v u l g c p = subst (λ i. SparesMemory i v) (before-last
 pub walk-spares-end : (k n : ℕ) (s t v : State) (e : End) → k < n → Goes k s t → Spares (Err e) t v → SparesMemory n s → e ≢ OutOfMemory
 walk-spares-end k n s t v e l g c p = spares-ended n k t v e l c (walked-spares k n s t (omega (arith, l)) g p)
 
--- the count of steps; so many of n were left before
+-- the count of steps; this many of n were left before
 pub walk-later : (k n left : ℕ) (s t u : State) → left ≤ n → k ≤ left → IsLater (n - left) s t → Goes k t u → IsLater n s u
 walk-later k n left s t u f l h g = few-later n (n - left + k) s u (omega (arith, f, l)) (both-later (n - left) k s t u h (walked-later k t u g))
 

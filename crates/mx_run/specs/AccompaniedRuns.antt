@@ -24,7 +24,7 @@ pub record ComesAccompanied (n : ℕ) (old new : RunWorld) (result : End) : Type
   pub ending : result ≢ OutOfMemory → (result, new) ≡ end_of running (run_plan n no_flags false) old
   pub stopping : result ≡ OutOfMemory → Stops running new (run_plan n no_flags false) old ⊎ AfterSteps n old new
 
--- so it is over a host that tells its contents
+-- the same holds over a host that tells its contents
 abbrev pub CarriesOutAccompanied : Option HostModel → Option HostModel → State → State → ℕ → End → Type 0
 CarriesOutAccompanied old new before after n result =
     IsTrue (tells old) → ComesAccompanied n (before, contents old) (after, contents new) result

@@ -24,7 +24,7 @@ WritesOn v w = IsFront v.1.output w.1.output
 abbrev pub RunsBoth : {A : Type 0} → RunWorld → RunWorld → A → A → RunPlan A → Type 0
 RunsBoth old new none result plan = ComesBoth running (run_goes list_machine) as_list_world IsUntouched WritesOn old new none result plan
 
--- so it is over a host that tells its contents
+-- the same holds over a host that tells its contents
 abbrev pub CarriesOutBothRuns : {A : Type 0} → Option HostModel → Option HostModel → State → State → A → A → RunPlan A → Type 0
 CarriesOutBothRuns old new before after none result plan = IsTrue (tells old) → RunsBoth (before, contents old) (after, contents new) none result plan
 

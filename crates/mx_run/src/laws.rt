@@ -80,7 +80,7 @@ pub fn runs_follow_each_other()
 {}
 
 /// A run is what its plan comes to. Where a plan over turns stops for want of memory, it only added to
-/// standard output, and what stands there is a front of what would stand there at its end; the slots of
+/// standard output, and what is there is a front of what would be there at its end; the slots of
 /// the tool lead where they led.
 #[tactic(auto, using(crate::proofs::HeldRuns::laws, crate::proofs::PlanEnds::ends))]
 pub fn runs_are_their_plans()

@@ -48,11 +48,11 @@ abbrev pub begins_capital : Line → Bool
 begins_capital [] = false
 begins_capital (b ∷ bs) = nat_le 65 b && nat_le b 90
 
--- behind a ; of its line, and with no capital
+-- after a ; of its line, and with no capital
 abbrev pub is_remark : Line → ℕ → Bool
 is_remark marked place = not (place == 0) && not (begins_capital marked)
 
--- without a label in front of it, and with an operation behind it
+-- without a label in front of it, and with an operation after it
 abbrev pub is_indented : Line → ℕ → Bool
 is_indented line place = length (word (drop place line)) == 0 && is_some (operation_of (word (from_field Operands (drop place line))))
 

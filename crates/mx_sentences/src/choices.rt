@@ -23,7 +23,7 @@ use mx_word::is_letter;
 pub(crate) enum Unknown {
     /// A label that is not in the first column.
     Indented,
-    /// The first word of a comment behind a `;`.
+    /// The first word of a comment after a `;`.
     Remark,
     /// An operation of other machines.
     Foreign,
@@ -93,7 +93,7 @@ fn begins_capital(text: &[u8]) -> bool
     }
 }
 
-/// Whether a word is the first one of a comment behind a `;`.
+/// Whether a word is the first one of a comment after a `;`.
 fn is_remark(marked: &[u8], place: usize) -> bool
     ensures { result ≡ spec.is_remark marked.now place }
 {

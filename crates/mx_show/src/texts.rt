@@ -91,7 +91,7 @@ fn add_trap(text: &mut Bytes, machine: &Machine, word: u32) -> Result<(), NoMemo
     add_hex(text, machine.register(255))
 }
 
-/// Adds the next address, where it is not the one behind.
+/// Adds the next address, where it is not that of the tetra after it.
 fn add_next(text: &mut Bytes, pc: u64, next: u64) -> Result<(), NoMemory>
     ensures { OnOk result (text.new ≡ text.old ++ spec.next_text pc next) }
 {

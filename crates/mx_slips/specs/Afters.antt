@@ -61,7 +61,7 @@ abbrev pub begins_blank : List ℕ → Bool
 begins_blank [] = false
 begins_blank (b ∷ bs) = is_blank b
 
--- what follows an operator of so many bytes
+-- what follows an operator of this many bytes
 abbrev pub continues_after : ℕ → List ℕ → Bool
 continues_after n text = nat_lt 0 n && begins_blank (drop n text) && begins_operand (past is_blank (drop n text))
 

@@ -28,7 +28,7 @@ has_local d (Some label) = is_local d label.text
 abbrev pub line_has : ℕ → SourceLine → Bool
 line_has d line = list_any (λ (s : Statement). has_local d s.label) line.statements
 
--- whether one has it whose operation stands in front of this place
+-- whether one has it whose operation is in front of this place
 abbrev pub line_has_before : ℕ → ℕ → SourceLine → Bool
 line_has_before d place line = list_any (λ (s : Statement). nat_lt s.op.from place && has_local d s.label) line.statements
 

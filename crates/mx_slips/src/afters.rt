@@ -58,7 +58,7 @@ fn is_blank(b: u8) -> bool
     b == b'\t' || b == 11 || b == 12 || b == b'\r' || b == b' '
 }
 
-/// How many blanks stand at the front of a text.
+/// How many blanks are at the front of a text.
 fn blank_count(text: &[u8]) -> usize
     ensures { result ≡ length (bytes.run bytes.is_blank text.now) }
 {
@@ -72,14 +72,14 @@ fn past_blanks(text: &[u8]) -> &[u8]
     behind(text, blank_count(text))
 }
 
-/// How many decimal digits stand at the front of a text.
+/// How many decimal digits are at the front of a text.
 fn digit_count(text: &[u8]) -> usize
     ensures { result ≡ length (bytes.run kinds.is_digit text.now) }
 {
     text.iter().take_while(|b| is_digit(**b)).count()
 }
 
-/// How many bytes so many digits have with the sign before them.
+/// How many bytes this many digits have with the sign before them.
 fn signed_length(count: usize) -> usize
     requires { count < 2 ^ 63 }
     ensures { result ≡ spec.signed_length count }
@@ -142,7 +142,7 @@ fn begins_blank(text: &[u8]) -> bool
     }
 }
 
-/// Whether a text goes on after an operator of so many bytes.
+/// Whether a text goes on after an operator of this many bytes.
 fn continues_after(count: usize, text: &[u8]) -> bool
     ensures { result ≡ spec.continues_after count text.now }
 {

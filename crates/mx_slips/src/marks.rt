@@ -3,7 +3,7 @@
 ghost use Rattle.std.specs.Prelude.{◌≡◌};
 ghost use Rattle.mx_slips.specs.Marks as spec;
 
-/// A part of a line that a warning is about: how many bytes of the line stand in front of it, how many bytes it has, and
+/// A part of a line that a warning is about: how many bytes of the line are in front of it, how many bytes it has, and
 /// the number of another line that the warning is about, or 0.
 #[derive(Clone, Copy, Debug, PartialEq, Eq)]
 pub struct Mark {
@@ -12,7 +12,7 @@ pub struct Mark {
     pub other: u32,
 }
 
-/// The mark of bytes that stand at a place.
+/// The mark of bytes that are at a place.
 pub fn mark_of(from: usize, text: &[u8], other: u32) -> Mark
     ensures { result ≡ spec.mark_of from text.now other }
 {

@@ -7,14 +7,14 @@ use mx_line::Span;
 use mx_word::{Bytes, NoMemory};
 use std::alloc::Global;
 
-/// Bytes of a line, and how many bytes of the line stand in front of them.
+/// Bytes of a line, and how many bytes of the line are in front of them.
 #[derive(Drop)]
 pub struct Piece {
     pub from: usize,
     pub text: Bytes,
 }
 
-/// A text without its first bytes, so many or all.
+/// A text without its first bytes, this many or all.
 #[tactic(auto, using(crate::proofs::TokenTurns::parts))]
 pub(crate) fn behind(text: &[u8], count: usize) -> &[u8]
     ensures { result.now ≡ drop count text.now }
@@ -26,7 +26,7 @@ pub(crate) fn behind(text: &[u8], count: usize) -> &[u8]
     }
 }
 
-/// The first bytes of a text, so many or all.
+/// The first bytes of a text, this many or all.
 #[tactic(auto, using(crate::proofs::TokenTurns::parts))]
 pub fn front(text: &[u8], count: usize) -> &[u8]
     ensures { result.now ≡ take count text.now }

@@ -17,7 +17,7 @@ pub enum Place {
     Outside,
     /// In a subroutine, in front of the calls that it makes.
     Inside,
-    /// In a subroutine, behind a call on this line.
+    /// In a subroutine, after a call on this line.
     Behind(u32),
 }
 
@@ -215,7 +215,7 @@ fn lines_unsave(lines: &[SourceLine]) -> bool
     lines.iter().any(|line| line_unsaves(line))
 }
 
-/// A POP behind a call, with the line of this.
+/// A POP after a call, with the line of this.
 fn pop_mark(statement: &Statement, place: Place) -> Option<Mark>
     ensures { result ≡ spec.pop_mark statement.now place }
 {

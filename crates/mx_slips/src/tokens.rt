@@ -12,7 +12,7 @@ use mx_word::{Bytes, NoMemory, Sequence, is_hexadecimal, is_name_byte};
 use std::alloc::Global;
 
 /// A string, a character constant, a number, a name or another byte of an operand field: its bytes, how many bytes of the
-/// line stand in front of it, and whether it is the name of a predefined symbol.
+/// line are in front of it, and whether it is the name of a predefined symbol.
 #[derive(Drop)]
 pub struct Token {
     pub from: usize,
@@ -40,14 +40,14 @@ fn string_length(bytes: &[u8]) -> usize
     }
 }
 
-/// How many hexadecimal digits stand at the front of a text.
+/// How many hexadecimal digits are at the front of a text.
 pub(crate) fn hexadecimal_count(text: &[u8]) -> usize
     ensures { result ≡ length (run kinds.is_hexadecimal text.now) }
 {
     text.iter().take_while(|b| is_hexadecimal(**b)).count()
 }
 
-/// How many letters and digits stand at the front of a text.
+/// How many letters and digits are at the front of a text.
 fn name_length(text: &[u8]) -> usize
     ensures { result ≡ length (run kinds.is_name_byte text.now) }
 {

@@ -11,7 +11,7 @@ no-digits base x = ap (λ n. x * n) (pow-zero base) ∙ omega arith
 power : (base : ℕ) (n : ℕ) → base ^ suc n ≡ base ^ n * base
 power base n = ap (λ m. base ^ m) (omega arith) ∙ pow_more base n
 
--- digits behind a number tell no less than that number with as many zeros
+-- digits after a number tell no less than that number with as many zeros
 pub number-least : (base x : ℕ) (ds : List ℕ) → x * base ^ length ds ≤ number_behind base x ds
 number-least base x [] = omega (arith, no-digits base x)
 number-least base x (d ∷ more) = search (rules, mul-le-mul_right, power, one-more, number-least base (x * base + d) more)

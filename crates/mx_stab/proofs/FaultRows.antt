@@ -21,7 +21,7 @@ no-character = FaultOf.wide (0x20 ∷ 0x3a ∷ []) (0x3a ∷ []) (0x81 ∷ 0xd8 
 no-node : FaultOf (0x20 ∷ 0x3a ∷ []) (Truncated 2)
 no-node = FaultOf.cut_off (0x20 ∷ 0x3a ∷ []) (0x3a ∷ []) [] [] below-colon EndsWithin.at_byte (omega arith)
 
--- four zeros behind a trie of one empty node
+-- four zeros after a trie of one empty node
 four-zeros : FaultOf (0 ∷ 0 ∷ 0 ∷ 0 ∷ 0 ∷ []) (Padding 1)
 four-zeros = FaultOf.padding (0 ∷ []) (0 ∷ 0 ∷ 0 ∷ 0 ∷ []) [] (IsSubtrie.bare [] 0 0 [] [] [] [] (IsSubtrie.none []) (IsSubtrie.none [])) tt
     (λ zeros few same. omega (arith, ap length same, few, length-replicate {A = ℕ} zeros 0))

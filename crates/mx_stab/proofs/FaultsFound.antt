@@ -26,7 +26,7 @@ table-if bytes b part s h = grind arith
 table-cond : (bytes : List ℕ) (b : Bool) (fault : StabFault) (a : Answer) → (b ≡ true → FaultOf bytes fault) → (b ≡ false → InTable bytes a) → InTable bytes (cond b (Err fault) a)
 table-cond bytes b fault a h1 h2 = grind arith
 
--- a reading behind these first bytes
+-- a reading after these first bytes
 record Behind (bytes : List ℕ) (k : ℕ) (front : List ℕ) (s : Reading) : Type 0 where
   split : bytes ≡ front ++ s.rest
   place : s.at ≡ length front
@@ -46,7 +46,7 @@ behind-part bytes k front part s u symbols h b = record {
   few = omega (arith, h.few, ap length b.split, length-append part u.rest);
 }
 
--- a node that is due, with its byte m, and a reading behind a part of it
+-- a node that is due, with its byte m, and a reading after a part of it
 record InNode (bytes : List ℕ) (k : ℕ) (front path : List ℕ) (before : List Symbol) (at : ℕ) (part : List ℕ) (s : Reading) : Type 0 where
   due : IsDue front path before
   node-place : at ≡ length front
@@ -194,7 +194,7 @@ bit-is weight m = flag-is (m / weight % 2) (omega arith)
 wide-bit : {name character : List ℕ} (m : ℕ) → SpellsCharacter (0x80 * flag (has 0x80 m)) name character → SpellsCharacter (0x80 * table.flag 0x80 m) name character
 wide-bit {name} {character} m h = subst (λ f. SpellsCharacter (0x80 * f) name character) (bit-is 0x80 m) h
 
--- a node that was read up to behind its symbol
+-- a node that was read to the end of its symbol
 record SymbolBehind (path : List ℕ) (before : List Symbol) (m : ℕ) (node name : List ℕ) (s w : Reading) : Type 0 where
   part : List ℕ
   own : List Symbol
@@ -261,7 +261,7 @@ module _ (bytes : List ℕ) (some : 0 < length bytes) (k : ℕ) (inner : List �
       part-found front path before at m node s (character_of at m s) n h there (character_of-found bytes k front path before at m node s some n h there)
       (λ d e. character_of-read at m s d n.behind.are e)
 
-  -- behind what belongs to a character
+  -- after what belongs to a character
   right-found : (front path : List ℕ) (before : List Symbol) (at m : ℕ) (node name : List ℕ) (found : List Symbol) (middle : List ℕ) (below : List Symbol) (v : Reading) → IsDue front path before →
       UpToSymbol path before m node name found → IsSubtrie (table.flag 0x20 m) name middle below → v.found ≡ found ++ below → table.flag 0x10 m ≡ 1 → Behind bytes k (front ++ (node ++ middle)) v → InTable bytes (inner path v)
   right-found front path before at m node name found middle below v due u hm grown right b =
@@ -289,7 +289,7 @@ module _ (bytes : List ℕ) (some : 0 < length bytes) (k : ℕ) (inner : List �
       in-node : (node character told counted middle : List ℕ) → node ++ (character ++ ((told ++ counted) ++ middle)) ≡ (node ++ character ++ told ++ counted) ++ middle
       in-node node character told counted middle = simp append_assoc
 
-  -- what stands in a node behind its left subtrie
+  -- what is in a node after its left subtrie
   rest-found : (front path : List ℕ) (before : List Symbol) (at m : ℕ) (node : List ℕ) (s : Reading) → InNode bytes k front path before at node s → UpToLeft path before m node s.found → InTable bytes (node_rest inner at m path s)
   rest-found front path before at m node s n h = one (has_character m) (has-one m) (has-none m) (λ v e. character-read inner sounds at m path s v n.behind.are e)
     where
@@ -344,7 +344,7 @@ subtrie-found bytes some zero front path s b due =
 subtrie-found bytes some (suc nodes) front path s b due =
     node-found bytes some nodes (subtrie nodes) (subtrie-found bytes some nodes) (subtrie-sounds nodes) front path s.at s.found s.rest b due
 
--- the fault that is found behind a trie
+-- the fault that is found after a trie
 trie-found : (bytes : List ℕ) (t : Reading) → Tells 1 [] (start bytes) t → (b : Bool) → is_padding t.rest ≡ b → (fault : StabFault) → cond b (Ok t.found) (Err (Padding t.at)) ≡ refused fault → FaultOf bytes fault
 trie-found bytes t w true e fault f = absurd (cc)
 trie-found bytes t w false e fault f =

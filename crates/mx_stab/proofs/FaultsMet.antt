@@ -56,7 +56,7 @@ no-serial : (x : ℕ) (digits : List ℕ) → AreBelow 128 digits → serial_beh
 no-serial x [] h = refl
 no-serial x (d ∷ more) h = cond-true (nat_lt d 128) _ _ (lt-ltb d 128 h.0) ∙ no-serial (x * 128 + d) more h.1
 
--- behind the value of a node
+-- after the value of a node
 at-serial : {path : List ℕ} {before : List Symbol} {m : ℕ} {node name : List ℕ} {found : List Symbol} → UpToCharacter path before m node name found → (told : List ℕ) (at : ℕ) (rest : List ℕ) (a : Answer) →
     symbol (m % 16) at name (due_at (at + length node) (told ++ rest) found) ≡ a →
     next_subtrie path (due_at at (node ++ told ++ rest) before) ≡ and_then (part_if (has 0x10 m) (next_subtrie path)) (and_then (part_if (has 0x20 m) (next_subtrie name)) a)
@@ -123,7 +123,7 @@ read-fault bytes fault h1 h2 = search (rules, next-node)
 no-padding : (rest : List ℕ) → ((zeros : ℕ) → zeros ≤ 3 → rest ≢ replicate zeros 0) → is_padding rest ≡ false
 no-padding rest h = search (rules, padding-zeros)
 
--- other bytes behind a trie
+-- other bytes after a trie
 read-behind : (trie rest : List ℕ) (symbols : List Symbol) → IsSubtrie 1 [] trie symbols → AreDistinct symbols → is_padding rest ≡ false → trie_answer (trie ++ rest) ≡ Err (Padding (length trie))
 read-behind trie rest symbols h distinct none =
     read-some (trie ++ rest) (omega (arith, length-append trie rest, some-bytes h (omega arith)))

@@ -1,4 +1,4 @@
--- The first node of a trie, and what has_symbols behind it.
+-- The first node of a trie, and what follows it.
 use Rattle.std.proofs.Common.{◌≡◌, ℕ, zero, suc, ◌+◌, ◌-◌, ◌<◌, ◌==◌, List, [], ◌∷◌, ◌++◌, length, take, drop, Bool, true, false, refl, sym, ap, ◌∙◌, arith, append_assoc, append-nil, length-append, ◌≤◌, rules}
 use Rattle.mx_stab.proofs.Words.{eqb-true, Symbol, next_byte, groups_of, symbols_below, has_symbols, node_front, trie, trie_from, longest, bytes_due, run_length, group_size, nat_tests}
 use Rattle.mx_stab.specs.declared.writing.Pending.{Pending}
@@ -37,7 +37,7 @@ pub bytes_due-push : (before : List Pending) (p : Pending) → bytes_due (before
 bytes_due-push [] p = sym (append-nil (trie_from p.at p.symbols.now))
 bytes_due-push (q ∷ before) p = ap (λ xs. xs ++ trie_from q.at q.symbols.now) (bytes_due-push before p) ∙ append_assoc (trie_from p.at p.symbols.now) (bytes_due before) (trie_from q.at q.symbols.now)
 
--- what has_symbols on a node's way: the bytes before it, and what was noted before it
+-- what is on a node's way: the bytes before it, and what was noted before it
 pub taken : (b c f t l r a d e : List ℕ) → t ≡ f ++ l ++ r → c ≡ b ++ f → d ≡ r ++ a → e ≡ l ++ d → c ++ e ≡ b ++ t ++ a
 taken b c f t l r a d e ht hc hd he = rw (ht, hc, he, hd) (simp append_assoc)
 
@@ -57,7 +57,7 @@ trie-empty at (s ∷ more) h = absurd (omega (arith, eqb-true (length (s ∷ mor
 some-symbol : (symbols : List Symbol) → (length symbols == 0) ≡ false → 0 < length symbols
 some-symbol symbols h = grind arith
 
--- a node that is written, with what is noted behind it
+-- a node that is written, with what is noted after it
 pub node-taken : (b c : List ℕ) (at k : ℕ) (symbols g o below : List Symbol) (s : Bool) (a d e : List ℕ) →
     at < 1024 → (length symbols == 0) ≡ false → k ≡ group_size at symbols → g ≡ take k symbols → o ≡ drop k symbols → s ≡ has_symbols o →
     below ≡ symbols_below at g → c ≡ b ++ node_front at g s → d ≡ trie_from at o ++ a → e ≡ trie_from (at + 1) below ++ d →

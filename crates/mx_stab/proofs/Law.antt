@@ -65,7 +65,7 @@ take-whole zero (x ∷ xs) h = absurd (omega (arith, h))
 take-whole (suc n) [] h = refl
 take-whole (suc n) (x ∷ xs) h = ap (λ ys. x ∷ ys) (take-whole n xs (omega (arith, h)))
 
--- a name behind another of its group goes on
+-- a name after another of its group goes on
 goes-on : (path : List ℕ) (s t : Symbol) → Under path s → Under path t → next_byte (length path) t ≡ next_byte (length path) s → Below s.name t.name → length path + 1 < length t.name
 goes-on path s t u v e b = elim (cases_lt (length path + 1) (length t.name)) [
   | inl l ↦ l
@@ -170,7 +170,7 @@ under-none : (symbols : List Symbol) → AllByRecursion IsNamed symbols → AreU
 under-none [] h = tt
 under-none (s ∷ more) h = (record { path-first = refl; longer = h.0.least; named = h.0 }, under-none more h.1)
 
--- zeros alone are a node without a character, with padding behind it
+-- zeros alone are a node without a character, with padding after it
 zeros-are-trie : (zeros : ℕ) → zeros ≤ 3 → IsTrie (replicate zeros 0) []
 zeros-are-trie zero l = empty
 zeros-are-trie (suc zeros) l = whole (0 ∷ []) zeros [] (bare [] 0 0 [] [] [] [] (none []) (none [])) (omega (arith, l)) tt

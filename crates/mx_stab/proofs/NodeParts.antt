@@ -36,7 +36,7 @@ is-no-bare m h k = let bare = wide-bare m k in cc (h, bare)
 pub there : {n : ℕ} (part : Reading → Answer) (s : Reading) → n ≡ 1 → part_if (n == 1) part s ≡ part s
 there part s e = ap (λ n. part_if (n == 1) part s) e
 
--- behind the left subtrie of a node
+-- after the left subtrie of a node
 pub behind-left : {path : List ℕ} {before : List Symbol} {m : ℕ} {bytes : List ℕ} {found : List Symbol} → UpToLeft path before m bytes found → (at : ℕ) (rest : List ℕ) →
     next_subtrie path (record { at = at; rest = bytes ++ rest; found = before }) ≡ node_rest next_subtrie at m path (record { at = at + length bytes; rest = rest; found = found })
 behind-left (UpToLeft.left path before m left symbols narrow h distinct) at rest =
@@ -44,7 +44,7 @@ behind-left (UpToLeft.left path before m left symbols narrow h distinct) at rest
     ∙ ap (and_then (node_rest next_subtrie at m path)) (tells-subtrie h (record { at = at + 1; rest = left ++ rest; found = before }) rest refl distinct)
     ∙ ap (λ place. node_rest next_subtrie at m path (record { at = place; rest = rest; found = before ++ symbols })) (omega arith)
 
--- behind its character
+-- after its character
 pub behind-character : {path : List ℕ} {before : List Symbol} {m : ℕ} {bytes name : List ℕ} {found : List Symbol} → UpToCharacter path before m bytes name found → (at : ℕ) (rest : List ℕ) →
     next_subtrie path (record { at = at; rest = bytes ++ rest; found = before }) ≡ and_then (part_if (has 0x10 m) (next_subtrie path))
     (and_then (part_if (has 0x20 m) (next_subtrie name)) (symbol (m % 16) at name (record { at = at + length bytes; rest = rest; found = found })))
@@ -58,7 +58,7 @@ behind-character (UpToCharacter.character path before m front found name charact
     ∙ cond-false (nat_lt 1024 (length (path ++ name))) _ _ (le-ltb 1024 (length (path ++ name)) short)
     ∙ ap (λ place. and_then (part_if (has 0x20 m) (next_subtrie (path ++ name))) (symbol (m % 16) at (path ++ name) (record { at = place; rest = rest; found = found }))) (omega (arith, length-append front character)))
 
--- behind its symbol
+-- after its symbol
 pub behind-symbol : {path : List ℕ} {before : List Symbol} {m : ℕ} {bytes name : List ℕ} {found : List Symbol} → UpToSymbol path before m bytes name found → (at : ℕ) (rest : List ℕ) →
     next_subtrie path (record { at = at; rest = bytes ++ rest; found = before }) ≡ and_then (part_if (has 0x10 m) (next_subtrie path))
     (part_if (has 0x20 m) (next_subtrie name) (record { at = at + length bytes; rest = rest; found = found }))

@@ -20,7 +20,7 @@ all-both P (x ∷ xs) ys h k = (h.0, all-both P xs ys h.1 k)
 abbrev pub Below : List ℕ → List ℕ → Type 0
 Below a b = slice_cmp nat_cmp a b ≡ Less
 
--- each name is below all that stand behind it
+-- each name is below all that follow it
 abbrev pub AreInOrder : List Symbol → Type 0
 AreInOrder [] = Unit {0}
 AreInOrder (s ∷ more) = AllByRecursion (λ (t : Symbol). Below s.name t.name) more × AreInOrder more

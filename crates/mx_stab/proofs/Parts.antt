@@ -3,7 +3,7 @@ use Rattle.std.proofs.Common.{◌≡◌, ℕ, zero, suc, ◌+◌, ◌-◌, ◌*�
 use Rattle.mx_stab.proofs.Words.{cond_both, Symbol, Value, StabFault, Truncated, Wide, Reading, Answer, Character, and_then, part_if, serial_behind, symbol_with, symbol, has, has_character, is_wide_bare, two_bytes, character_of, character_part, with_character, character, node_rest, node, subtrie, next_subtrie, nat_tests}
 use Rattle.mx_stab.specs.Reading.{one_byte}
 
--- no more than so many bytes are left
+-- no more than this many bytes are left
 abbrev pub Leaves : ℕ → Answer → Type 0
 Leaves n (Ok s) = length s.rest ≤ n
 Leaves n (Err fault) = Unit {0}
@@ -77,7 +77,7 @@ unfolding subtrie
 subtrie-reads zero path s = tt
 subtrie-reads (suc nodes) path s = node-leaves (subtrie nodes) (subtrie-reads nodes) path s.at s.found s.rest
 
--- two meanings that agree where no more than so many bytes are left
+-- two meanings that agree where no more than this many bytes are left
 abbrev Agree : ℕ → (Reading → Answer) → (Reading → Answer) → Type 0
 Agree n p q = (s : Reading) → length s.rest ≤ n → p s ≡ q s
 

@@ -354,7 +354,7 @@ unfolding subtrie
 subtrie-sounds zero path s t b e = absurd (cc)
 subtrie-sounds (suc nodes) path s t b e = node-sounds (subtrie nodes) (subtrie-sounds nodes) path s.at s.found s.rest t b e
 
--- zeros behind a trie
+-- zeros after a trie
 zeros-are : (bytes : List ℕ) → are_zeros bytes ≡ true → bytes ≡ replicate (length bytes) 0
 zeros-are [] h = refl
 zeros-are (b ∷ more) h =
@@ -379,7 +379,7 @@ ended-well (Ok t) symbols h = one (is_padding t.rest) refl h
     one true e h = record { last = t; is = refl; padding = e; found-is = cc }
     one false e h = absurd (cc)
 
--- the trie behind which only zeros are left
+-- the trie after which only zeros are left
 trie-whole : (bytes : List ℕ) (symbols : List Symbol) (t : Reading) → Tells 1 [] (start bytes) t → is_padding t.rest ≡ true → t.found ≡ symbols → IsTrie bytes symbols
 trie-whole bytes symbols t w p f =
     let parts = padding-zeros t.rest p in

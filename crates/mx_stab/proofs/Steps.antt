@@ -22,7 +22,7 @@ after-node : (node m : ℕ) (path : List ℕ) (s : Reading) → after_all (node_
     ≡ with_path path (and_then (node_rest next_subtrie node m path) (part_if (has 0x40 m) (next_subtrie path) s))
 after-node node m path s = grind arith
 
--- the byte m was read, and what stands behind it was noted
+-- the byte m was read, and what follows it was noted
 node-went-from : (before : List Due) (path : List ℕ) (at m : ℕ) (rest bytes : List ℕ) (found : List Symbol) → bytes ≡ m ∷ rest → is_wide_bare m ≡ false →
     after_all (before ++ node_due at m) (record { path = path; reading = record { at = at + 1; rest = rest; found = found } })
     ≡ and_next (after_all before) (with_path path (next_subtrie path (record { at = at; rest = bytes; found = found })))
@@ -60,7 +60,7 @@ after-symbol : (path name : List ℕ) (m : ℕ) (a : Answer) → and_next (after
     ≡ with_path path (and_then (part_if (has 0x10 m) (next_subtrie path)) (and_then (part_if (has 0x20 m) (next_subtrie (path ++ name))) a))
 after-symbol path name = grind (arith, common_steps, nat_tests)
 
--- what stands in a node behind its left subtrie, by its character
+-- what is in a node after its left subtrie, by its character
 after-character : (node m : ℕ) (path : List ℕ) (s : Reading) (c : Result Character StabFault) → c ≡ character_of node m s → has_character m ≡ true →
     with_path path (node_rest next_subtrie node m path s) ≡ and_next (after_character (length path) node m) (longer_path path c)
 after-character node m path s (Ok c) e h = grind (arith, nat_tests, after-symbol path c.name m (symbol (m % 16) node (path ++ c.name) c.behind))

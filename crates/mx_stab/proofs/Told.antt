@@ -9,7 +9,7 @@ digits-below x i j l h = search (rules, pow-le-pow_right)
 digit-more : (x y i : ℕ) → y < x * 256 + 256 → x < 256 ^ i → y < 256 ^ (i + 1)
 digit-more x y i l h = grind (arith, common_steps, nat_tests)
 
--- a digit more behind a number that does not matter from 2^32 on
+-- a digit more after a number that does not matter from 2^32 on
 cap-more : (x b : ℕ) → min (min x (2 ^ 32) * 128 + b) (2 ^ 32) ≡ min (x * 128 + b) (2 ^ 32)
 cap-more x b = omega arith
 

@@ -7,7 +7,7 @@ use Rattle.mx_stab.proofs.Distinct.{distinct-front}
 use Rattle.mx_stab.proofs.NameSets.{not-among}
 use Rattle.mx_stab.proofs.Parts.{next-node}
 
--- the reading behind some bytes with their symbols
+-- the reading after some bytes with their symbols
 abbrev pub reading_behind : Reading → List ℕ → List ℕ → List Symbol → Reading
 reading_behind s bytes more symbols = record { at = s.at + length bytes; rest = more; found = s.found ++ symbols }
 

@@ -18,7 +18,7 @@ abbrev pub and_next : (Point → Progress) → Progress → Progress
 and_next next (Ok p) = next p
 and_next next (Err fault) = Err fault
 
--- an answer with the path to what is read behind it
+-- an answer with the path to what is read after it
 abbrev pub with_path : List ℕ → Answer → Progress
 with_path path (Ok s) = Ok (record { path = path; reading = s })
 with_path path (Err fault) = Err fault
@@ -28,15 +28,15 @@ abbrev pub next_point : Point → Point
 next_point p =
     record p { reading = record { at = p.reading.at + 1; rest = drop 1 p.reading.rest; found = p.reading.found } }
 
--- behind a part that is due: a subtrie; what stands in a node behind its left subtrie; or a right subtrie, whose
--- path has so many bytes
+-- after a part that is due: a subtrie; what is in a node after its left subtrie; or a right subtrie, whose
+-- path has this many bytes
 abbrev pub after_due : Due → Point → Progress
 after_due Subtrie p = with_path p.path (next_subtrie p.path p.reading)
 after_due (Rest node m) p = with_path p.path (node_rest next_subtrie node m p.path p.reading)
 after_due (Right depth m) p =
     with_path (take depth p.path) (part_if (has 0x10 m) (next_subtrie (take depth p.path)) p.reading)
 
--- behind all that is due, the last noted first
+-- after all that is due, the last noted first
 abbrev pub after_all : List Due → Point → Progress
 after_all [] p = Ok p
 after_all (d ∷ above) p = and_next (after_due d) (after_all above p)
@@ -46,14 +46,14 @@ abbrev pub due_if : Bool → Due → List Due
 due_if true d = d ∷ []
 due_if false d = []
 
--- what is due behind the byte m of a node, and behind its symbol
+-- what is due after the byte m of a node, and after its symbol
 abbrev pub node_due : ℕ → ℕ → List Due
 node_due node m = Rest node m ∷ due_if (has 0x40 m) Subtrie
 
 abbrev pub symbol_due : ℕ → ℕ → List Due
 symbol_due depth m = Right depth m ∷ due_if (has 0x20 m) Subtrie
 
--- behind the character of a node, with which the path ends
+-- after the character of a node, with which the path ends
 abbrev pub after_character : ℕ → ℕ → ℕ → Point → Progress
 after_character depth node m p =
     if nat_lt 1024 (length p.path) then Err (TooLong node)

@@ -13,7 +13,7 @@ use Rattle.mx_stab.specs.declared.faults.StabFault.TheVariants.{Truncated, Paddi
 abbrev pub flag : ℕ → ℕ → ℕ
 flag weight m = m / weight % 2
 
--- a node has a character where a name ends with it or goes on behind it
+-- a node has a character where a name ends with it or goes on after it
 abbrev pub HasCharacter : ℕ → Type 0
 HasCharacter m = (m % 16 ≢ 0) ⊎ (flag 0x20 m ≡ 1)
 
@@ -21,21 +21,21 @@ HasCharacter m = (m % 16 ≢ 0) ⊎ (flag 0x20 m ≡ 1)
 abbrev pub IsWideBare : ℕ → Type 0
 IsWideBare m = (flag 0x80 m ≡ 1) × ¬ HasCharacter m
 
--- a node with the byte m, up to behind its left subtrie: the path to it and the symbols before it; its bytes so far,
+-- a node with the byte m, to the end of its left subtrie: the path to it and the symbols before it; its bytes so far,
 -- and all symbols so far, among which no name stands twice
 pub data UpToLeft : List ℕ → List Symbol → ℕ → List ℕ → List Symbol → Type 0 where
   left : (path : List ℕ) (before : List Symbol) (m : ℕ) (left : List ℕ) (symbols : List Symbol) → ¬ IsWideBare m →
       IsSubtrie (flag 0x40 m) path left symbols → AreDistinct (before ++ symbols) →
       UpToLeft path before m (m ∷ left) (before ++ symbols)
 
--- the same up to behind its character, with the name that the character ends
+-- the same to the end of its character, with the name that the character ends
 pub data UpToCharacter : List ℕ → List Symbol → ℕ → List ℕ → List ℕ → List Symbol → Type 0 where
   character : (path : List ℕ) (before : List Symbol) (m : ℕ) (node : List ℕ) (found : List Symbol)
       (name character : List ℕ) → UpToLeft path before m node found → HasCharacter m →
       SpellsCharacter (0x80 * flag 0x80 m) name character → length (path ++ name) ≤ 1024 →
       UpToCharacter path before m (node ++ character) (path ++ name) found
 
--- the same up to behind its symbol, if a name ends there
+-- the same to the end of its symbol, if a name ends there
 pub data UpToSymbol : List ℕ → List Symbol → ℕ → List ℕ → List ℕ → List Symbol → Type 0 where
   none : (path : List ℕ) (before : List Symbol) (m : ℕ) (node name : List ℕ) (found : List Symbol) →
       UpToCharacter path before m node name found → m % 16 ≡ 0 → UpToSymbol path before m node name found
@@ -46,7 +46,7 @@ pub data UpToSymbol : List ℕ → List Symbol → ℕ → List ℕ → List ℕ
       UpToSymbol path before m (node ++ told ++ counted) name
       (found ++ record { name = name; value = value; serial = serial } ∷ [])
 
--- behind these first bytes of a trie a node is due: the path to it, and the symbols before it
+-- after these first bytes of a trie a node is due: the path to it, and the symbols before it
 pub data IsDue : List ℕ → List ℕ → List Symbol → Type 0 where
   first : IsDue [] [] []
   left : (front path : List ℕ) (before : List Symbol) (m : ℕ) → IsDue front path before → ¬ IsWideBare m →
@@ -83,7 +83,7 @@ pub data LacksWide (path : List ℕ) (before : List Symbol) : List ℕ → Type 
       HasCharacter m → flag 0x80 m ≡ 1 → ¬ IsTrue (is_wide_character (wide_number high low)) →
       LacksWide path before (node ++ high ∷ low ∷ rest)
 
--- the path behind its character has more than 1,024 bytes
+-- the path after its character has more than 1,024 bytes
 pub data IsTooDeep (path : List ℕ) (before : List Symbol) : List ℕ → Type 0 where
   path_is : (m : ℕ) (node name character rest : List ℕ) (found : List Symbol) → UpToLeft path before m node found →
       HasCharacter m → SpellsCharacter (0x80 * flag 0x80 m) name character → 1024 < length (path ++ name) →
@@ -103,8 +103,8 @@ pub data NamesAgain (path : List ℕ) (before : List Symbol) : List ℕ → Type
       UpToCharacter path before m node s.name (earlier ++ s ∷ later) → SpellsValue (m % 16) value told →
       SpellsSerial serial counted → NamesAgain path before (node ++ told ++ counted ++ rest)
 
--- the fault of bytes, with its place: where bytes are missing, their number; where more than three zeros stand behind a
--- trie, or other bytes, the first byte behind it; and else where the node begins that has the fault
+-- the fault of bytes, with its place: where bytes are missing, their number; where more than three zeros follow a
+-- trie, or other bytes, the first byte after it; and else where the node begins that has the fault
 pub data FaultOf : List ℕ → StabFault → Type 0 where
   cut_off : (front path rest : List ℕ) (before : List Symbol) → IsDue front path before → EndsWithin path before rest →
       0 < length (front ++ rest) → FaultOf (front ++ rest) (Truncated (length (front ++ rest)))

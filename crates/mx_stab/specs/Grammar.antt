@@ -13,7 +13,7 @@ use Rattle.mx_stab.specs.Characters.{wide_number, is_wide_character}
 abbrev pub AreBelow : ℕ → List ℕ → Type 0
 AreBelow bound digits = AllByRecursion (λ d. d < bound) digits
 
--- the number of digits of a base that stand behind those of a number, from the high end
+-- the number of digits of a base that follow those of a number, from the high end
 abbrev pub number_behind : ℕ → ℕ → List ℕ → ℕ
 number_behind base x [] = x
 number_behind base x (d ∷ more) = number_behind base (x * base + d) more
@@ -22,7 +22,7 @@ number_behind base x (d ∷ more) = number_behind base (x * base + d) more
 abbrev pub number : ℕ → List ℕ → ℕ
 number base digits = number_behind base 0 digits
 
--- a value of a kind: 1 to 8 are pure in so many bytes, 9 to 14 are pure and 2^61 more than what 1 to 6
+-- a value of a kind: 1 to 8 are pure in this many bytes, 9 to 14 are pure and 2^61 more than what 1 to 6
 -- bytes tell, 15 is a register
 pub data SpellsValue : ℕ → Value → List ℕ → Type 0 where
   pure : (bytes : List ℕ) → AreBytes bytes → 1 ≤ length bytes → length bytes ≤ 8 →
@@ -73,7 +73,7 @@ abbrev pub AreDistinct : List Symbol → Type 0
 AreDistinct [] = Unit {0}
 AreDistinct (s ∷ more) = AllByRecursion (λ (t : Symbol). s.name ≢ t.name) more × AreDistinct more
 
--- a trie with its symbols: no bytes tell none; behind a trie stand at most three zeros
+-- a trie with its symbols: no bytes tell none; after a trie are at most three zeros
 pub data IsTrie : List ℕ → List Symbol → Type 0 where
   empty : IsTrie [] []
   whole : (trie : List ℕ) (zeros : ℕ) (symbols : List Symbol) → IsSubtrie 1 [] trie symbols → zeros ≤ 3 →

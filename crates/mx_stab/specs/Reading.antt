@@ -18,7 +18,7 @@ pub record Reading : Type 0 where
 abbrev pub Answer : Type 0
 Answer = Result Reading StabFault
 
--- the place behind the last byte, where a missing byte is missed
+-- the place after the last byte, where a missing byte is missed
 abbrev pub end_of : Reading → ℕ
 end_of s = s.at + length s.rest
 
@@ -47,7 +47,7 @@ value_of kind bytes =
     else if nat_le kind 8 then Pure (number 256 bytes)
     else Pure (2 ^ 61 + number 256 bytes)
 
--- a serial number, of which the digits so far tell x, with the bytes behind it; none where the bytes end within it
+-- a serial number, of which the digits so far tell x, with the bytes after it; none where the bytes end within it
 abbrev pub serial_behind : ℕ → List ℕ → Option (ℕ × List ℕ)
 serial_behind x [] = None
 serial_behind x (b ∷ more) = if nat_lt b 128 then serial_behind (x * 128 + b) more else Some (x * 128 + (b - 128), more)
@@ -84,7 +84,7 @@ has_character m = not (m % 16 == 0) || has 0x20 m
 abbrev pub is_wide_bare : ℕ → Bool
 is_wide_bare m = has 0x80 m && not (has_character m)
 
--- what a character adds to a name, and the reading behind it
+-- what a character adds to a name, and the reading after it
 pub record Character : Type 0 where
   pub name : List ℕ
   pub behind : Reading
@@ -131,12 +131,12 @@ with_character part (Err fault) = Err fault
 abbrev pub character : (List ℕ → Reading → Answer) → ℕ → ℕ → List ℕ → Reading → Answer
 character inner node m path s = with_character (character_part inner node m path) (character_of node m s)
 
--- what stands in a node behind its left subtrie: the character with what belongs to it, and the right subtrie
+-- what is in a node after its left subtrie: the character with what belongs to it, and the right subtrie
 abbrev pub node_rest : (List ℕ → Reading → Answer) → ℕ → ℕ → List ℕ → Reading → Answer
 node_rest inner node m path s =
     and_then (part_if (has 0x10 m) (inner path)) (part_if (has_character m) (character inner node m path) s)
 
--- a node: the byte m, the left subtrie, and what stands behind it
+-- a node: the byte m, the left subtrie, and what follows it
 abbrev pub node : (List ℕ → Reading → Answer) → List ℕ → ℕ → List Symbol → List ℕ → Answer
 node inner path at found [] = Err (Truncated at)
 node inner path at found (m ∷ rest) =
@@ -144,7 +144,7 @@ node inner path at found (m ∷ rest) =
     else and_then (node_rest inner at m path)
     (part_if (has 0x40 m) (inner path) (record { at = at + 1; rest = rest; found = found }))
 
--- the subtrie below a path, of no more nodes than so many; each has a byte at least
+-- the subtrie below a path, of no more nodes than this many; each has a byte at least
 unfoldable pub subtrie : ℕ → List ℕ → Reading → Answer
 subtrie zero path s = Err (Truncated s.at)
 subtrie (suc nodes) path s = node (subtrie nodes) path s.at s.found s.rest
@@ -153,7 +153,7 @@ subtrie (suc nodes) path s = node (subtrie nodes) path s.at s.found s.rest
 abbrev pub next_subtrie : List ℕ → Reading → Answer
 next_subtrie path s = subtrie (length s.rest) path s
 
--- zeros, of which at most three stand behind a trie
+-- zeros, of which at most three follow a trie
 abbrev pub are_zeros : List ℕ → Bool
 are_zeros [] = true
 are_zeros (b ∷ more) = b == 0 && are_zeros more

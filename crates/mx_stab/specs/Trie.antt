@@ -50,13 +50,13 @@ abbrev pub node_front : ℕ → List Symbol → Bool → List ℕ
 node_front at [] others = []
 node_front at (s ∷ more) others = front_of at s (has_symbols (symbols_below at (s ∷ more))) others
 
--- one node for each group, the middle subtrie of each behind its front, and then its right subtrie
+-- one node for each group, the middle subtrie of each after its front, and then its right subtrie
 abbrev pub nodes : (List Symbol → List ℕ) → ℕ → List (List Symbol) → List ℕ
 nodes middle at [] = []
 nodes middle at (group ∷ groups) =
     node_front at group (has_symbols groups) ++ middle (symbols_below at group) ++ nodes middle at groups
 
--- the trie of symbols whose names agree up to a place; it is no deeper than so many nodes
+-- the trie of symbols whose names agree up to a place; it is no deeper than this many nodes
 unfoldable pub trie : ℕ → ℕ → List Symbol → List ℕ
 trie zero at symbols = []
 trie (suc deep) at symbols = nodes (trie deep (at + 1)) at (groups_of at symbols)
@@ -69,6 +69,6 @@ longest = 1024
 abbrev pub trie_from : ℕ → List Symbol → List ℕ
 trie_from at symbols = trie (longest - at) at symbols
 
--- the trie of symbols that stand in the order of their names
+-- the trie of symbols that are in the order of their names
 abbrev pub trie_of : List Symbol → List ℕ
 trie_of symbols = trie_from 0 symbols

@@ -9,7 +9,7 @@ abbrev pub bytes_due : List Pending → List ℕ
 bytes_due [] = []
 bytes_due (p ∷ before) = bytes_due before ++ trie_from p.at p.symbols.now
 
--- how many symbols stand in front whose next byte is this one
+-- how many symbols are in front whose next byte is this one
 abbrev pub run_length : ℕ → ℕ → List Symbol → ℕ
 run_length at byte [] = 0
 run_length at byte (s ∷ more) = if next_byte at s == byte then suc (run_length at byte more) else 0

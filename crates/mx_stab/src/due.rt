@@ -7,8 +7,8 @@ ghost use Rattle.mx_stab.specs.Reading as spec;
 
 use mx_word::NoMemory;
 
-/// What is still to be read: a subtrie; what stands in the node at a place, with its byte m, behind
-/// the left subtrie; or a right subtrie, if the byte m tells of one, whose path has so many bytes.
+/// What is still to be read: a subtrie; what is in the node at a place, with its byte m, after
+/// the left subtrie; or a right subtrie, if the byte m tells of one, whose path has this many bytes.
 #[derive(Clone, Copy)]
 pub enum Due {
     Subtrie,
@@ -43,7 +43,7 @@ pub fn note_subtrie(due: &mut Vec<Due>, is: bool) -> Result<(), NoMemory>
     Ok(())
 }
 
-/// Notes what stands behind the byte m of a node, of which the left subtrie comes first.
+/// Notes what follows the byte m of a node, of which the left subtrie comes first.
 #[tactic(auto, using(crate::proofs::Weights::weights))]
 pub fn note_node(due: &mut Vec<Due>, node: u64, m: u8) -> Result<(), NoMemory>
     ensures items { OnOk result (due.new.items ≡ due.old.items ++ notes.node_due node m) }
@@ -53,7 +53,7 @@ pub fn note_node(due: &mut Vec<Due>, node: u64, m: u8) -> Result<(), NoMemory>
     note_subtrie(due, has(0x40, m))
 }
 
-/// Notes what stands behind the symbol of a node, of which the middle subtrie comes first.
+/// Notes what follows the symbol of a node, of which the middle subtrie comes first.
 #[tactic(auto, using(crate::proofs::Weights::weights))]
 pub fn note_symbol(due: &mut Vec<Due>, depth: usize, m: u8) -> Result<(), NoMemory>
     ensures items { OnOk result (due.new.items ≡ due.old.items ++ notes.symbol_due depth m) }

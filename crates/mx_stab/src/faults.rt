@@ -10,8 +10,8 @@ use mx_word::NoMemory;
 pub enum StabFault {
     /// The bytes end within the trie; the place is their length.
     Truncated(u64),
-    /// Behind the trie stand four or more bytes, or one that is not zero; the place is that of the
-    /// first byte behind the trie.
+    /// After the trie stand four or more bytes, or one that is not zero; the place is that of the
+    /// first byte after the trie.
     Padding(u64),
     /// A node with the bit #80 that has no character, or whose character is below #80 or from #d800
     /// to #dfff; the place is that of the node's byte m.

@@ -10,7 +10,7 @@ use std::collections::BTreeSet;
 use std::marker::Model;
 
 /// Symbols, in which a name is found. While the names ascend, as those of a trie do whose subtries
-/// stand in order, the last one serves for that; from the first that does not, a set of all names.
+/// are in order, the last one serves for that; from the first that does not, a set of all names.
 /// Contracts see the list of symbols.
 #[derive(Drop)]
 pub struct Found {

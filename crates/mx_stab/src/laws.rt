@@ -14,7 +14,7 @@ ghost use Rattle.mx_stab.specs.Reading.{trie_answer, trie_fault};
 ghost use Rattle.mx_stab.specs.Trie.{trie_of};
 ghost use Rattle.mx_stab.specs.declared.faults.StabFault.{StabFault};
 
-/// The trie that is written of symbols, with up to three zeros behind it, is one that the grammar
+/// The trie that is written of symbols, with up to three zeros after it, is one that the grammar
 /// gives these symbols.
 pub fn writing_is_the_grammar()
     ensures { (symbols : List Symbol) (zeros : ℕ) → InByteOrder symbols → AllByRecursion IsNamed symbols → zeros ≤ 3 →
@@ -52,7 +52,7 @@ pub fn a_trie_tells_one_list()
         symbols ≡ others }
 {}
 
-/// What is written of symbols is read as these symbols, also with up to three zeros behind it.
+/// What is written of symbols is read as these symbols, also with up to three zeros after it.
 pub fn what_is_written_is_read()
     ensures { (symbols : List Symbol) (zeros : ℕ) → InByteOrder symbols → AllByRecursion IsNamed symbols → zeros ≤ 3 →
         trie_answer (trie_of symbols ++ replicate zeros 0) ≡ Ok symbols }

@@ -67,7 +67,7 @@ fn wide_character(high: u8, low: u8) -> Option<char>
 }
 
 impl<'a> Reader<'a> {
-    /// The place behind the last byte.
+    /// The place after the last byte.
     fn end(&self) -> u64
         ensures { result ≡ spec.end_of self.now.reading }
     {
@@ -81,7 +81,7 @@ impl<'a> Reader<'a> {
         self.at
     }
 
-    /// Leaves so many bytes of the path.
+    /// Leaves this many bytes of the path.
     fn shorten(&mut self, depth: usize)
         ensures { self.new ≡ record self.old { path = take depth self.old.path } }
     {
@@ -110,7 +110,7 @@ impl<'a> Reader<'a> {
         Some(*b)
     }
 
-    /// Reads the byte m of a node, and notes what stands behind it.
+    /// Reads the byte m of a node, and notes what follows it.
     fn take_node(&mut self, due: &mut Vec<Due>) -> Result<(), StabFault>
         ensures same { LeadsTo result (after_all due.new.items self.new)
             (and_next (after_all due.old.items) (after_due Due.Subtrie self.old)) }
@@ -181,7 +181,7 @@ impl<'a> Reader<'a> {
         }
     }
 
-    /// Reads what stands in a node behind its left subtrie, and notes its other subtries.
+    /// Reads what is in a node after its left subtrie, and notes its other subtries.
     fn take_rest(&mut self, due: &mut Vec<Due>, node: u64, m: u8) -> Result<(), StabFault>
         ensures same { LeadsTo result (after_all due.new.items self.new)
             (and_next (after_all due.old.items) (after_due (Due.Rest node m) self.old)) }
@@ -239,7 +239,7 @@ impl<'a> Reader<'a> {
         }
     }
 
-    /// Adds the symbol whose name is the path, and goes on behind it.
+    /// Adds the symbol whose name is the path, and goes on after it.
     fn add(&mut self, node: u64, value: Value, serial: u64, rest: &'a [u8]) -> Result<(), StabFault>
         requires { length rest.now ≤ length self.old.reading.rest }
         ensures same { LeadsTo result (Ok self.new)
@@ -339,7 +339,7 @@ fn symbols_of(alloc: Global, bytes: &[u8]) -> Result<Symbols, StabFault>
 /// Errors: the first fault that is met where the bytes are read from the left. A node is refused as
 /// `Wide` at its byte m or at its character, then as `TooLong`, and as `BadSerial` and then as
 /// `Twice` at the end of its serial number; a missing byte is `Truncated` at once, and what stands
-/// behind the trie is `Padding` last. `OutOfMemory` is the one free answer.
+/// after the trie is `Padding` last. `OutOfMemory` is the one free answer.
 pub fn read(alloc: Global, bytes: &[u8]) -> Result<Symbols, StabFault>
     ensures answer { result ≢ Err StabFault.OutOfMemory → result ≡ spec.trie_answer bytes.now }
     ensures grammar { IfOk result (λ symbols. IsTrie bytes.now symbols) }

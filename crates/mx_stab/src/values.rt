@@ -65,7 +65,7 @@ pub fn value(kind: u8, bytes: &[u8]) -> Value
     }
 }
 
-/// A serial number at the front of bytes, and the bytes behind it. One from 2^32 on counts as 2^32.
+/// A serial number at the front of bytes, and the bytes after it. One from 2^32 on counts as 2^32.
 pub fn serial(bytes: &[u8]) -> Option<(u64, &[u8])>
     ensures value { option_map (λ r. (r.0, r.1.now)) result ≡ notes.serial_cap (spec.serial_behind 0 bytes.now) }
     ensures fewer { IfSome result (λ r. length r.1.now ≤ length bytes.now) }

@@ -13,7 +13,7 @@ use crate::numbers::{append_serial, append_value, kind};
 use mx_word::{Bytes, NoMemory, Symbol, Symbols};
 use std::alloc::Global;
 
-/// The most bytes of a name, so that nothing stands deeper.
+/// The most bytes of a name, so that nothing is deeper.
 const LONGEST: usize = 1024;
 
 /// Symbols whose names agree up to a place, and whose trie is still to be written.
@@ -41,7 +41,7 @@ fn is_last_byte(at: usize, symbol: &Symbol) -> bool
     symbol.name.as_slice().len() <= at + 1
 }
 
-/// How many symbols stand in front whose next byte is this one.
+/// How many symbols are in front whose next byte is this one.
 fn run_length(symbols: &[Symbol], at: usize, byte: u8) -> usize
     ensures value { result ≡ writing.run_length at byte symbols.now }
     ensures within { result ≤ length symbols.now }
@@ -162,7 +162,7 @@ fn note<'a>(
     Ok(())
 }
 
-/// Adds the front of the first node, and notes what stands behind it. No more is noted than is
+/// Adds the front of the first node, and notes what follows it. No more is noted than is
 /// written.
 fn take_node<'a>(
     bytes: &mut Vec<u8>,
@@ -188,7 +188,7 @@ fn take_node<'a>(
     Ok(())
 }
 
-/// The trie of symbols that stand in the order of their names, each of 1 to 1,024 bytes: no left
+/// The trie of symbols that are in the order of their names, each of 1 to 1,024 bytes: no left
 /// subtries, right subtries in ascending order of their characters, and the fewest bytes for each
 /// value and serial number. It is refused only out of memory.
 pub fn write(alloc: Global, symbols: &Symbols) -> Result<Bytes, StabFault>

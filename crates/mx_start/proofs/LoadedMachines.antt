@@ -1,4 +1,4 @@
--- The machine with an image, before its arguments stand in the pool.
+-- The machine with an image, before its arguments are in the pool.
 use Rattle.std.proofs.Common.{◌≡◌, ◌≤◌, ℕ, ◌+◌, ◌-◌, ◌*◌, ◌/◌, get_or, arith, sym, ap}
 use Rattle.std.proofs.lemmas.List.FromFn.{get_or-map-range_with_len}
 use Rattle.mx_mmo.specs.Image.{Image}

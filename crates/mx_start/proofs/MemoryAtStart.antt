@@ -1,4 +1,4 @@
--- The octas of the arguments stand in the pool at the start, and all else is the image's.
+-- The octas of the arguments are in the pool at the start, and all else is the image's.
 use Rattle.std.proofs.Common.{◌≡◌, ◌≢◌, ◌≤◌, ◌<◌, ℕ, suc, ◌+◌, ◌-◌, ◌*◌, ◌/◌, ◌%◌, ◌||◌, Bool, true, false, cond, nat_lt, nat_le, List, [], ◌∷◌, length, get_or, None, Some, arith, refl, sym, ap, ◌∙◌}
 use Rattle.std.specs.Prelude.{◌&&◌, ◌==◌}
 use Rattle.std.proofs.lemmas.Bool.Decides.{nat_tests}
@@ -45,7 +45,7 @@ among-by f a x xs q true true even l h =
     let next : (q - a) / 8 ≡ suc ((q - (a + 8)) / 8) = omega (arith, above) in
     rw (l, h, apart, end, next) refl
 
--- an octa that is stored, and those behind it
+-- an octa that is stored, and those after it
 stored-next : (a x : ℕ) (xs : List ℕ) (s t : State) (q : ℕ) (b : Bool) → a % 8 ≡ 0 → a < stack_address 0 →
     (with_octas (with_octa s a x) (a + 8) xs ≡ Some t → t.octas q ≡ octa_among (with_octa s a x).octas (a + 8) xs q) →
     cond b None (with_octas (with_octa s a x) (a + 8) xs) ≡ Some t → t.octas q ≡ octa_among s.octas a (x ∷ xs) q

@@ -1,4 +1,4 @@
--- Where texts in the pool end, and what stands there.
+-- Where texts in the pool end, and what is there.
 use Rattle.std.proofs.Common.{◌≡◌, ◌≤◌, ◌<◌, ℕ, ◌+◌, ◌^◌, List, [], ◌∷◌, ◌++◌, length, get_or, Option, None, Some, arith, append_assoc, sym, ap, ◌∙◌}
 use Rattle.std.proofs.lemmas.Bool.Decides.{nat_tests}
 use Rattle.mx_start.specs.Pool.{as_octa}

@@ -81,7 +81,7 @@ stored-none s t a x fault l h = not-negative s a x l ∙ by (is_page_refused s a
 
 -- A POOL THAT GOES PAST 2^64
 
--- octas that are stored stand below 2^63
+-- octas that are stored are below 2^63
 first-stored : (s : State) (a x : ℕ) (xs : List ℕ) (t : State) → with_octas s a (x ∷ xs) ≡ Some t → (a < 2 ^ 63) × (with_octas (with_octa s a x) (a + 8) xs ≡ Some t)
 unfolding with_octas
 first-stored s a x xs t h = by (is_negative a) (is_page_refused s a) refl h

@@ -15,14 +15,14 @@ use Rattle.mx_core.specs.State.{State, with_octa, is_negative, is_page_refused}
 abbrev pub pool : ℕ
 pool = 0x4000_0000_0000_0000
 
--- how many bytes a text takes, with at least one zero byte behind it, in whole octas
+-- how many bytes a text takes, with at least one zero byte after it, in whole octas
 abbrev pub text_size : List ℕ → ℕ
 text_size text = 8 * (length text / 8 + 1)
 
 abbrev pub text_octas : List ℕ → List ℕ
 text_octas text = octas_of (text ++ replicate (text_size text - length text) 0)
 
--- where texts stand, one behind the other, and where they end
+-- where texts stand, one after the other, and where they end
 abbrev pub text_addresses : ℕ → List (List ℕ) → List ℕ
 text_addresses at [] = []
 text_addresses at (text ∷ texts) = at ∷ text_addresses (at + text_size text) texts
@@ -31,7 +31,7 @@ abbrev pub texts_end : ℕ → List (List ℕ) → ℕ
 texts_end at [] = at
 texts_end at (text ∷ texts) = texts_end (at + text_size text) texts
 
--- the first text stands behind the first free address, the pointers and an octa of 0
+-- the first text follows the first free address, the pointers and an octa of 0
 abbrev pub first_text : List (List ℕ) → ℕ
 first_text arguments = pool + 8 * (length arguments + 2)
 
@@ -41,7 +41,7 @@ pool_octas arguments =
     texts_end (first_text arguments) arguments ∷ text_addresses (first_text arguments) arguments
     ++ 0 ∷ flat_map text_octas arguments
 
--- octas in memory, one behind the other from an address on, unless one of them needs a page too many
+-- octas in memory, one after the other from an address on, unless one of them needs a page too many
 unfoldable pub with_octas : State → ℕ → List ℕ → Option State
 with_octas s a [] = Some s
 with_octas s a (x ∷ xs) = if is_negative a || is_page_refused s a then None else with_octas (with_octa s a x) (a + 8) xs

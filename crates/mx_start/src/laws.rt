@@ -1,4 +1,4 @@
-//! What holds of the start over its definitions alone: what stands in memory, that it is a machine, and that it is the
+//! What holds of the start over its definitions alone: what is in memory, that it is a machine, and that it is the
 //! start of the list.
 
 ghost use Rattle.std.specs.Prelude.{◌≡◌, ◌≤◌, ◌+◌, ◌*◌, ℕ, List, length, Some};
@@ -17,7 +17,7 @@ ghost use Rattle.mx_start.specs.MemoryAtStart.{octa_among};
 ghost use Rattle.mx_start.specs.Start.{loaded, pool, pool_octas, start};
 ghost use Rattle.mx_core.specs.State.{State};
 
-/// At the start the octas of the arguments stand in the pool segment, from its first address on, and
+/// At the start the octas of the arguments are in the pool segment, from its first address on, and
 /// all else in memory is the image's; the arguments end below the stack segment.
 #[tactic(auto, using(crate::proofs::MemoryAtStart::starting))]
 pub fn arguments_stand_in_the_pool()
@@ -44,7 +44,7 @@ pub fn starts_go_as_lists()
         ≡ option_map as_list_state (start image arguments (windowed (window_at_start size))) }
 {}
 
-/// A machine that starts with arguments, before these stand in the pool, is the one with no memory that has their number in
+/// A machine that starts with arguments, before these are in the pool, is the one with no memory that has their number in
 /// $0 and the address of their pointers in $1, with the memory of the image.
 #[tactic(auto, using(crate::proofs::LoadedMachines::starting))]
 pub fn bare_machines_start_as_others()

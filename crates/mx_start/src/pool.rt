@@ -13,7 +13,7 @@ use std::alloc::Global;
 /// Where the pool segment begins.
 pub(crate) const POOL: u64 = 0x4000_0000_0000_0000;
 
-/// How many bytes a text takes, with at least one zero byte behind it, in whole octas.
+/// How many bytes a text takes, with at least one zero byte after it, in whole octas.
 fn text_size(text: &[u8]) -> u64
     ensures { result ≡ spec.text_size text.now }
 {
@@ -46,7 +46,7 @@ fn texts_end(at: u64, texts: &[Bytes]) -> Option<u64>
     Some(end)
 }
 
-/// Adds the addresses of texts that stand one behind the other.
+/// Adds the addresses of texts that are one after the other.
 fn append_addresses(octas: &mut Octas, at: u64, texts: &[Bytes]) -> Result<(), NoMemory>
     requires { spec.texts_end at texts.now < 2 ^ 64 }
     ensures { OnOk result (octas.new ≡ octas.old ++ spec.text_addresses at texts.now) }
@@ -73,7 +73,7 @@ fn append_octas(octas: &mut Octas, bytes: &[u8]) -> Result<(), NoMemory>
     Ok(())
 }
 
-/// A text with a zero byte behind it, and more zeros up to a whole octa.
+/// A text with a zero byte after it, and more zeros up to a whole octa.
 fn padded(alloc: Global, text: &[u8]) -> Result<Bytes, NoMemory>
     ensures { IfOk result (λ bytes. bytes ≡ text.now ++ replicate (spec.text_size text.now - length text.now) 0) }
 {

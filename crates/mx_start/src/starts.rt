@@ -42,7 +42,7 @@ pub fn start(
     }
 }
 
-/// The machine with an image and so many arguments, which do not stand in the pool yet.
+/// The machine with an image and this many arguments, which are not in the pool yet.
 fn loaded(alloc: Global, image: Image, count: u64, r: RingSize) -> Result<Machine, NoMemory>
     ensures { IfOk result (λ m. state_of m ≡ spec.loaded (image_of image) count (windowed (window_at_start r))) }
 {
@@ -53,7 +53,7 @@ fn loaded(alloc: Global, image: Image, count: u64, r: RingSize) -> Result<Machin
     }
 }
 
-/// The machine with the registers of an image and so many arguments, and with no memory.
+/// The machine with the registers of an image and this many arguments, and with no memory.
 fn without_memory(
     alloc: Global,
     image: &Image,
@@ -106,7 +106,7 @@ fn with_octas(machine: Machine, octas: &[u64]) -> Result<Machine, StartFault>
     }
 }
 
-/// Stores octas one behind the other from an address on, up to one that is refused.
+/// Stores octas one after the other from an address on, up to one that is refused.
 fn store_octas(machine: &mut Machine, a: u64, octas: &[u64]) -> Result<(), StartFault>
     ensures { result ≢ Err StartFault.OutOfMemory →
         spec.with_octas (state_of machine.old) a octas.now ≡ stored_by result (state_of machine.new) }

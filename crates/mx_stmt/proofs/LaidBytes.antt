@@ -1,5 +1,5 @@
 -- What always holds of a statement that is placed: its bytes are bytes below the stack segment, and each of its references
--- stands at a multiple of 4 within them.
+-- is at a multiple of 4 within them.
 use Rattle.std.proofs.Common.{◌≡◌, ◌<◌, ◌≤◌, ℕ, ◌+◌, ◌%◌, ◌^◌, List, [], ◌∷◌, ◌++◌, length, Option, None, Some, Ok, Err, arith, rules}
 use Rattle.mx_stmt.proofs.Words.{AllByRecursion, length-append, octa_to_bytes, Awaited, Wait, WaitKind, Octa, Near, Far, Tree, Shape, Target, Data, Tetra, Label, Placed, Answer, and_then, Known, Targets, register_at, target_at, near_reach, far_reach, relative_form, form_by, tetra_wyde, tetra_whole, data_target, datum, joined_data, with_rest, data_of, data_form, StatementTree, with_bytes, tetra_data, with_data, encoding, common_steps, nat_tests}
 use Rattle.mx_word.specs.Ranges.{AreBytes}

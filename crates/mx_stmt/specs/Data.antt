@@ -19,7 +19,7 @@ size_bytes size.Wyde = 2
 size_bytes size.Tetra = 4
 size_bytes size.Octa = 8
 
--- A value fits in so many bytes as it is, or as a negative number modulo 2^64.
+-- A value fits in this many bytes as it is, or as a negative number modulo 2^64.
 abbrev pub is_fit : ℕ → ℕ → Bool
 is_fit size n = nat_lt n (256 ^ size) || nat_le (2 ^ 64 - 256 ^ size / 2) n
 

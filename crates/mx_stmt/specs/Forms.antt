@@ -93,7 +93,7 @@ abbrev pub relative_word : ℕ → ℕ → ℕ → ℕ → Answer ℕ
 relative_word head reach place target =
     if nat_le place target then forward_word head reach (target - place) else backward_word head reach (place - target)
 
--- the tetra of a future reference: zero stands in the field where it has no target yet
+-- the tetra of a future reference: zero is in the field where it has no target yet
 abbrev pub future_word : ℕ → ℕ → ℕ → Option ℕ → ℕ
 future_word head reach place None = head
 future_word head reach place (Some target) = result_unwrap_or (relative_word head reach place target) head

@@ -42,7 +42,7 @@ impl Size {
         }
     }
 
-    /// A number that fits in so many bytes, as it is or as a negative number modulo 2^64.
+    /// A number that fits in this many bytes, as it is or as a negative number modulo 2^64.
     fn number(self, n: u64) -> Result<u64, StmtFault>
         ensures { result ≡ spec.data_number (spec.size_bytes self) n }
     {

@@ -29,7 +29,7 @@ pub enum StmtFault {
     NotMultiple,
     /// One more global register is wanted after `$32`.
     TooManyGregs,
-    /// A label stands at PREFIX or LOCAL.
+    /// A label is at PREFIX or LOCAL.
     LabelNotAllowed,
     /// A byte would lie at `#6000000000000000` or above.
     BadPlace,

@@ -38,8 +38,8 @@ pub fn registers_are_bytes()
 {}
 
 /// What is known stays sound: no name and no local label stands for a register above $255, and none
-/// below $32 is allocated. It is so before the first statement, behind the label of a symbol that was
-/// not defined, behind a local label, and behind a register that is given.
+/// below $32 is allocated. It is so before the first statement, after the label of a symbol that was
+/// not defined, after a local label, and after a register that is given.
 pub fn knowledge_stays_sound()
     ensures start { (at : ℕ) → IsSound (record { names = start; at = at; gregs = [] }) }
     ensures symbol { (k : Known) (full : List ℕ) (v : Value) → value_in full k.names.symbols ≡ None →
@@ -50,7 +50,7 @@ pub fn knowledge_stays_sound()
         IsSound (record k { gregs = with_greg k.gregs reg value }) }
 {}
 
-/// The bytes of a statement are bytes below the stack segment, and each of its references stands at a
+/// The bytes of a statement are bytes below the stack segment, and each of its references is at a
 /// multiple of 4 within them.
 pub fn references_stand_in_their_bytes()
     ensures { (t : Targets) (k : Known) (s : StatementTree) (p : Placed) → encoding t k s ≡ Ok p → IsLaid p }

@@ -43,7 +43,7 @@ fn takes_label(op: Op) -> bool
     !matches!(op, Op::Pseudo(Pseudo::Prefix) | Op::Pseudo(Pseudo::Local))
 }
 
-/// The operation of a name, where a label stands before it or none.
+/// The operation of a name, where a label is before it or none.
 fn operation_for(labelled: bool, name: &[u8]) -> Result<Op, StmtFault>
     ensures { result ≡ spec.operation_for labelled name.now }
 {

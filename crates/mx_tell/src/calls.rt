@@ -15,10 +15,10 @@ pub struct Call {
     pub arguments: Option<Sequence<u64>>,
 }
 
-/// So many calls are shown, and no more: the innermost ones.
+/// This many calls are shown, and no more: the innermost ones.
 const MOST: usize = 100;
 
-/// Adds a comma, unless it stands in front of the first of a list.
+/// Adds a comma, unless it is in front of the first of a list.
 fn add_comma(text: &mut Bytes, is_first: bool) -> Result<(), NoMemory> {
     if is_first {
         return Ok(());
@@ -26,7 +26,7 @@ fn add_comma(text: &mut Bytes, is_first: bool) -> Result<(), NoMemory> {
     text.extend(b", ")
 }
 
-/// Adds arguments, one behind the other.
+/// Adds arguments, one after the other.
 fn add_arguments(text: &mut Bytes, book: &Book, arguments: &[u64]) -> Result<(), NoMemory> {
     let mut is_first = true;
     for argument in arguments {

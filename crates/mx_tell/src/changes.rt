@@ -28,7 +28,7 @@ const LOCALS: u8 = 20;
 /// The code of POP.
 const POP: u32 = 0xf8;
 
-/// So many values are told of a call or a return, and no more.
+/// This many values are shown of a call or a return, and no more.
 const TOLD: u64 = 8;
 
 /// The registers of a machine.

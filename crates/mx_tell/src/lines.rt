@@ -7,7 +7,7 @@ use mx_core::Machine;
 use mx_pieces::{Style, add_characters, add_right, fill};
 use mx_word::{Bytes, NoMemory};
 
-/// So many lines are shown.
+/// This many lines are shown.
 const COUNT: usize = 10;
 
 /// What a row of an instruction begins with is this wide.
@@ -46,7 +46,7 @@ fn add_row(text: &mut Bytes, number: u32, is_next: bool, line: &Bytes) -> Result
     text.push(b'\n')
 }
 
-/// Adds ten lines of a source from one on, with a mark at the one of the next instruction. It answers the number of the line behind
+/// Adds ten lines of a source from one on, with a mark at the one of the next instruction. It answers the number of the line after
 /// them, which is `from` where there is no such line.
 pub fn add_lines(text: &mut Bytes, book: &Book, from: u32, pc: u64) -> Result<u32, NoMemory> {
     let next = book.line_at(pc);
@@ -75,7 +75,7 @@ fn add_instruction_row(
     text.push(b'\n')
 }
 
-/// Adds ten instructions from an address on, with a mark at the next one. It answers the address behind them.
+/// Adds ten instructions from an address on, with a mark at the next one. It answers the address after them.
 pub fn add_instructions(
     text: &mut Bytes,
     book: &Book,

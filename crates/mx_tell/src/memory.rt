@@ -12,10 +12,10 @@ use mx_text::byte_hex;
 use mx_word::{Bytes, NoMemory};
 use std::alloc::Global;
 
-/// So many units are shown, and no more.
+/// This many units are shown, and no more.
 const MOST: u64 = 1024;
 
-/// So many bytes of a text are shown, and no more.
+/// This many bytes of a text are shown, and no more.
 const LONGEST: u64 = 200;
 
 /// What a row begins with is this wide.
@@ -61,7 +61,7 @@ fn begin_row(text: &mut Bytes, book: &Book, address: u64, is_first: bool) -> Res
     add_head(text, book, address)
 }
 
-/// Adds so many bytes from an address as hexadecimal digits.
+/// Adds this many bytes from an address as hexadecimal digits.
 fn add_unit(text: &mut Bytes, machine: &Machine, address: u64, size: u64) -> Result<(), NoMemory> {
     text.extend(b" #")?;
     for i in 0..size {
@@ -70,7 +70,7 @@ fn add_unit(text: &mut Bytes, machine: &Machine, address: u64, size: u64) -> Res
     Ok(())
 }
 
-/// Adds so many units from an address on.
+/// Adds this many units from an address on.
 fn add_units(
     text: &mut Bytes,
     book: &Book,
@@ -102,7 +102,7 @@ fn text_length(machine: &Machine, from: u64) -> u64 {
     length
 }
 
-/// Puts so many bytes from an address on into a text.
+/// Puts this many bytes from an address on into a text.
 fn copy_bytes(bytes: &mut Bytes, machine: &Machine, from: u64, count: u64) -> Result<(), NoMemory> {
     for i in 0..count {
         bytes.push(byte_at(machine, from.wrapping_add(i)))?;
@@ -110,7 +110,7 @@ fn copy_bytes(bytes: &mut Bytes, machine: &Machine, from: u64, count: u64) -> Re
     Ok(())
 }
 
-/// Adds a text from an address on between quotation marks, and answers the address behind it.
+/// Adds a text from an address on between quotation marks, and answers the address after it.
 fn add_text_row(
     alloc: Global,
     text: &mut Bytes,
@@ -133,7 +133,7 @@ fn add_text_row(
     Ok(behind.wrapping_add(1))
 }
 
-/// Adds so many texts from an address on, one behind the other, and answers the address behind them.
+/// Adds this many texts from an address on, one after the other, and answers the address after them.
 fn add_texts(
     alloc: Global,
     text: &mut Bytes,
@@ -150,7 +150,7 @@ fn add_texts(
 }
 
 /// Adds units of memory from an address on, several in a row, with the address and its label in front; at most 1,024 units. It answers
-/// the address behind them. Units but texts begin at a multiple of their size, as the machine has them.
+/// the address after them. Units but texts begin at a multiple of their size, as the machine has them.
 pub fn add_memory(
     alloc: Global,
     text: &mut Bytes,

@@ -6,7 +6,7 @@ use mx_pieces::add_short_hex;
 use mx_text::add_decimal;
 use mx_word::{Bytes, NoMemory};
 
-/// A label that is so many bytes away, or more, is not near.
+/// A label that is this many bytes away, or more, is not near.
 const FAR: u64 = 1 << 16;
 
 /// A name without the colon that it begins with.
@@ -38,7 +38,7 @@ fn near(book: &Book, address: u64) -> Option<&Label> {
     }
 }
 
-/// Adds a label, and how many bytes an address is behind it.
+/// Adds a label, and how many bytes an address is after it.
 fn add_offset(text: &mut Bytes, label: &Label, address: u64) -> Result<(), NoMemory> {
     add_name(text, label.name.as_slice())?;
     if address == label.address {
@@ -56,7 +56,7 @@ pub fn add_label(text: &mut Bytes, book: &Book, address: u64) -> Result<(), NoMe
     }
 }
 
-/// Adds the label of an address behind something else, between two texts, where one is near.
+/// Adds the label of an address after something else, between two texts, where one is near.
 pub(crate) fn add_label_between(
     text: &mut Bytes,
     front: &[u8],
@@ -80,7 +80,7 @@ pub(crate) fn add_address(text: &mut Bytes, book: &Book, address: u64) -> Result
     add_label_between(text, b" <", book, address, b">")
 }
 
-/// Adds the number of a line behind the name of its file.
+/// Adds the number of a line after the name of its file.
 pub(crate) fn add_line_name(text: &mut Bytes, book: &Book, line: u32) -> Result<(), NoMemory> {
     text.extend(book.name.as_slice())?;
     text.push(b':')?;

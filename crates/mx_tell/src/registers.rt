@@ -8,7 +8,7 @@ use mx_pieces::{add_signed, fill};
 use mx_text::{add_decimal, octa_hex};
 use mx_word::{Bytes, NoMemory};
 
-/// The columns in which names, values and their digits begin, by the width of what stands in front.
+/// The columns in which names, values and their digits begin, by the width of what is in front.
 const NAMES: usize = 6;
 
 const VALUES: usize = 20;

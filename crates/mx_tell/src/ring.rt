@@ -10,10 +10,10 @@ const HIDDEN: u8 = 10;
 
 const SPILLED: u8 = 11;
 
-/// So many registers of a ring are shown, and no more.
+/// This many registers of a ring are shown, and no more.
 const MOST: u64 = 1024;
 
-/// So many registers stand in a row.
+/// This many registers are in a row.
 const ROW: u64 = 64;
 
 /// Which octas a ring has: how many registers it has in all, and how many octas are local, hidden, and hidden in memory.
@@ -25,7 +25,7 @@ struct Ring {
     spilled: u64,
 }
 
-/// How many octas of the stack stand before an address.
+/// How many octas of the stack are before an address.
 fn octas_before(address: u64) -> u64 {
     address.wrapping_sub(STACK_SEGMENT) / 8
 }
@@ -40,7 +40,7 @@ fn ring_of(machine: &Machine, size: u64) -> Ring {
     }
 }
 
-/// How far a place of the ring is behind the one of an octa.
+/// How far a place of the ring is after the one of an octa.
 fn distance(ring: &Ring, place: u64, octa: u64) -> u64 {
     match place.wrapping_sub(octa).checked_rem(ring.size) {
         Some(distance) => distance,
@@ -107,7 +107,7 @@ fn add_spilled(text: &mut Bytes, ring: &Ring) -> Result<(), NoMemory> {
     text.push(b'\n')
 }
 
-/// Adds how many octas of a ring of so many registers are local and hidden, and a picture of which they are.
+/// Adds how many octas of a ring of this many registers are local and hidden, and a picture of which they are.
 pub fn add_ring(text: &mut Bytes, machine: &Machine, size: u32) -> Result<(), NoMemory> {
     let ring = ring_of(machine, u64::from(size));
     add_counts(text, &ring)?;

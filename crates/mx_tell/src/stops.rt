@@ -7,7 +7,7 @@ use mx_core::Machine;
 use mx_text::add_decimal;
 use mx_word::{Bytes, NoMemory};
 
-/// Adds where a run stands after so many steps, and the instruction that comes next:
+/// Adds where a run is after this many steps, and the instruction that comes next:
 /// `step 57  sum.mms:9  Loop+8  PBP k,Loop`.
 pub fn add_stop(
     text: &mut Bytes,

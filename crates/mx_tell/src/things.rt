@@ -56,7 +56,7 @@ pub(crate) fn register_symbol(book: &Book, k: u8) -> Option<&Symbol> {
     symbols.iter().find(|symbol| is_register(symbol, k))
 }
 
-/// Adds a register, with its name behind it.
+/// Adds a register, with its name after it.
 fn add_register(text: &mut Bytes, book: &Book, k: u8) -> Result<(), NoMemory> {
     text.push(b'$')?;
     add_decimal(text, u64::from(k))?;

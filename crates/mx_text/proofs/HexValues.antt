@@ -17,7 +17,7 @@ split k x =
     ∙ mod-pow-add x 4 (4 * k)
     ∙ ap (λ p. (x / p % 16) * p + x % p) (sixteen k)
 
--- the digits behind those of n
+-- the digits after those of n
 after : (k n x : ℕ) → digits_value_after 16 n (hex_digits k x) ≡ n * 16 ^ k + x % 16 ^ k
 unfolding hex_digits
 after zero n x = omega arith

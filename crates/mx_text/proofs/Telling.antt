@@ -104,7 +104,7 @@ same-lists (o ∷ os) (p ∷ ps) so sp lo lp same =
     (same-parts 44 (operand_text o) (map operand_text os) (operand_text p) (map operand_text ps) (texts-lack (o ∷ os) so) (texts-lack (p ∷ ps) sp) same)
 same-lists os ps so sp lo lp same = absurd (omega arith)
 
--- a tetra is its code and the part behind it
+-- a tetra is its code and the part after it
 part : (t : Bool) (w : ℕ) → cond t (w - 2 ^ 8 * field_y w) w ≡ 2 ^ 24 * field_code w + cond t (2 ^ 16 * field_x w + field_z w) (w % 2 ^ 24)
 part true w = omega arith
 part false w = omega arith

@@ -2,7 +2,7 @@
 use Rattle.std.proofs.Common.{◌≡◌, ℕ, ◌<◌, ◌≤◌, ◌+◌, ◌-◌, ◌*◌, ◌%◌, ◌^◌, Bool, true, false, not, ◌||◌, cond, [], ◌∷◌, refl, sym, arith}
 use Rattle.mx_text.proofs.Words.{mod-lt, opcode_kind, is_immediate, is_backward, Shape, Three, Regs, Round, Neg, Rel, Mem, MemPure, Wyde, Jump, Put, Get, Pop, One, Save, Unsave, Free, field_code, field_x, field_y, field_z, field_yz, field_xyz, operands, hides_y, Operand, Register, Number, Address}
 
--- the part of a tetra behind its code that is shown
+-- the part of a tetra after its code that is shown
 abbrev pub behind_code : Shape → ℕ → ℕ
 behind_code s w = cond (hides_y s) (2 ^ 16 * field_x w + field_z w) (w % 2 ^ 24)
 
@@ -93,7 +93,7 @@ not-both true b ha hb = cc ha
 not-both false true ha hb = cc hb
 not-both false false ha hb = refl
 
--- what is told: whether Z is immediate, whether the address lies behind, and the part behind the code
+-- what is shown: whether Z is immediate, whether the relative address is backward, and the part after the code
 pub record Told (s : Shape) (w v : ℕ) : Type 0 where
   pub immediate : is_immediate (opcode_kind (field_code w)) ≡ is_immediate (opcode_kind (field_code v))
   pub backward : is_backward (opcode_kind (field_code w)) ≡ is_backward (opcode_kind (field_code v))

@@ -72,7 +72,7 @@ operand_text (Register k) = codes "$" ++ decimal k
 operand_text (Number n) = decimal n
 operand_text (Address a) = hex_text a
 
--- an operand behind a comma
+-- an operand after a comma
 abbrev pub next_text : Operand → List ℕ
 next_text operand = codes "," ++ operand_text operand
 

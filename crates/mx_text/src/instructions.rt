@@ -84,7 +84,7 @@ fn far(word: u32, pc: u64) -> Operand
     Address(target(word, pc, xyz(word), 0x100_0000))
 }
 
-/// The target of a relative address in a field that has so many values.
+/// The target of a relative address in a field that has this many values.
 fn target(word: u32, pc: u64, n: u32, values: u32) -> u64
     requires { values ≤ 2 ^ 24 }
     ensures { result ≡ spec.target (spec.field_code word) pc n values }

@@ -36,7 +36,7 @@ fails-unstarted told faults h r well present words = fails-nowhere told faults h
 pub fails-refused : {H : Type 0} (told : H → Option HostModel) (faults : H → ℕ) (h : H) (r : Outcome) (refusal : Refusal) → r ≡ refused_with refusal → FailsOnlyBy told faults h h r
 fails-refused told faults h r refusal e = fails-nowhere told faults h r (λ x. absurd (cc (e, x)), λ x. absurd (cc (e, x)), ap is_usage e)
 
--- behind a part that keeps what every function does
+-- after a part that keeps what every function does
 pub fails-behind : {H : Type 0} (told : H → Option HostModel) (faults : H → ℕ) (a b c : H) (r : Outcome) → Keeps (told a) (told b) (faults a) (faults b) → FailsOnlyBy told faults b c r → FailsOnlyBy told faults a c r
 fails-behind told faults a b c r kept rest = (
   only-behind (told a) (told b) (faults a) (faults b) (faults c) HostFault r (stands-kept (told a) (told b) (faults a) (faults b) kept) rest.0,

@@ -1,4 +1,4 @@
--- What follows a run: lines behind an outcome, and the dump.
+-- What follows a run: lines after an outcome, and the dump.
 use Rattle.std.proofs.Common.{◌≡◌, ◌≢◌, ℕ, List, Bool, true, false, cond, Ok, Err, refl, sym, ◌∙◌, ap, subst, ◌&&◌}
 use Rattle.std.specs.Prelude.{Option, Result}
 use Rattle.mx_host.specs.HostModel.{HostModel, contents}
@@ -18,7 +18,7 @@ use Rattle.mx_top.specs.Telling.{written_with, telling}
 use Rattle.mx_top.specs.Endings.{dumped_plan}
 use Rattle.mx_top.proofs.SameDumps.{same-dump}
 
--- ---- lines behind an outcome
+-- ---- lines after an outcome
 
 lacked : (outcome : Outcome) (r : Result (Unit {0}) Outcome) → outcome ≢ OutOfMemory → written_with outcome r ≡ OutOfMemory → r ≡ Err OutOfMemory
 lacked outcome (Ok u) ne e = absurd (ne e)

@@ -1,4 +1,4 @@
--- What is told of an outcome: what comes of the lines behind it, of the message, and of the reports.
+-- What is told of an outcome: what comes of the lines after it, of the message, and of the reports.
 use Rattle.std.proofs.Common.{◌≡◌, ℕ, List, [], ◌∷◌, true, false, refl, ◌∙◌, ap}
 use Rattle.std.specs.Prelude.{Bool, Result}
 use Rattle.mx_host.specs.HostModel.{HostModel}
@@ -17,7 +17,7 @@ use Rattle.mx_top.specs.Commands.{message_told}
 use Rattle.mx_top.specs.Reports.{report_put, reports_put}
 use Rattle.mx_top.specs.Telling as tells
 
--- ---- lines behind an outcome
+-- ---- lines after an outcome
 
 written-end : (outcome : Outcome) (t : Then Bool) → plainly (end_after host (λ r. returns (tells.written_with outcome r)) (part_of t)) ≡ after_lines outcome t
 unfolding end_of
@@ -30,7 +30,7 @@ telling-end outcome lines m =
     ap plainly (end_bind host (λ (r : Result (Unit {0}) Outcome). returns (tells.written_with outcome r)) (lines_plan lines) m
     ∙ ap (end_after host (λ (r : Result (Unit {0}) Outcome). returns (tells.written_with outcome r))) (lines-end lines m)) ∙ written-end outcome (lines_put lines m)
 
--- ---- the message, and reports behind it
+-- ---- the message, and reports after it
 
 message-if-end : (outcome : Outcome) (text : List ℕ) (m : HostModel) → plainly (end_of host (tells.message_if outcome text) m) ≡ message_told outcome text m
 unfolding bind need write_plan end_of host

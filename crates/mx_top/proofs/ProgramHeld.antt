@@ -149,7 +149,7 @@ program-held = record {
     between (taking_turns ring image schedule steps dump) w v l =
         held-on multi OverTurns turns-held (turns_plan schedule steps schedule) (l.processors, v.0) (page.joint_at_start window_machine ring image schedule, w.0) l.stops
 
--- what stands on standard output where the work stops is a front of what would stand there at its end
+-- what is on standard output where the work stops is a front of what would be there at its end
 pub work-front : (p : ProgramPlan Outcome) (v w : ProgramWorld) → Stops program v p w → OnlyAdds v.0 (end_of program p w).1.0
 work-front p v w s = (held-on program OverProgram program-held p v w s).growing
 

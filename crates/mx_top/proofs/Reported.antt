@@ -1,4 +1,4 @@
--- The reports that are written behind the message.
+-- The reports that are written after the message.
 use Rattle.std.proofs.Common.{◌≡◌, ℕ, Bool, true, false, cond, List, [], map, refl, sym, ◌∙◌, ap, subst, Ok, Err}
 use Rattle.std.specs.Prelude.{IsTrue, Option, Result}
 use Rattle.mx_host.specs.HostModel.{HostModel}
@@ -24,14 +24,14 @@ use Rattle.mx_top.proofs.Answering.{goes-as}
 
 -- ---- the writes
 
--- one behind another
+-- one after another
 pub saying-then : {H : Type 0} (told : H → Option HostModel) (faults : H → ℕ) (a b c : H) → KeepsSaying told faults a b → KeepsSaying told faults b c → KeepsSaying told faults a c
 saying-then told faults a b c first second = record {
   output = λ e t. second.output (first.keeps.errors t e) (subst IsTrue (sym first.keeps.telling) t) ∙ first.output e t;
   keeps = keeps-then (told a) (told b) (told c) (faults a) (faults b) (faults c) first.keeps second.keeps;
 }
 
--- ---- behind the message
+-- ---- after the message
 
 pub reported : (outcome result : Outcome) (here new : HostModel) (due : Answer) (texts dues : List (List ℕ)) → answered outcome here ≡ due → texts ≡ dues →
     answered result new ≡ with_reports texts (message_told outcome (message_of outcome) here) → answered result new ≡ with_reports dues (with_message due)
@@ -46,7 +46,7 @@ reported-goes outcome result here new (answered o m) texts dues e same said grow
     ∙ ap (λ n. with_reports dues (message_told o (message_of o) n)) e.1)
 reported-goes outcome result here new (wild m) texts dues e same said grows = front-through m.output here.output new.output e grows
 
--- what is told of the work, with its message and the reports behind it, is what the program comes to
+-- what is told of the work, with its message and the reports after it, is what the program comes to
 pub watched-so : (kind : MachineKind) (words : List Word) (ws : List Watching) (m : HostModel) →
     with_reports (due_reports (order_of words) ws (product_traces kind words m)) (with_message (answer_by kind (work_plan words (order_of words)) m)) ≡ watched_product kind words ws m
 watched-so kind words ws m = ap (with_reports (due_reports (order_of words) ws (product_traces kind words m))) (sym (product-is-said kind words m))

@@ -1,4 +1,4 @@
--- The product is its work with the message behind it, and the message tells watchers nothing.
+-- The product is its work with the message after it, and the message tells watchers nothing.
 use Rattle.std.proofs.Common.{◌≡◌, ◌≢◌, inl, inr, List, [], refl, sym, ◌∙◌, ap, subst}
 use Rattle.mx_host.specs.HostModel.{HostModel}
 use Rattle.mx_plan.specs.Calls.{host}

@@ -83,7 +83,7 @@ pub record SessionLacks (n : ℕ) (w v : Work) : Type 0 where
   pub flags : FlagsOf
   pub stops : Stops conversing ((v.machine, v.host), flags) (session_plan n) ((w.machine, w.host), no_flags)
 
--- A run that watchers are told of, or whose states are kept, may also stop behind a step, where a watcher, a report or what is kept
+-- A run that watchers are told of, or whose states are kept, may also stop after a step, where a watcher, a report or what is kept
 -- lacks memory. A look lacks none.
 abbrev pub WorkLacks : WorkCall → Work → Work → Type 0
 WorkLacks (of_host o) w v = (v ≡ record w { host = v.host }) × host.Lacks o w.host v.host

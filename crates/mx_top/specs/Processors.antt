@@ -81,7 +81,7 @@ abbrev pub turns_told : Bool → ℕ → TurnsEnd → Answer
 turns_told dump steps (turns_wild m) = wild m
 turns_told dump steps (turns_ended end j m) = after_lines (multi_outcome steps end) (lines_put (multi_lines dump end j) m)
 
--- so many processors run an image by a schedule
+-- this many processors run an image by a schedule
 abbrev pub joint_run : MachineKind → Order → List ℕ → Joint → HostModel → Answer
 joint_run kind o schedule j m = turns_told o.dump o.steps (turns kind schedule o.steps schedule j m)
 

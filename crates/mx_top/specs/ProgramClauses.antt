@@ -19,7 +19,7 @@ pub record Produces (old new : Option HostModel) (result : Outcome) (words : Lis
   pub answer : AnswersAs old new result (λ m. product window_machine words m)
   pub written : slot_at (contents old) 260 ≡ to_errors → WritesFrontOf old new result (λ m. product window_machine words m)
 
--- The same with these watchers, of which some are left: their reports stand behind all else, where the words ask for them.
+-- The same with these watchers, of which some are left: their reports follow all else, where the words ask for them.
 pub record ProducesWatched (old new : Option HostModel) (result : Outcome) (words : List Word) (watchers left : List Watching) : Type 0 where
   pub plan : Does old new result (work_plan words (order_of words)) (due_reports (order_of words) watchers)
   pub answer : AnswersAs old new result (λ m. watched_product window_machine words watchers m)

@@ -34,7 +34,7 @@ unfoldable pub reports_put : List (List ℕ) → HostModel → HostModel
 reports_put [] m = m
 reports_put (text ∷ texts) m = reports_put texts (report_put text m)
 
--- they stand behind the message, and the outcome stays
+-- they follow the message, and the outcome stays
 abbrev pub with_reports : List (List ℕ) → Answer → Answer
 with_reports texts = and_then (λ outcome m. answered outcome (reports_put texts m))
 

@@ -29,7 +29,7 @@ pub data Ran : Type 0 where
   ran : Outcome → State → HostModel → Ran
   ran_wild : HostModel → Ran
 
--- the outcome of a run of at most so many steps; without flags a run does not break
+-- the outcome of a run of at most this many steps; without flags a run does not break
 abbrev pub outcome_of : ℕ → End → Outcome
 outcome_of steps (ending.Halted status) = Done status
 outcome_of steps (ending.Stopped pc reason) = Stopped pc reason
@@ -45,11 +45,11 @@ ran_to steps (run_wild m) = ran_wild m
 abbrev pub machine_ran : MachineKind → ℕ → State → HostModel → Ran
 machine_ran kind steps s m = ran_to steps (run_by kind steps no_flags false s m)
 
--- a generated program makes at most so many steps
+-- a generated program makes at most this many steps
 abbrev pub generator_steps : ℕ
 generator_steps = 2 ^ 26
 
--- the outcome of a session of at most so many steps
+-- the outcome of a session of at most this many steps
 abbrev pub session_outcome : ℕ → SessionEnd → Outcome
 session_outcome steps (sitting.Halted status) = Done status
 session_outcome steps (sitting.Stopped pc reason) = Stopped pc reason
@@ -72,7 +72,7 @@ takes_back (Stopped pc reason) = true
 takes_back (StepsSpent steps) = true
 takes_back outcome = false
 
--- the states before the last steps of a run, the newest first: at most so many of those that the run keeps
+-- the states before the last steps of a run, the newest first: at most this many of those that the run keeps
 abbrev pub states_back : ℕ → ℕ → State → HostModel → List State
 states_back last steps s m = take last (states_kept (turns_of steps s m) [])
 
@@ -94,7 +94,7 @@ taken_back states (ran_wild m) = ran_wild m
 taken_back states (ran outcome s m) =
     if takes_back outcome then lines_told outcome (reached s states) (lines_put (state_lines states) m) else ran outcome s m
 
--- a run, behind which at most so many steps are taken back
+-- a run, after which at most this many steps are taken back
 abbrev pub run_back : MachineKind → ℕ → ℕ → State → HostModel → Ran
 run_back kind last steps s m = taken_back (states_back last steps s m) (machine_ran kind steps s m)
 

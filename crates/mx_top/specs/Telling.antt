@@ -1,4 +1,4 @@
--- What is told behind an outcome: lines, the message, and reports. A write that fails changes the outcome of lines, and nothing else.
+-- What is told after an outcome: lines, the message, and reports. A write that fails changes the outcome of lines, and nothing else.
 use Rattle.std.specs.Prelude.{ℕ, List, [], ◌∷◌, Result, Ok, Err}
 use Rattle.mx_host.specs.declared.faults.HostFault.{HostFault}
 use Rattle.mx_plan.specs.Plan.{returns, bind}
@@ -8,7 +8,7 @@ use Rattle.mx_outcome.specs.Messages.{message_of}
 use Rattle.mx_outcome.specs.declared.outcome.Outcome.{Outcome}
 use Rattle.mx_dump.specs.Dump.{Line}
 
--- lines are written behind an outcome, which stays where all are
+-- lines are written after an outcome, which stays where all are
 abbrev pub written_with : Outcome → Result (Unit {0}) Outcome → Outcome
 written_with outcome (Ok u) = outcome
 written_with outcome (Err other) = other
@@ -16,7 +16,7 @@ written_with outcome (Err other) = other
 unfoldable pub telling : Outcome → List Line → HostPlan Outcome
 telling outcome lines = bind (λ r. returns (written_with outcome r)) (lines_plan lines)
 
--- ---- the message, and reports behind it: a write that fails changes nothing else
+-- ---- the message, and reports after it: a write that fails changes nothing else
 
 -- a line is written, if there is one
 abbrev pub said_plan : Outcome → List ℕ → HostPlan Outcome

@@ -116,7 +116,7 @@ abbrev pub is_lacking : Result (Unit {0}) HostFault → Bool
 is_lacking (Err slot.OutOfMemory) = true
 is_lacking other = false
 
--- The outcome is told by its message, and reports stand behind that. Where the message finds no memory, that is the outcome from
+-- The outcome is told by its message, and reports follow that. Where the message finds no memory, that is the outcome from
 -- there on.
 pub record Telling (left new : HostModel) (result said : Outcome) (texts : List (List ℕ)) : Type 0 where
   pub between : HostModel

@@ -16,7 +16,7 @@ use mx_run::Runner;
 use mx_words::Order;
 use std::alloc::Global;
 
-/// The outcome of a session of at most so many steps, by its end.
+/// The outcome of a session of at most this many steps, by its end.
 fn session_outcome(steps: u64, end: SessionEnd) -> Outcome
     ensures value { result ≡ spec.session_outcome steps end }
     ensures memory { end ≡ SessionEnd.OutOfMemory → result ≡ Outcome.OutOfMemory }

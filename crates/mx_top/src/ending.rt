@@ -13,14 +13,14 @@ use mx_host::Host;
 use mx_outcome::Outcome;
 use std::alloc::Global;
 
-/// Whether a dump is written: where it is wanted, and a machine is left with something to tell.
+/// Whether a dump is written: where it is wanted, and a machine is left with something to show.
 fn is_dumped(wanted: bool, outcome: Outcome) -> bool
     ensures { result ≡ (wanted && leaves_machine outcome) }
 {
     wanted && outcome.leaves_machine()
 }
 
-/// What follows a run: the dump, where it is asked for and the machine is left with something to tell.
+/// What follows a run: the dump, where it is asked for and the machine is left with something to show.
 pub fn tell_end<H: Host>(
     alloc: Global,
     host: &mut H,

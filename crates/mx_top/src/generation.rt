@@ -27,7 +27,7 @@ use mx_word::{Bytes, NoMemory};
 use mx_words::Order;
 use std::alloc::Global;
 
-/// A generated program makes at most so many steps.
+/// A generated program makes at most this many steps.
 const STEP_BOUND: u64 = 1 << 26;
 
 /// Writes the line that tells what came of a program that halted.

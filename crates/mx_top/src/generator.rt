@@ -7,7 +7,7 @@ use mx_text::add_decimal;
 use mx_word::{Bytes, NoMemory};
 use std::alloc::Global;
 
-/// The number behind another of those that seem random.
+/// The number after another of those that seem random.
 fn next_random(x: u64) -> u64
     ensures { result ≡ spec.next_random x }
 {
@@ -45,7 +45,7 @@ fn add_blocks(text: &mut Bytes, n: u64) -> Result<(), NoMemory>
     Ok(())
 }
 
-/// The source with so many blocks.
+/// The source with this many blocks.
 #[tactic(auto, unfolding(law_gen::specs::Generator::generated))]
 pub fn generated(alloc: Global, n: u64) -> Result<Bytes, NoMemory>
     requires { n ≤ 10000 }

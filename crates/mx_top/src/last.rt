@@ -33,7 +33,7 @@ fn takes_back(outcome: Outcome) -> bool
     }
 }
 
-/// How many steps are taken back, where so many are wanted and so many are kept.
+/// How many steps are taken back, where this many are wanted and this many are kept.
 fn least(wanted: u64, kept: usize) -> usize
     ensures { result ≡ min wanted kept }
 {
@@ -68,7 +68,7 @@ fn put_state<H: Host>(alloc: Global, host: &mut H, machine: &Machine) -> Result<
     }
 }
 
-/// Takes so many steps back, of which that many are kept, and writes the line of each state that comes back.
+/// Takes this many steps back, where as many are kept, and writes the line of each state that comes back.
 fn put_states<H: Host>(
     alloc: Global,
     host: &mut H,
@@ -93,7 +93,7 @@ fn put_states<H: Host>(
     Ok(())
 }
 
-/// What follows a run whose last steps are kept: at most so many of them are taken back, and then the dump, where it is
+/// What follows a run whose last steps are kept: at most this many of them are taken back, and then the dump, where it is
 /// asked for.
 fn tell_back<H: Host>(
     alloc: Global,

@@ -14,8 +14,8 @@ ghost use Rattle.mx_top.specs.Commands.{carried_out, with_message, carried_trace
 ghost use Rattle.mx_top.specs.Product.{ProgramPlan, ProgramWorld, product, product_traces, program, work_plan};
 ghost use Rattle.mx_top.specs.WorkClauses.{answer_by};
 
-/// Where a plan of the program stops for want of memory, it only added to standard output, and what stands there is a
-/// front of what would stand there at its end; the slots of the tool lead where they led.
+/// Where a plan of the program stops for want of memory, it only added to standard output, and what is there is a
+/// front of what would be there at its end; the slots of the tool lead where they led.
 #[tactic(auto, using(crate::proofs::ProgramHeld::stopping))]
 pub fn plans_stop_on_their_way()
     ensures stopping { (p : ProgramPlan Outcome) (v w : ProgramWorld) → Stops program v p w → KeepsStreams w.0 v.0 }

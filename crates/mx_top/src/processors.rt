@@ -88,7 +88,7 @@ fn put_processor<H: Host>(
     }
 }
 
-/// Writes the lines of so many processors, which are all.
+/// Writes the lines of this many processors, which are all.
 fn put_processors<H: Host>(
     alloc: Global,
     host: &mut H,
@@ -155,7 +155,7 @@ fn put_memory<H: Host>(alloc: Global, host: &mut H, multi: &Multi) -> Result<(),
     Ok(())
 }
 
-/// Writes the lines of so many processors, which are all, and those of the one memory where a dump is wanted.
+/// Writes the lines of this many processors, which are all, and those of the one memory where a dump is wanted.
 pub fn put_all<H: Host>(
     alloc: Global,
     host: &mut H,

@@ -1,4 +1,4 @@
-//! The reports of watchers, behind the message.
+//! The reports of watchers, after the message.
 
 ghost use Rattle.std.specs.Prelude.{◌≡◌, ◌≢◌, ◌≤◌, [], Err, IfErr, IfOk, map, string_bytes};
 ghost use Rattle.mx_words.specs.Orders.{order_of};
@@ -17,7 +17,7 @@ use mx_word::{Bytes, NoMemory};
 use mx_words::read;
 use std::alloc::Global;
 
-/// The reports that the words ask for: of the watchers that are left of so many, and those that are kept.
+/// The reports that the words ask for: of the watchers that are left of this many, and those that are kept.
 ///
 /// Errors: out of memory, where the words ask for some.
 fn asked_reports(

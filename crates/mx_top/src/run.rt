@@ -18,7 +18,7 @@ use mx_watch::{Reports, Watcher, watched_run};
 use mx_words::Order;
 use std::alloc::Global;
 
-/// The outcome of a run of at most so many steps, by its end. Without flags a run does not break.
+/// The outcome of a run of at most this many steps, by its end. Without flags a run does not break.
 pub fn outcome_of(steps: u64, end: End) -> Outcome
     ensures value { result ≡ spec.outcome_of steps end }
     ensures memory { end ≡ End.OutOfMemory → result ≡ Outcome.OutOfMemory }

@@ -46,7 +46,7 @@ fn processors_named(schedule: &[u8]) -> u8
     greatest(schedule) + 1
 }
 
-/// The outcome of at most so many steps, by their end.
+/// The outcome of at most this many steps, by their end.
 fn multi_outcome(steps: u64, end: MultiEnd) -> Outcome
     ensures value { result ≡ spec.multi_outcome steps end }
     ensures memory { result ≡ Outcome.OutOfMemory → end ≡ MultiEnd.OutOfMemory }
@@ -60,7 +60,7 @@ fn multi_outcome(steps: u64, end: MultiEnd) -> Outcome
     }
 }
 
-/// What follows turns: a line for each of so many processors, which are all, and the one memory, where a dump is asked for.
+/// What follows turns: a line for each of this many processors, which are all, and the one memory, where a dump is asked for.
 fn tell_turns<H: Host>(
     alloc: Global,
     host: &mut H,
@@ -83,7 +83,7 @@ fn tell_turns<H: Host>(
     }
 }
 
-/// Lets so many processors that were started, which are all, take their turns.
+/// Lets this many processors that were started, which are all, take their turns.
 fn run_started<H: Host>(
     alloc: Global,
     host: &mut H,

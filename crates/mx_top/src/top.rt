@@ -21,7 +21,7 @@ use mx_word::Bytes;
 use mx_words::{Command, Order, read};
 use std::alloc::Global;
 
-/// Runs the source or the object that the words name, with the arguments behind it: a machine begins, and what has begun
+/// Runs the source or the object that the words name, with the arguments after it: a machine begins, and what has begun
 /// runs.
 fn run_ordered<H: Host>(
     alloc: Global,
@@ -133,7 +133,7 @@ fn say<H: Host>(host: &mut H, outcome: Outcome, text: &[u8]) -> Outcome
     outcome
 }
 
-/// Writes the message line of an outcome to the tool's standard error, and reports behind it. Writes that fail change
+/// Writes the message line of an outcome to the tool's standard error, and reports after it. Writes that fail change
 /// nothing; where there is no memory, that is the outcome.
 fn finish<H: Host>(alloc: Global, host: &mut H, outcome: Outcome, texts: &[Bytes]) -> Outcome
     ensures plan { TellsAll (H.told host.old) (H.told host.new) result outcome texts.now }
@@ -148,7 +148,7 @@ fn finish<H: Host>(alloc: Global, host: &mut H, outcome: Outcome, texts: &[Bytes
 /// ask for reports.
 ///
 /// With `--report`, `run` and `sim` tell each watcher the trace of every step that the program completes, up to one
-/// at which it is full; that one leaves the list. Behind the message, the report of each on what it heard is
+/// at which it is full; that one leaves the list. After the message, the report of each on what it heard is
 /// written to slot 260, in the order of the list, if there is something in it; where the work found no memory, none is.
 /// Nothing else changes: the outcome is that of `mmixware`, and so is all that the host holds before the reports, unless
 /// the reports lack memory. Without `--report` no watcher is told anything.

@@ -1,4 +1,4 @@
--- A file trap that does not touch Stack_Segment goes the same whatever stands there.
+-- A file trap that does not touch Stack_Segment goes the same whatever is there.
 use Rattle.std.proofs.Common.{◌≡◌, ℕ, ◌+◌, ◌%◌, ◌^◌, Bool, true, false, cond, arith, refl, sym, ◌∙◌, ap, Ok, Err}
 use Rattle.std.specs.Prelude.{Result, ◌&&◌, ◌||◌, nat_lt}
 use Rattle.mx_word.specs.Results.{map_ok}

@@ -25,7 +25,7 @@ use Rattle.mx_trap.proofs.JoinedReads.{Came, read-open}
 abbrev Read : Type 0
 Read = Then (Result (List ℕ) HostFault)
 
--- ---- the first of some bytes is stored, and the others behind it
+-- ---- the first of some bytes is stored, and the others after it
 
 first-of : {Rest : Type 0} (bs : List ℕ) (a : ℕ) (t : Result (Unit {0}) TrapAnswer × Contents Rest) (after : Contents Rest) → stored_next (bytes_stored bs (a + 1)) t ≡ (Ok tt, after) →
     (between : Contents Rest) × (t ≡ (Ok tt, between)) × (bytes_stored bs (a + 1) between ≡ (Ok tt, after))

@@ -27,9 +27,9 @@ use Rattle.mx_trap.specs.declared.answer.TrapAnswer.{TrapAnswer}
 use Rattle.mx_trap.specs.declared.answer.TrapAnswer.TheVariants.{Value}
 use Rattle.mx_trap.proofs.JoinedWrites.{within, slot-set}
 
--- ---- bytes that are stored, and others behind them
+-- ---- bytes that are stored, and others after them
 
--- a front is stored, and the back behind it
+-- a front is stored, and the back after it
 abbrev StoresBoth : (Rest : Type 0) → List ℕ → List ℕ → ℕ → Contents Rest → Contents Rest → Type 0
 StoresBoth Rest front back a s after =
     (between : Contents Rest) × (bytes_stored front a s ≡ (Ok tt, between)) × (bytes_stored back (a + length front) between ≡ (Ok tt, after))
@@ -63,7 +63,7 @@ read-open m slot len l mode place e w =
 
 -- ---- a read as two
 
--- a read of 4,096 + r bytes: the first 4,096 came short, or others came behind them
+-- a read of 4,096 + r bytes: the first 4,096 came short, or others came after them
 data Split : HostModel → ℕ → ℕ → List ℕ → HostModel → Type 0 where
   short : (m : HostModel) (slot r : ℕ) (got : List ℕ) (after : HostModel) → length got ≢ 4096 →
       read_answer (still m) slot 4096 ≡ (Ok got, after) → Split m slot r got after

@@ -27,7 +27,7 @@ use Rattle.mx_trap.specs.Laws.{SameButCalls}
 use Rattle.mx_trap.specs.declared.writes.Written.{Written}
 use Rattle.mx_trap.specs.declared.writes.Written.TheVariants.{Whole, Short, OutOfMemory}
 
--- ---- bytes that are written, and others behind them
+-- ---- bytes that are written, and others after them
 
 zeros-joined : (old : List ℕ) (b c d : ℕ) → b + c ≡ d → old ++ replicate b 0 ++ replicate c 0 ≡ old ++ replicate d 0
 zeros-joined old b c d e = append_assoc old (replicate b 0) (replicate c 0) ∙ ap (λ zs. old ++ zs) (replicate-append-replicate b c 0 ∙ ap (λ k. replicate k 0) e)
@@ -45,7 +45,7 @@ padded-long old to = omega (arith, padded-length old to)
 replaced-length : (old from : List ℕ) (place : ℕ) → place + length from ≤ length old → length (with_part old place from) ≡ length old
 replaced-length old from place l = grind (arith, length-append, length-take, length-drop)
 
--- a front, and the bytes behind it, in place of as many
+-- a front, and the bytes after it, in place of as many
 replaced-joined : (old zeros front back : List ℕ) (place : ℕ) → place + length front ≤ length old →
     with_part (old ++ zeros) place (front ++ back) ≡ with_part (with_part old place front ++ zeros) (place + length front) back
 replaced-joined old zeros front back place l =

@@ -130,7 +130,7 @@ pub trap-told : {Rest : Type 0} (s t : Contents Rest) (m n : HostModel) (value :
 unfolding trap_answer
 trap-told {Rest} s t m n value call c h = ap (λ (u : TrapAnswer × Both Rest). leaving u) (c.ending h)
 
--- what stands on standard output, where there is none
+-- what is on standard output, where there is none
 pub trap-begun : {Rest : Type 0} (s t : Contents Rest) (m n : HostModel) (value : TrapAnswer) (call : TrapCall) → Comes both (s, m) (t, n) OutOfMemory value (trap_plan call) → value ≡ OutOfMemory → IsFront n.output (trap_answer s m call).2.output
 unfolding trap_answer
 trap-begun s t m n value call c h = output-front (trap_plan call) (t, n) (s, m) (c.stopping h)

@@ -7,7 +7,7 @@ use Rattle.mx_plan.proofs.Plans.{rest_after}
 use Rattle.mx_trap.specs.Moves.{fgets, line_bytes, line_byte, line_next, line_end}
 use Rattle.mx_trap.specs.declared.answer.TrapAnswer.{TrapAnswer}
 
--- what is left of a line in q bytes, behind `count` bytes
+-- what is left of a line in q bytes, after `count` bytes
 unfoldable pub left : ℕ → ℕ → ℕ → ℕ → BothPlan TrapAnswer
 left slot p q count = line_bytes (q - 1 - count) slot p count
 

@@ -17,7 +17,7 @@ more-pieces n h = grind arith
 pub no-more : (n : ℕ) → n ≤ 4096 → (n - 1) / 4096 ≡ 0
 no-more n h = grind arith
 
--- what is left to write, of `size` bytes at `start`, behind `moved`
+-- what is left to write, of `size` bytes at `start`, after `moved`
 unfoldable pub left : ℕ → (ℕ → ℕ) → ℕ → ℕ → ℕ → HostPlan Written
 left slot f start size moved = write_pieces (whole_pieces (size - moved)) slot (bytes_from f (start + moved) (size - moved)) moved
 

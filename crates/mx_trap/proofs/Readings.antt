@@ -7,7 +7,7 @@ use Rattle.mx_trap.specs.Moves.{whole_pieces, fread, read_pieces, read_piece, re
 use Rattle.mx_trap.specs.declared.answer.TrapAnswer.{TrapAnswer}
 use Rattle.mx_trap.proofs.Pieces.{more-pieces, no-more}
 
--- what is left to read, behind `moved` bytes
+-- what is left to read, after `moved` bytes
 unfoldable pub left : ℕ → ℕ → ℕ → ℕ → BothPlan TrapAnswer
 left slot p q moved = read_pieces (whole_pieces (q - moved)) slot p q moved
 

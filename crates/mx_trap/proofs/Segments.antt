@@ -11,7 +11,7 @@ use Rattle.mx_trap.specs.Touches.{text_touches, text_reach, meets_segment}
 use Rattle.mx_trap.specs.declared.answer.TrapStop.{TrapStop}
 use Rattle.mx_trap.specs.declared.answer.TrapStop.TheVariants.{Negative, WideTrap, TransferTooLarge, TrapPagesFull, UnknownTrap}
 
--- how far a text reaches at most, with room for so many bytes
+-- how far a text reaches at most, with room for this many bytes
 abbrev pub Short : ℕ → ℕ → Result ℕ TrapStop → Type 0
 Short room a (Ok n) = n ≤ room
 Short room a (Err Negative) = 2 ^ 63 ≤ a + room

@@ -41,7 +41,7 @@ text-some : (room : ℕ) (bytes : ℕ → ℕ) (a : ℕ) → text_length (suc ro
 unfolding text_length
 text-some room bytes a = next-tests (text_length room bytes (a + 1)) (is_negative a) (bytes a)
 
--- what holds of the first byte and of those behind it
+-- what holds of the first byte and of those after it
 stepped : (P : ℕ → Type 0) (a n : ℕ) → P a → ((i : ℕ) → i < n → P (a + 1 + i)) → (i : ℕ) → i < suc n → P (a + i)
 stepped P a n first others zero h = let here : a ≡ a + 0 = omega arith in subst P here first
 stepped P a n first others (suc i) h = let here : a + 1 + i ≡ a + suc i = omega arith in subst P here (others i (omega arith))

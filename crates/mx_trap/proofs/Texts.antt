@@ -10,7 +10,7 @@ use Rattle.mx_trap.specs.declared.answer.TrapStop.TheVariants.{TransferTooLarge}
 left-after : (k i : ℕ) → i < k → k - i ≡ suc (k - (i + 1))
 left-after k i l = omega arith
 
--- a length with the bytes that stand before
+-- a length with the bytes that are before
 abbrev pub length_after : ℕ → Result ℕ TrapStop → Result ℕ TrapStop
 length_after count rest = map_ok (λ n. count + n) rest
 

@@ -56,7 +56,7 @@ abbrev pub piece_got : {Rest : Type 0} → ℕ → ℕ → Contents Rest → The
 piece_got a q s (Ok got, m) = piece_stored (length got) m (bytes_stored got a s)
 piece_got a q s (Err e, m) = (Err (Value (minus_one - q)), s, m)
 
--- a piece of at most so many bytes for the address a, of q bytes in all
+-- a piece of at most this many bytes for the address a, of q bytes in all
 abbrev pub read_piece : {Rest : Type 0} → ℕ → ℕ → ℕ → ℕ → Contents Rest → HostModel → Leaves (Result ℕ TrapAnswer) Rest
 read_piece slot a len q s m = piece_got a q s (read_answer m slot len)
 
@@ -71,7 +71,7 @@ read_next more moved q (Ok n, s, m) =
     if n == piece_size then more s m else (Value (octa_minus (moved + n) q), s, m)
 read_next more moved q (Err answer, s, m) = (answer, s, m)
 
--- so many whole pieces and the last one, behind `moved` bytes of the q bytes at p
+-- this many whole pieces and the last one, after `moved` bytes of the q bytes at p
 unfoldable pub read_pieces : {Rest : Type 0} → ℕ → ℕ → ℕ → ℕ → ℕ → Contents Rest → HostModel → Leaves TrapAnswer Rest
 read_pieces zero slot p q moved s m = read_last moved q (read_piece slot (p + moved) (q - moved) q s m)
 read_pieces (suc more) slot p q moved s m =
@@ -83,7 +83,7 @@ fread slot p q s m = read_pieces (whole_pieces q) slot p q 0 s m
 
 -- ---- Fgets: a line, a byte at a time
 
--- the zero byte behind the line
+-- the zero byte after the line
 abbrev pub line_ended : {Rest : Type 0} → ℕ → HostModel → Result (Unit {0}) TrapAnswer × Contents Rest → Leaves TrapAnswer Rest
 line_ended count m (Ok u, s) = (Value count, s, m)
 line_ended count m (Err answer, s) = (answer, s, m)
@@ -105,12 +105,12 @@ byte_got a s (Err e, m) = (Err (Value minus_one), s, m)
 abbrev pub line_byte : {Rest : Type 0} → ℕ → ℕ → Contents Rest → HostModel → Leaves (Result Bool TrapAnswer) Rest
 line_byte slot a s m = byte_got a s (read_answer m slot 1)
 
--- what follows a byte of the line, behind `count` bytes of it
+-- what follows a byte of the line, after `count` bytes of it
 abbrev pub line_next : {Rest : Type 0} → (Contents Rest → HostModel → Leaves TrapAnswer Rest) → ℕ → ℕ → Leaves (Result Bool TrapAnswer) Rest → Leaves TrapAnswer Rest
 line_next more p count (Ok newline, s, m) = if newline then line_end p (count + 1) s m else more s m
 line_next more p count (Err answer, s, m) = (answer, s, m)
 
--- a line with room for so many more bytes, behind `count` bytes of it at p
+-- a line with room for this many more bytes, after `count` bytes of it at p
 unfoldable pub line_bytes : {Rest : Type 0} → ℕ → ℕ → ℕ → ℕ → Contents Rest → HostModel → Leaves TrapAnswer Rest
 line_bytes zero slot p count s m = line_end p count s m
 line_bytes (suc room) slot p count s m =
@@ -126,7 +126,7 @@ abbrev pub write_last : ℕ → Then (Result (Unit {0}) HostFault) → Then Writ
 write_last moved (Ok u, m) = (Whole, m)
 write_last moved (Err e, m) = (Short moved, m)
 
--- one piece, behind `moved` bytes
+-- one piece, after `moved` bytes
 abbrev pub write_piece : ℕ → List ℕ → ℕ → HostModel → Then Written
 write_piece slot bytes moved m = write_last moved (write_answer m slot bytes)
 
@@ -136,7 +136,7 @@ write_next more (Whole, m) = more m
 write_next more (Short n, m) = (Short n, m)
 write_next more (writing.OutOfMemory, m) = (writing.OutOfMemory, m)
 
--- so many whole pieces and the last one, behind `moved` bytes
+-- this many whole pieces and the last one, after `moved` bytes
 unfoldable pub write_pieces : ℕ → ℕ → List ℕ → ℕ → HostModel → Then Written
 write_pieces zero slot bytes moved m = write_piece slot bytes moved m
 write_pieces (suc more) slot bytes moved m =

@@ -14,18 +14,18 @@ pub record SameButCalls {A : Type 0} (t u : Then A) : Type 0 where
   pub failing : t.1.failing ≡ u.1.failing
 
 -- What a text of n bytes at a is: none of them is zero, and a zero byte follows. All of these lie below 2^63, and there
--- are at most so many.
+-- are at most this many.
 pub record IsText (most : ℕ) (bytes : ℕ → ℕ) (a n : ℕ) : Type 0 where
   pub nonzero : (i : ℕ) → i < n → bytes (a + i) ≢ 0
   pub end : bytes (a + n) ≡ 0
   pub below : a + n < 2 ^ 63
   pub few : n ≤ most
 
--- at most so many bytes, none of them zero, lead up to an address of 2^63 or more
+-- at most this many bytes, none of them zero, lead up to an address of 2^63 or more
 abbrev pub RunsOut : ℕ → (ℕ → ℕ) → ℕ → Type 0
 RunsOut most bytes a = (n : ℕ) × (n ≤ most) × (2 ^ 63 ≤ a + n) × ((i : ℕ) → i < n → bytes (a + i) ≢ 0)
 
--- none of so many bytes and the next is zero, and all of them lie below 2^63
+-- none of this many bytes and the next is zero, and all of them lie below 2^63
 abbrev pub IsLong : ℕ → (ℕ → ℕ) → ℕ → Type 0
 IsLong most bytes a = (i : ℕ) → i ≤ most → (bytes (a + i) ≢ 0) × (a + i < 2 ^ 63)
 
@@ -39,7 +39,7 @@ pub record ComesTo {Rest : Type 0} (t : Leaves TrapAnswer Rest) (value : TrapAns
 abbrev pub stored_byte : List ℕ → ℕ → (ℕ → ℕ) → ℕ → ℕ
 stored_byte bytes a old q = if nat_le a q && nat_lt q (a + length bytes) then get_or bytes (q - a) 0 else old q
 
--- the first line of these bytes with its newline, cut where it has so many bytes
+-- the first line of these bytes with its newline, cut where it has this many bytes
 unfoldable pub line_front : ℕ → List ℕ → List ℕ
 line_front zero xs = []
 line_front (suc room) [] = []

@@ -73,7 +73,7 @@ abbrev pub piece_got : ℕ → ℕ → Result (List ℕ) HostFault → BothPlan 
 piece_got a q (Ok got) = bind (piece_stored (length got)) (on_space (bytes_stored got a))
 piece_got a q (Err e) = returns (Err (Value (minus_one - q)))
 
--- a piece of at most so many bytes for the address a, of q bytes in all
+-- a piece of at most this many bytes for the address a, of q bytes in all
 unfoldable pub read_piece : ℕ → ℕ → ℕ → ℕ → BothPlan (Result ℕ TrapAnswer)
 read_piece slot a len q = bind (piece_got a q) (on_host (read_plan slot len))
 
@@ -87,7 +87,7 @@ abbrev pub read_next : BothPlan TrapAnswer → ℕ → ℕ → Result ℕ TrapAn
 read_next more moved q (Ok n) = if n == piece_size then more else returns (Value (octa_minus (moved + n) q))
 read_next more moved q (Err answer) = returns answer
 
--- so many whole pieces and the last one, behind `moved` bytes of the q bytes at p
+-- this many whole pieces and the last one, after `moved` bytes of the q bytes at p
 unfoldable pub read_pieces : ℕ → ℕ → ℕ → ℕ → ℕ → BothPlan TrapAnswer
 read_pieces zero slot p q moved = bind (read_last moved q) (read_piece slot (p + moved) (q - moved) q)
 read_pieces (suc more) slot p q moved =
@@ -99,7 +99,7 @@ fread slot p q = read_pieces (whole_pieces q) slot p q 0
 
 -- ---- Fgets: a line, a byte at a time
 
--- the zero byte behind the line, which has `count` bytes
+-- the zero byte after the line, which has `count` bytes
 abbrev pub line_ended : ℕ → Result (Unit {0}) TrapAnswer → SpacePlan TrapAnswer
 line_ended count (Ok u) = returns (Value count)
 line_ended count (Err answer) = returns answer
@@ -124,12 +124,12 @@ byte_got a (Err e) = returns (Err (Value minus_one))
 unfoldable pub line_byte : ℕ → ℕ → BothPlan (Result Bool TrapAnswer)
 line_byte slot a = bind (byte_got a) (on_host (read_plan slot 1))
 
--- what follows a byte of the line, behind `count` bytes of it
+-- what follows a byte of the line, after `count` bytes of it
 abbrev pub line_next : BothPlan TrapAnswer → ℕ → ℕ → Result Bool TrapAnswer → BothPlan TrapAnswer
 line_next more p count (Ok newline) = if newline then on_space (line_end p (count + 1)) else more
 line_next more p count (Err answer) = returns answer
 
--- a line with room for so many more bytes, behind `count` bytes of it at p
+-- a line with room for this many more bytes, after `count` bytes of it at p
 unfoldable pub line_bytes : ℕ → ℕ → ℕ → ℕ → BothPlan TrapAnswer
 line_bytes zero slot p count = on_space (line_end p count)
 line_bytes (suc room) slot p count =
@@ -145,7 +145,7 @@ abbrev pub write_last : ℕ → Result (Unit {0}) HostFault → HostPlan Written
 write_last moved (Ok u) = returns Whole
 write_last moved (Err e) = returns (Short moved)
 
--- one piece, behind `moved` bytes
+-- one piece, after `moved` bytes
 unfoldable pub write_piece : ℕ → List ℕ → ℕ → HostPlan Written
 write_piece slot bytes moved = bind (write_last moved) (write_plan slot bytes)
 
@@ -155,7 +155,7 @@ write_next more Whole = more
 write_next more (Short n) = returns (Short n)
 write_next more writing.OutOfMemory = returns writing.OutOfMemory
 
--- so many whole pieces and the last one, behind `moved` bytes
+-- this many whole pieces and the last one, after `moved` bytes
 unfoldable pub write_pieces : ℕ → ℕ → List ℕ → ℕ → HostPlan Written
 write_pieces zero slot bytes moved = write_piece slot bytes moved
 write_pieces (suc more) slot bytes moved =

@@ -40,7 +40,7 @@ abbrev pub next_byte : Result ℕ TrapStop → Result ℕ TrapStop → Result �
 next_byte more (Err stop) = Err stop
 next_byte more (Ok b) = if b == 0 then Ok 0 else map_ok (λ n. n + 1) more
 
--- the number of bytes of the text at a, up to the first zero byte, with room for so many; it is read no further than
+-- the number of bytes of the text at a, up to the first zero byte, with room for this many; it is read no further than
 -- the byte that decides: the zero byte, one of a negative address, or the first that has no room
 unfoldable pub text_length : ℕ → (ℕ → ℕ) → ℕ → Result ℕ TrapStop
 text_length zero bytes a = last_byte (byte_at bytes a)

@@ -10,7 +10,7 @@ ghost use Rattle.mx_trap.specs.Touches.{touches};
 
 use mx_mem::Space;
 
-/// A call that does not touch Stack_Segment answers the same whatever bytes stand there and whatever
+/// A call that does not touch Stack_Segment answers the same whatever bytes are there and whatever
 /// else belongs to the space, and it leaves both as they are. It does not touch the other space
 /// either.
 #[tactic(auto, using(crate::proofs::ApartCalls::laws))]

@@ -17,7 +17,7 @@ use std::alloc::Global;
 /// The octa -1, which tells that a call failed or was misused.
 pub const MINUS_ONE: u64 = u64::MAX;
 
-/// Opens the file whose name stands at an address, in the mode of this number. It takes memory for
+/// Opens the file whose name is at an address, in the mode of this number. It takes memory for
 /// the name where there is such a mode.
 #[tactic(auto, using(mx_plan::proofs::Plans::plans, mx_plan::proofs::Plans::needs), unfolding(crate::specs::FileTraps::fopen))]
 pub fn fopen<M: Space, H: Host>(

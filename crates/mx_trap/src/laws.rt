@@ -47,7 +47,7 @@ pub fn pieces_come_to_one_read<M: Space>()
 {}
 
 /// Where no call fails and no byte is refused, Fgets of q bytes on standard input takes the first line,
-/// with its newline or cut after q - 1 bytes, stores it with a zero byte behind it and answers its
+/// with its newline or cut after q - 1 bytes, stores it with a zero byte after it and answers its
 /// length. Where the input ends first, it stores what came and answers -1.
 #[tactic(auto, using(crate::proofs::JoinedLines::joined))]
 pub fn lines_come_with_their_newline<M: Space>()
@@ -65,7 +65,7 @@ pub fn lines_come_with_their_newline<M: Space>()
         (end_of space (bytes_stored (line_front (q - 1) m.input) p) s).1 (record m { input = [] }) }
 {}
 
-/// Bytes that are stored, none of them refused, stand at the addresses from a on; every other byte and
+/// Bytes that are stored, none of them refused, are at the addresses from a on; every other byte and
 /// the rest of the space are as before.
 #[tactic(auto, using(crate::proofs::StoredBytes::storing))]
 pub fn stored_bytes_stand<M: Space>()

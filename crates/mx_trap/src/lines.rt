@@ -15,7 +15,7 @@ use mx_host::{Host, HostFault};
 use mx_mem::Space;
 use mx_plan::read;
 
-/// Reads a line into a buffer and puts a zero byte behind it.
+/// Reads a line into a buffer and puts a zero byte after it.
 #[tactic(auto, using(mx_plan::proofs::Plans::plans, mx_plan::proofs::Plans::lifting, crate::proofs::LineBytes::lining), unfolding(crate::specs::Moves::fgets))]
 pub fn fgets<M: Space, H: Host>(
     memory: &mut M,
@@ -85,7 +85,7 @@ fn put_byte<M: Space>(memory: &mut M, at: u64, b: u8) -> Result<bool, TrapAnswer
     }
 }
 
-/// Puts the zero byte behind a line of `count` bytes.
+/// Puts the zero byte after a line of `count` bytes.
 #[tactic(auto, using(mx_plan::proofs::Plans::plans), unfolding(crate::specs::Moves::line_end))]
 fn end_line<M: Space>(memory: &mut M, at: u64, count: u64) -> TrapAnswer
     requires { at + count < 2 ^ 63 }

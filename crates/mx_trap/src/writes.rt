@@ -18,7 +18,7 @@ use mx_plan::write;
 pub enum Written {
     /// All were written.
     Whole,
-    /// A piece was not written, and so many bytes stood in the pieces before it.
+    /// A piece was not written, and this many bytes stood in the pieces before it.
     Short(u64),
     /// The host found no memory.
     OutOfMemory,
@@ -100,7 +100,7 @@ fn write_pieces<M: Space, H: Host>(
     )
 }
 
-/// Writes one piece, as many bytes as the buffer has, behind others that were written.
+/// Writes one piece, as many bytes as the buffer has, after others that were written.
 #[tactic(auto, using(mx_plan::proofs::Plans::plans, crate::proofs::Buffers::sizing), unfolding(crate::specs::Moves::write_piece))]
 fn write_piece<M: Space, H: Host>(
     memory: &M,

@@ -56,7 +56,7 @@ hex-lacks c k x ge = digits-lack c 16 (hex_digits k x) (omega arith) ge (all k x
 decimal-read : (n : ℕ) → n < 2 ^ 64 → digits_value 10 (decimal n) ≡ n
 decimal-read n lt = (decimal_is_IsNumeral n lt).1
 
--- fields of one width, read one after another, at most so many
+-- fields of one width, read one after another, at most this many
 abbrev fields : ℕ → (List ℕ → ℕ) → ℕ → List ℕ → List ℕ
 fields w value zero text = []
 fields w value (suc n) text = cond (nat_le w (length text)) (value (take w text) ∷ fields w value n (drop w text)) []
@@ -169,7 +169,7 @@ few-lack n lt = decimal-lacks 10 n (omega arith) (omega (arith, lt))
 few-read : (n : ℕ) → n < 2 ^ 16 → digits_value 10 (decimal n) ≡ n
 few-read n lt = decimal-read n (omega (arith, lt))
 
--- what stands behind a number: nothing, or a blank first
+-- what follows a number: nothing, or a blank first
 name-begins : (name : Option (List ℕ)) → BeginsWith 32 (name_text name)
 name-begins None = tt
 name-begins (Some name) = refl
@@ -215,7 +215,7 @@ load-read : (a t : ℕ) (rest : List ℕ) → t < 2 ^ 32 → first_in (item_text
 unfolding hex_digits
 load-read a t rest lt = ap Load (hex-counted 8 t lt)
 
--- the item is what its text tells, whatever stands behind it
+-- the item is what its text tells, whatever follows it
 pub item-read : (a : ℕ) (item : Item) (rest : List ℕ) → Fits item → IsShown item → first_in (item_text a item ++ rest) ≡ item
 item-read a (Load t) rest f s = load-read a t rest f
 item-read a (Loc x) rest f s = ap item_in (line-cut (codes "loc " ++ hex_text x) rest (octa-lacks x)) ∙ ap Loc (hex-value x f)

@@ -21,14 +21,14 @@ tetra_address a = 4 * (a / 4)
 abbrev pub bytes_text : List ℕ → List ℕ
 bytes_text bytes = flat_map (hex_digits 2) bytes
 
--- a tetra as eight hexadecimal digits, and an octa as `#` and 16 of them, each behind a blank
+-- a tetra as eight hexadecimal digits, and an octa as `#` and 16 of them, each after a blank
 abbrev pub next_tetra : ℕ → List ℕ
 next_tetra t = codes " " ++ hex_digits 8 t
 
 abbrev pub next_octa : ℕ → List ℕ
 next_octa x = codes " " ++ hex_text x
 
--- The line of an item where lambda is an address: a row for each item but `stab`, whose line stands behind those of all
+-- The line of an item where lambda is an address: a row for each item but `stab`, whose line follows those of all
 -- items.
 pub data IsLine : ℕ → Item → List ℕ → Type 0 where
   load : (lambda t : ℕ) → IsLine lambda (Load t)

@@ -1,5 +1,5 @@
 -- What a lister gives for an item and for the end of an object, piece by piece, as the code makes it. What a listing
--- is stands in `Listing`; a law says that it is these pieces joined.
+-- is, `Listing` says; a law says that it is these pieces joined.
 use Rattle.std.specs.Prelude.{ℕ, List, [], ◌∷◌, ◌++◌, Option, Some, None, codes, decimal}
 use Rattle.std.specs.List.{flat_map}
 use Rattle.mx_word.specs.declared.symbols.Symbol.{Symbol}
@@ -14,7 +14,7 @@ use Rattle.mx_type.specs.Lines.{bytes_text, ended, next_octa, next_tetra, stab_l
 abbrev pub tetra_text : ℕ → ℕ → List ℕ
 tetra_text a t = hex_text a ++ codes " " ++ hex_digits 8 t ++ codes " " ++ instruction_text t a
 
--- the name of a file behind a blank, where there is one
+-- the name of a file after a blank, where there is one
 abbrev pub name_text : Option (List ℕ) → List ℕ
 name_text None = []
 name_text (Some name) = codes " " ++ bytes_text name

@@ -1,4 +1,4 @@
-//! The fields of lines: words with a number behind them, and lists of tetras, octas and bytes.
+//! The fields of lines: words with a number after them, and lists of tetras, octas and bytes.
 
 ghost use Rattle.std.specs.Prelude.{◌≡◌, ◌++◌, OnOk, decimal};
 ghost use Rattle.std.specs.List.{flat_map};
@@ -26,7 +26,7 @@ pub(crate) fn add_placed(text: &mut Bytes, word: &[u8], a: u64) -> Result<(), No
     text.push(b'\n')
 }
 
-/// Adds a tetra behind a blank.
+/// Adds a tetra after a blank.
 pub(crate) fn add_tetra(text: &mut Bytes, word: u32) -> Result<(), NoMemory>
     ensures { OnOk result (text.new ≡ text.old ++ spec.next_tetra word) }
 {
@@ -34,7 +34,7 @@ pub(crate) fn add_tetra(text: &mut Bytes, word: u32) -> Result<(), NoMemory>
     text.extend(&tetra_hex(word))
 }
 
-/// Adds an octa behind a blank.
+/// Adds an octa after a blank.
 fn add_octa(text: &mut Bytes, x: u64) -> Result<(), NoMemory>
     ensures { OnOk result (text.new ≡ text.old ++ spec.next_octa x) }
 {
@@ -42,7 +42,7 @@ fn add_octa(text: &mut Bytes, x: u64) -> Result<(), NoMemory>
     text.extend(&octa_hex(x))
 }
 
-/// Adds tetras, each behind a blank.
+/// Adds tetras, each after a blank.
 pub(crate) fn add_tetras(text: &mut Bytes, words: &[u32]) -> Result<(), NoMemory>
     ensures { OnOk result (text.new ≡ text.old ++ flat_map spec.next_tetra words.now) }
 {
@@ -52,7 +52,7 @@ pub(crate) fn add_tetras(text: &mut Bytes, words: &[u32]) -> Result<(), NoMemory
     Ok(())
 }
 
-/// Adds octas, each behind a blank.
+/// Adds octas, each after a blank.
 pub(crate) fn add_octas(text: &mut Bytes, values: &[u64]) -> Result<(), NoMemory>
     ensures { OnOk result (text.new ≡ text.old ++ flat_map spec.next_octa values.now) }
 {

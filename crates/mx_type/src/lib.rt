@@ -1,6 +1,6 @@
 //! The listing of an object: a line for each item, for its symbol trie and for each of its symbols.
 //!
-//! What stands in an object is told in MMIXware, "MMIX Object Format" and "The symbol table" in
+//! What is in an object is told in MMIXware, "MMIX Object Format" and "The symbol table" in
 //! MMIXAL; the form of the lines is this project's own.
 #![tactic(auto)]
 

@@ -50,7 +50,7 @@ pub(crate) fn add_item(text: &mut Bytes, lambda: u64, item: &Item) -> Result<(),
     }
 }
 
-/// An address and the tetra that it has, each with a blank behind it.
+/// An address and the tetra that it has, each with a blank after it.
 fn tetra_at(address: u64, word: u32) -> [u8; 27]
     ensures { result ≡ hex_text address ++ lines.next_tetra word ++ codes " " }
 {
@@ -90,7 +90,7 @@ fn add_file(text: &mut Bytes, number: u8, name: &Option<Bytes>) -> Result<(), No
     text.push(b'\n')
 }
 
-/// Adds the name of a file behind a blank, where there is one.
+/// Adds the name of a file after a blank, where there is one.
 fn add_name(text: &mut Bytes, name: &Option<Bytes>) -> Result<(), NoMemory>
     ensures { OnOk result (text.new ≡ text.old ++ spec.name_text name.now) }
 {

@@ -58,7 +58,7 @@ impl Lister {
     pub fn item(&mut self, item: &Item) -> Result<Bytes, NoMemory>
         ensures text { IfOk result (λ text. text ≡ item_text self.old item.now) }
         ensures lambda { OnOk result (self.new ≡ lambda_after self.old item.now) }
-        // What was listed, and this text behind it, are the lines of all these items.
+        // What was listed, and this text after it, are the lines of all these items.
         ensures joined { IfOk result (λ text. (items : List Item) (lines : List ℕ) →
             HasListed self.old items lines → HasListed self.new (items ++ item.now ∷ []) (lines ++ text)) }
         ensures err { OnErr result (self.new ≡ self.old) }
@@ -83,7 +83,7 @@ impl Lister {
         Ok(())
     }
 
-    /// The line of the trie with its newline, which stands behind those of all items.
+    /// The line of the trie with its newline, which follows those of all items.
     pub fn trie_line(&self, trie: &[u8]) -> Result<Bytes, NoMemory>
         ensures { IfOk result (λ text. text ≡ ended (stab_line trie.now)) }
     {
@@ -92,8 +92,8 @@ impl Lister {
         Ok(text)
     }
 
-    /// The line of a symbol with its newline. Those of all symbols, in the order of the trie, stand
-    /// behind that of the trie.
+    /// The line of a symbol with its newline. Those of all symbols, in the order of the trie, come
+    /// after that of the trie.
     pub fn symbol_line(&self, symbol: &Symbol) -> Result<Bytes, NoMemory>
         ensures { IfOk result (λ text. text ≡ ended (symbol_line symbol.now)) }
     {
@@ -102,12 +102,12 @@ impl Lister {
         Ok(text)
     }
 
-    /// The lines that stand behind those of all items, from that of the trie on. The symbols have to
+    /// The lines that follow those of all items, from that of the trie on. The symbols have to
     /// be those of the trie.
     pub fn tail(&self, trie: &Bytes, symbols: &Symbols) -> Result<Bytes, NoMemory>
         requires { IsTrie trie.now symbols.now }
         ensures text { IfOk result (λ text. text ≡ tail_text trie.now symbols.now) }
-        // What was listed, and this text behind it, are the listing of the items and the trie.
+        // What was listed, and this text after it, are the listing of the items and the trie.
         ensures joined { IfOk result (λ text. (items : List Item) (lines : List ℕ) →
             HasListed self.now items lines → IsListing (lines ++ text) items trie.now) }
     {

@@ -58,7 +58,7 @@ pub standing-none : (a : Standing) (source : List ℕ) → length source ≡ 0 �
 unfolding standing_behind
 standing-none a source e = rw (no-lines source e) refl
 
--- the same behind a list
+-- the same after a list
 pub onto-next : (lines : List ListedLine) (m : Meaning) (w : Wanted) (n lambda : ℕ) (a : Standing) (source rest : List ℕ) (line : Line) → lines_of source ≡ line ∷ lines_of rest → is_ok a ≡ true →
     lines ++ listed_in_turn m w n lambda a (lines_of source) ≡
     (lines ++ listed_at m w n lambda a line) ++ listed_in_turn m w (n + 1) (lambda_behind lambda (items_at a line)) (standing_at a line) (lines_of rest)

@@ -1,4 +1,4 @@
--- Each line of a source stands in its listing once, in order.
+-- Each line of a source is in its listing once, in order.
 use Rattle.std.proofs.Common.{◌≡◌, ℕ, ◌+◌, List, [], ◌∷◌, ◌++◌, length, append-nil, append_assoc, refl, sym, ap, ◌∙◌, Option, None, Some, Ok, Err}
 use Rattle.mx_line.specs.Lines.{lines_of}
 use Rattle.mx_asm.specs.OnePass.{Standing}
@@ -38,13 +38,13 @@ unfolding once
 listed-of m number line [] = refl
 listed-of m number line (c ∷ cells) = refl
 
--- a line behind lines that are not refused
+-- a line after lines that are not refused
 open-line : (m : Meaning) (before : List Line) (line : Line) → lines_refusal before ≡ None → line_listed m All before line ≡ listed_line m (length before + 1) line (line_cells All before line) ∷ []
 open-line m before line none =
     ap (λ r. listed_unless r (listed m All (length before + 1) line (line_cells All before line))) none
     ∙ listed-of m (length before + 1) line (line_cells All before line)
 
--- lines behind others, where none but the last may be refused
+-- lines after others, where none but the last may be refused
 pub once-behind : (m : Meaning) (before later : List Line) (line : Line) → lines_refusal (before ++ later) ≡ None → listed_behind m All before (later ++ line ∷ []) ≡ lines_once m before (later ++ line ∷ [])
 unfolding listed_behind lines_once
 once-behind m before [] line none =
@@ -53,7 +53,7 @@ once-behind m before (next ∷ later) line none =
     let open_still : lines_refusal ((before ++ next ∷ []) ++ later) ≡ None = ap lines_refusal (append_assoc before (next ∷ []) later) ∙ none in
     (λ i. open-line m before next (open-front before (next ∷ later) none) i ++ once-behind m (before ++ next ∷ []) later line open_still i)
 
--- nothing stands behind a refused line
+-- nothing follows a refused line
 closed-lines : (m : Meaning) (before later : List Line) (r : Refused) → lines_refusal before ≡ Some r → listed_behind m All before later ≡ []
 unfolding listed_behind
 closed-lines m before [] r e = refl

@@ -84,7 +84,7 @@ pub record IsStill (lambda : ℕ) (items : List Item) (behind : ℕ) : Type 0 wh
   pub none : cells_of All lambda items ≡ []
   pub moved : lambda_behind lambda items ≡ behind
 
--- behind such items another list loads as it does from where they lead to
+-- after such items another list loads as it does from where they lead to
 pub behind-still : (lambda behind : ℕ) (xs ys : List Item) (a : ℕ) → IsStill lambda xs behind → loads_at lambda (xs ++ ys) a ≡ loads_at behind ys a
 unfolding has
 behind-still lambda behind xs ys a h =

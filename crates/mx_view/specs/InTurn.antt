@@ -1,4 +1,4 @@
--- A listing as the code makes it, which takes one line after another. What a listing is stands in `Listing`; a law says
+-- A listing as the code makes it, which takes one line after another. What a listing is, `Listing` says; a law says
 -- that both are the same.
 use Rattle.std.specs.Prelude.{ℕ, ◌+◌, List, [], ◌∷◌, ◌++◌, Result, Ok, Err}
 use Rattle.mx_mmo.specs.declared.items.Item.{Item}
@@ -11,7 +11,7 @@ use Rattle.mx_view.specs.declared.lines.ListedLine.{ListedLine}
 use Rattle.mx_view.specs.Cells.{cells_of}
 use Rattle.mx_view.specs.Rows.{Meaning, listed}
 
--- the items that a line gives, and what stands behind it
+-- the items that a line gives, and what follows it
 abbrev pub items_at : Standing → Line → List Item
 items_at a line = (line_behind [] a line).0
 
@@ -30,7 +30,7 @@ listed_in_turn m wanted number lambda (Ok a) (line ∷ later) =
     listed_at m wanted number lambda (Ok a) line
     ++ listed_in_turn m wanted (number + 1) (lambda_behind lambda (items_at (Ok a) line)) (standing_at (Ok a) line) later
 
--- what stands behind lines
+-- what follows lines
 unfoldable pub standing_behind : Standing → List Line → Standing
 standing_behind a [] = a
 standing_behind a (line ∷ later) = standing_behind (standing_at a line) later
@@ -39,6 +39,6 @@ standing_behind a (line ∷ later) = standing_behind (standing_at a line) later
 abbrev pub all_listed : Meaning → Wanted → List Line → List ListedLine
 all_listed m wanted lines = listed_in_turn m wanted 1 0 (Ok beginning) lines
 
--- the trie or the refusal behind all lines
+-- the trie or the refusal after all lines
 abbrev pub end_of : List Line → Result (List ℕ) Refused
 end_of lines = (end_behind [] (standing_behind (Ok beginning) lines)).1

@@ -20,7 +20,7 @@ listed_tetra (c ∷ cells) a = if c.address == tetra_address a then c.tetra else
 
 -- ---- lines
 
--- each line once, in order, behind lines before them
+-- each line once, in order, after lines before them
 unfoldable pub lines_once : Meaning → List Line → List Line → List ListedLine
 lines_once m before [] = []
 lines_once m before (line ∷ later) =

@@ -27,11 +27,11 @@ use Rattle.mx_view.specs.Rows.{Meaning, listed, rows_of}
 abbrev pub added_items : List Line → Line → List Item
 added_items before line = drop (length (lines_items before)) (lines_items (before ++ line ∷ []))
 
--- the wanted tetras that a line loads behind the lines before it
+-- the wanted tetras that a line loads after the lines before it
 abbrev pub line_cells : Wanted → List Line → Line → List Cell
 line_cells wanted before line = cells_of wanted (lambda_of (lines_items before)) (added_items before line)
 
--- a line behind others, if it is listed: no line before it is refused then
+-- a line after others, if it is listed: no line before it is refused then
 abbrev pub listed_unless : Option Refused → List ListedLine → List ListedLine
 listed_unless None lines = lines
 listed_unless (Some refused) lines = []
@@ -40,13 +40,13 @@ abbrev pub line_listed : Meaning → Wanted → List Line → Line → List List
 line_listed m wanted before line =
     listed_unless (lines_refusal before) (listed m wanted (length before + 1) line (line_cells wanted before line))
 
--- those of lines behind others that are listed
+-- those of lines after others that are listed
 unfoldable pub listed_behind : Meaning → Wanted → List Line → List Line → List ListedLine
 listed_behind m wanted before [] = []
 listed_behind m wanted before (line ∷ later) =
     line_listed m wanted before line ++ listed_behind m wanted (before ++ line ∷ []) later
 
--- the tetras of lines that stand behind others, one after another
+-- the tetras of lines that follow others, one after another
 unfoldable pub cells_behind : Wanted → List Line → List Line → List Cell
 cells_behind wanted before [] = []
 cells_behind wanted before (line ∷ later) = line_cells wanted before line ++ cells_behind wanted (before ++ line ∷ []) later
@@ -67,7 +67,7 @@ abbrev pub symbols_at_end : Meaning → Result (List ℕ) Refused → List Symbo
 symbols_at_end (Ok image) (Ok trie) = symbols_told (trie_answer trie)
 symbols_at_end m ended = []
 
--- as a text, behind an empty line, unless the source is refused
+-- as a text, after an empty line, unless the source is refused
 abbrev pub symbols_text : Wanted → Option Refusal → List Symbol → List ℕ
 symbols_text All None symbols = codes "\n" ++ flat_map (λ s. ended (symbol_line s)) symbols
 symbols_text wanted refused symbols = []

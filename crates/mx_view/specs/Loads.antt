@@ -10,7 +10,7 @@ use Rattle.mx_view.specs.Cells.{cells_of}
 use Rattle.mx_view.specs.InTurn.{items_at, standing_at}
 use Rattle.mx_view.specs.Listing.{line_cells}
 
--- those of lines that stand behind others; a line behind a faulty one loads none
+-- those of lines that follow others; a line after a faulty one loads none
 unfoldable pub loads_behind : List Line → List Line → List (List Cell)
 loads_behind before [] = []
 loads_behind before (line ∷ later) = line_cells All before line ∷ loads_behind (before ++ line ∷ []) later

@@ -37,7 +37,7 @@ is_loaded_at cells a = list_any (λ c. c.address == a) cells
 abbrev pub joined_with : Cell → Cell → Cell
 joined_with c d = if d.address == c.address then record { address = d.address; tetra = bit_xor d.tetra c.tetra } else d
 
--- tetras of different addresses, with one that is loaded behind them
+-- tetras of different addresses, with one that is loaded after them
 abbrev pub with_cell : List Cell → Cell → List Cell
 with_cell cells c = if is_loaded_at cells c.address then map (joined_with c) cells else cells ++ c ∷ []
 

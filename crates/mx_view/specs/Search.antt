@@ -78,7 +78,7 @@ abbrev pub ended_as : (List Refused → List ℕ → Found) → List Refused →
 ended_as more lines (Next source) = more lines source
 ended_as more lines (Ended whole is_cut) = record { lines = lines; whole = whole; is_cut = is_cut }
 
--- what so many sources at most show, where these were found before
+-- what this many sources at most show, where these were found before
 unfoldable pub found : ℕ → List Refused → List ℕ → Found
 found zero before source = record { lines = before; whole = None; is_cut = true }
 found (suc n) before source =

@@ -65,7 +65,7 @@ fn add_loads(
     Ok(())
 }
 
-/// The tetras that each line of a source loads, line after line. A line behind one that is refused loads none.
+/// The tetras that each line of a source loads, line after line. A line after one that is refused loads none.
 #[tactic(auto, using(crate::proofs::LineLoads::whole))]
 pub fn cells_by_line(alloc: Global, source: &[u8]) -> Result<LineCells, NoMemory>
     ensures { IfOk result (λ loads. loads ≡ spec.loads_of source.now) }

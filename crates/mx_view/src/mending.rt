@@ -120,7 +120,7 @@ fn finish(alloc: Global, s: &mut Search) -> Result<Looked, NoMemory>
     }
 }
 
-/// Goes on with the lines of a source. Where a line is refused, and what is left of it is taken in its place, it goes on behind it; else
+/// Goes on with the lines of a source. Where a line is refused, and what is left of it is taken in its place, it goes on after it; else
 /// it gives what is looked at next.
 #[tactic(auto, using(crate::proofs::MendedLines::walks))]
 pub(crate) fn walk_on(alloc: Global, s: &mut Search, source: &[u8]) -> Result<Looked, NoMemory>

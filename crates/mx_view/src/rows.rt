@@ -76,7 +76,7 @@ fn add_rest(text: &mut Bytes, cells: &[Cell]) -> Result<(), NoMemory>
     Ok(())
 }
 
-/// The tetras behind the first one.
+/// The tetras after the first one.
 fn behind_first(cells: &[Cell]) -> &[Cell]
     ensures { result.now ≡ drop 1 cells.now }
 {

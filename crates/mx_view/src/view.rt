@@ -94,7 +94,7 @@ fn symbols_at_end(
 }
 
 /// What is listed of a source, as data: its lines, its symbols in the order of their names, and the refusal of a run. A
-/// source that is refused has no symbols, and no lines behind one that its assembly refuses.
+/// source that is refused has no symbols, and no lines after one that its assembly refuses.
 #[derive(Drop)]
 pub struct Listed {
     pub lines: ListedLines,
@@ -134,7 +134,7 @@ fn add_symbols(text: &mut Bytes, lister: &Lister, symbols: &[Symbol]) -> Result<
     Ok(())
 }
 
-/// Adds the symbols of a source behind an empty line, if all of it is shown and it is not refused.
+/// Adds the symbols of a source after an empty line, if all of it is shown and it is not refused.
 fn add_end(alloc: Global, text: &mut Bytes, wanted: Wanted, listed: &Listed) -> Result<(), NoMemory>
     ensures { OnOk result (
         text.new ≡ text.old ++ spec.symbols_text wanted listed.now.refused listed.now.symbols) }

@@ -27,7 +27,7 @@ marked line kind None = []
 marked line kind (Some m) =
     record { line = line.number; kind = kind; text = line.text; place = m.place; length = m.length; other = m.other } ∷ []
 
--- those of a statement of a line, which stands at this place of a subroutine
+-- those of a statement of a line, which is at this place of a subroutine
 unfoldable pub statement_warnings : List SourceLine → SourceLine → Place → Statement → List Warning
 statement_warnings lines line place s =
     marked line OperatorAfterBlank (operator_after_blank s)

@@ -11,7 +11,7 @@ use mx_text::add_decimal;
 use mx_word::{Bytes, NoMemory};
 use std::alloc::Global;
 
-/// Adds what stands under a byte in front of the caret.
+/// Adds what is under a byte in front of the caret.
 fn add_under(text: &mut Bytes, b: u8) -> Result<(), NoMemory>
     ensures { OnOk result (text.new ≡ text.old ++ spec.under b) }
 {
@@ -22,7 +22,7 @@ fn add_under(text: &mut Bytes, b: u8) -> Result<(), NoMemory>
     }
 }
 
-/// Adds what stands under bytes in front of the caret.
+/// Adds what is under bytes in front of the caret.
 fn add_unders(text: &mut Bytes, front: &[u8]) -> Result<(), NoMemory>
     ensures { OnOk result (text.new ≡ text.old ++ flat_map spec.under front.now) }
 {
@@ -54,7 +54,7 @@ fn add_line(text: &mut Bytes, line: &[u8]) -> Result<(), NoMemory>
     text.extend(b"\n")
 }
 
-/// Adds a caret below a line, behind these bytes of it.
+/// Adds a caret below a line, after these bytes of it.
 fn add_caret(text: &mut Bytes, front: &[u8]) -> Result<(), NoMemory>
     ensures { OnOk result (text.new ≡ text.old ++ spec.caret_text front.now) }
 {

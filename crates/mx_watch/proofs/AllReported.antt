@@ -110,7 +110,7 @@ other-one q p text false e = refl
 differ : (p q : ℕ) → p ≢ q → (p == q) ≡ false
 differ p q ne = grind (arith, common_steps)
 
--- those behind have greater places
+-- those after it have greater places
 none-behind : (q : ℕ) (h : List Trace) (k a : ℕ) (ws : List Watching) → q < a → kept_at q (flat_map (reported h k) (zip (range_with_len a (length ws)) ws)) ≡ None
 unfolding kept_at either
 none-behind q h k a [] lt = refl

@@ -15,7 +15,7 @@ use Rattle.mx_watch.specs.Watching.{later}
 no-longer : (x : ℕ) (xs : List ℕ) → x ∷ xs ≡ xs → ⊥
 no-longer x xs e = let same = ap (λ (l : List ℕ). length l) e in omega (arith, same)
 
--- a goes behind k, which is less
+-- a goes after k, which is less
 behind : (a k x : ℕ) (xs : List ℕ) → k < a → insert_key nat_cmp (x ∷ xs) a ≡ x ∷ xs → insert_key nat_cmp (k ∷ x ∷ xs) a ≡ k ∷ x ∷ xs
 behind a k x xs l e =
     ap (λ r. match_ordering r (a ∷ k ∷ x ∷ xs) (k ∷ x ∷ xs) (k ∷ insert_key nat_cmp (x ∷ xs) a)) (sym (nat_cmp_is a k Greater l)) ∙ ap (λ ys. k ∷ ys) e

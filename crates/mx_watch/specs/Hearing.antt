@@ -31,7 +31,7 @@ abbrev pub placed : List Watching → List (ℕ × Watching)
 placed watchers = zip (range_with_len 0 (length watchers)) watchers
 
 -- What comes of watchers that are told traces: those are left of which no front is full, in order, each told all of them; and
--- the reports of the others stand behind those that were there.
+-- the reports of the others follow those that were there.
 pub record Hears (h : List Trace) (watchers left : List Watching) (earlier later : List Report) : Type 0 where
   pub staying : left ≡ map (λ w. w.1) (flat_map (remains h) (placed watchers))
   pub reports : later ≡ earlier ++ reports_in_turn h (placed watchers)

@@ -6,7 +6,7 @@ use Rattle.mx_code.specs.declared.trace.Trace.{Trace}
 use Rattle.mx_run.specs.Turns.{Turn, went_on, halts, stops, turn}
 use Rattle.mx_run.specs.WildRuns.{MachineKind, ends_wild}
 
--- the trace of a turn that goes on stands before those of the rest; a program that halts and a machine that stops have none
+-- the trace of a turn that goes on is before those of the rest; a program that halts and a machine that stops have none
 abbrev pub traces_after : (State → HostModel → List Trace) → Turn → List Trace
 traces_after more (went_on s m trace) = trace ∷ more s m
 traces_after more (halts status s m) = []

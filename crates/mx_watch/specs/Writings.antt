@@ -13,7 +13,7 @@ write_of from to pc None = []
 write_of from to pc (Some touch) =
     if nat_le from touch.at && nat_lt touch.at to then record { pc = pc; at = touch.at; size = touch.size } ∷ [] else []
 
--- the writes of these steps behind those that were there
+-- the writes of these steps after those that were there
 unfoldable pub writes_after : ℕ → ℕ → List Write → List Trace → List Write
 writes_after from to writes [] = writes
 writes_after from to writes (t ∷ ts) = writes_after from to (writes ++ write_of from to t.pc t.writes) ts
@@ -25,7 +25,7 @@ write_line w = codes "write " ++ hex_text w.pc ++ codes " " ++ hex_text w.at ++ 
 abbrev pub write_lines : List Write → List ℕ
 write_lines writes = flat_map write_line writes
 
--- full after so many
+-- full after this many
 abbrev pub noting : ℕ → ℕ → ℕ → List Write → Watching
 noting from to cap writes = record {
   text = λ h. write_lines (writes_after from to writes h);

@@ -12,7 +12,7 @@ use std::alloc::Global;
 /// Texts, one for each of several watchers.
 pub type Texts = Sequence<Bytes>;
 
-/// The reports of all watchers of a run, in the order of a list of so many at its start: that which is kept, or that
+/// The reports of all watchers of a run, in the order of a list of this many at its start: that which is kept, or that
 /// of the next one that is left.
 ///
 /// Errors: out of memory.

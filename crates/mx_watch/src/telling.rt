@@ -112,7 +112,7 @@ fn dismiss(
 }
 
 /// Tells the watcher at an index a trace. Where it is full, its report is kept and it leaves the list with its
-/// place. Answers the index of the one behind it.
+/// place. Answers the index of the one after it.
 fn pass(
     watchers: &mut Vec<Box<dyn Watcher>>,
     places: &mut Vec<usize>,

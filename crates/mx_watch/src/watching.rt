@@ -31,7 +31,7 @@ pub fn watch(
     Ok(())
 }
 
-/// The indices of so many watchers.
+/// The indices of this many watchers.
 #[tactic(auto, using(crate::proofs::Heard::first_places))]
 pub(crate) fn first_places(alloc: Global, count: usize) -> Result<Vec<usize>, NoMemory>
     ensures { IfOk result (λ places. places.items ≡ range_with_len 0 count) }

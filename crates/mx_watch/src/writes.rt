@@ -21,7 +21,7 @@ pub struct Write {
     pub size: u8,
 }
 
-/// A watcher that notes the writes of steps to a part of memory. It is full after so many of them.
+/// A watcher that notes the writes of steps to a part of memory. It is full after this many of them.
 #[derive(Drop)]
 pub struct Writes {
     from: u64,

@@ -1,4 +1,4 @@
--- Lists that stand at the front of others.
+-- Lists that are at the front of others.
 use Rattle.std.proofs.Common.{◌≡◌, ℕ, List, ◌++◌, [], sym, ◌∙◌, ap, append-nil, append_assoc}
 use Rattle.std.specs.Prelude.{Result, Ok, Err, OnErr}
 use Rattle.mx_word.specs.Lists.{IsFront}

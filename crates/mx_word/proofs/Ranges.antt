@@ -2,7 +2,7 @@
 use Rattle.std.proofs.Common.{◌≡◌, ℕ, zero, suc, ◌+◌, ◌<◌, ◌^◌, List, [], ◌∷◌, ◌++◌, take, drop, get_or, replicate, arith, refl}
 use Rattle.mx_word.specs.Ranges.{AreBytes}
 
--- two lists of bytes, one behind the other
+-- two lists of bytes, one after the other
 pub bytes-append : (front more : List ℕ) → AreBytes front → AreBytes more → AreBytes (front ++ more)
 bytes-append [] more p q = q
 bytes-append (b ∷ front) more p q = (p.0, bytes-append front more p.1 q)
@@ -17,7 +17,7 @@ pub bytes-each : (bytes : List ℕ) → ((i : ℕ) → get_or bytes i 0 < 2 ^ 8)
 bytes-each [] h = tt
 bytes-each (b ∷ bytes) h = (h 0, bytes-each bytes (λ i. h (suc i)))
 
--- what holds of each byte holds of those in front and of those behind
+-- what holds of each byte holds of those before a place and of those after it
 pub bytes-front : (n : ℕ) (bytes : List ℕ) → AreBytes bytes → AreBytes (take n bytes)
 bytes-front zero bytes h = tt
 bytes-front (suc n) [] h = tt

@@ -1,4 +1,4 @@
--- Memory octa by octa: each address gives the octa that holds it. Octas, tetras and bytes stand from the high end.
+-- Memory octa by octa: each address gives the octa that holds it. Octas, tetras and bytes are in order from the high end.
 -- (MMIXware, the part on MMIX: octabytes in memory; TAOCP 1, Fascicle 1, section 1.3.1'.)
 use Rattle.std.specs.Prelude.{ℕ, ◌-◌, ◌*◌, ◌/◌, ◌%◌, ◌^◌, Bool, true, ◌==◌, nat_lt, if◌then◌else◌, bit_xor}
 

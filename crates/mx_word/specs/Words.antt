@@ -1,4 +1,4 @@
--- Octas and tetras: whole numbers below 2^64 and 2^32, whose bytes stand from the high end.
+-- Octas and tetras: whole numbers below 2^64 and 2^32, whose bytes are in order from the high end.
 -- (MMIXware, the part on MMIX: wydes, tetrabytes and octabytes; TAOCP 1, Fascicle 1, section 1.3.1'.)
 use Rattle.std.specs.Prelude.{ℕ, ◌+◌, ◌-◌, ◌*◌, ◌/◌, ◌%◌, ◌^◌, ℤ, pos, negsuc, List, Option, None, Some, nat_lt, nat_le, if◌then◌else◌}
 use Rattle.std.specs.Int.{w32, w64, to_be_bytes, from_be_bytes}

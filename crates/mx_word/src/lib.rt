@@ -1,7 +1,7 @@
-//! Octas, tetras and the small lists that every other crate stands on.
+//! Octas, tetras and the small lists that every other crate rests on.
 //!
 //! An octa is a whole number below 2^64 and a tetra one below 2^32; in memory and in objects both
-//! stand from the high end (MMIXware, section 1; TAOCP 1, Fascicle 1, section 1.3.1').
+//! are in order from the high end (MMIXware, section 1; TAOCP 1, Fascicle 1, section 1.3.1').
 #![tactic(auto)]
 
 mod bytes;

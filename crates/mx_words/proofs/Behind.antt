@@ -1,4 +1,4 @@
--- The words behind a file.
+-- The words after a file.
 use Rattle.std.proofs.Common.{◌≡◌, ℕ, ◌+◌, ◌≤◌, ◌<◌, List, [], ◌∷◌, map, length, drop, refl, sym, ap, arith, Ok, Err, ◌⊎◌, inl, inr}
 use Rattle.std.proofs.lemmas.List.{length-drop, length-map}
 use Rattle.mx_words.specs.Values.{Word}

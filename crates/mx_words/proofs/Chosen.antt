@@ -36,7 +36,7 @@ either : (c : Command) (all : List Word) (b : Bool) (one others : Read) (g h : O
 either c all true one others g h hg hh = hg
 either c all false one others g h hg hh = hh
 
--- the words behind a word
+-- the words after a word
 pub behind-word : (all : List Word) (p : ℕ) (word : Word) (words : List Word) → drop p all ≡ word ∷ words → drop (p + 1) all ≡ words
 behind-word all p word words is =
     sym (drop-drop 1 p all) ∙ ap (drop 1) is

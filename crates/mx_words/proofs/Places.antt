@@ -6,7 +6,7 @@ use Rattle.std.proofs.lemmas.List.{drop_more}
 use Rattle.std.proofs.lemmas.Grind.{common_steps}
 
 module _ {A B : Type 0} (f : A → B) where
-  -- the word at a place, and those behind it
+  -- the word at a place, and those after it
   pub word-at : (xs : List A) (i : ℕ) (d : A) → i < length xs → drop i (map f xs) ≡ f (get_or xs i d) ∷ drop (i + 1) (map f xs)
   word-at xs i d lt =
       drop_more (map f xs) i (f d) (omega (arith, lt, length-map xs f)) ∙ ap (λ w. w ∷ drop (i + 1) (map f xs)) (get_or-map f xs i d)

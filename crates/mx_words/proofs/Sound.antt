@@ -13,7 +13,7 @@ use Rattle.mx_words.specs.declared.order.Order.{Order}
 use Rattle.mx_words.specs.declared.order.WordsFault.{WordsFault}
 use Rattle.mx_words.specs.declared.settings.Settings.{Settings}
 
--- words that an order was read from: options, a file, and the words behind it
+-- words that an order was read from: options, a file, and the words after it
 record Parted (c : Command) (s : Settings) (p : ℕ) (words : List Word) (o : Order) : Type 0 where
   options : List Word
   after : Settings
@@ -46,7 +46,7 @@ not-clashing : (clashes : Bool) (p : ℕ) (more : Ordered) (o : Order) → unles
 not-clashing true p more o is = refused _ o is
 not-clashing false p more o is = (refl, is)
 
--- it is behind neither of two
+-- it is after neither of two
 neither : (a b : Bool) → (a || b) ≡ false → (a ≡ false) × (b ≡ false)
 neither true b is = absurd (cc is)
 neither false b is = (refl, is)

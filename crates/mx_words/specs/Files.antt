@@ -1,4 +1,4 @@
--- What stands behind the options, as the code reads it.
+-- What follows the options, as the code reads it.
 use Rattle.std.specs.Prelude.{ℕ, List, [], ◌∷◌, Err}
 use Rattle.mx_words.specs.Values.{Word, blocks_value}
 use Rattle.mx_words.specs.Orders.{Ordered, fault, file_at, blocks_at}

@@ -15,7 +15,7 @@ abbrev pub set : Result ℕ ℕ → ℕ → (ℕ → Settings) → Read
 set (Err kind) place with_value = Err (fault kind place)
 set (Ok n) place with_value = Ok (with_value n, place + 1)
 
--- the value of an option: the first of the words behind it
+-- the value of an option: the first of the words after it
 abbrev pub value_read : (Word → Result ℕ ℕ) → (ℕ → Settings) → ℕ → List Word → Read
 value_read value with_value place [] = Err (fault 4 place)
 value_read value with_value place (word ∷ words) = set (value word) place with_value
@@ -30,7 +30,7 @@ steps_read s place words = value_read steps_value (with_steps s) place words
 abbrev pub last_read : Settings → ℕ → List Word → Read
 last_read s place words = value_read last_value (with_last s) place words
 
--- `-i`, `--report` and `--last` at a place, the last with the words behind it: one is not behind another
+-- `-i`, `--report` and `--last` at a place, the last with the words after it: one is not after another
 abbrev pub set_unless : Bool → ℕ → Settings → Read
 set_unless clashes place s = if clashes then Err (fault 10 place) else Ok (s, place + 1)
 
@@ -43,7 +43,7 @@ report_read s place = set_unless (report_clashes s) place (with_report s)
 abbrev pub back_read : Settings → ℕ → List Word → Read
 back_read s place words = if last_clashes s then Err (fault 10 place) else last_read s (place + 1) words
 
--- the option at a place, with the words behind it
+-- the option at a place, with the words after it
 abbrev pub option_read : Command → Settings → ℕ → Word → List Word → Read
 option_read c s place word words =
     if is_console c word then console_read s place

@@ -95,7 +95,7 @@ with_steps s n = record s { steps = n }
 abbrev pub with_ring : Settings → ℕ → Settings
 with_ring s n = record s { ring = n }
 
--- an order to run or to list the file at a place, with the arguments behind it
+-- an order to run or to list the file at a place, with the arguments after it
 abbrev pub run_order : Command → Settings → ℕ → Order
 run_order c s place =
     record { command = c; ring = s.ring; steps = s.steps; interactive = s.interactive; dump = s.dump; file = place; rest = place + 1; number = 0; report = s.report; last = s.last; schedule = 0 }
@@ -105,7 +105,7 @@ abbrev pub asm_order : Settings → ℕ → Order
 asm_order s place =
     record { command = Asm; ring = s.ring; steps = s.steps; interactive = s.interactive; dump = s.dump; file = place; rest = place + 1; number = 0; report = s.report; last = s.last; schedule = 0 }
 
--- an order to run the object behind the schedule at a place on several processors
+-- an order to run the object after the schedule at a place on several processors
 abbrev pub multi_order : Settings → ℕ → Order
 multi_order s place =
     record { command = Multi; ring = s.ring; steps = s.steps; interactive = s.interactive; dump = s.dump; file = place + 1; rest = place + 2; number = 0; report = s.report; last = s.last; schedule = place }
@@ -115,29 +115,29 @@ abbrev pub gen_order : Settings → ℕ → Order
 gen_order s n =
     record { command = Gen; ring = s.ring; steps = s.steps; interactive = s.interactive; dump = s.dump; file = 0; rest = 0; number = n; report = s.report; last = s.last; schedule = 0 }
 
--- the words behind the source of `asm`: one object, and no other word
+-- the words after the source of `asm`: one object, and no other word
 abbrev pub object_behind : Settings → ℕ → List Word → Ordered
 object_behind s place [] = Err (fault 7 (place + 1))
 object_behind s place (object ∷ []) = Ok (asm_order s place)
 object_behind s place (object ∷ other ∷ others) = Err (fault 8 (place + 2))
 
--- the words behind the schedule of `multi`: one object, and no other word
+-- the words after the schedule of `multi`: one object, and no other word
 abbrev pub processors_behind : Settings → ℕ → List Word → Ordered
 processors_behind s place [] = Err (fault 7 (place + 1))
 processors_behind s place (object ∷ []) = Ok (multi_order s place)
 processors_behind s place (object ∷ other ∷ others) = Err (fault 8 (place + 2))
 
--- the words behind the last one of an order, which is at a place: none
+-- the words after the last one of an order, which is at a place: none
 abbrev pub none_behind : Order → ℕ → List Word → Ordered
 none_behind o place [] = Ok o
 none_behind o place (other ∷ others) = Err (fault 8 (place + 1))
 
--- the N of `gen` at a place, with the words behind it
+-- the N of `gen` at a place, with the words after it
 abbrev pub blocks_at : Settings → ℕ → Result ℕ ℕ → List Word → Ordered
 blocks_at s place (Err kind) words = Err (fault kind place)
 blocks_at s place (Ok n) words = none_behind (gen_order s n) place words
 
--- a word at a place that is no option, with the words behind it: a file, the N of `gen`, or the schedule of `multi`
+-- a word at a place that is no option, with the words after it: a file, the N of `gen`, or the schedule of `multi`
 abbrev pub file_at : Command → Settings → ℕ → Word → List Word → Ordered
 file_at Run s place word words = Ok (run_order Run s place)
 file_at Sim s place word words = Ok (run_order Sim s place)
@@ -151,7 +151,7 @@ abbrev pub valued : Result ℕ ℕ → ℕ → (ℕ → Ordered) → Ordered
 valued (Err kind) place go = Err (fault kind place)
 valued (Ok n) place go = go n
 
--- which options before it an option clashes with: `-i`, `--report` and `--last` do not stand together
+-- which options before it an option clashes with: `-i`, `--report` and `--last` exclude one another
 abbrev pub takes_back : Settings → Bool
 takes_back s = not (s.last == 0)
 
@@ -168,8 +168,8 @@ last_clashes s = s.interactive || s.report
 abbrev pub unless : Bool → ℕ → Ordered → Ordered
 unless clashes place more = if clashes then Err (fault 10 place) else more
 
--- The words behind a command, the first of them at a place, with what the options before it set. Options stand before
--- the file, and the last one counts; `-i`, `--report` and `--last` do not stand together.
+-- The words after a command, the first of them at a place, with what the options before it set. Options are before
+-- the file, and the last one counts; `-i`, `--report` and `--last` exclude one another.
 unfoldable pub options_from : Command → Settings → ℕ → List Word → Ordered
 options_from c s place [] = Err (fault 7 place)
 options_from c s place (word ∷ []) =
@@ -193,7 +193,7 @@ options_from c s place (word ∷ value ∷ words) =
     else Err (fault 3 place))
     else file_at c s place word (value ∷ words)
 
--- the words behind a command, if the first word names one
+-- the words after a command, if the first word names one
 abbrev pub commanded : Option Command → List Word → Ordered
 commanded None words = Err (fault 2 0)
 commanded (Some c) words = options_from c defaults 1 words

@@ -5,7 +5,7 @@
 --   gen [--ring R] N
 --   type OBJ
 --   multi [--ring R] [--steps N] [--dump] SCHED OBJ
--- where `-i`, `--report` and `--last` do not stand together.
+-- where `-i`, `--report` and `--last` exclude one another.
 -- A rule of this program.
 use Rattle.std.specs.Prelude.{◌≡◌, ℕ, ◌+◌, true, false, List, [], ◌∷◌, ◌++◌, length, Ok, codes}
 use Rattle.mx_words.specs.Values.{Word, is_option, ring_value, steps_value, last_value, blocks_value}

@@ -1,4 +1,4 @@
-//! The options that stand before the file.
+//! The options before the file.
 
 ghost use Rattle.std.specs.Prelude.{◌≡◌, ◌<◌, ◌≤◌, ◌+◌, ◌^◌, length, map, drop, string_bytes, IfOk};
 ghost use Rattle.mx_words.specs.OneOption as spec;
@@ -74,7 +74,7 @@ fn is_ring(command: Command, word: &String) -> bool
     takes_ring(command) && word.as_str() == "--ring"
 }
 
-/// `-i` at a place: not behind `--report` or `--last`.
+/// `-i` at a place: not after `--report` or `--last`.
 fn with_console(settings: Settings, at: usize) -> Result<(Settings, usize), WordsFault>
     requires { at + 1 < 2 ^ 64 }
     ensures value { result ≡ spec.console_read settings at }
@@ -92,7 +92,7 @@ fn with_console(settings: Settings, at: usize) -> Result<(Settings, usize), Word
     ))
 }
 
-/// `--report` at a place: not behind `-i` or `--last`.
+/// `--report` at a place: not after `-i` or `--last`.
 fn with_report(settings: Settings, at: usize) -> Result<(Settings, usize), WordsFault>
     requires { at + 1 < 2 ^ 64 }
     ensures value { result ≡ spec.report_read settings at }
@@ -150,7 +150,7 @@ pub(crate) fn option(
     Err(WordsFault { kind: 3, word: at })
 }
 
-/// `--last` at a place: not behind `-i` or `--report`.
+/// `--last` at a place: not after `-i` or `--report`.
 #[tactic(auto, using(crate::proofs::Places::places))]
 fn with_last(
     settings: Settings,

@@ -34,8 +34,8 @@ pub struct Order {
     pub dump: bool,
     /// The place of the source or object among the words.
     pub file: usize,
-    /// The place behind the file: that of the first argument, or of the object that `asm` writes. No
-    /// word stands there for `type` and `multi`.
+    /// The place after the file: that of the first argument, or of the object that `asm` writes. No
+    /// word is there for `type` and `multi`.
     pub rest: usize,
     /// How many blocks `gen` makes: 1 to 10,000.
     pub number: u64,

@@ -17,7 +17,7 @@ use mx_registers::RingSize;
 /// `gen`, options and a number; `type` and an object; or `multi`, options, a schedule and an object. Options
 /// are `--ring R`, for `run`, `sim` and `multi` also `--steps N` and `--dump`, and for `run` and `sim` `-i`,
 /// `--report` and `--last J`; they may repeat, and the last one counts. No two of `-i`, `--report` and `--last`
-/// stand in one order.
+/// are in one order.
 #[tactic(auto, using(crate::proofs::Places::places, crate::proofs::OrderedBlocks::orders))]
 pub fn read(words: &[String]) -> Result<Order, WordsFault>
     ensures value { result ≡ spec.order_of (map string_bytes words.now) }
@@ -76,7 +76,7 @@ fn defaults() -> Settings
     }
 }
 
-/// What the words behind a command order.
+/// What the words after a command order.
 #[tactic(auto, using(crate::proofs::ReadOptions::reading))]
 fn commanded(command: Command, words: &[String]) -> Result<Order, WordsFault>
     requires { 0 < length words.now }
@@ -100,7 +100,7 @@ fn commanded(command: Command, words: &[String]) -> Result<Order, WordsFault>
     file(command, settings, words, at)
 }
 
-/// What stands behind the options.
+/// What follows the options.
 #[tactic(auto, using(crate::proofs::Behind::behinds))]
 fn file(
     command: Command,
@@ -126,7 +126,7 @@ fn file(
     }
 }
 
-/// An order to run or to list the file at a place, with the arguments behind it.
+/// An order to run or to list the file at a place, with the arguments after it.
 fn run_order(command: Command, settings: Settings, at: usize) -> Order
     requires { at + 1 < 2 ^ 63 }
     ensures { result ≡ spec.run_order command settings at }
@@ -146,7 +146,7 @@ fn run_order(command: Command, settings: Settings, at: usize) -> Order
     }
 }
 
-/// An order to list the object at a place: no word stands behind it.
+/// An order to list the object at a place: no word follows it.
 #[tactic(auto, using(crate::proofs::Behind::behinds))]
 fn show_order(settings: Settings, words: &[String], at: usize) -> Result<Order, WordsFault>
     requires { at < length words.now }
@@ -166,7 +166,7 @@ fn show_order(settings: Settings, words: &[String], at: usize) -> Result<Order, 
     Ok(run_order(Command::Show, settings, at))
 }
 
-/// An order to assemble the source at a place: one word stands behind it.
+/// An order to assemble the source at a place: one word follows it.
 #[tactic(auto, using(crate::proofs::Behind::behinds))]
 fn asm_order(settings: Settings, words: &[String], at: usize) -> Result<Order, WordsFault>
     requires { at < length words.now }
@@ -203,7 +203,7 @@ fn asm_order(settings: Settings, words: &[String], at: usize) -> Result<Order, W
     })
 }
 
-/// An order to run the object behind the schedule at a place on several processors: no word stands behind it.
+/// An order to run the object after the schedule at a place on several processors: no word follows it.
 #[tactic(auto, using(crate::proofs::Behind::behinds))]
 fn multi_order(settings: Settings, words: &[String], at: usize) -> Result<Order, WordsFault>
     requires { at < length words.now }
@@ -240,7 +240,7 @@ fn multi_order(settings: Settings, words: &[String], at: usize) -> Result<Order,
     })
 }
 
-/// An order to generate as many blocks as the word at a place says: no word stands behind it.
+/// An order to generate as many blocks as the word at a place says: no word follows it.
 #[tactic(auto, using(crate::proofs::Behind::behinds))]
 fn gen_order(settings: Settings, words: &[String], at: usize) -> Result<Order, WordsFault>
     requires { at < length words.now }

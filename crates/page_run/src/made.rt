@@ -109,7 +109,7 @@ impl Made {
         Ok(())
     }
 
-    /// Records at most so many turns.
+    /// Records at most this many turns.
     fn add_turns(&mut self, recorder: &mut Recorder, most: u64) -> Result<(), NoMemory>
         requires ready { IsReady recorder.old }
     {
@@ -203,7 +203,7 @@ fn begin(alloc: Global, program: Program) -> Result<(Recorder, Record), Outcome>
     }
 }
 
-/// Records a run of at most so many steps.
+/// Records a run of at most this many steps.
 pub fn record_run(alloc: Global, program: Program, most: u64) -> Result<Made, Outcome>
     requires { NamesFile program }
     ensures { IfErr result IsOfView }

@@ -136,7 +136,7 @@ fn bytes_in(alloc: Global, file: Option<Bytes>) -> Bytes {
     }
 }
 
-/// Reads what the words name beside the source: the input and the files.
+/// Reads what the words name besides the source: the input and the files.
 fn gather_beside<H: Host>(
     alloc: Global,
     host: &mut H,

@@ -23,7 +23,7 @@ fn told(item: &Item) -> (u8, u64) {
     }
 }
 
-/// Takes the first line of a text, where there is one, and gives the lines behind it.
+/// Takes the first line of a text, where there is one, and gives the lines after it.
 fn take_line<'a>(
     assembler: &mut Assembler,
     text: &'a [u8],
@@ -74,7 +74,7 @@ fn are(items: &[Item], want: &[(u8, u64)]) -> bool {
     true
 }
 
-/// Whether the items of a source are these, behind the two that stand first and before the two that stand last.
+/// Whether the items of a source are these, after the first two and before the last two.
 fn gives(alloc: Global, source: &[u8], want: &[(u8, u64)]) -> bool {
     match assembled(alloc, source) {
         Ok(items) => match items.as_slice() {
@@ -112,7 +112,7 @@ static ITEMS: [(&str, &[(u8, u64)]); 6] = [
             (255, 0),
         ],
     ),
-    // the longest way ahead, at which no tetra stands between
+    // the longest way ahead, at which no tetra is between
     (
         "Main BZ $0,x\n LOC Main+4*65535\nx TRAP 0,Halt,0",
         &[

@@ -86,7 +86,7 @@ static LINES: [(&str, Option<Command>); 40] = [
     ),
     ("$1=", None),
     ("$1=- 5", None),
-    // the octas behind, addresses and flags
+    // the next octas, addresses and flags
     ("+3!", Some(Command::ShowMore(Some(3), Form::Decimal))),
     ("@#104", Some(Command::GoTo(0x104))),
     (

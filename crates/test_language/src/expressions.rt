@@ -56,7 +56,7 @@ fn told(alloc: Global, field: &str) -> (usize, Result<Value, u16>) {
     }
 }
 
-/// Sees that fields have so many operands, and that the last one has this value or fault.
+/// Checks that fields have this many operands, and that the last one has this value or fault.
 fn fields_are(rt: &impl Abort, alloc: Global, count: usize, rows: &[(&str, Result<Value, u16>)]) {
     for (field, want) in rows {
         assert_eq!(rt; told(alloc, field), (count, *want), "{field}");
@@ -226,7 +226,7 @@ fn strings(rt: HostRuntime) {
     }
 }
 
-/// A piece so many times, another text, a last piece so many times, and what is told of that field.
+/// A piece this many times, another text, a last piece this many times, and what is told of that field.
 type Deep = (
     usize,
     &'static str,

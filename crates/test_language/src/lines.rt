@@ -56,7 +56,7 @@ fn cut(row: &Row) -> Cut {
 }
 
 /// A line, a place in it, and the statement that is found from there on: its label, operation and
-/// operands by their first place and the place behind, and the place after it.
+/// operands by their first place and the place after them, and the place after it.
 type Row = (
     &'static str,
     usize,
@@ -179,7 +179,7 @@ fn faulty_lines(rt: HostRuntime) {
     }
 }
 
-/// The answer for a line of so many stars, with ample memory.
+/// The answer for a line of this many stars, with ample memory.
 fn stars(alloc: Global, count: usize) -> Option<Result<Option<Cut>, LineFault>> {
     match vec![in alloc; 42; count] {
         Ok(line) => Some(next_statement(line.as_slice(), 0)),

@@ -337,7 +337,7 @@ fn no_references(rt: HostRuntime) {
     assert_eq!(rt; first_of_none(rt.alloc()), Ok(None));
 }
 
-/// So many references to as many names, each taken.
+/// This many references to as many names, each taken.
 fn many(alloc: Global, count: u32) -> Result<bool, NameFault> {
     let mut names = Names::new(alloc)?;
     for n in 0..count {

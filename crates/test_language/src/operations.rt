@@ -53,7 +53,7 @@ static OTHERS: [(&str, Option<Op>); 16] = [
     ("", None),
 ];
 
-/// Whether so many codes from this one on have a name, and the name is found as this one.
+/// Whether this many codes from this one on have a name, and the name is found as this one.
 fn are_named(code: u8, each: u8, text: &str) -> bool {
     for other in 0..each {
         if name(code.wrapping_add(other)) != text {
@@ -63,7 +63,7 @@ fn are_named(code: u8, each: u8, text: &str) -> bool {
     find(text.as_bytes()) == Some(Op::Code(code))
 }
 
-/// The code behind those of a row, or its first name that is not that of its codes.
+/// The code after those of a row, or its first name that is not that of its codes.
 fn code_behind(row: &Row) -> Result<u8, &'static str> {
     let (first, each, names) = row;
     let mut code = *first;
@@ -76,7 +76,7 @@ fn code_behind(row: &Row) -> Result<u8, &'static str> {
     Ok(code)
 }
 
-/// The code behind those of all rows, or the first name that is out of its place.
+/// The code after those of all rows, or the first name that is out of its place.
 fn code_behind_all() -> Result<u8, &'static str> {
     let mut code = 0;
     for row in &ROWS {

@@ -295,7 +295,7 @@ static ORDERS: [(&str, Fields); 25] = [
             0,
         ),
     ),
-    // the place behind the object has no word
+    // the place after the object has no word
     (
         "type a.mmo",
         (
@@ -312,7 +312,7 @@ static ORDERS: [(&str, Fields); 25] = [
             0,
         ),
     ),
-    // the object behind the schedule may begin with a dash
+    // the object after the schedule may begin with a dash
     (
         "multi s -x",
         (

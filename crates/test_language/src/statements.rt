@@ -47,7 +47,7 @@ fn placed(
     }
 }
 
-/// The names behind a prefix, where the last 2H was at 4.
+/// The names after a prefix, where the last 2H was at 4.
 fn names_behind(alloc: Global, prefix: &str) -> Result<Names, NameFault> {
     let mut names = Names::new(alloc)?;
     names.set_prefix(prefix.as_bytes())?;
@@ -55,7 +55,7 @@ fn names_behind(alloc: Global, prefix: &str) -> Result<Names, NameFault> {
     Ok(names)
 }
 
-/// What the first statement of a line comes to at a place behind a prefix, or the number of its fault.
+/// What the first statement of a line comes to at a place after a prefix, or the number of its fault.
 fn placed_behind(
     alloc: Global,
     prefix: &str,
@@ -77,7 +77,7 @@ fn tetra(bytes: &[u8]) -> Result<u32, u16> {
     }
 }
 
-/// The tetra of an instruction at a place behind a prefix, or the number of its fault.
+/// The tetra of an instruction at a place after a prefix, or the number of its fault.
 fn word(alloc: Global, prefix: &str, gregs: &Gregs, at: u64, text: &str) -> Result<u32, u16> {
     let placed = placed_behind(alloc, prefix, gregs, at, text)?;
     tetra(placed.bytes.as_slice())
@@ -91,7 +91,7 @@ fn two_gregs() -> Gregs {
     gregs
 }
 
-/// Sees that statements at a place behind a prefix come to these tetras, or have these faults.
+/// Checks that statements at a place after a prefix come to these tetras, or have these faults.
 fn words_are(
     rt: &impl Abort,
     alloc: Global,
@@ -202,7 +202,7 @@ fn told(effect: &Effect) -> (&'static str, usize) {
     }
 }
 
-/// The effect of a statement behind the prefix `:p:`, or the number of its fault.
+/// The effect of a statement after the prefix `:p:`, or the number of its fault.
 fn effect_of(alloc: Global, text: &str) -> Result<(&'static str, usize), u16> {
     let placed = placed_behind(alloc, ":p:", &Gregs::new(), 0, text)?;
     Ok(told(&placed.effect))

@@ -133,7 +133,7 @@ fn has_its_text(alloc: Global, row: &Row) -> bool {
     }
 }
 
-/// Sees that the instructions of rows have their texts.
+/// Checks that the instructions of rows have their texts.
 fn have_their_texts(rt: &impl Abort, alloc: Global, rows: &[Row]) {
     for row in rows {
         assert!(rt;

@@ -9,7 +9,7 @@ use test_rows::{Due, FIRST, Given, HELLO, file};
 /// A session: the source, the input, the outcome, and what is written.
 type Session = (&'static str, &'static [u8], Outcome, &'static [u8]);
 
-/// Sees that sessions come to their outcomes, with nothing on standard error.
+/// Checks that sessions come to their outcomes, with nothing on standard error.
 fn all_come(alloc: Global, name: &str, sessions: &[Session]) -> Result<(), Fail> {
     for (source, input, outcome, output) in sessions {
         let given = Given {
@@ -148,7 +148,7 @@ fn sessions_make_at_most_so_many_steps(rt: HostRuntime) -> Result<(), Fail> {
 
 /// The call of a session that fails, its outcome, and what is written on standard output and standard error.
 static FAILING: [(u64, Outcome, &[u8], &[u8]); 5] = [
-    // behind the three calls of the source: the prompt, and a byte of a line
+    // after the three calls of the source: the prompt, and a byte of a line
     (3, Outcome::HostFault, b"", b"host fault\n"),
     (4, Outcome::HostFault, b"mmix> ", b"host fault\n"),
     // the line that is written, and the next byte

@@ -35,7 +35,7 @@ fn failing_calls_of_a_run(rt: HostRuntime) -> Result<(), Fail> {
     Ok(())
 }
 
-/// Whether an assembly in which a call fails leaves an object file of so many bytes.
+/// Whether an assembly in which a call fails leaves an object file of this many bytes.
 fn leaves(alloc: Global, call: u64, left: Option<usize>) -> Result<bool, Fail> {
     let given = Given {
         failing: &[call],
@@ -75,7 +75,7 @@ fn failing_calls_of_an_assembly(rt: HostRuntime) -> Result<(), Fail> {
 const FILES: &str =
     " LOC Data_Segment\n GREG @\nOpen OCTA Name,BinaryReadWrite\nWrite OCTA Text,4\nRead OCTA Buf,4\nBuf OCTA 0\nName BYTE \"f\",0\nText BYTE \"abcd\"\n LOC #100\nMain LDA $255,Open\n TRAP 0,Fopen,5\n SET $0,$255\n LDA $255,Write\n TRAP 0,Fwrite,5\n ADDU $0,$0,$255\n SETL $255,0\n TRAP 0,Fseek,5\n ADDU $0,$0,$255\n LDA $255,Read\n TRAP 0,Fread,5\n ADDU $0,$0,$255\n TRAP 0,Ftell,5\n ADDU $0,$0,$255\n TRAP 0,Fclose,5\n ADDU $255,$0,$255\n TRAP 0,Halt,0";
 
-/// The call of a program that fails, behind the three of the source, and the status: Ftell answers 4 where all
+/// The call of a program that fails, after the three of the source, and the status: Ftell answers 4 where all
 /// is well.
 static PROGRAMS: [(u64, u8); 7] = [
     (9, 4),

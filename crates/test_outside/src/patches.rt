@@ -10,7 +10,7 @@ use test_rows::{Due, Given, file};
 /// A program, its input, the status that it halts with, and what is written.
 type Patched = (&'static str, &'static [u8], u8, &'static [u8]);
 
-/// Sees that each program halts with its status.
+/// Checks that each program halts with its status.
 fn all_halt(alloc: Global, words: &[&str], rows: &[Patched]) -> Result<(), Fail> {
     for (source, input, status, output) in rows {
         let given = Given {
@@ -61,7 +61,7 @@ static TYPED: [Patched; 2] = [
         7,
         b"mmix> mmix> break x #0000000000000104\nmmix> M#0000000000000100=#e3000001e3ff0007\nmmix> ",
     ),
-    // in a loop of three turns ADDU $0,$0,1 becomes ADDU $0,$0,16 behind its first turn
+    // in a loop of three turns ADDU $0,$0,1 becomes ADDU $0,$0,16 after its first turn
     (
         " LOC #100\nMain SETL $1,3\n SETL $0,0\nAgain ADDU $0,$0,1\n SUBU $1,$1,1\n PBNZ $1,Again\n \
          SET $255,$0\n TRAP 0,Halt,0",

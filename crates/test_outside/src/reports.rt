@@ -64,7 +64,7 @@ static ROWS: [Row; 12] = [
             errors: b"profile ad STO 1\nprofile e0 SETH 1\ncover 2\nwrite #0000000000000104 #2000000000000000 8\n",
         },
     ),
-    // behind the message of a run that stops, and of one that spends its steps
+    // after the message of a run that stops, and of one that spends its steps
     (
         "Main SWYM\n FADD $0,$0,$0\n",
         &["run", "--report", "hello.mms"],

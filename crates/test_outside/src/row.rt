@@ -5,7 +5,7 @@ use std::fmt::Debug;
 use std::test::Fail;
 use test_rows::{Due, Given, comes_from};
 
-/// Sees that words come to what is due over a host that has what is given; a failure tells the row.
+/// Checks that words come to what is due over a host that has what is given; a failure tells the row.
 pub fn comes<D: Debug + Drop>(
     alloc: Global,
     given: Given,

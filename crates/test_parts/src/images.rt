@@ -376,7 +376,7 @@ fn registers(rt: HostRuntime) {
 
 /// Items that are refused, and the number of the fault.
 static REFUSED: [(&[Row], u16); 9] = [
-    // in the stack segment: at its first tetra, loaded behind the last tetra below it, by half
+    // in the stack segment: at its first tetra, loaded after the last tetra below it, by half
     // of an octa, and at the end of all addresses
     (&[Loc(0x6000_0000_0000_0000), Load(0)], 95),
     (&[Loc(0x5fff_ffff_ffff_ffff), Load(1), Load(2)], 95),

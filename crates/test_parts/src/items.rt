@@ -9,7 +9,7 @@ use mx_word::{Bytes, NoMemory, tetra_bytes};
 use objects::{FIRST, HELLO, OTHER, OTHER_WRITTEN, TIMED};
 use std::alloc::Global;
 
-/// The bytes of tetras, and some bytes behind them.
+/// The bytes of tetras, and some bytes after them.
 fn object(alloc: Global, tetras: &[u32], more: &[u8]) -> Result<Bytes, NoMemory> {
     let mut bytes = Bytes::new(alloc);
     for tetra in tetras {
@@ -109,7 +109,7 @@ enum Due {
     Load(u32),
     Loc(u64),
     FixNear(u16),
-    /// With its name, and with a name of so many bytes.
+    /// With its name, and with a name of this many bytes.
     File(u8, &'static [u8]),
     Named(u8, usize),
     Line(u16),
@@ -214,7 +214,7 @@ fn refusal(alloc: Global, bytes: &[u8], size: usize) -> Result<Option<(u16, Opti
 /// The tetra of a `pre` without a time.
 const PRE: u32 = 0x9809_0100;
 
-/// Tetras of objects that are refused, and bytes behind them; the number of the fault, and its place.
+/// Tetras of objects that are refused, and bytes after them; the number of the fault, and its place.
 static REFUSED: [(&[u32], &[u8], u16, u64); 24] = [
     // no bytes; a first tetra that is no `pre`; one with Y = 2; `post` before `pre`
     (&[], &[], 64, 0),
@@ -243,7 +243,7 @@ static REFUSED: [(&[u32], &[u8], u16, u64); 24] = [
     // a spec that a quote with YZ = 2 ends, and one that nothing ends
     (&[PRE, 0x9808_0000, 1, 0x9800_0002], &[], 63, 12),
     (&[PRE, 0x9808_0000, 0x9800_0001, 0x980b_0000], &[], 64, 16),
-    // a byte over; an item that is cut off; a tetra behind `end`
+    // a byte over; an item that is cut off; a tetra after `end`
     (&[0x9809_0101, 0], &[0x98], 60, 8),
     (&[PRE, 0x980a_00ff, 0], &[], 64, 12),
     (
@@ -286,7 +286,7 @@ fn first_faults(rt: HostRuntime) {
     assert_eq!(rt; row_taken_otherwise(rt.alloc()), Ok(None));
 }
 
-/// The fault that is due where an object is cut off behind so many bytes, and its place: that of the
+/// The fault that is due where an object is cut off after this many bytes, and its place: that of the
 /// tetra that is cut, or the end.
 fn due_of_cut(n: usize) -> (u16, Option<u64>) {
     if n % 4 == 0 {
@@ -308,13 +308,13 @@ fn cut_taken_otherwise(alloc: Global) -> Result<Option<usize>, NoMemory> {
     Ok(None)
 }
 
-/// Bytes behind the object of `hello.mms`, and the fault that is met.
+/// Bytes after the object of `hello.mms`, and the fault that is met.
 static BEHIND: [(&[u8], (u16, u64)); 2] = [
     (&[0, 0, 0, 0], (64, 128)),
     (&[0x98, 12, 0, 10], (63, 124)),
 ];
 
-/// An object that is cut off anywhere, or that goes on behind its end.
+/// An object that is cut off anywhere, or that goes on after its end.
 #[test]
 fn cut_objects(rt: HostRuntime) {
     let alloc = rt.alloc();
@@ -394,7 +394,7 @@ fn reads_item_by_item(rt: HostRuntime) {
     assert_eq!(rt; last_faults(&mut reader), (cut, cut, cut));
 }
 
-/// An object that stops behind a name of 255 tetras.
+/// An object that stops after a name of 255 tetras.
 fn longest_named(alloc: Global) -> Result<Bytes, NoMemory> {
     let mut bytes = object(alloc, &[0x9809_0100, 0x9806_00ff], &[])?;
     for _ in 0..255 {
@@ -406,7 +406,7 @@ fn longest_named(alloc: Global) -> Result<Bytes, NoMemory> {
 /// Its items.
 static LONGEST: [(Due, u64); 2] = [(Due::Pre(&[]), 0), (Due::Named(0, 1020), 4)];
 
-/// A name of 1,020 bytes, in an object that stops behind it.
+/// A name of 1,020 bytes, in an object that stops after it.
 #[test]
 fn longest_name(rt: HostRuntime) {
     let bytes = longest_named(rt.alloc()).expect(&rt, "memory");

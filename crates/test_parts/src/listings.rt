@@ -28,7 +28,7 @@ static TIMED: [u32; 15] = [
 ];
 
 /// An object with each lopcode. Its trie has a character of two bytes, a blank with a register, and a
-/// value behind 2^61.
+/// value after 2^61.
 static EACH: [u32; 39] = [
     // pre, with two tetras
     0x9809_0102,
@@ -202,7 +202,7 @@ fn nothing_but_the_ends(rt: HostRuntime) {
     assert!(rt; is_listed(rt.alloc(), &BARE, BARE_LINES));
 }
 
-/// The line of the first item of an object that has a fault behind it, and the fault.
+/// The line of the first item of an object that has a fault after it, and the fault.
 fn begun(alloc: Global, tetras: &[u32]) -> Option<(Bytes, MmoFault)> {
     let bytes = bytes_of(alloc, tetras).ok()?;
     let mut reader = Reader::new(alloc);

@@ -144,13 +144,13 @@ fn stores_parts(rt: HostRuntime) {
     }
 }
 
-/// Puts a byte at an address, and gives what stands there then.
+/// Puts a byte at an address, and gives what is there then.
 fn put_and_read<S: Space>(space: &mut S, a: u64, b: u8) -> Result<(u8, u64), SpaceFault> {
     space.put_byte(a, b)?;
     Ok((space.byte_at(a)?, space.octa_at(a)?))
 }
 
-/// Where a byte is put, the byte, and what stands there then.
+/// Where a byte is put, the byte, and what is there then.
 static PUT: [(u64, u8, Result<(u8, u64), SpaceFault>); 3] = [
     (0x6000_0000_0000_0006, 0xab, Ok((0xab, 0xab00))),
     ((1 << 63) - 1, 7, Ok((7, 7))),
@@ -250,7 +250,7 @@ fn drops_pages(rt: HostRuntime) {
         (three(&memory), memory.near_tetra(0x104)),
         (([1, 2, 3], [true; 3], 3), Some(1))
     );
-    // the first page goes, and the last one stands in its place
+    // the first page goes, and the last one is in its place
     assert_eq!(rt;
         left(&mut memory, 0xfff),
         Some(([0, 2, 3], [false, true, true], 2))

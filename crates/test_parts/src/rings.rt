@@ -10,7 +10,7 @@ use std::process::Abort;
 /// Rings of four sizes. What a program sees is the same on each.
 static SIZES: [u32; 4] = [256, 512, 1024, 65_536];
 
-/// A ring of so many registers.
+/// A ring of this many registers.
 fn ring(rt: &impl Abort, alloc: Global, registers: u32) -> Ring {
     let size = RingSize::of(registers).expect(rt, "a power of two");
     Ring::with_size(alloc, size).expect(rt, "memory")
@@ -69,7 +69,7 @@ fn operations(rt: HostRuntime) {
     }
 }
 
-/// PUSHJ with $X so many times.
+/// PUSHJ with $X this many times.
 fn push(rt: &impl Abort, ring: &mut Ring, x: u8, count: u32) {
     for _ in 0..count {
         ring.push(x).expect(rt, "room");
@@ -149,7 +149,7 @@ fn call(rt: &impl Abort, ring: &mut Ring, x: u8, own: u8, n: u8) {
     ring.pop(n).expect(rt, "a caller");
 }
 
-/// What $k is behind such a call.
+/// What $k is after such a call.
 fn behind(k: u8, x: u8, n: u8) -> u64 {
     if k < x {
         100 + u64::from(k)

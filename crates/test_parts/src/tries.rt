@@ -181,7 +181,7 @@ fn tries_are_read(rt: HostRuntime) {
 
 /// Tries, and the fault that is met first.
 static FAULTY: [(&[u8], StabFault); 19] = [
-    // nodes without a character, cut off before the serial number, and with a byte behind that is not 0
+    // nodes without a character, cut off before the serial number, and with one more byte, which is not 0
     (
         &[
             0x20, 0x3a, 0x40, 0x40, 0x10, 0x40, 0x40, 0x20, 0x4d, 0x20, 0x61, 0x20, 0x69, 0x01,
@@ -247,7 +247,7 @@ fn faults_are_met_in_their_order(rt: HostRuntime) {
     }
 }
 
-/// What reading many of the same bytes, and some behind them, answers.
+/// What reading many of the same bytes, and some after them, answers.
 fn of_many(alloc: Global, bytes: &[u8], times: u32, behind: &[u8]) -> Option<StabFault> {
     let mut all = Vec::new(alloc);
     for _turn in 0..times {
@@ -261,7 +261,7 @@ fn of_many(alloc: Global, bytes: &[u8], times: u32, behind: &[u8]) -> Option<Sta
     read(alloc, all.as_slice()).err()
 }
 
-/// Bytes so many times, bytes behind them, and the fault.
+/// Bytes this many times, bytes after them, and the fault.
 static LONG: [(&[u8], u32, &[u8], Option<StabFault>); 7] = [
     (&[0x40], 262_140, &[], Some(StabFault::Truncated(262_140))),
     (&[0x70], 262_140, &[], Some(StabFault::Truncated(262_140))),

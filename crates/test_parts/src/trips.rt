@@ -41,7 +41,7 @@ static BACK: [(u64, u64, u64); 4] = [
 
 /// rX, rW, and the kind, the place and the tetra that RESUME 0 performs, where L is 4 and G is 255.
 static PERFORMED: [(u64, u64, Kind, u64, u32); 17] = [
-    // ADDU $0,$0,1, and the instruction behind RESUME at 24 or 40
+    // ADDU $0,$0,1, and the instruction after RESUME at 24 or 40
     (0x2300_0001, 24, Kind::Again, 20, 0x2300_0001),
     (0x0100_0000_2300_0001, 40, Kind::Continue, 36, 0x2300_0001),
     // $0 gets rZ

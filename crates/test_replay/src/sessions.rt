@@ -37,12 +37,12 @@ Twice GET   $1,rJ
       POP   1,0
 ";
 
-/// What is told of the start of `SUM`.
+/// What is shown of the start of `SUM`.
 pub static SUM_START: &str = "step 0  sum.mms:8  Main  SET k,3
 at the start
 ";
 
-/// What is told of the start of `CALLS`.
+/// What is shown of the start of `CALLS`.
 pub static CALLS_START: &str = "step 0  sum.mms:2  Main  SET $0,1
 at the start
 ";

@@ -59,7 +59,7 @@ post 255 #0000000000000100
 stab
 ",
     ),
-    // a jump to the tetra before it; behind `skip` the address is lowered for the tetra alone
+    // a jump to the tetra before it; after `skip` the address is lowered for the tetra alone
     (
         &[
             0x9809_0101,
@@ -84,7 +84,7 @@ post 255 #0000000000000100
 stab
 ",
     ),
-    // a spec, whose tetras are not shown; a wide character, a blank with a register, and a value behind 2^61
+    // a spec, whose tetras are not shown; a wide character, a blank with a register, and a value after 2^61
     (
         &[
             0x9809_0100,
@@ -181,7 +181,7 @@ fn a_line_that_is_not_written_ends_it(rt: HostRuntime) -> Result<(), Fail> {
     Ok(())
 }
 
-/// The tetras of an object, bytes behind them, the lines, the place and the number of the fault, and what is told.
+/// The tetras of an object, bytes after them, the lines, the place and the number of the fault, and the message.
 static BAD: [(&[u32], &[u8], &[u8], u64, u16, &[u8]); 5] = [
     // a lopcode that does not exist
     (

@@ -72,7 +72,7 @@ const FIRST_OBJECT: [u32; 22] = [
     0x980c_0006,
 ];
 
-/// The bytes of tetras, and some more behind them.
+/// The bytes of tetras, and some more after them.
 pub(crate) fn bytes(alloc: Global, tetras: &[u32], more: &[u8]) -> Result<Vec<u8>, Fail> {
     let mut made = Vec::new(alloc);
     for tetra in tetras {
@@ -203,7 +203,7 @@ fn cut_objects(rt: HostRuntime) -> Result<(), Fail> {
     Ok(())
 }
 
-/// The tetras of an object, bytes behind them, the place and the number of the fault, and what is told.
+/// The tetras of an object, bytes after them, the place and the number of the fault, and the message.
 static BAD: [(&[u32], &[u8], u64, u16, &[u8]); 11] = [
     // a lopcode that does not exist
     (
@@ -233,7 +233,7 @@ static BAD: [(&[u32], &[u8], u64, u16, &[u8]); 11] = [
         63,
         b"byte 24: 63 BadFields\n",
     ),
-    // a trie whose node has the mark of a wide character, but no character; one with more than padding behind it
+    // a trie whose node has the mark of a wide character, but no character; one with more than padding after it
     (
         &[
             0x9809_0101,
@@ -274,7 +274,7 @@ static BAD: [(&[u32], &[u8], u64, u16, &[u8]); 11] = [
         95,
         b"byte 16: 95 BadPlace\n",
     ),
-    // the same behind a fault of reading, which comes first
+    // the same after a fault of reading, which comes first
     (
         &[0x9809_0101, 0, 0x980d_0000, 0x9801_6001, 0, 1],
         b"",
@@ -282,7 +282,7 @@ static BAD: [(&[u32], &[u8], u64, u16, &[u8]); 11] = [
         62,
         b"byte 8: 62 BadLop\n",
     ),
-    // a tetra behind the end, and a second end
+    // a tetra after the end, and a second end
     (
         &HELLO_OBJECT,
         b"\0\0\0\0",
@@ -328,7 +328,7 @@ static HALTING: [&[u32]; 2] = [
         0x8100_0000,
         0x980c_0005,
     ],
-    // a trie with no symbol, and the padding behind it
+    // a trie with no symbol, and the padding after it
     &[
         0x9809_0101,
         0,
@@ -360,7 +360,7 @@ fn objects_that_are_too_long(rt: HostRuntime) -> Result<(), Fail> {
     Ok(())
 }
 
-/// An object with a tetra on so many pages.
+/// An object with a tetra on this many pages.
 fn on_pages(alloc: Global, pages: u32) -> Result<Vec<u8>, Fail> {
     let mut object = bytes(alloc, &[0x9809_0101, 0], b"")?;
     for page in 0..pages {
@@ -372,7 +372,7 @@ fn on_pages(alloc: Global, pages: u32) -> Result<Vec<u8>, Fail> {
     Ok(object)
 }
 
-/// Whether an object with a tetra on so many pages comes to what is due.
+/// Whether an object with a tetra on this many pages comes to what is due.
 fn pages_give(alloc: Global, pages: u32, due: Due) -> Result<bool, Fail> {
     let object = on_pages(alloc, pages)?;
     sim(alloc, object.as_slice(), due)

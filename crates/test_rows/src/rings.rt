@@ -45,7 +45,7 @@ static GENERATED: [(&str, &[u8]); 3] = [
     ("100", b"blocks 100 bytes 7293 steps 159353 sum 5378078\n"),
 ];
 
-/// Whether generating so many blocks comes to this summary on each ring.
+/// Whether generating this many blocks comes to this summary on each ring.
 fn sums_up(alloc: Global, blocks: &str, summary: &[u8]) -> Result<bool, Fail> {
     let mut is_due = true;
     for ring in &RINGS {

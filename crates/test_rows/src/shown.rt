@@ -44,7 +44,7 @@ pub fn shows(alloc: Global, source: &str, end: End, lines: &[&str]) -> Result<bo
     Ok(is_shown)
 }
 
-/// The source of the first row that does not end and dump as it says, if there is one. Each source stands behind the
+/// The source of the first row that does not end and dump as it says, if there is one. Each source follows the
 /// same text.
 pub fn first_other(
     alloc: Global,
@@ -75,7 +75,7 @@ pub fn shows_on(
     Ok(ended == outcome(end) && holds_all(host.output(), lines))
 }
 
-/// Whether all these lines stand in a text.
+/// Whether all these lines are in a text.
 pub fn holds_all(text: &[u8], lines: &[&str]) -> bool {
     for line in lines {
         if !holds(text, line.as_bytes()) {
@@ -85,7 +85,7 @@ pub fn holds_all(text: &[u8], lines: &[&str]) -> bool {
     true
 }
 
-/// Whether a part stands in a text.
+/// Whether a part is in a text.
 pub fn holds(text: &[u8], part: &[u8]) -> bool {
     for at in 0..text.len() {
         if text[at..].starts_with(part) {

@@ -17,7 +17,7 @@ fn gives(alloc: Global, source: &str, due: Due) -> Result<bool, Fail> {
 /// A program that halts at once.
 const HALTS: &str = "Main TRAP 0,0,0\n";
 
-/// Sources that are refused: the line, the number of the fault, the line of the reference, and what is told.
+/// Sources that are refused: the line, the number of the fault, the line of the reference, and the message.
 static REFUSED: [(&str, u32, u16, u32, &[u8]); 17] = [
     // no line, and no line with the label Main: the last line is named
     ("", 1, 82, 0, b"line 1: 82 MainUndefined\n"),
@@ -95,7 +95,7 @@ fn refusals_name_the_first_faulty_line(rt: HostRuntime) -> Result<(), Fail> {
     Ok(())
 }
 
-/// Appends a text so many times.
+/// Appends a text this many times.
 fn push_times(source: &mut String, text: &str, count: u32) -> Result<(), Fail> {
     for _time in 0..count {
         source.push_str(text)?;
@@ -103,8 +103,8 @@ fn push_times(source: &mut String, text: &str, count: u32) -> Result<(), Fail> {
     Ok(())
 }
 
-/// What stands before a text, the text and how often it stands, what stands behind it, and the refusal, if there
-/// is one: the line, the number of the fault, and what is told.
+/// What is before a text, the text and how often it stands, what follows it, and the refusal, if there
+/// is one: the line, the number of the fault, and the message.
 type Limit = (
     &'static str,
     &'static str,
@@ -143,7 +143,7 @@ static LIMITS: [Limit; 10] = [
         "",
         Some((225, 47, b"line 225: 47 TooManyGregs\n")),
     ),
-    // the last byte below the register stack, and the one behind it
+    // the last byte below the register stack, and the one after it
     (
         " LOC #5fffffffffffffff\n",
         " BYTE 1",
@@ -219,7 +219,7 @@ fn push_name(source: &mut String, number: u32) -> Result<(), Fail> {
     Ok(())
 }
 
-/// A program, and so many names that end alike.
+/// A program, and this many names that end alike.
 fn with_names(alloc: Global, names: u32, end: &str) -> Result<String, Fail> {
     let mut source = String::from_str(alloc, HALTS)?;
     for number in 0..names {
@@ -230,7 +230,7 @@ fn with_names(alloc: Global, names: u32, end: &str) -> Result<String, Fail> {
     Ok(source)
 }
 
-/// Whether a source with so many names that end in a thousand letters comes to what is due.
+/// Whether a source with this many names that end in a thousand letters comes to what is due.
 fn names_give(alloc: Global, names: u32, due: Due) -> Result<bool, Fail> {
     let mut end = String::new(alloc);
     push_times(&mut end, "x", 1000)?;

@@ -40,7 +40,7 @@ static LINES: [Row; 10] = [
             errors: b"#0000000000000008: 110 Float\n",
         },
     ),
-    // not behind a file trap that completed
+    // not after a file trap that completed
     (
         "Main TRAP 0,Ftell,StdOut\n SWYM\n FADD $0,$1,$2\n",
         &["run", "--last", "5", "a.mms"],
@@ -105,7 +105,7 @@ static LINES: [Row; 10] = [
             errors: b"#0000000000000008: 110 Float\n",
         },
     ),
-    // behind a line that is not written there is no other, and no dump
+    // after a line that is not written there is no other, and no dump
     (
         GROWS,
         &["run", "--dump", "--last", "2", "a.mms"],
@@ -167,7 +167,7 @@ fn at_most_1024_states_come_back(rt: HostRuntime) -> Result<(), Fail> {
     Ok(())
 }
 
-/// A source, how many steps are taken back, lines that the output then has, and a text that does not stand there.
+/// A source, how many steps are taken back, lines that the output then has, and a text that is not there.
 type Shown = (
     &'static str,
     &'static str,

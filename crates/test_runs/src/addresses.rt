@@ -56,7 +56,7 @@ static FILE_TRAPS_AT_NEGATIVE_ADDRESSES: [Row; 8] = [
         Stop(8, 113),
         &[],
     ),
-    // a byte behind the last that is not negative
+    // a byte after the last that is not negative
     (
         "Main NEG $0,0,1\n SRU $0,$0,1\n SETL $2,65\n STB $2,$0,0\n SET $255,$0\n TRAP 0,Fputs,StdOut",
         Stop(0x14, 113),

@@ -4,7 +4,7 @@ use std::test::Fail;
 use test_rows::End::{Done, Stop};
 use test_rows::{Row, first_other, shows_on};
 
-/// Hides 2^20 octas; the next instruction stands at #110.
+/// Hides 2^20 octas; the next instruction is at #110.
 static FULL: &str =
     "c GREG 0\n LOC #100\nMain SETL c,8192\n1H PUSHJ $127,2F\n2H SUBU c,c,1\n BNZ c,1B\n";
 
@@ -12,7 +12,7 @@ static FULL: &str =
 static NEARLY_FULL: &str =
     "c GREG 0\n LOC #100\nMain SETL c,8191\n1H PUSHJ $127,2F\n2H SUBU c,c,1\n BNZ c,1B\n";
 
-/// Stores in 65,534 pages beside those of the program and of the arguments; the next instruction stands at #118.
+/// Stores in 65,534 pages beside those of the program and of the arguments; the next instruction is at #118.
 static ALL_PAGES: &str =
     " LOC #100\nMain SETL $2,65534\n SETH $0,#2000\n1H STCO 0,$0,0\n INCL $0,4096\n SUBU $2,$2,1\n \
      PBNZ $2,1B\n";
@@ -46,7 +46,7 @@ static NO_ROOM_FOR_REGISTERS: [Row; 14] = [
     // SAVE; without a global register it is illegal before
     (" SAVE $255,0", Stop(0x110, 114), &[]),
     (" SAVE $0,0", Stop(0x110, 111), &[]),
-    // a trip without a handler comes behind
+    // then a trip without a handler
     (
         " SETL c,#4000\n PUT rA,c\n NEG c,0,1\n SRU c,c,1\n ADD $0,c,1",
         Stop(0x120, 114),

@@ -8,7 +8,7 @@ use test_rows::{Row, first_other, shows};
 static CODES: [&str; 8] = ["40", "5f", "80", "9f", "a0", "bf", "f0", "ff"];
 
 static TRIPS_WITHIN_RESUME: [Row; 3] = [
-    // kind 0: rX is the inserted tetra, rW the place behind it
+    // kind 0: rX is the inserted tetra, rW the place after it
     (
         " LOC #20\n SWYM\n TRAP 0,Halt,0\n LOC #100\nMain SETL $1,#4000\n PUT rA,$1\n NEG $0,0,1\n \
          SRU $0,$0,1\n SETML $2,#2100\n INCL $2,1\n PUT rX,$2\n SETL $3,#502\n PUT rW,$3\n RESUME 0",

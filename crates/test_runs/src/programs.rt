@@ -72,7 +72,7 @@ fn programs_print_and_halt(rt: HostRuntime) -> Result<(), Fail> {
     Ok(())
 }
 
-/// Programs, the address and the reason of their stop, and what is told.
+/// Programs, the address and the reason of their stop, and the message.
 static STOPPING: [(&str, u64, u16, &[u8]); 12] = [
     // bytes placed at one address are joined: byte 0 is 2, and #02 is the code of FUN
     (
@@ -106,7 +106,7 @@ static STOPPING: [(&str, u64, u16, &[u8]); 12] = [
         120,
         b"#0000000000000000: 120 ResumeInsert\n",
     ),
-    // the overflow trips, but no handler stands at #20
+    // the overflow trips, but no handler is at #20
     (
         " LOC #100\nMain SETL $1,#4000\n PUT rA,$1\n NEG $0,0,1\n SRU $0,$0,1\n ADD $0,$0,1\n TRAP 0,Halt,0",
         0x110,
@@ -226,7 +226,7 @@ fn programs_read(rt: HostRuntime) -> Result<(), Fail> {
 /// What closes a program that inserts an instruction by RESUME.
 const RESUMED: &str = "\n GETA $3,2F\n PUT rW,$3\n RESUME 0\n2H SET $255,$0\n TRAP 0,Halt,0";
 
-/// What stands before it, and the status.
+/// What is before it, and the status.
 static INSERTING: [(&str, u8); 3] = [
     // ADDU $0,$0,1, as if it stood before the place of rW
     ("Main SETL $2,1\n INCML $2,#2300\n PUT rX,$2", 2),
@@ -257,7 +257,7 @@ fn resume_inserts_an_instruction(rt: HostRuntime) -> Result<(), Fail> {
     Ok(())
 }
 
-/// Whether a source with so many steps at most comes to what is due on each ring.
+/// Whether a source with this many steps at most comes to what is due on each ring.
 fn gives_within(alloc: Global, steps: &str, source: &str, due: Due) -> Result<bool, Fail> {
     let given = file("a.mms", source.as_bytes());
     let mut is_due = true;

@@ -5,7 +5,7 @@ use test_rows::End::{Done, Stop};
 use test_rows::{Row, first_other};
 
 static CALLS_AND_RESULTS: [Row; 7] = [
-    // the last of two results is in the hole, and the first behind it
+    // the last of two results is in the hole, and the first after it
     (
         "Main PUSHJ $3,x\n TRAP 0,Halt,0\nx SETL $0,8\n SETL $1,9\n POP 2,0",
         Done(0),

@@ -75,7 +75,7 @@ static TRIPS_TELL_WHAT_HAPPENED: [Row; 6] = [
             "$255=#0000000000000000",
         ],
     ),
-    // RESUME goes back behind it
+    // RESUME goes back after it
     (
         " SETL $0,9\n RESUME 0\n LOC #100\nMain TRIP 0,0,0\n SET $255,$0\n TRAP 0,Halt,0",
         Done(9),

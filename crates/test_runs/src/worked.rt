@@ -19,7 +19,7 @@ static TETRAS: [Row; 8] = [
             "rC=#0000000000000003",
         ],
     ),
-    // a text that is printed, and a reference to one behind
+    // a text that is printed, and a reference to a later one
     (
         "argv IS $1\n LOC #100\nMain LDOU $255,argv,0\n TRAP 0,Fputs,StdOut\n GETA $255,String\n \
          TRAP 0,Fputs,StdOut\n TRAP 0,Halt,0\nString BYTE \", world\",#a,0",
@@ -316,7 +316,7 @@ fn object_holds(alloc: Global, source: &str, part: &[u8]) -> Result<bool, Fail> 
     }
 }
 
-/// Sources, and what stands in their objects.
+/// Sources, and what is in their objects.
 static ITEMS: [(&str, &[u8]); 3] = [
     // the place #100, and there a reference that is filled in at #200, backwards
     (

@@ -115,7 +115,7 @@ static SETS: [(u32, u64, u64, Holds); 32] = [
     (0x7f09_0203, 3, 0, IS_EVEN),
 ];
 
-/// Sees that a branch goes to its address where it should, and on otherwise.
+/// Checks that a branch goes to its address where it should, and on otherwise.
 fn branches(alloc: Global, word: u32, to: u64, holds: &Holds) -> Result<(), Fail> {
     for k in 0..5 {
         let x = VALUES[k];
@@ -130,7 +130,7 @@ fn branches(alloc: Global, word: u32, to: u64, holds: &Holds) -> Result<(), Fail
     Ok(())
 }
 
-/// Sees that $9 gets a value where it should, and the other one otherwise.
+/// Checks that $9 gets a value where it should, and the other one otherwise.
 fn chooses(alloc: Global, word: u32, set: u64, other: u64, holds: &Holds) -> Result<(), Fail> {
     for k in 0..5 {
         let given = Given {

@@ -155,7 +155,7 @@ static STORES: [(u32, u64, u8, u64, u64); 6] = [
 /// TRIP, with any fields.
 static TRIP: [u32; 2] = [0xff09_0203, 0xff00_0203];
 
-/// Sees that a step trips with these operands: it leaves rA, rW is the next address, rX has the tetra, and
+/// Checks that a step trips with these operands: it leaves rA, rW is the next address, rX has the tetra, and
 /// rB has what $255 had, which gets rJ. Without an instruction at the handler it is a stop.
 fn trips(alloc: Global, given: &Given, due: &Due, (y, z): (u64, u64)) -> Result<(), Fail> {
     let specials = [

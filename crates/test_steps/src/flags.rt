@@ -31,7 +31,7 @@ static SET: [(u64, Flags, Option<(u64, Flags)>); 6] = [
     (0x20b, READ_AND_WRITE, Some((0x208, READ_AND_WRITE))),
     // the tetra's own address counts
     (0x104, EXECUTE, Some((0x104, EXECUTE))),
-    // new flags stand in place of the old ones
+    // new flags are in place of the old ones
     (0x107, READ_AND_WRITE, Some((0x104, READ_AND_WRITE))),
     // a tetra whose flags are taken away is passed over
     (0x104, NONE, Some((0x208, READ_AND_WRITE))),

@@ -79,7 +79,7 @@ const PUSHED: Given = Given {
     ..PLACES
 };
 
-/// POP behind it.
+/// POP after it.
 static RETURNS: [Going; 5] = [
     // $5 comes to $3, and $0 to $4 follow
     (0xf806_0203, None, 0x1000_0810, (3, X), (RO, BASE), 9),
@@ -111,7 +111,7 @@ const SAVED: Given = Given {
     ..PLACES
 };
 
-/// UNSAVE behind it brings all back.
+/// UNSAVE after it brings all back.
 static UNSAVES: [Going; 3] = [
     (0xfb00_00ff, None, NEXT, (2, DATA + 4), (RO, BASE), 10),
     (0xfb00_00ff, None, NEXT, (9, X), (RS, BASE), 10),
@@ -128,7 +128,7 @@ static INSERTED: [(u64, Option<u8>, (u8, u64), u64); 6] = [
     (0x0100_0000_2209_0203, Some(9), (9, 0x3500), 0x3000_0004),
     // the destination gets rZ
     (0x0200_0000_0009_0000, Some(9), (9, 0x1b00), 0x3000_0004),
-    // GETA and JMP stand at #30000000
+    // GETA and JMP are at #30000000
     (
         0x0000_0000_f409_0203,
         Some(9),

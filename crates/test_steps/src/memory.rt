@@ -299,7 +299,7 @@ fn octa_at(place: u64) -> u64 {
     if place < 8 { DATA } else { DATA + 8 }
 }
 
-/// Sees that each tetra loads what is due.
+/// Checks that each tetra loads what is due.
 fn all_load(alloc: Global, given: &Given, rows: &[Load]) -> Result<(), Fail> {
     for row in rows {
         let (word, value, place, size) = *row;
@@ -313,7 +313,7 @@ fn all_load(alloc: Global, given: &Given, rows: &[Load]) -> Result<(), Fail> {
     Ok(())
 }
 
-/// Sees that each tetra stores what is due.
+/// Checks that each tetra stores what is due.
 fn all_store(alloc: Global, rows: &[Store]) -> Result<(), Fail> {
     for row in rows {
         let (word, x, place, size, octa, a) = *row;

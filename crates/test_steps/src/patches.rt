@@ -13,7 +13,7 @@ const NEXT: Program = &[
     (0x110, 0xe300_0001_0000_0000),
 ];
 
-/// In a loop of three turns ADDU $0,$0,1 becomes ADDU $0,$0,16 behind its first turn.
+/// In a loop of three turns ADDU $0,$0,1 becomes ADDU $0,$0,16 after its first turn.
 const LOOP: Program = &[
     (0x100, 0xe201_2300_eb01_0010),
     (0x108, 0xf402_0003_e300_0000),

@@ -14,7 +14,7 @@ const DIVIDES: Program = &[(0, 0xe301_0007_3401_0001), (8, 0x1d00_0102_0000_0000
 /// The upper half of the square of 2^64 - 1.
 const SQUARES: Program = &[(0, 0xe301_0001_3401_0001), (8, 0x1a00_0101_feff_0003)];
 
-/// 1 is added to 2^63 - 1 where overflows trip; nothing stands at the handler.
+/// 1 is added to 2^63 - 1 where overflows trip; nothing is at the handler.
 const ADDS: Program = &[
     (0x100, 0xe301_4000_f615_0001),
     (0x108, 0x3500_0001_3f00_0001),
@@ -176,7 +176,7 @@ pub(crate) fn begin(
     Ok(())
 }
 
-/// Whether a machine makes so many steps.
+/// Whether a machine makes this many steps.
 fn makes(machine: &mut Machine, steps: u32) -> bool {
     for _ in 0..steps {
         if machine.advance() != Advance::Went {
@@ -198,7 +198,7 @@ fn comes_out(alloc: Global, handler: u64, run: &Run) -> Result<bool, Fail> {
     )
 }
 
-/// Sees that runs come to their values with nothing at the handler.
+/// Checks that runs come to their values with nothing at the handler.
 pub(crate) fn all_come_out(alloc: Global, runs: &[Run]) -> Result<(), Fail> {
     for run in runs {
         if !comes_out(alloc, 0, run)? {

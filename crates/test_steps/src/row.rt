@@ -11,7 +11,7 @@ use mx_word::{Bytes, Symbols};
 use std::alloc::Global;
 use std::test::Fail;
 
-/// The instruction of a row stands here, and the next one behind it.
+/// The instruction of a row stands here, and the next one after it.
 pub const AT: u64 = 0x1000_0004;
 
 pub const NEXT: u64 = 0x1000_0008;
@@ -146,7 +146,7 @@ pub fn sets(value: u64) -> Due {
     }
 }
 
-/// A machine with arguments and a ring of so many registers, before any step.
+/// A machine with arguments and a ring of this many registers, before any step.
 pub fn started_with(alloc: Global, registers: u32, args: &[Bytes]) -> Result<Machine, Fail> {
     let Some(size) = RingSize::of(registers) else {
         return Err(Fail::new("no size of a ring"));
@@ -263,7 +263,7 @@ fn see(given: &Given, is_due: bool) -> Result<(), Fail> {
     )))
 }
 
-/// Sees that the step goes on, and comes to what is due.
+/// Checks that the step goes on, and comes to what is due.
 pub fn goes(alloc: Global, given: &Given, due: &Due) -> Result<(), Fail> {
     let trace = Trace {
         pc: AT,
@@ -276,7 +276,7 @@ pub fn goes(alloc: Global, given: &Given, due: &Due) -> Result<(), Fail> {
     see(given, makes(alloc, given, Step::Went(trace), due)?)
 }
 
-/// Sees that the step answers this without going on, and leaves the machine as it was.
+/// Checks that the step answers this without going on, and leaves the machine as it was.
 pub fn answers(alloc: Global, given: &Given, answer: Step) -> Result<(), Fail> {
     let due = Due {
         next: AT,

@@ -17,7 +17,7 @@ static OCTAS: [(u64, u64); 7] = [
     // the two texts
     (0x4000_0000_0000_0020, 0x7000_0000_0000_0000),
     (0x4000_0000_0000_0028, 0x6162_0000_0000_0000),
-    // nothing stands behind them
+    // nothing follows them
     (0x4000_0000_0000_0030, 0),
 ];
 
@@ -39,7 +39,7 @@ fn machine(alloc: Global) -> Result<Machine, Fail> {
     started_with(alloc, 256, &args)
 }
 
-/// Sees that a machine has the octas.
+/// Checks that a machine has the octas.
 fn has_octas(machine: &Machine) -> Result<(), Fail> {
     for (at, octa) in &OCTAS {
         if !has_octa(machine, (*at, *octa)) {
@@ -49,7 +49,7 @@ fn has_octas(machine: &Machine) -> Result<(), Fail> {
     Ok(())
 }
 
-/// Sees that a machine has the special registers.
+/// Checks that a machine has the special registers.
 fn has_specials(machine: &Machine) -> Result<(), Fail> {
     for (code, value) in &SPECIALS {
         if !has_special(machine, (*code, *value)) {
@@ -64,7 +64,7 @@ fn memory_at_the_start(rt: HostRuntime) -> Result<(), Fail> {
     has_octas(&machine(rt.alloc())?)
 }
 
-/// Sees that a machine has $0, $1 and the next address.
+/// Checks that a machine has $0, $1 and the next address.
 fn has_registers(machine: &Machine) -> Result<(), Fail> {
     let found = (machine.register(0), machine.register(1), machine.pc());
     if found == (2, 0x4000_0000_0000_0008, 0) {

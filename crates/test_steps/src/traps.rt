@@ -10,7 +10,7 @@ use mx_trap::{TrapAnswer, TrapStop, touches, trap};
 use std::alloc::Global;
 use std::process::Abort;
 
-/// Where the arguments stand, and the buffer behind them.
+/// Where the arguments stand, and the buffer after them.
 const ARGS: u64 = 0x2000_0000_0000_0000;
 
 const BUFFER: u64 = ARGS + 16;
@@ -236,7 +236,7 @@ fn argument(rt: &impl Abort, memory: &mut Memory, y: u8, p: u64, q: u64) -> u64 
     }
 }
 
-/// What a call comes to that stands at #100.
+/// What a call comes to that is at #100.
 fn call(
     rt: &impl Abort,
     alloc: Global,

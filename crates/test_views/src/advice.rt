@@ -39,7 +39,7 @@ static ROWS: [Row; 20] = [
         "Main SEX $0,1\n",
         "    There is no operation `SEX`.\n    Operations are in capitals.",
     ),
-    // a label that is not in the first column; a comment behind a mark; and Main with a colon
+    // a label that is not in the first column; a comment after a mark; and Main with a colon
     (
         " Main SET $0,5\n",
         "    `Main` is not in the first column, so it is read as an operation.\n    A label begins in the first column of its line.\n",

@@ -87,7 +87,7 @@ fn faults_have_their_places(rt: HostRuntime) {
     assert_eq!(rt; places(rt.alloc(), FAULTY), Some(due));
 }
 
-/// A text so many times, and then another one.
+/// A text this many times, and then another one.
 fn repeated(alloc: Global, text: &str, count: u32, last: &str) -> Result<String, AllocError> {
     let mut source = String::new(alloc);
     for _ in 0..count {
@@ -152,7 +152,7 @@ fn too_many_pages_refuse_a_listing(rt: HostRuntime) {
     assert_eq!(rt; refused_listing(rt.alloc()), Some((131_074, 90)));
 }
 
-/// How many faults are told of a text so many times, and whether there are more.
+/// How many faults are told of a text this many times, and whether there are more.
 fn told_of_repeated(alloc: Global, text: &str, count: u32) -> Option<(usize, bool)> {
     let source = repeated(alloc, text, count, "Main SWYM\n").ok()?;
     let told = tell_faults(alloc, source.as_bytes()).ok()?;

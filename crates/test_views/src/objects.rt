@@ -230,7 +230,7 @@ fn counted(alloc: Global, object: &Bytes) -> Option<(Outcome, Bytes)> {
     }
 }
 
-/// The outcome, and whether the sheet is this behind its heading.
+/// The outcome, and whether the sheet is this after its heading.
 fn comes_to(alloc: Global, tetras: &[u32], end: Option<u32>, due: &str) -> Option<(Outcome, bool)> {
     let bytes = bytes_of(alloc, tetras, end)?;
     let (outcome, sheet) = counted(alloc, &bytes)?;

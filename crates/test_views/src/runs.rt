@@ -1,4 +1,4 @@
-//! Runs that are counted, over the host in memory: what stands on standard output, the outcome, and the sheet.
+//! Runs that are counted, over the host in memory: what is on standard output, the outcome, and the sheet.
 
 use mx_begin::arguments;
 use mx_count::{Counted, CountedLines, LineSheet, Tally, count_lines, count_source};

@@ -80,7 +80,7 @@ static ROWS: [Row; 13] = [
     },
 ];
 
-/// The line at fault and the number of a fault, if there are so many.
+/// The line at fault and the number of a fault, if there are this many.
 fn place(faults: &[ToldFault], index: usize) -> (u32, u16) {
     match faults.get(index) {
         Some(fault) => (fault.at_line, fault.refused.fault),

@@ -105,7 +105,7 @@ fn steps_elsewhere_are_in_the_sum(rt: HostRuntime) {
     );
 }
 
-/// A source of this line behind so many empty ones.
+/// A source of this line after this many empty ones.
 fn far_down(alloc: Global, empty: usize, line: &str) -> Option<Bytes> {
     let mut source = Bytes::new(alloc);
     for _line in 0..empty {

@@ -84,7 +84,7 @@ line 3: 82 MainUndefined
     Write Main in front of the first instruction, without a colon. Under a PREFIX it is :Main.
 ";
 
-/// Faulty lines, with a line behind them.
+/// Faulty lines, with a line after them.
 static FAULTY: &str = "x FOO
 y BAR
  SWYM 0
@@ -108,7 +108,7 @@ line 3: 82 MainUndefined
     Write Main in front of the first instruction, without a colon. Under a PREFIX it is :Main.
 ";
 
-/// Faults of operands, behind blanks and behind a tab; one of the second statement of a line; a label without an
+/// Faults of operands, after blanks and after a tab; one of the second statement of a line; a label without an
 /// operation; a label that is defined twice; and a reference to no label.
 static PLACED: &str = "Main  SET $0,70000
 \tADD $0,$0

@@ -21,7 +21,7 @@ marginal-set : (v : Registers) (k x : ℕ) → k < v.first_global → length v.l
 unfolding with_value
 marginal-set v k x f l = grind (arith, nat_tests)
 
--- the length of the locals with zeros behind them
+-- the length of the locals with zeros after them
 length-front : (xs : List ℕ) (k : ℕ) → length xs ≤ k → length (xs ++ replicate (k - length xs) 0) ≡ k
 length-front xs k f = simp (length-append, length-replicate) (omega arith)
 

@@ -42,7 +42,7 @@ fn stream(lead: Lead, mode: Mode) -> Slot
     }
 }
 
-/// Adds so many closed slots.
+/// Adds this many closed slots.
 fn add_closed(slots: &mut Vec<Slot>, count: usize) -> Result<(), NoMemory>
     ensures { OnOk result (slots.new.items ≡ slots.old.items ++ replicate count Slot.Closed) }
 {

@@ -9,7 +9,7 @@ use crate::RingFault;
 use crate::slices::append;
 
 impl Hidden {
-    /// The octas of the stack area behind the spilled ones: so many, or as many as there are.
+    /// The octas of the stack area after the spilled ones: this many, or as many as there are.
     ///
     /// Errors: `OutOfMemory` alone.
     pub fn behind(&mut self, count: usize) -> Result<Vec<u64>, RingFault>
@@ -24,7 +24,7 @@ impl Hidden {
         Ok(list)
     }
 
-    /// The hidden octas in the ring without the first so many.
+    /// The hidden octas in the ring without the first `stays`.
     ///
     /// Errors: `OutOfMemory` alone.
     pub fn residents_from(&self, stays: usize) -> Result<Vec<u64>, RingFault>
@@ -38,8 +38,8 @@ impl Hidden {
         Ok(list)
     }
 
-    /// So many octas are spilled, and these stand behind them in the stack area, within its 2^20; of the hidden octas in
-    /// the ring so many stay, and these follow, at most 2^20 in all. Where more octas are spilled than were, none stays.
+    /// This many octas are spilled, and these follow them in the stack area, within its 2^20; of the hidden octas in
+    /// the ring this many stay, and these follow, at most 2^20 in all. Where more octas are spilled than were, none stays.
     /// It takes no memory.
     pub fn put_back(&mut self, spilled: usize, over: &[u64], stays: usize, gone: &[u64])
         requires area { spilled + length over.now ≤ 2 ^ 20 }
@@ -53,7 +53,7 @@ impl Hidden {
         self.append(gone);
     }
 
-    /// So many octas are spilled, and of the hidden octas in the ring so many stay.
+    /// This many octas are spilled, and of the hidden octas in the ring this many stay.
     fn rewind(&mut self, spilled: usize, stays: usize)
         requires inside { spilled ≤ 2 ^ 20 }
         requires stays { stays ≤ 2 ^ 20 }
@@ -66,7 +66,7 @@ impl Hidden {
         self.take_stack(spilled);
     }
 
-    /// So many octas are spilled, no more than before, and of the hidden octas in the ring so many stay.
+    /// This many octas are spilled, no more than before, and of the hidden octas in the ring this many stay.
     fn unspill(&mut self, spilled: usize, stays: usize)
         requires fewer { spilled ≤ self.old.spilled }
         requires stays { stays ≤ 2 ^ 20 }
@@ -77,7 +77,7 @@ impl Hidden {
         self.limit = limit_for(spilled);
     }
 
-    /// Overwrites as many octas of the stack area behind the spilled ones.
+    /// Overwrites as many octas of the stack area after the spilled ones.
     fn overwrite(&mut self, octas: &[u64])
         requires { self.old.spilled + length octas.now ≤ 2 ^ 20 }
         ensures { self.new ≡ record self.old { stack = with_part self.old.stack self.old.spilled octas.now } }

@@ -65,7 +65,7 @@ impl Replay {
         self.next_marked(Sought::Change(place), until)
     }
 
-    /// Goes on to the next step at which at most so many registers are hidden, up to step `until`: the least step after this
+    /// Goes on to the next step at which at most this many registers are hidden, up to step `until`: the least step after this
     /// one. With the depth of this step that is the next step of the same call, or of one that it returned to; with one less,
     /// the step after the return. Where there is none, it goes on as far as `until`, or to the last step before it.
     ///
@@ -80,7 +80,7 @@ impl Replay {
     }
 
     /// Goes on to the next step whose turn comes to one of these breaks, changes the value at a place that is watched, or leads
-    /// to where at most so many registers are hidden, if that is asked; up to step `until`: the least step after this one.
+    /// to where at most this many registers are hidden, if that is asked; up to step `until`: the least step after this one.
     /// Where there is none, it goes on as far as `until`, or to the last step before it.
     ///
     /// Errors: out of memory; then it is where it was, or at the start.
@@ -162,7 +162,7 @@ impl Replay {
     }
 
     /// The last step before this one whose turn comes to one of these breaks, changes the value at a place that is watched, or
-    /// leads to where at most so many registers are hidden, if that is asked: the greatest. It stays where it is.
+    /// leads to where at most this many registers are hidden, if that is asked: the greatest. It stays where it is.
     ///
     /// Errors: out of memory.
     #[tactic(auto, using(crate::proofs::Unmarked::unmarking))]
@@ -195,7 +195,7 @@ impl Replay {
         self.last_marked(Sought::Change(place), self.here.at)
     }
 
-    /// The last step before this one at which at most so many registers are hidden: the greatest, and the start too may be
+    /// The last step before this one at which at most this many registers are hidden: the greatest, and the start too may be
     /// one. With the depth of this step that is the step before in the same call, or in one that called it; with one less,
     /// the step that called. It stays where it is.
     ///

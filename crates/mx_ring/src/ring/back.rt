@@ -93,7 +93,7 @@ impl Ring {
         Ok(note)
     }
 
-    /// What the octa of the stack area at an index is, once so many of the hidden octas in the ring are spilled.
+    /// What the octa of the stack area at an index is, once this many of the hidden octas in the ring are spilled.
     fn octa_after_spill(&self, count: usize, i: usize) -> u64
         requires few { count ≤ length self.now.hidden.resident }
         requires inside { i < 2 ^ 20 }
@@ -204,7 +204,7 @@ impl Ring {
     }
 }
 
-/// How many of so many octas and locals must leave a ring of a size.
+/// How many of this many octas and locals must leave a ring of a size.
 fn above_room(count: usize, size: usize) -> usize
     requires { count ≤ 2 ^ 22 }
     ensures { result ≡ above_room count size }

@@ -97,7 +97,7 @@ pub(crate) static FAULTY: [(&str, Result<u32, u16>); 20] = [
     (" BYTE 256", Err(43)),
 ];
 
-/// Statements behind the prefix `:p:`, where a predefined symbol is written with its colon.
+/// Statements after the prefix `:p:`, where a predefined symbol is written with its colon.
 pub(crate) static PREFIXED: [(&str, Result<u32, u16>); 2] = [
     ("x TRAP 0,Halt,0", Err(17)),
     (":Main TRAP 0,:Halt,0", Ok(0)),
@@ -166,7 +166,7 @@ pub(crate) static PSEUDO_OPERATIONS: [(&str, Result<Outline, u16>); 34] = [
     ("x SWYM", Ok((0x104, 4, Some(Value::Pure(0x104)), 0x108))),
 ];
 
-/// Statements behind the prefix `:p:`, and their effects: of a prefix its length, of a register its number.
+/// Statements after the prefix `:p:`, and their effects: of a prefix its length, of a register its number.
 pub(crate) static EFFECTS: [(&str, &str, usize); 4] = [
     (" BYTE 1", "plain", 0),
     (" PREFIX q", "prefix", 4),

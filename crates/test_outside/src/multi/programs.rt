@@ -94,7 +94,7 @@ fn image(rt: &impl Abort, alloc: Global, program: &Program) -> Image {
     loader.finish(Symbols::new(alloc)).expect(rt, "an image")
 }
 
-/// So many processors about to begin a program, with rings of so many registers.
+/// This many processors about to begin a program, with rings of this many registers.
 pub fn processors(rt: &impl Abort, alloc: Global, program: &Program, count: u8, ring: u32) -> Multi
     requires least { 1 ≤ count }
     requires most { count ≤ 8 }

@@ -1,4 +1,4 @@
-//! Turns by schedules: their end, the steps of two processors, and what stands in memory and on standard output. Counts of
+//! Turns by schedules: their end, the steps of two processors, and what is in memory and on standard output. Counts of
 //! steps are worked out by hand.
 
 ghost use Rattle.mx_multi.specs.Schedules.{AreNames};
@@ -20,7 +20,7 @@ static COUNTED: [Due; 10] = [
     (MultiEnd::AllHalted, [6, 11], 2),
     (MultiEnd::AllHalted, [6, 11], 2),
     (MultiEnd::AllHalted, [6, 11], 2),
-    // one behind the other
+    // one after the other
     (MultiEnd::AllHalted, [6, 6], 2),
     // the bound is on the sum
     (MultiEnd::Spent, [3, 2], 0),

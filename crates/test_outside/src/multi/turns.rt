@@ -40,7 +40,7 @@ fn processors_begin(rt: HostRuntime) {
 }
 
 /// $0, $1, $254 and $255 of the last of eight processors, and an octa of its own memory; an octa of the one memory, and what
-/// stands in the data segment.
+/// is in the data segment.
 fn begun(rt: &impl Abort, alloc: Global) -> ([u64; 5], u64, Option<(u64, u64)>) {
     let multi = processors(rt, alloc, &COUNTS, 8, 256);
     let last = multi.processor(7);

@@ -1,4 +1,4 @@
-//! Calls of the system that move a byte at a time, and fail behind some of them, by a file of this crate.
+//! Calls of the system that move a byte at a time, and fail after some of them, by a file of this crate.
 
 use mx_host::{HostFault, Mode};
 use mx_real::{Stream, read, write};
@@ -78,7 +78,7 @@ fn place_of(stream: &Stream<Fake>) -> u64 {
     }
 }
 
-/// What a read of four bytes answers, and the place behind it.
+/// What a read of four bytes answers, and the place after it.
 fn read_of(fails_at: u64) -> (Result<usize, HostFault>, u64) {
     let mut stream = Stream::File(Fake::new(fails_at), Mode::BinaryRead);
     let mut into = *b"....";
@@ -86,7 +86,7 @@ fn read_of(fails_at: u64) -> (Result<usize, HostFault>, u64) {
     (result, place_of(&stream))
 }
 
-/// What a write of four bytes answers, and the place behind it.
+/// What a write of four bytes answers, and the place after it.
 fn write_of(fails_at: u64) -> (Result<(), HostFault>, u64) {
     let mut stream = Stream::File(Fake::new(fails_at), Mode::BinaryWrite);
     let result = write(&mut io::sink(), &mut io::sink(), &mut stream, b"abcd");

@@ -6,12 +6,12 @@ use std::alloc::Global;
 use std::fs::OpenOptions;
 use std::{fs, io};
 
-/// How many calls the generator makes, behind the two that open the slots 6 and 7.
+/// How many calls the generator makes, after the two that open the slots 6 and 7.
 const CALLS: u64 = 10_000;
 
 const OPENINGS: u64 = 2;
 
-/// A file that is only read, and what stands in it.
+/// A file that is only read, and what is in it.
 const TEXT_FILE: usize = 0;
 
 /// The file that is read only, as long as the system says so.

@@ -35,7 +35,7 @@ static SIZES: [Row; 4] = [
     (0x110, 0xa500_0003, 0x2000_0000_0000_0002, 2),
 ];
 
-/// Writes below the part, to its first and its last octa, and behind it.
+/// Writes below the part, to its first and its last octa, and after it.
 static ENDS: [Row; 4] = [
     (0x100, 0xad00_0000, 0x1fff_ffff_ffff_fff8, 8),
     (0x104, 0xad00_0000, 0x2000_0000_0000_0000, 8),
@@ -187,7 +187,7 @@ fn full_after_one(rt: HostRuntime) {
     assert!(rt; watchers.len() == 1 && are_reports(kept.as_slice(), &want));
 }
 
-/// The traces of 150 writes of a byte, the first one 150 bytes behind the start of the data segment and each next one a
+/// The traces of 150 writes of a byte, the first one 150 bytes after the start of the data segment and each next one a
 /// byte before.
 fn stores(alloc: Global) -> Option<Vec<Trace>> {
     let mut traces = Vec::new(alloc);
@@ -198,7 +198,7 @@ fn stores(alloc: Global) -> Option<Vec<Trace>> {
     Some(traces)
 }
 
-/// Whether one report is kept, of the watcher at this place, with so many bytes and this end.
+/// Whether one report is kept, of the watcher at this place, with this many bytes and this end.
 fn is_one(kept: &[Report], place: usize, size: usize, end: &str) -> bool {
     let Some(report) = kept.first() else {
         return false;

@@ -1,4 +1,4 @@
-//! Records that are applied one after another, forth and back.
+//! Records that are applied one after another, back and forth.
 
 ghost use Rattle.std.specs.Prelude.{IfSome};
 ghost use Rattle.mx_record.specs.Recording.{IsReady};

@@ -1,4 +1,4 @@
-//! Steps, forth and back, and what stops a run.
+//! Steps, back and forth, and what stops a run.
 
 use crate::sessions::{Row, SUM, SUM_START, first_wrong};
 

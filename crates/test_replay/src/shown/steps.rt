@@ -26,7 +26,7 @@ rJ = #110 <Main+16>  (was #0)
 ",
 ];
 
-/// Adds where a run stands, and what its next step changes.
+/// Adds where a run is, and what its next step changes.
 fn add_step(text: &mut Bytes, book: &Book, replay: &mut Replay) -> Result<(), NoMemory> {
     add_stop(text, book, replay.at(), replay.machine())?;
     let before = Before::of(replay.machine());

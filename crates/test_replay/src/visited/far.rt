@@ -4,7 +4,7 @@ use crate::programs::{COUNTS, replay};
 use mx_replay::{Place, Replay};
 use std::alloc::Global;
 
-/// Steps that are gone to, forth and back: step 2^20 = 1,048,576 is kept, and some that are before others gone back to.
+/// Steps that are visited, back and forth: step 2^20 = 1,048,576 is kept, and some that are before others gone back to.
 static STEPS: [u64; 7] = [
     1_100_000, 1_099_999, 1_048_577, 1_048_576, 5, 1_048_600, 1_099_998,
 ];

@@ -105,7 +105,7 @@ fn found(
     Some((found, replay.at()))
 }
 
-/// Where one is who looked from a step, and found this, in a run of so many turns.
+/// Where one is who looked from a step, and found this, in a run of this many turns.
 fn place(at: u64, sought: Sought, found: Option<u64>, last: u64) -> u64 {
     match sought {
         Sought::Next(until) | Sought::NextChange(_, until) | Sought::NextShallow(_, until) => {
@@ -115,7 +115,7 @@ fn place(at: u64, sought: Sought, found: Option<u64>, last: u64) -> u64 {
     }
 }
 
-/// The number of the first search that finds something else, in a run of so many turns.
+/// The number of the first search that finds something else, in a run of this many turns.
 fn first_wrong(replay: &mut Replay, flags: &FlagMap, rows: &[Search], last: u64) -> Option<usize> {
     for (number, (at, sought, due)) in rows.iter().enumerate() {
         if found(replay, flags, *at, *sought) != Some((*due, place(*at, *sought, *due, last))) {

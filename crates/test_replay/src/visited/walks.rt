@@ -1,11 +1,11 @@
-//! Steps that are visited, forth and back.
+//! Steps that are visited, back and forth.
 
 use crate::programs::{ECHOES, LETTER, SUMS, replay};
 use mx_replay::Replay;
 use mx_run::End;
 use std::alloc::Global;
 
-/// A step that is gone to, and what is due there: the step, `$1`, the octa at `Letter`, the output and the end.
+/// A step that is visited, and what is due there: the step, `$1`, the octa at `Letter`, the output and the end.
 type Visit<'a> = (u64, (u64, u64, u64, &'a str, End));
 
 /// What `$1` has at the start: the address of the list of arguments.

@@ -62,7 +62,7 @@ fn make_step(back: &mut Back, machine: &mut Machine, quick: bool) -> bool
     }
 }
 
-/// Makes so many steps, and keeps what the machine shows before each. Whether all of them went on.
+/// Makes this many steps, and keeps what the machine shows before each. Whether all of them went on.
 pub fn step_up(
     back: &mut Back,
     machine: &mut Machine,
@@ -104,7 +104,7 @@ pub fn step_back(back: &mut Back, machine: &mut Machine, seen: &[u64]) -> usize
     most
 }
 
-/// How many steps of a program go on and come back, of so many; with `quick` usual ones are made as such.
+/// How many steps of a program go on and come back, of this many; with `quick` usual ones are made as such.
 pub fn come_back(
     alloc: Global,
     program: Program,

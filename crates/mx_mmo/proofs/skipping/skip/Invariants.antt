@@ -2,7 +2,7 @@ use Rattle.std.proofs.Common.{◌≡◌, ◌≤◌, false, Some, length, take, d
 use Rattle.mx_mmo.specs.Skipping as spec
 use Rattle.mx_mmo.proofs.skipping.skip.Given as goal
 
--- the tetras so far are skipped, and the rest stands behind them
+-- the tetras so far are skipped, and the rest follows them
 abbrev pub invariant-loop-rest : goal.invariant-loop-rest
 invariant-loop-rest l = record {
   rest : l.rest ≡ drop l.scan.size l.more;

@@ -7,7 +7,7 @@ use lib.Seq.{take-add, take-append-le}
 use Rattle.mx_real.proofs.transfers.read_whole.Goals.{in-Ok, in-Err+else-ne}
 use Rattle.mx_real.proofs.transfers.read_whole.Goals as goal
 
--- what was read before, and then what was read behind it
+-- what was read before, and then what was read after it
 front_of : (from n k : ℕ) (old new : List ℕ) → from ≤ length old → n ≤ length new → take (from + n) (put_mid from k old new) ≡ take from old ++ take n new
 front_of from n k old new within fits =
     let long = length-take-le from old within in

@@ -3,7 +3,7 @@ use Rattle.std.proofs.lemmas.List.{length-take-le, take-take}
 use Rattle.std.proofs.Math.Seq.{take-add}
 use Rattle.mx_registers.proofs.hidden.Hidden.take_stack.Goals as goal
 
--- the first octas of the stack area, of which some stand among the hidden ones
+-- the first octas of the stack area, of which some are among the hidden ones
 all-taken : (octas stack : List ℕ) (s n m : ℕ) → m ≡ min n s → take s octas ≡ take s stack → take m octas ++ take (n - m) (drop m stack) ≡ take n stack
 all-taken octas stack s n m e f =
     let first : take m octas ≡ take m stack = sym (take-take m s octas (omega arith)) ∙ ap (take m) f ∙ take-take m s stack (omega arith) in
