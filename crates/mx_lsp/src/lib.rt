@@ -1,0 +1,16 @@
+//! The server's answers to the messages of the Language Server Protocol: each is a function of the texts that are open.
+#![tactic(auto)]
+
+mod completion;
+mod documents;
+mod formatting;
+mod hover;
+mod images;
+mod lines;
+mod message;
+mod renaming;
+mod session;
+mod signature;
+
+pub use documents::{Document, Documents};
+pub use session::{Flow, Session, answer, new_session, no_header};
