@@ -18,7 +18,7 @@ usage: mmixware run [--ring R] [--steps N] [-i] [--dump] [--report] [--last J]
   run          assembles the source in the file SRC and runs it
   sim          runs the object file OBJ
   asm          assembles the source in the file SRC into the object file OBJ
-  gen          generates a program of N blocks (1 to 10000), runs it, and tells
+  gen          generates a program of N blocks (1 to 10000), runs it, and prints
                its size, its steps and its sum
   type         lists the object file OBJ line by line
   multi        runs the object file OBJ on up to eight processors, which take
@@ -36,7 +36,7 @@ usage: mmixware run [--ring R] [--steps N] [-i] [--dump] [--report] [--last J]
                was stopped or all steps were made, and writes a line for each
                state that comes back; not with -i or --report
 
-Options stand before the file and may repeat; the last one counts.
+Options come before the file and may be repeated; the last one counts.
 
 exit status: that of the program (the low byte of $255 at Halt), and
    0  done, or the console was left

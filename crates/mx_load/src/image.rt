@@ -8,7 +8,7 @@ ghost use Rattle.mx_load.specs.Faults.{told, given};
 ghost use Rattle.mx_load.specs.Kept.{image_of, line_at};
 
 use crate::LoadFault;
-use mx_mem::{MemFault, Memory};
+use mx_mem::{MemFault, Memory, Part};
 use mx_word::{STACK_SEGMENT, Symbols};
 use std::alloc::Global;
 use std::collections::BTreeMap;
@@ -132,7 +132,10 @@ impl Image {
         ensures same { result ≡ false → self.new ≡ self.old }
     {
         match self.memory.near_octa(a) {
-            Some(x) => self.memory.store_if_near(a, x ^ in_its_half(a, t)),
+            Some(x) => {
+                let joined = x ^ in_its_half(a, t);
+                self.memory.store_part_if_near(a, Part::Octa, joined)
+            }
             None => false,
         }
     }

@@ -58,7 +58,7 @@ pub static COMMANDS: [Row; 8] = [
     Row {
         face: Face::List,
         name: "list",
-        about: "lists a source: each line with the tetras that it loads, then the symbols",
+        about: "lists a source or an object: each line with the tetras that it loads, then the symbols",
         words: &[
             Word {
                 id: "JSON",
@@ -75,7 +75,7 @@ pub static COMMANDS: [Row; 8] = [
     Row {
         face: Face::Check,
         name: "check",
-        about: "tells the faults of a source, up to 100, and its warnings, each with its line",
+        about: "prints the faults of a source, up to 100, and its warnings, each with its line",
         words: &[
             Word {
                 id: "JSON",
@@ -102,7 +102,7 @@ pub static COMMANDS: [Row; 8] = [
     Row {
         face: Face::Where,
         name: "where",
-        about: "tells which lines load the tetra that holds an address, and this tetra",
+        about: "shows which lines load the tetra that holds an address, and this tetra",
         words: &[
             Word {
                 id: "JSON",
@@ -124,7 +124,7 @@ pub static COMMANDS: [Row; 8] = [
     Row {
         face: Face::Count,
         name: "count",
-        about: "runs a source, and tells how often each line was carried out and what that costs",
+        about: "runs a source or an object, and shows how often each line was carried out and what that costs",
         words: &[
             Word {
                 id: "JSON",
@@ -166,7 +166,7 @@ pub static COMMANDS: [Row; 8] = [
     Row {
         face: Face::Debug,
         name: "debug",
-        about: "goes through the run of a source or an object step by step, forth and back",
+        about: "goes through the run of a source or an object step by step, forward and back",
         words: &[
             Word {
                 id: "COMMANDS",
@@ -181,7 +181,7 @@ pub static COMMANDS: [Row; 8] = [
             Word {
                 id: "FILE",
                 form: Form::Value("file"),
-                help: "a file that the program is to find, read before the run; may come often",
+                help: "a file that the program is to find, read before the run; may be given several times",
             },
             Word {
                 id: "R",
@@ -208,7 +208,7 @@ pub static COMMANDS: [Row; 8] = [
     Row {
         face: Face::Page,
         name: "page",
-        about: "writes a page with a source or an object and its run, step by step, forth and back",
+        about: "writes a page with a source or an object and its run, step by step, forward and back",
         words: &[
             Word {
                 id: "JSON",
@@ -233,7 +233,7 @@ pub static COMMANDS: [Row; 8] = [
             Word {
                 id: "FILE",
                 form: Form::Value("file"),
-                help: "a file that the program is to find; as many times as there are files",
+                help: "a file that the program is to find; may be given several times",
             },
             Word {
                 id: "SRC",

@@ -76,7 +76,7 @@ statement_row n =
 unfoldable pub source_row : ℕ → Row
 source_row n =
     if n == 80 then row [] (codes "A name") (codes " is not defined.") (codes "Capitals and small letters differ. A colon is part of a name: Loop: is another label than Loop.")
-    else if n == 81 then row [] (codes "A local label") (codes " refers to a local label further down, and there is none.") (codes "To the one further up refers B in place of F, as 1B.")
+    else if n == 81 then row [] (codes "A local label") (codes " refers to a local label further down, and there is none.") (codes "For the one further up write B in place of F, as 1B.")
     else if n == 82 then row [] (codes "There is no label Main, where a program starts.") [] (codes "Write Main in front of the first instruction, without a colon. Under a PREFIX it is :Main.")
     else if n == 83 then row [] (codes "Main is a register, but a program starts at the address Main.") [] (codes "Write Main in front of the first instruction, and take another name for the register.")
     else if n == 84 then row [] (codes "A label that is used here is made a register further down.") [] (codes "Define the register before this line.")
@@ -130,7 +130,7 @@ indented_row = row [] (codes "This word") (codes " is not in the first column, s
 
 -- where a comment begins with ;
 unfoldable pub remark_row : Row
-remark_row = row (codes "There is no operation ") (codes "of this name") (codes ".") (codes "A ; begins the next statement. A comment behind the operands needs no mark, and a line of comment begins with *.")
+remark_row = row (codes "There is no operation ") (codes "of this name") (codes ".") (codes "A ; begins the next statement. A comment after the operands needs no mark, and a line of comment begins with *.")
 
 -- where a number below 0 is added or subtracted
 unfoldable pub sum_row : Row

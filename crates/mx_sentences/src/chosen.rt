@@ -144,7 +144,7 @@ pub(crate) fn remark_row() -> Row
         "There is no operation ",
         "of this name",
         ".",
-        "A ; begins the next statement. A comment behind the operands needs no mark, and a line of comment begins with *.",
+        "A ; begins the next statement. A comment after the operands needs no mark, and a line of comment begins with *.",
     )
 }
 

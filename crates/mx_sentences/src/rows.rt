@@ -285,7 +285,7 @@ fn source_row(number: u16) -> Row
             "",
             "A local label",
             " refers to a local label further down, and there is none.",
-            "To the one further up refers B in place of F, as 1B.",
+            "For the one further up write B in place of F, as 1B.",
         ),
         82 => parts(
             "",

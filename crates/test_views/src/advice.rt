@@ -46,7 +46,7 @@ static ROWS: [Row; 20] = [
     ),
     (
         "Main SET $0,5 ; set it\n",
-        "    There is no operation `set`.\n    A ; begins the next statement. A comment behind the operands needs no mark,",
+        "    There is no operation `set`.\n    A ; begins the next statement. A comment after the operands needs no mark,",
     ),
     (
         "Main SET $0,5; ADDD $0,$0,1\n",
@@ -85,7 +85,7 @@ static ROWS: [Row; 20] = [
     // local labels: one further up, and none at all; and a label that is defined already
     (
         "1H SWYM 0\nMain BZ $0,1F\n",
-        "    To the one further up refers B in place of F, as 1B.\n",
+        "    For the one further up write B in place of F, as 1B.\n",
     ),
     (
         "Main BZ $0,1F\n",

@@ -163,7 +163,7 @@ static LABELLED_TOLD: &str = "line 1: 39 UnknownOpcode
     n IS $1; the number
              ^~~
     There is no operation `the`.
-    A ; begins the next statement. A comment behind the operands needs no mark, and a line of comment begins with *.
+    A ; begins the next statement. A comment after the operands needs no mark, and a line of comment begins with *.
 line 2: 10 Syntax
     size IS 5,
              ^
@@ -255,7 +255,7 @@ line 8: 39 UnknownOpcode
      SWYM 0; set $0,1
              ^~~
     There is no operation `set`.
-    A ; begins the next statement. A comment behind the operands needs no mark, and a line of comment begins with *.
+    A ; begins the next statement. A comment after the operands needs no mark, and a line of comment begins with *.
 line 9: 80 UndefinedSymbol
     Late OCTA Main,late
                    ^~~~
