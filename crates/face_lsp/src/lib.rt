@@ -2,5 +2,6 @@
 #![tactic(auto)]
 
 mod serving;
+mod writing;
 
 pub use serving::serve;
