@@ -1,5 +1,5 @@
 -- What an editor is told of a source: its faults, up to 20, and its warnings. (Language Server Protocol, "Diagnostic".)
-use Rattle.std.specs.Prelude.{ℕ, ◌+◌, ◌^◌, nat_lt, List, [], ◌∷◌, ◌++◌, length, map, take, Option, None, Some, codes, if◌then◌else◌}
+use Rattle.std.specs.Prelude.{ℕ, ◌^◌, nat_lt, List, [], ◌∷◌, ◌++◌, length, map, take, Option, None, Some, codes, if◌then◌else◌}
 use Rattle.mx_line.specs.Lines.{lines_of}
 use Rattle.mx_marks.specs.Mending.{line_text}
 use Rattle.mx_outcome.specs.Names.{fault_name_of}
@@ -8,6 +8,7 @@ use Rattle.mx_view.specs.declared.checking.ToldFault.{ToldFault}
 use Rattle.mx_warn.specs.Kinds.{kind_name, kind_sentence}
 use Rattle.mx_warn.specs.Warnings.{warnings_of}
 use Rattle.mx_warn.specs.declared.warnings.Warning.{Warning}
+use Rattle.mx_wire.specs.Ranges.{end_of}
 use Rattle.mx_diagnostics.specs.declared.diagnostic.Diagnostic.{Diagnostic}
 use Rattle.mx_diagnostics.specs.declared.diagnostic.Severity.{Severity}
 use Rattle.mx_diagnostics.specs.declared.diagnostic.Severity.TheVariants as severity
@@ -29,7 +30,7 @@ fault_from (Some from) = from
 
 abbrev pub fault_to : Option ℕ → ℕ → List ℕ → ℕ
 fault_to None count line = length line
-fault_to (Some from) count line = from + count
+fault_to (Some from) count line = end_of line from count
 
 abbrev pub fault_in : ToldFault → List ℕ → Diagnostic
 fault_in f line = record {
@@ -52,7 +53,7 @@ warning_diagnostic w = record {
   number = w.line;
   line = w.text;
   from = w.place;
-  to = w.place + w.length;
+  to = end_of w.text w.place w.length;
   severity = severity.Warning;
   code = kind_name w.kind;
   message = kind_sentence w.kind;

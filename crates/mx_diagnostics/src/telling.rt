@@ -8,6 +8,7 @@ use mx_marks::line_text;
 use mx_outcome::fault_name;
 use mx_view::{ToldFault, tell_faults};
 use mx_warn::{Warning, tell_warnings};
+use mx_wire::end_of;
 use mx_word::{Bytes, NoMemory};
 use std::alloc::Global;
 
@@ -52,7 +53,7 @@ fn fault_marks(caret: Option<usize>, length: usize, line: &[u8]) -> (usize, usiz
 {
     match caret {
         None => (0, line.len()),
-        Some(from) => (from, from.saturating_add(length)),
+        Some(from) => (from, end_of(line, from, length)),
     }
 }
 
@@ -87,7 +88,7 @@ fn warning_diagnostic(alloc: Global, warning: &Warning) -> Result<Diagnostic, No
         number: warning.line,
         line,
         from: warning.place,
-        to: warning.place.saturating_add(warning.length),
+        to: end_of(warning.text.as_slice(), warning.place, warning.length),
         severity: Severity::Warning,
         code,
         message,

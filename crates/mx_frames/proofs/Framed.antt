@@ -8,6 +8,7 @@ use Rattle.std.specs.Str.Parse.{AllDigits}
 use Rattle.std.specs.Char.{digit_value}
 use Rattle.std.specs.Fmt.{decimal}
 use Rattle.std.proofs.lemmas.Fmt.{decimal_by_steps, decimal_is_IsNumeral, decimal_nonempty, length-decimal-le}
+use Rattle.std.proofs.lemmas.List.{take-append-drop}
 use Rattle.std.proofs.lemmas.List.Sums.{take_while-cons}
 use Rattle.std.proofs.lemmas.Slice.Eq.{bytes_eq-Decides}
 use Rattle.mx_word.specs.Kinds.{is_digit}
@@ -35,8 +36,8 @@ snoc-same (a ∷ xs) (b ∷ ys) x y e =
 -- a header that ends has the end of headers at its end
 ended-front : (head : List ℕ) → ends_head head ≡ true → (front : List ℕ) × (head ≡ front ++ head_end)
 ended-front head e =
-    let is : drop (length head - 4) head ≡ head_end = search (bytes_eq-Decides) in
-    (take (length head - 4) head, grind (arith, common_steps))
+    let is : drop (length head - 4) head ≡ head_end = (bytes_eq-Decides (drop (length head - 4) head) head_end).0 e in
+    (take (length head - 4) head, sym (take-append-drop (length head - 4) head) ∙ ap (λ t. take (length head - 4) head ++ t) is)
 
 -- ---- headers that have not ended
 
@@ -127,7 +128,7 @@ stops kind [] = true
 stops kind (b ∷ bs) = not (kind b)
 
 run-stopped : (kind : ℕ → Bool) (b : ℕ) (bs : List ℕ) → not (kind b) ≡ true → run kind (b ∷ bs) ≡ []
-run-stopped kind b bs e = let no : kind b ≡ false = grind (nat_tests) in take_while-cons kind b bs ∙ rw no refl
+run-stopped kind b bs e = let no : kind b ≡ false = grind (arith, nat_tests) in take_while-cons kind b bs ∙ rw no refl
 
 run-of : (kind : ℕ → Bool) (xs rest : List ℕ) → list_all kind xs ≡ true → stops kind rest ≡ true → run kind (xs ++ rest) ≡ xs
 run-of kind [] [] all s = refl

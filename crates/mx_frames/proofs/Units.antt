@@ -1,5 +1,5 @@
 -- Units of a text, and places.
-use Rattle.std.proofs.Common.{◌≡◌, ◌≢◌, ◌≤◌, ◌<◌, ℕ, zero, suc, ◌+◌, ◌-◌, ◌==◌, ◌&&◌, Bool, true, false, not, List, [], ◌∷◌, ◌++◌, length, take, drop, refl, ap, sym, ◌∙◌, arith}
+use Rattle.std.proofs.Common.{◌≡◌, ◌≢◌, ◌≤◌, ◌<◌, le_refl, ℕ, zero, suc, ◌+◌, ◌-◌, ◌==◌, ◌&&◌, Bool, true, false, not, List, [], ◌∷◌, ◌++◌, length, take, drop, refl, ap, sym, ◌∙◌, arith}
 use Rattle.std.proofs.lemmas.Bool.Decides.{nat_tests}
 use Rattle.std.proofs.lemmas.Grind.{common_steps}
 use Rattle.mx_frames.specs.Columns.{column_of, is_boundary, place_of, total, units}
@@ -17,34 +17,42 @@ pub ruleset totals = (total-more, total-none)
 
 -- ---- places
 
-pub none-here : (left : ℕ) → place_of [] left ≡ 0
+pub none-here : (place left : ℕ) → place + place_of [] left ≡ place
 unfolding place_of
-none-here left = refl
+none-here place left = omega arith
 
-pub later-column : (b : ℕ) (bs : List ℕ) (left : ℕ) → left ≢ 0 → place_of (b ∷ bs) left ≡ place_of bs (left - units b) + 1
+pub later-column : (place b : ℕ) (bs : List ℕ) (left : ℕ) → left ≢ 0 → place + place_of (b ∷ bs) left ≡ (place + 1) + place_of bs (left - units b)
 unfolding place_of
-later-column b bs left some = let no : ((left == 0) && not (units b == 0)) ≡ false = grind (arith, nat_tests) in rw no refl
+later-column place b bs left some = let no : ((left == 0) && not (units b == 0)) ≡ false = grind (arith, nat_tests) in rw no (omega arith)
 
-pub later-byte : (b : ℕ) (bs : List ℕ) (left : ℕ) → units b ≡ 0 → place_of (b ∷ bs) left ≡ place_of bs (left - units b) + 1
+pub later-byte : (place b : ℕ) (bs : List ℕ) (left : ℕ) → units b ≡ 0 → place + place_of (b ∷ bs) left ≡ (place + 1) + place_of bs (left - units b)
 unfolding place_of
-later-byte b bs left none = let no : ((left == 0) && not (units b == 0)) ≡ false = grind (arith, nat_tests) in rw no refl
+later-byte place b bs left none = let no : ((left == 0) && not (units b == 0)) ≡ false = grind (arith, nat_tests) in rw no (omega arith)
 
-pub here : (b : ℕ) (bs : List ℕ) (left : ℕ) → left ≡ 0 → units b ≢ 0 → place_of (b ∷ bs) left ≡ 0
+pub here : (place b : ℕ) (bs : List ℕ) (left : ℕ) → left ≡ 0 → units b ≢ 0 → place + place_of (b ∷ bs) left ≡ place
 unfolding place_of
-here b bs left e some = grind (arith, nat_tests)
+here place b bs left e some = let yes : ((left == 0) && not (units b == 0)) ≡ true = grind (arith, nat_tests) in rw yes (omega arith)
 
 pub ruleset places = (here, none-here, later-column, later-byte)
 
 -- ---- laws
 
+take-none : (n : ℕ) → ◌≡◌ {A = List ℕ} (take n []) []
+take-none zero = refl
+take-none (suc n) = refl
+
 ascend : (line : List ℕ) (place other : ℕ) → place ≤ other → total (take place line) ≤ total (take other line)
 unfolding total
-ascend [] place other le = omega arith
+ascend [] place other le = rw (take-none place, take-none other) (le_refl 0)
 ascend (b ∷ line) zero other le = omega arith
 ascend (b ∷ line) (suc place) zero le = absurd (omega (arith, le))
 ascend (b ∷ line) (suc place) (suc other) le = let later = ascend line place other (omega (arith, le)) in omega (arith, later)
 
-pub columns-ascend : (line : List ℕ) (place other : ℕ) → place ≤ other → column_of line place ≤ column_of line other
+pub columns-take-none : (n : ℕ) → ◌≡◌ {A = List ℕ} (take n []) []
+take-none zero = refl
+take-none (suc n) = refl
+
+ascend : (line : List ℕ) (place other : ℕ) → place ≤ other → column_of line place ≤ column_of line other
 columns-ascend line place other le = ascend line place other le
 
 first-place : (b : ℕ) (bs : List ℕ) → not (units b == 0) ≡ true → place_of (b ∷ bs) 0 ≡ 0
@@ -66,11 +74,14 @@ next-place b bs c =
     let less : (units b + c) - units b ≡ c = omega arith in
     rw (no, less) refl
 
+one-more : (n : ℕ) → n + 1 ≡ suc n
+one-more n = omega arith
+
 pub leads-back : (line : List ℕ) (place : ℕ) → place ≤ length line → is_boundary line place ≡ true → place_of line (column_of line place) ≡ place
 unfolding is_boundary total
 leads-back [] zero le e = none-left
 leads-back [] (suc place) le e = absurd (omega (arith, le))
 leads-back (b ∷ line) zero le e = first-place b line e
-leads-back (b ∷ line) (suc place) le e = next-place b line (total (take place line)) ∙ ap (λ n. n + 1) (leads-back line place (omega (arith, le)) e)
+leads-back (b ∷ line) (suc place) le e = next-place b line (total (take place line)) ∙ ap (λ n. n + 1) (leads-back line place (omega (arith, le)) e) ∙ one-more place
 
 pub ruleset laws = (columns-ascend, leads-back)

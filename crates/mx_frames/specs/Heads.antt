@@ -47,7 +47,7 @@ abbrev pub is_no_newline : ℕ → Bool
 is_no_newline b = not (b == 10)
 
 abbrev pub next_line : List ℕ → List ℕ
-next_line text = drop (length (run is_no_newline text) + 1) text
+next_line text = drop 1 (drop (length (run is_no_newline text)) text)
 
 -- what the first of so many lines says that has the name
 unfoldable pub length_in : ℕ → List ℕ → Option ℕ

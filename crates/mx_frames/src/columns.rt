@@ -44,12 +44,16 @@ pub fn place_of(line: &[u8], column: usize) -> usize
     ensures place { result ≡ spec.place_of line.now column }
     ensures within { result ≤ length line.now }
 {
+    let mut place = 0usize;
     let mut left = column;
-    for (place, b) in line.iter().enumerate() {
+    let mut rest = line;
+    while let [b, more @ ..] = rest {
         if left == 0 && units(*b) != 0 {
             return place;
         }
         left = left.saturating_sub(units(*b));
+        place += 1;
+        rest = more;
     }
-    line.len()
+    place
 }

@@ -116,11 +116,18 @@ fn number_at(text: &[u8]) -> Option<u64>
     if value > BODY_LIMIT { None } else { Some(value) }
 }
 
-/// How many bytes the first line of a text has with the newline that ends it.
+/// How many bytes the first line of a text has without the newline that ends it.
 fn line_count(text: &[u8]) -> usize
     ensures { result ≡ length (run spec.is_no_newline text.now) }
 {
     text.iter().take_while(|b| **b != b'\n').count()
+}
+
+/// A text without its first line.
+fn next_line(text: &[u8]) -> &[u8]
+    ensures { result.now ≡ spec.next_line text.now }
+{
+    behind(behind(text, line_count(text)), 1)
 }
 
 /// How many bytes the body has after this header, if it says so and they are not too many.
@@ -135,7 +142,7 @@ pub(crate) fn body_length(head: &[u8]) -> Option<u64>
             let value = behind(rest, 15);
             return number_at(behind(value, blank_count(value)));
         }
-        rest = behind(rest, line_count(rest).saturating_add(1));
+        rest = next_line(rest);
         left -= 1;
     }
     None

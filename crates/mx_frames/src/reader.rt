@@ -120,9 +120,11 @@ pub fn feed(
     ensures coming { IfOk result (λ coming. coming ≡ (spec.reads before piece.now).coming) }
 {
     let mut coming = before;
-    for b in piece {
+    let mut rest = piece;
+    while let [b, more @ ..] = rest {
         let next = with_byte(alloc, coming, *b)?;
         coming = settle(alloc, frames, next)?;
+        rest = more;
     }
     Ok(coming)
 }

@@ -33,9 +33,10 @@ fn add_operations(alloc: Global, list: &mut Bytes) -> Result<(), NoMemory> {
         add_word(alloc, list, directive.as_bytes(), b"14")?;
     }
     let mut last = "";
-    for code in 0..=255u8 {
-        if name(code) != last {
-            last = name(code);
+    for code in 0..256u16 {
+        let word = name(code as u8);
+        if word != last {
+            last = word;
             add_word(alloc, list, last.as_bytes(), b"14")?;
         }
     }

@@ -1,8 +1,11 @@
 //! The columns of a text: label, operation, operands, comment.
 
+ghost use Rattle.std.specs.Prelude.{◌≡◌, IfOk};
+ghost use Rattle.mx_lsp.specs.Layouts as spec;
+
 use crate::images::{Compared, compare};
-use crate::renaming::Renamed;
-use mx_json::{add_between, add_number, add_string};
+use crate::renaming::{Renamed, part, why_not};
+use mx_json::{add_number, add_string};
 use mx_line::{Cut, cut_line, next_statement};
 use mx_word::{Bytes, NoMemory};
 use std::alloc::Global;
@@ -25,12 +28,6 @@ fn add_blanks(text: &mut Bytes, column: usize, to: usize) -> Result<(), NoMemory
         }
     }
     Ok(())
-}
-
-/// A part of a line.
-fn part(line: &[u8], from: usize, to: usize) -> &[u8] {
-    let to = to.min(line.len());
-    &line[from.min(to)..to]
 }
 
 /// A text without the blanks at its front.
@@ -104,32 +101,39 @@ fn formatted(alloc: Global, source: &[u8]) -> Result<(Bytes, u64), NoMemory> {
     Ok((text, count))
 }
 
-/// The change that puts a text in place of a whole one.
-fn whole_edit(alloc: Global, text: &[u8], count: u64) -> Result<Bytes, NoMemory> {
-    let mut result = Bytes::copy(
+/// The change that puts a text in place of a whole one, which has so many lines.
+#[tactic(auto, unfolding(crate::specs::Layouts::whole_edit))]
+fn whole_edit(alloc: Global, text: &[u8], count: u64) -> Result<Bytes, NoMemory>
+    ensures { IfOk result (λ edit. edit ≡ spec.whole_edit text.now count) }
+{
+    let mut edit = Bytes::copy(
         alloc,
         b"[{\"range\":{\"start\":{\"line\":0,\"character\":0},\"end\":",
     )?;
-    add_number(&mut result, b"{\"line\":", count)?;
-    add_between(&mut result, b",\"character\":0}}", b"", b"")?;
-    add_string(alloc, &mut result, b",\"newText\":", text)?;
-    result.extend(b"}]")?;
-    Ok(result)
+    add_number(&mut edit, b"{\"line\":", count)?;
+    add_string(alloc, &mut edit, b",\"character\":0}},\"newText\":", text)?;
+    edit.extend(b"}]")?;
+    Ok(edit)
+}
+
+/// The change that puts a text in place of a source, if the image stays.
+fn change_to(alloc: Global, source: &[u8], text: &[u8], count: u64) -> Result<Renamed, NoMemory>
+    ensures { IfOk result (λ r. spec.IsLaidOut source.now text.now count r) }
+{
+    match compare(alloc, source, text)? {
+        Compared::Same => Ok(Renamed::Done(whole_edit(alloc, text, count)?)),
+        other => Ok(Renamed::Refused(why_not(other))),
+    }
 }
 
 /// The change that puts the lines of a text into their columns, if the image stays.
-pub(crate) fn formatting(alloc: Global, source: &[u8]) -> Result<Renamed, NoMemory> {
+#[tactic(auto, using(crate::proofs::Layouts::layouts))]
+pub(crate) fn formatting(alloc: Global, source: &[u8]) -> Result<Renamed, NoMemory>
+    ensures { IfOk result (λ r. spec.Formats source.now r) }
+{
     let (text, count) = formatted(alloc, source)?;
     if text.as_slice() == source {
         return Ok(Renamed::Done(Bytes::copy(alloc, b"[]")?));
     }
-    match compare(alloc, source, text.as_slice())? {
-        Compared::Same => Ok(Renamed::Done(whole_edit(alloc, text.as_slice(), count)?)),
-        Compared::Different | Compared::SecondRefused => {
-            Ok(Renamed::Refused("the program would be another one"))
-        }
-        Compared::FirstRefused => Ok(Renamed::Refused(
-            "the source has faults, so that it cannot be known whether the program stays the same",
-        )),
-    }
+    change_to(alloc, source, text.as_slice(), count)
 }

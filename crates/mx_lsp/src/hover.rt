@@ -80,6 +80,24 @@ fn add_cell(alloc: Global, text: &mut Bytes, cell: Cell, is_code: bool) -> Resul
     text.extend(b"\n")
 }
 
+/// The first tetras of a line, at most 16.
+fn first_cells(cells: &[Cell]) -> &[Cell] {
+    if cells.len() > 16 { &cells[..16] } else { cells }
+}
+
+/// Adds the first tetras of a line.
+fn add_some(
+    alloc: Global,
+    text: &mut Bytes,
+    cells: &[Cell],
+    is_code: bool,
+) -> Result<(), NoMemory> {
+    for cell in first_cells(cells) {
+        add_cell(alloc, text, *cell, is_code)?;
+    }
+    Ok(())
+}
+
 /// Adds the tetras that a line loads.
 fn add_cells(
     alloc: Global,
@@ -90,9 +108,7 @@ fn add_cells(
 ) -> Result<(), NoMemory> {
     for line in listed.lines.as_slice() {
         if line.number == number {
-            for cell in line.cells.as_slice().iter().take(16) {
-                add_cell(alloc, text, *cell, is_code)?;
-            }
+            add_some(alloc, text, line.cells.as_slice(), is_code)?;
         }
     }
     Ok(())

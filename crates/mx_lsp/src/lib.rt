@@ -6,11 +6,14 @@ mod documents;
 mod formatting;
 mod hover;
 mod images;
+mod laws;
 mod lines;
 mod message;
+mod names;
 mod renaming;
 mod session;
 mod signature;
 
 pub use documents::{Document, Documents};
+pub use laws::the_text_of_a_name_is_the_last_that_came;
 pub use session::{Flow, Session, answer, new_session, no_header};

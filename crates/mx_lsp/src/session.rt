@@ -1,5 +1,11 @@
 //! A session: the messages that come, and the answers to them.
 
+ghost use Rattle.std.specs.Prelude.{◌≡◌, [], ◌∷◌, ◌++◌, IfOk, OnOk, codes, true};
+ghost use Rattle.mx_diagnostics.specs.Diagnostics.{diagnostics_of};
+ghost use Rattle.mx_diagnostics.specs.Published as published;
+ghost use Rattle.mx_wire.specs.Replies.{refusal_body};
+ghost use Rattle.mx_lsp.specs.Sessions as spec;
+
 use crate::completion::completion;
 use crate::documents::{Documents, text_of, with_text, without};
 use crate::formatting::formatting;
@@ -80,7 +86,7 @@ fn result_in(
         Method::References => {
             let has_labels = wants_label(message);
             references(alloc, uri, place.line, place.from, has_labels, source)
-        },
+        }
         Method::Highlight => highlights(alloc, place.line, place.from, source),
         Method::PrepareRename => name_range(alloc, place.line, place.from, source),
         Method::Symbols => outline(alloc, source),
@@ -137,7 +143,10 @@ fn request(
     id: &[u8],
     method: Method,
     message: &Value,
-) -> Result<Bytes, NoMemory> {
+) -> Result<Bytes, NoMemory>
+    ensures shut { session.old.is_shut ≡ true → IfOk result (λ body. body
+        ≡ refusal_body id.now Refused.NoRequest (codes "the session is shut down")) }
+{
     if session.is_shut {
         return refusal_of(alloc, id, Refused::NoRequest, b"the session is shut down");
     }
@@ -161,10 +170,14 @@ fn take_text(
     uri: &[u8],
     text: &[u8],
     out: &mut Bodies,
-) -> Result<(), NoMemory> {
+) -> Result<(), NoMemory>
+    ensures told { OnOk result (out.new ≡ out.old ++ published.notice uri.now (diagnostics_of text.now) ∷ []) }
+    ensures open { OnOk result (session.new ≡ spec.with_text session.old uri.now text.now) }
+{
+    let told = published(alloc, uri, text)?;
     let documents = mem::replace(&mut session.documents, Documents::new(alloc));
     session.documents = with_text(alloc, documents, uri, text)?;
-    out.push(published(alloc, uri, text)?)
+    out.push(told)
 }
 
 /// Forgets a text.
@@ -173,10 +186,14 @@ fn close_text(
     session: &mut Session,
     uri: &[u8],
     out: &mut Bodies,
-) -> Result<(), NoMemory> {
+) -> Result<(), NoMemory>
+    ensures told { OnOk result (out.new ≡ out.old ++ published.notice uri.now [] ∷ []) }
+    ensures closed { OnOk result (session.new ≡ spec.without session.old uri.now) }
+{
+    let told = withdrawn(alloc, uri)?;
     let documents = mem::replace(&mut session.documents, Documents::new(alloc));
-    session.documents = without(alloc, documents, uri)?;
-    out.push(withdrawn(alloc, uri)?)
+    session.documents = without(documents, uri);
+    out.push(told)
 }
 
 /// Takes what a message tells that asks for no answer.

@@ -8,10 +8,18 @@ use mx_slips::source_lines;
 use mx_word::{Bytes, NoMemory};
 use std::alloc::Global;
 
+/// The first line of a text, and what follows it.
+fn parted(text: &[u8]) -> (&[u8], &[u8]) {
+    if text.is_empty() {
+        return (text, text);
+    }
+    cut_line(text)
+}
+
 /// The second line of a text, without the blanks at its front.
 fn second_line(text: &[u8]) -> &[u8] {
-    let (_, others) = cut_line(text);
-    let (line, _) = cut_line(others);
+    let (_, others) = parted(text);
+    let (line, _) = parted(others);
     match line {
         [b' ', b' ', form @ ..] => form,
         _ => line,

@@ -1,6 +1,6 @@
 -- Where a name is defined and used, and how it is marked. (Language Server Protocol, "Goto Definition Request", "Find References Request",
 -- "Document Highlights Request", "Prepare Rename Request".)
-use Rattle.std.specs.Prelude.{ℕ, ◌+◌, ◌&&◌, ◌||◌, not, Bool, true, false, List, [], ◌∷◌, ◌++◌, length, Option, None, Some, codes, if◌then◌else◌}
+use Rattle.std.specs.Prelude.{ℕ, ◌&&◌, ◌||◌, not, Bool, true, false, List, [], ◌∷◌, ◌++◌, length, Option, None, Some, codes, if◌then◌else◌}
 use Rattle.std.specs.List.{flat_map}
 use Rattle.mx_json.specs.Json.{array}
 use Rattle.mx_line.specs.Lines.{lines_of}
@@ -8,12 +8,15 @@ use Rattle.mx_marks.specs.Mending.{line_text}
 use Rattle.mx_occurrences.specs.Occurrences.{definition_of, is_same, occurrence_at, occurrences_of}
 use Rattle.mx_occurrences.specs.declared.occurrence.Named.{Named}
 use Rattle.mx_occurrences.specs.declared.occurrence.Occurrence.{Occurrence}
-use Rattle.mx_wire.specs.Ranges.{location, range}
+use Rattle.mx_wire.specs.Ranges.{end_of, location, range}
 
 -- ---- a name
 
+abbrev pub range_in : List ℕ → Occurrence → List ℕ
+range_in line o = range o.line line o.from (end_of line o.from (length o.text))
+
 abbrev pub range_of : List ℕ → Occurrence → List ℕ
-range_of source o = range o.line (line_text o.line (lines_of source)) o.from (o.from + length o.text)
+range_of source o = range_in (line_text o.line (lines_of source)) o
 
 abbrev pub location_of : List ℕ → List ℕ → Occurrence → List ℕ
 location_of uri source o = location uri (range_of source o)

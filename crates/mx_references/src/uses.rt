@@ -6,7 +6,7 @@ ghost use Rattle.mx_references.specs.Uses as spec;
 
 use mx_marks::line_text;
 use mx_occurrences::{Named, Occurrence, definition_of, occurrence_at, occurrences, same_named};
-use mx_wire::{Values, add_array, add_location, add_range};
+use mx_wire::{Values, add_array, add_location, add_range, end_of};
 use mx_word::{Bytes, NoMemory};
 use std::alloc::Global;
 
@@ -14,16 +14,10 @@ use std::alloc::Global;
 pub fn range_text(alloc: Global, source: &[u8], o: &Occurrence) -> Result<Bytes, NoMemory>
     ensures { IfOk result (λ range. range ≡ spec.range_of source.now o.now) }
 {
+    let line = line_text(o.line, source);
+    let to = end_of(line, o.from, o.text.as_slice().len());
     let mut range = Bytes::new(alloc);
-    let to = o.from.saturating_add(o.text.as_slice().len());
-    add_range(
-        &mut range,
-        b"",
-        o.line,
-        line_text(o.line, source),
-        o.from,
-        to,
-    )?;
+    add_range(&mut range, b"", o.line, line, o.from, to)?;
     Ok(range)
 }
 

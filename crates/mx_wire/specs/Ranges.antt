@@ -1,6 +1,6 @@
 -- Places and ranges of a text as JSON: lines are counted from 0, and columns in units of UTF-16. (Language Server Protocol, "Position",
 -- "Range" and "Location".)
-use Rattle.std.specs.Prelude.{ℕ, ◌-◌, List, ◌++◌, length, codes, decimal}
+use Rattle.std.specs.Prelude.{ℕ, ◌+◌, ◌-◌, ◌&&◌, nat_lt, List, ◌++◌, length, codes, decimal, if◌then◌else◌}
 use Rattle.mx_json.specs.Json.{string}
 use Rattle.mx_frames.specs.Columns.{column_of}
 
@@ -10,6 +10,10 @@ position number column = codes "{\"line\":" ++ decimal (number - 1) ++ codes ",\
 
 unfoldable pub columns_range : ℕ → ℕ → ℕ → List ℕ
 columns_range number start end = codes "{\"start\":" ++ position number start ++ codes ",\"end\":" ++ position number end ++ codes "}"
+
+-- the place so many bytes after another one, at most the end of the line
+abbrev pub end_of : List ℕ → ℕ → ℕ → ℕ
+end_of line from count = if nat_lt from (length line) && nat_lt count (length line - from) then from + count else length line
 
 -- the bytes of a line from one place up to another
 abbrev pub range : ℕ → List ℕ → ℕ → ℕ → List ℕ

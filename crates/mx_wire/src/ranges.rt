@@ -41,6 +41,18 @@ fn add_columns(
     text.extend(b"}")
 }
 
+/// The place so many bytes after another one; where the line ends before it, the end of the line.
+pub fn end_of(line: &[u8], from: usize, count: usize) -> usize
+    ensures { result ≡ spec.end_of line.now from count }
+{
+    let whole = line.len();
+    if from < whole && count < whole - from {
+        from + count
+    } else {
+        whole
+    }
+}
+
 /// Adds the range of the bytes of a line from one place up to another; the number of the line is counted from 1.
 pub fn add_range(
     text: &mut Bytes,

@@ -1,9 +1,13 @@
-use Rattle.std.proofs.Common.{◌≡◌, ◌++◌, drop}
+use Rattle.std.proofs.Common.{◌≡◌, ◌++◌, length}
 use Rattle.mx_frames.specs.Streams.{reads}
 use Rattle.mx_frames.proofs.reader.feed.Given as goal
 
-abbrev pub invariant-loop-b : goal.invariant-loop-b
-invariant-loop-b l = record {
-  frames : l.frames ++ (reads l.coming (drop l.b-index l.piece)).frames ≡ l.fn.frames ++ (reads l.fn.before l.piece).frames;
-  coming : (reads l.coming (drop l.b-index l.piece)).coming ≡ (reads l.fn.before l.piece).coming;
+-- the bytes that are left are left to read
+abbrev pub invariant-loop-rest : goal.invariant-loop-rest
+invariant-loop-rest l = record {
+  frames : l.frames ++ (reads l.coming l.rest).frames ≡ l.fn.frames ++ (reads l.fn.before l.piece).frames;
+  coming : (reads l.coming l.rest).coming ≡ (reads l.fn.before l.piece).coming;
 }
+
+abbrev pub decreases-loop-rest : goal.decreases-loop-rest
+decreases-loop-rest l = length l.rest
