@@ -13,7 +13,10 @@ import tempfile
 
 HERE = os.path.dirname(os.path.dirname(os.path.dirname(os.path.abspath(__file__))))
 PARTS = os.path.join(HERE, "checks", "lsp")
-PROGRAM = os.path.abspath(sys.argv[1]) if len(sys.argv) > 1 else os.path.join(HERE, "mmixview")
+sys.path.insert(0, PARTS)
+import wire  # noqa: E402
+
+PROGRAM = wire.program(sys.argv[1:])
 
 SOURCE = """\tLOC #100
 Size\tIS 10

@@ -11,7 +11,7 @@ HERE = os.path.dirname(os.path.dirname(os.path.dirname(os.path.abspath(__file__)
 sys.path.insert(0, os.path.join(HERE, "checks", "lsp"))
 import wire  # noqa: E402
 
-PROGRAM = sys.argv[1] if len(sys.argv) > 1 else os.path.join(HERE, "mmixview")
+PROGRAM = wire.program(sys.argv[1:])
 URI = "file:///text.mms"
 
 

@@ -12,7 +12,7 @@ HERE = os.path.dirname(os.path.dirname(os.path.dirname(os.path.abspath(__file__)
 sys.path.insert(0, os.path.join(HERE, "checks", "lsp"))
 import wire  # noqa: E402
 
-PROGRAM = sys.argv[1] if len(sys.argv) > 1 else os.path.join(HERE, "mmixview")
+PROGRAM = wire.program(sys.argv[1:])
 COUNT = int(sys.argv[2]) if len(sys.argv) > 2 else 10000
 URI = "file:///a.mms"
 TEXTS = ["Main TRAP 0,Halt,0\n", "", "\tLOC #100\nMain ADD $1,$1,1000\n", "é\U0001d11e IS 1\n2H JMP 2F\n2H JMP 2B\n"]

@@ -12,7 +12,7 @@ HERE = os.path.dirname(os.path.dirname(os.path.dirname(os.path.abspath(__file__)
 sys.path.insert(0, os.path.join(HERE, "checks", "lsp"))
 import wire  # noqa: E402
 
-PROGRAM = sys.argv[1] if len(sys.argv) > 1 else os.path.join(HERE, "mmixview")
+PROGRAM = wire.program(sys.argv[1:])
 URI = "file:///text.mms"
 faults = []
 
@@ -89,10 +89,10 @@ def main():
         diagnostics = server.open(URI, text)
         want("faults of " + path, told(diagnostics, 1) == ranges(checked(path)), diagnostics)
     want("a good text has no faults", server.change(URI, PROGRAM_TEXT) == [])
-    hover = server.at("hover", URI, 2, 6)
-    print(hover["result"]["contents"]["value"])
-    hover = server.at("hover", URI, 2, 14)
-    print(hover["result"]["contents"]["value"])
+    hover = server.at("hover", URI, 2, 6)["result"]["contents"]["value"]
+    want("an instruction is told", hover.startswith("#0000000000000100: e301000a  SETL $1,10  1\u03c5\n"), hover)
+    hover = server.at("hover", URI, 2, 14)["result"]["contents"]["value"]
+    want("a name is told", hover == ":Size = #000000000000000a\nline 2: Size\tIS 10\n", hover)
     label = server.at("definition", URI, 4, 10)["result"]
     want("2B is the first 2H", label and label["range"]["start"]["line"] == 3, label)
     label = server.at("definition", URI, 5, 6)["result"]
@@ -108,7 +108,6 @@ def main():
     want("2H becomes 3H", [e["newText"] for e in new["result"]["changes"][URI]] == ["3H", "3B"], new)
     new = server.at("rename", URI, 2, 0, newName="Begin")
     want("Main stays", "error" in new, new)
-    print(new["error"]["message"])
     new = server.at("rename", URI, 1, 0, newName="Main")
     want("no name twice", "error" in new, new)
     outline = server.ask("textDocument/documentSymbol", {"textDocument": {"uri": URI}})["result"]
@@ -118,7 +117,8 @@ def main():
     form = server.at("signatureHelp", URI, 2, 12)["result"]
     want("SETL is written", form and form["signatures"][0]["label"] == "SETL $X,YZ", form)
     changes = server.ask("textDocument/formatting", {"textDocument": {"uri": URI}, "options": {}})
-    print(changes["result"][0]["newText"])
+    rows = changes["result"][0]["newText"].splitlines()
+    want("the columns", rows[:2] + rows[6:] == ["        LOC   #100", "Size    IS    10", "2H      TRAP  0,Halt,0        end"], rows)
     want("places beyond a line", "error" not in server.at("hover", URI, 3, 1000) and "error" not in server.at("hover", URI, 1000, 0))
     want("no such request", server.ask("workspace/none", {})["error"]["code"] == -32601)
     want("the end", server.end() == 0)
@@ -128,7 +128,6 @@ def main():
     for bad in (b"Content-Type: x\r\n\r\n{}", b"Content-Length: 67108865\r\n\r\n", wire.frame(b"{"), b"x" * 5000):
         out, status = wire.session(PROGRAM, bad)
         want("no message", wire.bodies(out)[0][0]["error"]["code"] == -32700 and status == 1, out)
-    print("%d not so" % len(faults))
     return 1 if faults else 0
 
 

@@ -1,6 +1,21 @@
 """The wire of the Language Server Protocol: messages in frames, and a server that is talked to."""
 import json
+import os
 import subprocess
+import sys
+
+HERE = os.path.dirname(os.path.dirname(os.path.dirname(os.path.abspath(__file__))))
+
+
+def program(words):
+    """The program that is tried: the first word, or the one that is kept, if it is that of these sources. Without one nothing is tried."""
+    if words:
+        return os.path.abspath(words[0])
+    ready = "here=$PWD tool=mmixview; . packaging/kept.sh; is_ready"
+    if subprocess.run(["sh", "-c", ready], cwd=HERE, stdout=subprocess.DEVNULL, stderr=subprocess.DEVNULL).returncode == 0:
+        return os.path.join(HERE, ".built", "mmixview")
+    print("checks/lsp: mmixview is not built; nothing is tried")
+    sys.exit(0)
 
 
 def frame(body):

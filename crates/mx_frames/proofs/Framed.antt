@@ -95,12 +95,14 @@ unfolding reads
 read-head head rest plain few =
     let few_3 : length (head ++ 13 ∷ []) + 1 < 4096 = grind (arith, common_steps) in
     let few_2 : length ((head ++ 13 ∷ []) ++ 10 ∷ []) + 1 < 4096 = grind (arith, common_steps) in
+    let whole : (((head ++ 13 ∷ []) ++ 10 ∷ []) ++ 13 ∷ []) ++ 10 ∷ [] ≡ head ++ head_end =
+      append_assoc ((head ++ 13 ∷ []) ++ 10 ∷ []) (13 ∷ []) (10 ∷ []) ∙ append_assoc (head ++ 13 ∷ []) (10 ∷ []) (13 ∷ 10 ∷ []) ∙ append_assoc head (13 ∷ []) (10 ∷ 13 ∷ 10 ∷ []) in
     ap (reads (Head [])) (append_assoc head head_end rest)
     ∙ walk [] head (head_end ++ rest) plain (omega (arith, few))
     ∙ goes-on head 13 (10 ∷ 13 ∷ 10 ∷ rest) (open-byte head 13 refl (ends_head (head ++ 13 ∷ [])) refl) (omega (arith, few))
     ∙ goes-on (head ++ 13 ∷ []) 10 (13 ∷ 10 ∷ rest) (first-line head plain (ends_head ((head ++ 13 ∷ []) ++ 10 ∷ [])) refl) few_3
     ∙ goes-on ((head ++ 13 ∷ []) ++ 10 ∷ []) 13 (10 ∷ rest) (open-byte ((head ++ 13 ∷ []) ++ 10 ∷ []) 13 refl (ends_head (((head ++ 13 ∷ []) ++ 10 ∷ []) ++ 13 ∷ [])) refl) few_2
-    ∙ ap (λ h. joined (settled (head_after h)) (reads (settled (head_after h)).coming rest)) (grind (common_steps))
+    ∙ ap (λ h. joined (settled (head_after h)) (reads (settled (head_after h)).coming rest)) whole
 
 -- ---- what the header of a body says
 

@@ -48,11 +48,7 @@ ascend (b ∷ line) zero other le = omega arith
 ascend (b ∷ line) (suc place) zero le = absurd (omega (arith, le))
 ascend (b ∷ line) (suc place) (suc other) le = let later = ascend line place other (omega (arith, le)) in omega (arith, later)
 
-pub columns-take-none : (n : ℕ) → ◌≡◌ {A = List ℕ} (take n []) []
-take-none zero = refl
-take-none (suc n) = refl
-
-ascend : (line : List ℕ) (place other : ℕ) → place ≤ other → column_of line place ≤ column_of line other
+pub columns-ascend : (line : List ℕ) (place other : ℕ) → place ≤ other → column_of line place ≤ column_of line other
 columns-ascend line place other le = ascend line place other le
 
 first-place : (b : ℕ) (bs : List ℕ) → not (units b == 0) ≡ true → place_of (b ∷ bs) 0 ≡ 0
