@@ -4,15 +4,14 @@ ghost use Rattle.std.specs.Prelude.{◌≡◌, ◌<◌, ◌≤◌, IfErr, IfOk, 
 ghost use Rattle.mx_face.specs.Pages.{FaultsOnlyBy, IsOfView};
 ghost use Rattle.mx_replay.specs.Programs.{NamesFile};
 
-use crate::program::{Gathered, gather};
 use crate::talking::talk;
-use crate::words::{Ordered, Unread, order_in};
 use face_check::{Form as FaultForm, check};
 use mx_begin::{Form, word};
 use mx_book::Book;
 use mx_debug::Session;
 use mx_face::tell;
 use mx_host::{Host, StoredFile};
+use mx_inputs::{Gathered, Ordered, OwnOption, Unread, file_at, gather, order_in};
 use mx_load::ObjectFault;
 use mx_object::is_object;
 use mx_outcome::Outcome;
@@ -138,6 +137,7 @@ fn debug_gathered<H: Host>(
     host: &mut H,
     ordered: Ordered,
     gathered: Gathered,
+    lines: &Option<Bytes>,
     has_prompt: bool,
 ) -> Outcome
     requires file { ordered.order.file < length ordered.named.words.items }
@@ -151,7 +151,6 @@ fn debug_gathered<H: Host>(
     let Ok(name) = name else {
         return tell(alloc, host, Outcome::OutOfMemory);
     };
-    let lines = gathered.lines;
     match session_of(
         alloc,
         ordered,
@@ -159,8 +158,27 @@ fn debug_gathered<H: Host>(
         gathered.input,
         gathered.files,
     ) {
-        Ok(mut session) => talk(alloc, host, &mut session, &lines, has_prompt),
+        Ok(mut session) => talk(alloc, host, &mut session, lines, has_prompt),
         Err(outcome) => refuse(alloc, host, name.as_slice(), outcome),
+    }
+}
+
+/// Reads the lines, if the words name a file with some, and begins the session.
+fn debug_lines<H: Host>(
+    alloc: Global,
+    host: &mut H,
+    words: &[String],
+    ordered: Ordered,
+    gathered: Gathered,
+    has_prompt: bool,
+) -> Outcome
+    requires file { ordered.order.file < length ordered.named.words.items }
+    requires rest { ordered.order.rest ≤ length ordered.named.words.items }
+    ensures { FaultsOnlyBy H.told H.faults host.old host.new result }
+{
+    match file_at(alloc, host, words, ordered.named.own) {
+        Ok(lines) => debug_gathered(alloc, host, ordered, gathered, &lines, has_prompt),
+        Err(outcome) => tell(alloc, host, outcome),
     }
 }
 
@@ -177,7 +195,7 @@ fn debug_ordered<H: Host>(
     ensures { FaultsOnlyBy H.told H.faults host.old host.new result }
 {
     match gather(alloc, host, words, &ordered) {
-        Ok(gathered) => debug_gathered(alloc, host, ordered, gathered, has_prompt),
+        Ok(gathered) => debug_lines(alloc, host, words, ordered, gathered, has_prompt),
         Err(outcome) => tell(alloc, host, outcome),
     }
 }
@@ -188,7 +206,11 @@ fn debug_ordered<H: Host>(
 pub fn debug<H: Host>(alloc: Global, host: &mut H, words: &[String], has_prompt: bool) -> Outcome
     ensures causes { FaultsOnlyBy H.told H.faults host.old host.new result }
 {
-    match order_in(alloc, words) {
+    let own = OwnOption {
+        name: "--command",
+        has_value: true,
+    };
+    match order_in(alloc, own, words) {
         Ok(ordered) => debug_ordered(alloc, host, words, ordered, has_prompt),
         Err(Unread::Fault(fault)) => tell(alloc, host, Outcome::Usage(fault)),
         Err(Unread::OutOfMemory) => tell(alloc, host, Outcome::OutOfMemory),

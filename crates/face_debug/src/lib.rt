@@ -3,8 +3,6 @@
 
 mod debugging;
 mod lines;
-mod program;
 mod talking;
-mod words;
 
 pub use debugging::debug;

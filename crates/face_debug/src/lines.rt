@@ -61,7 +61,7 @@ fn last_line(line: Bytes) -> Option<Bytes> {
 }
 
 /// Reads a line without its newline; nothing at the end of the input.
-#[tactic(auto, using(crate::proofs::Parts::parts))]
+#[tactic(auto, using(mx_face::proofs::Parts::parts))]
 fn line<H: Host>(alloc: Global, host: &mut H) -> Result<Option<Bytes>, Outcome>
     ensures { PartFaultsOnlyBy H.told H.faults host.old host.new result }
 {

@@ -132,7 +132,7 @@ fn ask<H: Host>(
 }
 
 /// Answers the lines of standard input.
-#[tactic(auto, using(crate::proofs::Parts::parts))]
+#[tactic(auto, using(mx_face::proofs::Parts::parts))]
 fn answer_input<H: Host>(
     alloc: Global,
     host: &mut H,
@@ -165,7 +165,7 @@ fn cut_line(bytes: &[u8]) -> (&[u8], &[u8])
 }
 
 /// Answers the lines that a file has.
-#[tactic(auto, using(crate::proofs::Parts::parts))]
+#[tactic(auto, using(mx_face::proofs::Parts::parts))]
 fn answer_lines<H: Host>(
     alloc: Global,
     host: &mut H,

@@ -76,7 +76,7 @@ fn take_body<H: Host>(
 }
 
 /// Answers the bodies of frames, up to one that ends the session.
-#[tactic(auto, using(crate::proofs::Parts::parts))]
+#[tactic(auto, using(mx_face::proofs::Parts::parts))]
 fn take_frames<H: Host>(
     alloc: Global,
     host: &mut H,
@@ -176,7 +176,7 @@ fn turn<H: Host>(
 }
 
 /// Answers the messages of standard input on standard output, up to the message that ends the session or to the end of the input.
-#[tactic(auto, using(crate::proofs::Parts::parts))]
+#[tactic(auto, using(mx_face::proofs::Parts::parts))]
 pub fn serve<H: Host>(alloc: Global, host: &mut H) -> Outcome
     ensures causes { FaultsOnlyBy H.told H.faults host.old host.new result }
 {

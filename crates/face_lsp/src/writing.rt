@@ -51,7 +51,7 @@ fn put_body<H: Host>(alloc: Global, host: &mut H, body: &[u8]) -> Result<(), Out
 }
 
 /// Writes bodies, each in its frame, up to one that is not written.
-#[tactic(auto, using(crate::proofs::Parts::parts))]
+#[tactic(auto, using(mx_face::proofs::Parts::parts))]
 pub(crate) fn put_bodies<H: Host>(
     alloc: Global,
     host: &mut H,

@@ -9,16 +9,14 @@ use mx_begin::{Form, arguments};
 use mx_count::count_lines;
 use mx_face::{Page, put_page, tell};
 use mx_host::Host;
+use mx_inputs::{Gathered, Ordered, Unread, gather};
 use mx_object::{count_object, is_object, list_object};
 use mx_outcome::{Outcome, message};
 use mx_view::{Wanted, list_source, tell_faults};
 use mx_word::{Bytes, NoMemory};
 use mx_words::Order;
 use page_parts::{end, front};
-use page_run::{
-    Ending, Gathered, Made, Ordered, Unread, gather, host_of, of_memory, order_in, program_of,
-    record_run, refused,
-};
+use page_run::{Ending, Made, host_of, of_memory, order_in, program_of, record_run, refused};
 use std::alloc::Global;
 
 /// Whether bytes are a source or an object.
@@ -170,7 +168,7 @@ fn shown(
     let data = data(alloc, call, source, is_object(source), &program, made)?;
     let outcome = of_memory(made.outcome);
     Ok(Page {
-        text: text_of(alloc, ordered.named.is_json, data)?,
+        text: text_of(alloc, ordered.named.own.is_some(), data)?,
         remark: message(alloc, outcome)?,
         outcome,
     })

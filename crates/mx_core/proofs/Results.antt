@@ -15,3 +15,4 @@ pub mod Sights
 pub mod Foretold
 pub mod Unchanged
 pub mod Locals
+pub mod Quotients

@@ -1,5 +1,5 @@
 -- The state of the machine, with the register stack as a list or as a window (MMIXware, the part on MMIX).
-use Rattle.std.specs.Prelude.{ℕ, ◌+◌, ◌/◌, ◌^◌, ◌==◌, ◌&&◌, not, nat_le, nat_lt, Bool, if◌then◌else◌, List, slice_index, slice_set}
+use Rattle.std.specs.Prelude.{ℕ, ◌+◌, ◌/◌, ◌^◌, ◌==◌, ◌&&◌, not, nat_le, Bool, if◌then◌else◌, List, slice_index, slice_set}
 use Rattle.mx_word.specs.Octas.{with_page}
 use Rattle.mx_mem.specs.Memory.{tetra_of, stored_at}
 use Rattle.mx_mem.specs.Parts.{with_part}

@@ -9,6 +9,7 @@ ghost use Rattle.mx_core.specs.Kept.{state_of};
 ghost use Rattle.mx_core.specs.Way.Noting.{PutsLink, StoresBelow};
 
 use crate::Machine;
+use crate::plain::plain_answer;
 use crate::trips::RJ;
 use mx_code::{Instruction, Operation, Storing, overflows, stored_part, stored_value};
 use mx_mem::Part;
@@ -27,6 +28,20 @@ impl Machine {
                 Ok(()) => true,
                 Err(_) => false,
             },
+            _ => false,
+        }
+    }
+
+    /// MULU, DIV and DIVU in plain cases.
+    #[inline(always)]
+    pub(crate) fn give_known(&mut self, at: u64, code: u8, word: u32) -> bool
+        requires { code ≡ code_of (instruction at word) }
+        ensures made { MakesWhereTold (λ s. outcome s (deed_at s (instruction at word))) result self.old self.new }
+        ensures kept { KeepsWhereNot result self.old self.new }
+    {
+        let i = Instruction::coded(at, code, word);
+        match i.operation() {
+            Operation::Compute => self.give_if_plain(&i),
             _ => false,
         }
     }
@@ -107,6 +122,24 @@ impl Machine {
         match i.operation() {
             Operation::Put => self.put_link_if_usual(&i),
             _ => false,
+        }
+    }
+
+    /// What MULU, DIV and DIVU do in plain cases.
+    #[tactic(auto, using(crate::proofs::Results::Events::compute_given))]
+    #[inline(always)]
+    fn give_if_plain(&mut self, i: &Instruction) -> bool
+        requires { operation_in i.now ≡ Operation.Compute }
+        ensures made { MakesWhereTold (λ s. outcome s (deed_of Operation.Compute s i.now)) result self.old self.new }
+        ensures kept { KeepsWhereNot result self.old self.new }
+    {
+        let (y, z) = (self.y_operand(i), self.z_operand(i));
+        match plain_answer(i.code(), y, z, self.extra()) {
+            Some(a) => match self.give(i, &a) {
+                Ok(()) => true,
+                Err(_) => false,
+            },
+            None => false,
         }
     }
 

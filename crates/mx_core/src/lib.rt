@@ -18,6 +18,7 @@ mod noting;
 mod operands;
 mod overwritten;
 mod perform;
+mod plain;
 mod puts;
 mod resume;
 mod search;

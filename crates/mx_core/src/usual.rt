@@ -132,6 +132,12 @@ impl Machine {
         ensures kept { KeepsWhereNot result self.old self.new }
     {
         match code {
+            0x1a => self.give_known(at, 0x1a, word),
+            0x1b => self.give_known(at, 0x1b, word),
+            0x1c => self.give_known(at, 0x1c, word),
+            0x1d => self.give_known(at, 0x1d, word),
+            0x1e => self.give_known(at, 0x1e, word),
+            0x1f => self.give_known(at, 0x1f, word),
             0x9e => self.go_known(at, 0x9e, word),
             0x9f => self.go_known(at, 0x9f, word),
             0xa0 => self.store_known(at, 0xa0, word),
@@ -150,6 +156,10 @@ impl Machine {
             0xad => self.store_known(at, 0xad, word),
             0xae => self.store_known(at, 0xae, word),
             0xaf => self.store_known(at, 0xaf, word),
+            0xb2 => self.store_known(at, 0xb2, word),
+            0xb3 => self.store_known(at, 0xb3, word),
+            0xb4 => self.store_known(at, 0xb4, word),
+            0xb5 => self.store_known(at, 0xb5, word),
             0xf6 => self.put_known(at, 0xf6, word),
             _ => false,
         }

@@ -120,6 +120,32 @@ impl Machine {
         }
     }
 
+    /// What ZSN to ZSEV give $X.
+    #[tactic(auto, using(crate::proofs::Results::Outcomes::zero_outcome), unfolding(mx_code::specs::Operations::has_condition))]
+    #[inline(always)]
+    fn zeroed_value(&self, i: &Instruction) -> u64
+        requires { operation_in i.now ≡ Operation.ZeroOrSet }
+        ensures { outcome (state_of self.now) (deed_of Operation.ZeroOrSet (state_of self.now) i.now)
+            ≡ settled (state_of self.now) (x_of i.now) result (next_of i.now) }
+    {
+        if holds(i, self.y_operand(i)) {
+            self.z_operand(i)
+        } else {
+            0
+        }
+    }
+
+    /// The frequent step of ZSN to ZSEV, where the code is one of theirs.
+    #[inline(always)]
+    pub(crate) fn zeroed(&self, i: &Instruction) -> Usual
+        ensures { IsUsual result (state_of self.now) i.now }
+    {
+        match i.operation() {
+            Operation::ZeroOrSet => Usual::Gives(self.zeroed_value(i)),
+            _ => Usual::Other,
+        }
+    }
+
     /// What LDB to LDUNC give $X below Stack_Segment, where the page is near.
     #[tactic(auto, using(crate::proofs::Results::Loads::load_below))]
     #[inline(always)]
@@ -205,6 +231,18 @@ impl Machine {
     {
         match i.operation() {
             Operation::Branch => Usual::GoesTo(self.branched_address(i)),
+            _ => Usual::Other,
+        }
+    }
+
+    /// The frequent step of SWYM, where the code is its own.
+    #[tactic(auto, using(crate::proofs::Results::Others::nothing_outcome))]
+    #[inline(always)]
+    pub(crate) fn passed(&self, i: &Instruction) -> Usual
+        ensures { IsUsual result (state_of self.now) i.now }
+    {
+        match i.operation() {
+            Operation::Nothing => Usual::GoesTo(i.next()),
             _ => Usual::Other,
         }
     }

@@ -8,26 +8,14 @@ use Rattle.mx_frames.specs.Streams.{Read, joined, read_with, reads, settled, wit
 pub joined-assoc : (r s t : Read) → joined (joined r s) t ≡ joined r (joined s t)
 joined-assoc r s t = ap (λ frames. read_with frames t.coming) (append_assoc r.frames s.frames t.frames)
 
--- a byte more
-pub frames-next : (frames : List Frame) (coming : Coming) (b : ℕ) (bs : List ℕ) →
-    frames ++ (reads coming (b ∷ bs)).frames
-    ≡ (frames ++ (settled (with_byte coming b)).frames) ++ (reads (settled (with_byte coming b)).coming bs).frames
-unfolding reads
-frames-next frames coming b bs = sym (append_assoc frames (settled (with_byte coming b)).frames _)
+-- the frames of three parts
+pub frames-join : (xs ys zs : List Frame) → (xs ++ ys) ++ zs ≡ xs ++ (ys ++ zs)
+frames-join xs ys zs = append_assoc xs ys zs
 
-pub coming-next : (coming : Coming) (b : ℕ) (bs : List ℕ) → (reads coming (b ∷ bs)).coming ≡ (reads (settled (with_byte coming b)).coming bs).coming
-unfolding reads
-coming-next coming b bs = refl
+pub frames-none : (xs : List Frame) → xs ++ [] ≡ xs
+frames-none xs = append-nil xs
 
-pub frames-none : (frames : List Frame) (coming : Coming) → frames ++ (reads coming []).frames ≡ frames
-unfolding reads
-frames-none frames coming = append-nil frames
-
-pub coming-none : (coming : Coming) → (reads coming []).coming ≡ coming
-unfolding reads
-coming-none coming = refl
-
-pub ruleset turns = (frames-next, coming-next, frames-none, coming-none)
+pub ruleset turns = (frames-join, frames-none)
 
 -- a piece, and what follows it
 pub pieces : (coming : Coming) (piece others : List ℕ) →

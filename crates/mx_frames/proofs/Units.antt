@@ -4,39 +4,6 @@ use Rattle.std.proofs.lemmas.Bool.Decides.{nat_tests}
 use Rattle.std.proofs.lemmas.Grind.{common_steps}
 use Rattle.mx_frames.specs.Columns.{column_of, is_boundary, place_of, total, units}
 
-pub total-more : (text : List ℕ) (b : ℕ) → total (text ++ b ∷ []) ≡ total text + units b
-unfolding total
-total-more [] b = omega arith
-total-more (c ∷ text) b = let more = total-more text b in omega (arith, more)
-
-pub total-none : total [] ≡ 0
-unfolding total
-total-none = refl
-
-pub ruleset totals = (total-more, total-none)
-
--- ---- places
-
-pub none-here : (place left : ℕ) → place + place_of [] left ≡ place
-unfolding place_of
-none-here place left = omega arith
-
-pub later-column : (place b : ℕ) (bs : List ℕ) (left : ℕ) → left ≢ 0 → place + place_of (b ∷ bs) left ≡ (place + 1) + place_of bs (left - units b)
-unfolding place_of
-later-column place b bs left some = let no : ((left == 0) && not (units b == 0)) ≡ false = grind (arith, nat_tests) in rw no (omega arith)
-
-pub later-byte : (place b : ℕ) (bs : List ℕ) (left : ℕ) → units b ≡ 0 → place + place_of (b ∷ bs) left ≡ (place + 1) + place_of bs (left - units b)
-unfolding place_of
-later-byte place b bs left none = let no : ((left == 0) && not (units b == 0)) ≡ false = grind (arith, nat_tests) in rw no (omega arith)
-
-pub here : (place b : ℕ) (bs : List ℕ) (left : ℕ) → left ≡ 0 → units b ≢ 0 → place + place_of (b ∷ bs) left ≡ place
-unfolding place_of
-here place b bs left e some = let yes : ((left == 0) && not (units b == 0)) ≡ true = grind (arith, nat_tests) in rw yes (omega arith)
-
-pub ruleset places = (here, none-here, later-column, later-byte)
-
--- ---- laws
-
 take-none : (n : ℕ) → ◌≡◌ {A = List ℕ} (take n []) []
 take-none zero = refl
 take-none (suc n) = refl

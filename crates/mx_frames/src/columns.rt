@@ -20,15 +20,17 @@ fn units(b: u8) -> usize
 }
 
 /// How many units of UTF-16 a text has.
-#[tactic(auto, using(crate::proofs::Units::totals))]
+#[tactic(auto, unfolding(crate::specs::Columns::total))]
 fn total(text: &[u8]) -> usize
     ensures { result ≡ spec.total text.now }
 {
-    let mut units_so_far = 0usize;
-    for b in text {
-        units_so_far += units(*b);
+    let mut count = 0usize;
+    let mut rest = text;
+    while let [b, more @ ..] = rest {
+        count += units(*b);
+        rest = more;
     }
-    units_so_far
+    count
 }
 
 /// The column of a place of a line; where the place is beyond the line, that of its end.
@@ -39,7 +41,7 @@ pub fn column_of(line: &[u8], place: usize) -> usize
 }
 
 /// The place of a column of a line; where the column is beyond the line, the end of the line.
-#[tactic(auto, using(crate::proofs::Units::places))]
+#[tactic(auto, unfolding(crate::specs::Columns::place_of))]
 pub fn place_of(line: &[u8], column: usize) -> usize
     ensures place { result ≡ spec.place_of line.now column }
     ensures within { result ≤ length line.now }

@@ -109,7 +109,7 @@ fn settle(alloc: Global, frames: &mut Frames, before: Coming) -> Result<Coming, 
 }
 
 /// Reads a piece of a stream, of whose next frame this has come: adds the frames that are whole, and gives what has come of the next one.
-#[tactic(auto, using(crate::proofs::Turns::turns))]
+#[tactic(auto, using(crate::proofs::Turns::turns), unfolding(crate::specs::Streams::reads))]
 pub fn feed(
     alloc: Global,
     frames: &mut Frames,

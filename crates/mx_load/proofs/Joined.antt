@@ -1,5 +1,5 @@
 -- A tetra is joined to memory on a page that is there.
-use Rattle.std.proofs.Common.{◌≡◌, ◌<◌, ◌+◌, ◌-◌, ◌*◌, ◌/◌, ◌%◌, ◌^◌, ℕ, ap, sym, ◌∙◌, arith, bit_xor}
+use Rattle.std.proofs.Common.{◌≡◌, ◌<◌, ◌^◌, ℕ, ap, ◌∙◌, arith, bit_xor}
 use Rattle.std.proofs.Math.Nat.{mod-eq_of_lt}
 use Rattle.mx_mem.specs.Memory.{Stored, octa_at, stored_at, with_tetra, in_half}
 use Rattle.mx_mem.specs.Parts.{bits_below, with_part}
@@ -10,12 +10,17 @@ use Rattle.mx_mem.proofs.Joins.{stored-joined}
 whole : (x y a : ℕ) → x < 2 ^ 64 → y < 2 ^ 64 → with_part Octa x a y ≡ y
 whole x y a l m =
     let none : bits_below Octa a ≡ 0 = omega arith in
-    rw (none, mod-eq_of_lt l, mod-eq_of_lt m) (omega arith)
+    rw (none, mod-eq_of_lt m) (omega (arith, l))
 
-pub whole-joined : (m n : Stored) (a t x y : ℕ) → x < 2 ^ 64 → y < 2 ^ 64 → x ≡ octa_at m a → y ≡ bit_xor x (in_half a t)
-    → octa_at n ≡ stored_at (octa_at m) a (with_part Octa (octa_at m a) a y) → octa_at n ≡ with_tetra (octa_at m) a t
-whole-joined m n a t x y l b old new e =
-    let there : octa_at m a < 2 ^ 64 = rw (sym old) l in
-    stored-joined m n a t (e ∙ ap (stored_at (octa_at m) a) (whole (octa_at m a) y a there b ∙ new ∙ ap (λ o. bit_xor o (in_half a t)) old))
+pub stored-whole : (m n : Stored) (a x : ℕ) → octa_at m a < 2 ^ 64 → x < 2 ^ 64 →
+    octa_at n ≡ stored_at (octa_at m) a (with_part Octa (octa_at m a) a x) → octa_at n ≡ stored_at (octa_at m) a x
+stored-whole m n a x l b e = e ∙ ap (stored_at (octa_at m) a) (whole (octa_at m a) x a l b)
 
-pub ruleset joined = (whole-joined)
+pub ruleset placed = (stored-whole)
+
+pub found-joined : (m n : Stored) (a t x h : ℕ) → x ≡ octa_at m a → h ≡ in_half a t →
+    octa_at n ≡ stored_at (octa_at m) a (bit_xor x h) → octa_at n ≡ with_tetra (octa_at m) a t
+found-joined m n a t x h there half e =
+    stored-joined m n a t (e ∙ ap (λ o. stored_at (octa_at m) a (bit_xor o h)) there ∙ ap (λ o. stored_at (octa_at m) a (bit_xor (octa_at m a) o)) half)
+
+pub ruleset joined = (found-joined)

@@ -1,7 +1,8 @@
 //! What the items of an object set up.
 
-ghost use Rattle.std.specs.Prelude.{◌≡◌, ◌≢◌, ◌≤◌, ◌<◌, ◌/◌, ◌==◌, [], true, false, Ok, Err, OnOk, OnErr, IfErr, if◌then◌else◌};
-ghost use Rattle.mx_mem.specs.Memory.{page_count, in_half};
+ghost use Rattle.std.specs.Prelude.{◌≡◌, ◌≢◌, ◌≤◌, ◌<◌, ◌/◌, ◌^◌, ◌==◌, [], true, false, Ok, Err, OnOk, OnErr, IfErr, IsTrue, if◌then◌else◌};
+ghost use Rattle.mx_mem.specs.Low.{low_pages};
+ghost use Rattle.mx_mem.specs.Memory.{count_with_page, has_page, in_half, octa_at, page_count, stored_at, with_page, with_tetra};
 ghost use Rattle.mx_mmo.specs.Meaning as spec;
 ghost use Rattle.mx_mmo.specs.Meaning.{nothing, lined, with_globals};
 ghost use Rattle.mx_load.specs.Faults.{told, given};
@@ -125,19 +126,12 @@ impl Image {
     }
 
     /// Joins a tetra where the page of the address was used lately; else nothing changes. Whether it did.
-    #[tactic(auto, using(crate::proofs::Joined::joined))]
     #[inline(always)]
     fn join_near(&mut self, a: u64, t: u32) -> bool
         ensures joined { result ≡ true → Ok (image_of self.new) ≡ spec.join (image_of self.old) a t }
         ensures same { result ≡ false → self.new ≡ self.old }
     {
-        match self.memory.near_octa(a) {
-            Some(x) => {
-                let joined = x ^ in_its_half(a, t);
-                self.memory.store_part_if_near(a, Part::Octa, joined)
-            }
-            None => false,
-        }
+        join_if_near(&mut self.memory, a, t)
     }
 
     /// Joins a tetra, also where its page is a new one.
@@ -218,6 +212,39 @@ fn in_its_half(a: u64, t: u32) -> u64
     } else {
         u64::from(t)
     }
+}
+
+/// Joins a tetra to memory where the page of its address was used lately; else nothing changes. Whether it did.
+#[tactic(auto, using(crate::proofs::Joined::joined))]
+#[inline(always)]
+fn join_if_near(memory: &mut Memory, a: u64, t: u32) -> bool
+    ensures octas { IsTrue result → octa_at memory.new ≡ with_tetra (octa_at memory.old) a t }
+    ensures pages { IsTrue result → has_page memory.new ≡ with_page (has_page memory.old) (a / 4096) }
+    ensures count { IsTrue result → page_count memory.new ≡ count_with_page memory.old (a / 4096) }
+    ensures there { IsTrue result → IsTrue (has_page memory.old (a / 4096)) }
+    ensures low { IsTrue result → a < 0x6000_0000_0000_0000 }
+    ensures unmade { result ≡ false → memory.new ≡ memory.old }
+{
+    match memory.near_octa(a) {
+        Some(x) => store_near(memory, a, x ^ in_its_half(a, t)),
+        None => false,
+    }
+}
+
+/// An octa in place of the one that holds an address, where its page was used lately; else nothing changes. Whether
+/// it did.
+#[tactic(auto, using(crate::proofs::Joined::placed))]
+#[inline(always)]
+fn store_near(memory: &mut Memory, a: u64, x: u64) -> bool
+    requires { octa_at memory.old a < 2 ^ 64 }
+    ensures octas { IsTrue result → octa_at memory.new ≡ stored_at (octa_at memory.old) a x }
+    ensures pages { IsTrue result → has_page memory.new ≡ with_page (has_page memory.old) (a / 4096) }
+    ensures count { IsTrue result → page_count memory.new ≡ count_with_page memory.old (a / 4096) }
+    ensures there { IsTrue result → IsTrue (has_page memory.old (a / 4096)) }
+    ensures low { IsTrue result → a / 4096 < low_pages }
+    ensures unmade { result ≡ false → memory.new ≡ memory.old }
+{
+    memory.store_part_if_near(a, Part::Octa, x)
 }
 
 /// The line of the tetra that holds an address.

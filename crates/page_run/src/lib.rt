@@ -1,13 +1,11 @@
-//! The run that a page shows: what the words order, what is read before the run, and the run turn by turn as text.
+//! The run that a page shows: what the words order, and the run turn by turn as text.
 #![tactic(auto)]
 
 mod made;
 mod program;
-mod reading;
 mod records;
 mod words;
 
 pub use made::{Ending, Made, of_memory, record_run, refused};
 pub use program::{host_of, program_of};
-pub use reading::{Gathered, gather};
-pub use words::{Named, Ordered, Unread, order_in};
+pub use words::order_in;

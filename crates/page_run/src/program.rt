@@ -3,9 +3,9 @@
 ghost use Rattle.std.specs.Prelude.{◌≡◌, ◌<◌, ◌≤◌, IfOk, length};
 ghost use Rattle.mx_replay.specs.Programs.{NamesFile};
 
-use crate::reading::Gathered;
 use mx_begin::{Form, word};
 use mx_host::{MemHost, StoredFile};
+use mx_inputs::Gathered;
 use mx_replay::Program;
 use mx_word::{Bytes, NoMemory, Sequence};
 use mx_words::Order;

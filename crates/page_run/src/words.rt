@@ -1,9 +1,9 @@
-//! The words of `page`: its own options, and those of `mmixware run`, then the file and the arguments of the program.
+//! The words of `page`, and how many steps it records.
 
 ghost use Rattle.std.specs.Prelude.{◌<◌, ◌≤◌, IfOk, length};
 
-use mx_word::{NoMemory, Sequence};
-use mx_words::{Order, WordsFault, read};
+use mx_inputs::{Named, Ordered, OwnOption, Unread};
+use mx_words::{Order, WordsFault};
 use std::alloc::Global;
 
 /// How many steps are recorded at most, where `--steps` does not say it, and where it does.
@@ -11,212 +11,34 @@ const FEW_STEPS: u64 = 100_000;
 
 const MOST_STEPS: u64 = 1_000_000;
 
-/// What is named by the options of `page`: the file of the standard input, and the files that the program is to find, by their
-/// places among the words; whether the data is wanted alone. And the words with which `mmixware run` does the same run, each with
-/// its place, with the place of the number of steps.
-#[derive(Drop)]
-pub struct Named {
-    pub is_json: bool,
-    pub input: Option<usize>,
-    pub files: Sequence<usize>,
-    pub words: Vec<String>,
-    places: Vec<usize>,
-    steps: Option<usize>,
-}
-
-/// What a word is in front of the file.
-#[derive(Clone, Copy)]
-enum Kind {
-    Json,
-    Input,
-    File,
-    Steps,
-    Ring,
-    Unknown,
-    Source,
-}
-
-/// Why words are no order.
-pub enum Unread {
-    Fault(WordsFault),
-    OutOfMemory,
-}
-
-impl From<NoMemory> for Unread {
-    fn from(_error: NoMemory) -> Unread {
-        Unread::OutOfMemory
-    }
-}
-
-/// What a word is in front of the file.
-fn kind_of(word: &str) -> Kind {
-    match word {
-        "--json" => Kind::Json,
-        "--input" => Kind::Input,
-        "--file" => Kind::File,
-        "--steps" => Kind::Steps,
-        "--ring" => Kind::Ring,
-        _ => {
-            if word.as_bytes().first() == Some(&b'-') {
-                Kind::Unknown
-            } else {
-                Kind::Source
-            }
-        }
-    }
-}
-
-impl Named {
-    /// Nothing, before the words.
-    fn new(alloc: Global) -> Result<Named, NoMemory> {
-        let mut words = Vec::new(alloc);
-        words.push(String::from_str(alloc, "run")?)?;
-        let mut places = Vec::new(alloc);
-        places.push(0usize)?;
-        Ok(Named {
-            is_json: false,
-            input: None,
-            files: Sequence::new(alloc),
-            words,
-            places,
-            steps: None,
-        })
-    }
-
-    /// Adds a word of those of `mmixware run`.
-    fn add(&mut self, alloc: Global, word: &str, place: usize) -> Result<(), NoMemory> {
-        self.words.push(String::from_str(alloc, word)?)?;
-        self.places.push(place)?;
-        Ok(())
-    }
-
-    /// Takes the value of an option.
-    fn set(&mut self, alloc: Global, kind: Kind, word: &str, place: usize) -> Result<(), NoMemory> {
-        match kind {
-            Kind::Input => self.input = Some(place),
-            Kind::File => self.files.push(place)?,
-            Kind::Steps => {
-                self.steps = Some(place);
-                self.add(alloc, word, place)?;
-            }
-            Kind::Ring | Kind::Json | Kind::Unknown | Kind::Source => {
-                self.add(alloc, word, place)?;
-            }
-        }
-        Ok(())
-    }
-
-    /// The place among the words of `page` that a word of those of `mmixware run` has; after them it is that of the next word.
-    fn place_of(&self, word: usize, next: usize) -> usize {
-        match self.places.as_slice().get(word) {
-            Some(place) => *place,
-            None => next,
-        }
-    }
-
-    /// The number of steps, by the one that was read.
-    fn steps_of(&self, steps: u64) -> Result<u64, Unread> {
-        match self.steps {
-            None => Ok(FEW_STEPS),
-            Some(place) => {
-                if steps > MOST_STEPS {
-                    return Err(Unread::Fault(WordsFault {
-                        kind: 5,
-                        word: place,
-                    }));
-                }
-                Ok(steps)
-            }
-        }
-    }
-}
-
-/// What was read of the words so far: an option that awaits its value, and whether the file was there.
-#[derive(Drop)]
-struct Reading {
-    named: Named,
-    awaiting: Option<Kind>,
-    has_file: bool,
-}
-
-impl Reading {
-    /// Takes a word where an option or the file is due.
-    fn take_option(&mut self, alloc: Global, word: &str, place: usize) -> Result<(), Unread> {
-        let kind = kind_of(word);
-        match kind {
-            Kind::Unknown => {
+/// The number of steps, by the one that was read.
+fn steps_of(named: &Named, steps: u64) -> Result<u64, Unread> {
+    match named.steps {
+        None => Ok(FEW_STEPS),
+        Some(place) => {
+            if steps > MOST_STEPS {
                 return Err(Unread::Fault(WordsFault {
-                    kind: 3,
+                    kind: 5,
                     word: place,
                 }));
             }
-            Kind::Source => self.has_file = true,
-            Kind::Json => self.named.is_json = true,
-            Kind::Input | Kind::File | Kind::Steps | Kind::Ring => self.awaiting = Some(kind),
-        }
-        match kind {
-            Kind::Source | Kind::Steps | Kind::Ring => Ok(self.named.add(alloc, word, place)?),
-            _ => Ok(()),
+            Ok(steps)
         }
     }
-
-    /// Takes a word.
-    fn take(&mut self, alloc: Global, word: &str, place: usize) -> Result<(), Unread> {
-        if self.has_file {
-            return Ok(self.named.add(alloc, word, place)?);
-        }
-        match self.awaiting {
-            Some(kind) => {
-                self.awaiting = None;
-                Ok(self.named.set(alloc, kind, word, place)?)
-            }
-            None => self.take_option(alloc, word, place),
-        }
-    }
-}
-
-/// What the words after `page` name. Places count `page` itself as 0.
-fn named_in(alloc: Global, words: &[String]) -> Result<Named, Unread> {
-    let mut reading = Reading {
-        named: Named::new(alloc)?,
-        awaiting: None,
-        has_file: false,
-    };
-    for (place, word) in words.iter().enumerate() {
-        reading.take(alloc, word.as_str(), place.saturating_add(1))?;
-    }
-    if reading.awaiting.is_some() {
-        return Err(Unread::Fault(WordsFault {
-            kind: 4,
-            word: words.len().saturating_add(1),
-        }));
-    }
-    Ok(reading.named)
-}
-
-/// What the words order, and what they name.
-#[derive(Drop)]
-pub struct Ordered {
-    pub named: Named,
-    pub order: Order,
 }
 
 /// What the words after `page` order.
 pub fn order_in(alloc: Global, words: &[String]) -> Result<Ordered, Unread>
     ensures { IfOk result (λ o. (o.order.file < length o.named.words.items) × (o.order.rest ≤ length o.named.words.items)) }
 {
-    let named = named_in(alloc, words)?;
-    match read(named.words.as_slice()) {
-        Ok(order) => {
-            let steps = named.steps_of(order.steps)?;
-            Ok(Ordered {
-                named,
-                order: Order { steps, ..order },
-            })
-        }
-        Err(fault) => Err(Unread::Fault(WordsFault {
-            kind: fault.kind,
-            word: named.place_of(fault.word, words.len().saturating_add(1)),
-        })),
-    }
+    let own = OwnOption {
+        name: "--json",
+        has_value: false,
+    };
+    let Ordered { named, order } = mx_inputs::order_in(alloc, own, words)?;
+    let steps = steps_of(&named, order.steps)?;
+    Ok(Ordered {
+        named,
+        order: Order { steps, ..order },
+    })
 }

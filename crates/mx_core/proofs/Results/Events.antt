@@ -8,7 +8,7 @@ use Rattle.mx_code.specs.SpecialRegisters.{rA, rH, rR}
 use Rattle.mx_alu.specs.Trips.{decided}
 use Rattle.mx_alu.specs.declared.decision.Trip.{Trip}
 use Rattle.mx_alu.specs.declared.decision.Trip.TheVariants.{Taken, Noted}
-use Rattle.mx_core.specs.Way.Calls.{trip_taken, event_settled, raised, told_specials, answer_outcome, settled}
+use Rattle.mx_core.specs.Way.Calls.{trip_taken, event_settled, raised, told_specials, answer_outcome, settled, settled_with}
 use Rattle.mx_core.specs.Deeds.{applied, onward, tripped, with_specials, outcome, deed_of, unless_refused, loads_in_segment, stores_in_segment}
 use Rattle.mx_core.specs.Effects.{Effect, Tripping, giving, with_event, with_decision, effect_of, y_operand, z_operand, answered, alu_answer, if_told}
 use Rattle.mx_code.specs.Instructions.{x_of, y_of, next_of}
@@ -86,6 +86,16 @@ lone-outcome s i y z x a e = lone-by s i y z x a.x a.h a.r a.event e
 
 pub compute_alone : (s : State) (i : Instruction) (x : ℕ) → Some x ≡ lone_value (alu_answer s i (y_operand s i) (z_operand s i)) → outcome s (deed_of op.Compute s i) ≡ settled s (x_of i) x (next_of i)
 compute_alone s i x e = compute_outcome s i ∙ lone-outcome s i (y_operand s i) (z_operand s i) x (alu_answer s i (y_operand s i) (z_operand s i)) e
+
+given-by : (s : State) (i : Instruction) (y z : ℕ) (a : Answer) → a.event ≡ None → answer_outcome s i y z a ≡ settled_with s (x_of i) a.x (told_specials a) (next_of i)
+unfolding answer_outcome
+given-by s i y z a none = rw none refl
+
+-- what an answer gives that raises no event
+pub compute_given : (s : State) (i : Instruction) (a : Answer) → a ≡ alu_answer s i (y_operand s i) (z_operand s i) → a.event ≡ None →
+    outcome s (deed_of op.Compute s i) ≡ settled_with s (x_of i) a.x (told_specials a) (next_of i)
+compute_given s i a e none =
+    compute_outcome s i ∙ ap (answer_outcome s i (y_operand s i) (z_operand s i)) (sym e) ∙ given-by s i (y_operand s i) (z_operand s i) a none
 
 pub negate_alone : (s : State) (i : Instruction) (x : ℕ) → Some x ≡ lone_value (alu_answer s i (y_of i) (z_operand s i)) → outcome s (deed_of op.Negate s i) ≡ settled s (x_of i) x (next_of i)
 negate_alone s i x e = negate_outcome s i ∙ lone-outcome s i (y_of i) (z_operand s i) x (alu_answer s i (y_of i) (z_operand s i)) e

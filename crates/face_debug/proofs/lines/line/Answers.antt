@@ -1,4 +1,4 @@
-use Rattle.face_debug.proofs.Parts.{part-failed-after}
+use Rattle.mx_face.proofs.Parts.{part-failed-after}
 use Rattle.face_debug.proofs.lines.line.Goals as goal
 
 pub returns-in-Err : goal.returns-in-Err

@@ -1,4 +1,4 @@
-use Rattle.face_debug.proofs.Parts.{whole-failed-after}
+use Rattle.mx_face.proofs.Parts.{whole-failed-after}
 use Rattle.face_debug.proofs.talking.answer_lines.Goals as goal
 
 pub returns-in-Err : goal.returns-in-Err

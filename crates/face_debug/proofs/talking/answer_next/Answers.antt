@@ -1,4 +1,4 @@
-use Rattle.face_debug.proofs.Parts.{part-after}
+use Rattle.mx_face.proofs.Parts.{part-after}
 use Rattle.face_debug.proofs.talking.answer_next.Goals as goal
 
 pub returns-in-Ok-Some : goal.returns-in-Ok-Some

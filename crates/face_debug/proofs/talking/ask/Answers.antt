@@ -1,4 +1,4 @@
-use Rattle.face_debug.proofs.Parts.{part-after}
+use Rattle.mx_face.proofs.Parts.{part-after}
 use Rattle.face_debug.proofs.talking.ask.Goals as goal
 
 pub returns-in-Ok : goal.returns-in-Ok

@@ -1,4 +1,4 @@
-use Rattle.face_lsp.proofs.Parts.{whole-failed-after}
+use Rattle.mx_face.proofs.Parts.{whole-failed-after}
 use Rattle.face_lsp.proofs.serving.serve.Goals as goal
 
 pub returns-in-Err-clause-causes : goal.returns-in-Err-clause-causes

@@ -1,4 +1,4 @@
-use Rattle.face_lsp.proofs.Parts.{part-failed-after}
+use Rattle.mx_face.proofs.Parts.{part-failed-after}
 use Rattle.face_lsp.proofs.serving.take_frames.Goals as goal
 
 pub returns-in-Err : goal.returns-in-Err

@@ -1,10 +1,9 @@
 //! What is read before a run: the program, its input and its files.
 
-ghost use Rattle.std.specs.Prelude.{◌<◌, IfErr, length};
+ghost use Rattle.std.specs.Prelude.{IfErr};
 ghost use Rattle.mx_face.specs.Pages.{IsOfView, PartFaultsOnlyBy};
 
 use crate::words::{Named, Ordered};
-use mx_begin::word;
 use mx_files::{OBJECT_PIECES, read_file};
 use mx_host::{Host, StoredFile};
 use mx_outcome::Outcome;
@@ -19,7 +18,7 @@ pub struct Gathered {
     pub files: Sequence<StoredFile>,
 }
 
-/// The word at a place, where `page` is 0; an empty one where there is none.
+/// The word at a place, where the name of the view is 0; an empty one where there is none.
 fn word_at(words: &[String], place: usize) -> &[u8] {
     match words.get(place.saturating_sub(1)) {
         Some(word) => word.as_bytes(),
@@ -35,7 +34,7 @@ fn file<H: Host>(alloc: Global, host: &mut H, name: &[u8]) -> Result<Bytes, Outc
 }
 
 /// Reads the file that the word at a place names, if there is one.
-fn file_at<H: Host>(
+pub fn file_at<H: Host>(
     alloc: Global,
     host: &mut H,
     words: &[String],
@@ -88,7 +87,7 @@ fn add_file_at<H: Host>(
 }
 
 /// Reads the files that the words at some places name.
-#[tactic(auto, using(crate::proofs::Parts::parts))]
+#[tactic(auto, using(mx_face::proofs::Parts::parts))]
 fn files_at<H: Host>(
     alloc: Global,
     host: &mut H,
@@ -152,18 +151,24 @@ fn gather_beside<H: Host>(
     }
 }
 
-/// Reads all that the words name.
+/// The name of the program's file.
+fn name_of(ordered: &Ordered) -> &[u8] {
+    match ordered.named.words.as_slice().get(ordered.order.file) {
+        Some(word) => word.as_bytes(),
+        None => b"",
+    }
+}
+
+/// Reads the program, its input and the files that it is to find, as the words name them.
 pub fn gather<H: Host>(
     alloc: Global,
     host: &mut H,
     words: &[String],
     ordered: &Ordered,
 ) -> Result<Gathered, Outcome>
-    requires { ordered.now.order.file < length ordered.now.named.words.items }
     ensures { PartFaultsOnlyBy H.told H.faults host.old host.new result }
 {
-    let name = word(ordered.named.words.as_slice(), ordered.order.file);
-    match file(alloc, host, name) {
+    match file(alloc, host, name_of(ordered)) {
         Ok(source) => gather_beside(alloc, host, words, &ordered.named, source),
         Err(outcome) => Err(outcome),
     }

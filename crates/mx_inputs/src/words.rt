@@ -1,29 +1,39 @@
-//! The words of `debug`: its own options, and those of `mmixware run`, then the file and the arguments of the program.
+//! The words of a view that runs a program: its options, those of `mmixware run`, then the file and the arguments of the program.
 
-ghost use Rattle.std.specs.Prelude.{◌≡◌, ◌<◌, ◌≤◌, IfOk, length};
+ghost use Rattle.std.specs.Prelude.{◌<◌, ◌≤◌, IfOk, length};
 
 use mx_word::{NoMemory, Sequence};
 use mx_words::{Order, WordsFault, read};
 use std::alloc::Global;
 
-/// What is named by the options of `debug`: the file of the lines, the one of the standard input, and the files that the program
-/// is to find; by their places among the words. And the words with which `mmixware run` does the same run, each with its place.
+/// The option that a view has beside those of every view that runs a program, and whether a value follows it.
+#[derive(Clone, Copy)]
+pub struct OwnOption {
+    pub name: &'static str,
+    pub has_value: bool,
+}
+
+/// What is named by the words, by places among them: the view's own option, or its value; the file of the standard input; the
+/// files that the program is to find; and the number of steps. And the words with which `mmixware run` does the same run, each
+/// with its place.
 #[derive(Drop)]
 pub struct Named {
-    pub lines: Option<usize>,
+    pub own: Option<usize>,
     pub input: Option<usize>,
     pub files: Sequence<usize>,
+    pub steps: Option<usize>,
     pub words: Vec<String>,
-    pub places: Vec<usize>,
+    places: Vec<usize>,
 }
 
 /// What a word is in front of the file.
 #[derive(Clone, Copy)]
 enum Kind {
-    Lines,
+    Own,
     Input,
     File,
-    OfRun,
+    Steps,
+    Ring,
     Unknown,
     Source,
 }
@@ -41,12 +51,15 @@ impl From<NoMemory> for Unread {
 }
 
 /// What a word is in front of the file.
-fn kind_of(word: &str) -> Kind {
+fn kind_of(own: OwnOption, word: &str) -> Kind {
+    if word == own.name {
+        return Kind::Own;
+    }
     match word {
-        "--command" => Kind::Lines,
         "--input" => Kind::Input,
         "--file" => Kind::File,
-        "--ring" | "--steps" => Kind::OfRun,
+        "--steps" => Kind::Steps,
+        "--ring" => Kind::Ring,
         _ => {
             if word.as_bytes().first() == Some(&b'-') {
                 Kind::Unknown
@@ -65,9 +78,10 @@ impl Named {
         let mut places = Vec::new(alloc);
         places.push(0usize)?;
         Ok(Named {
-            lines: None,
+            own: None,
             input: None,
             files: Sequence::new(alloc),
+            steps: None,
             words,
             places,
         })
@@ -83,15 +97,21 @@ impl Named {
     /// Takes the value of an option.
     fn set(&mut self, alloc: Global, kind: Kind, word: &str, place: usize) -> Result<(), NoMemory> {
         match kind {
-            Kind::Lines => self.lines = Some(place),
+            Kind::Own => self.own = Some(place),
             Kind::Input => self.input = Some(place),
             Kind::File => self.files.push(place)?,
-            Kind::OfRun | Kind::Unknown | Kind::Source => self.add(alloc, word, place)?,
+            Kind::Steps => {
+                self.steps = Some(place);
+                self.add(alloc, word, place)?;
+            }
+            Kind::Ring | Kind::Unknown | Kind::Source => {
+                self.add(alloc, word, place)?;
+            }
         }
         Ok(())
     }
 
-    /// The place among the words of `debug` that a word of those of `mmixware run` has; after them it is that of the next word.
+    /// The place among the words of the view that a word of those of `mmixware run` has; after them it is that of the next word.
     fn place_of(&self, word: usize, next: usize) -> usize {
         match self.places.as_slice().get(word) {
             Some(place) => *place,
@@ -105,13 +125,19 @@ impl Named {
 struct Reading {
     named: Named,
     awaiting: Option<Kind>,
-    is_behind: bool,
+    has_file: bool,
 }
 
 impl Reading {
     /// Takes a word where an option or the file is due.
-    fn take_option(&mut self, alloc: Global, word: &str, place: usize) -> Result<(), Unread> {
-        let kind = kind_of(word);
+    fn take_option(
+        &mut self,
+        alloc: Global,
+        own: OwnOption,
+        word: &str,
+        place: usize,
+    ) -> Result<(), Unread> {
+        let kind = kind_of(own, word);
         match kind {
             Kind::Unknown => {
                 return Err(Unread::Fault(WordsFault {
@@ -119,18 +145,27 @@ impl Reading {
                     word: place,
                 }));
             }
-            Kind::Source => self.is_behind = true,
-            Kind::Lines | Kind::Input | Kind::File | Kind::OfRun => self.awaiting = Some(kind),
+            Kind::Source => self.has_file = true,
+            Kind::Own if !own.has_value => self.named.own = Some(place),
+            Kind::Own | Kind::Input | Kind::File | Kind::Steps | Kind::Ring => self.awaiting = Some(
+                kind,
+            ),
         }
         match kind {
-            Kind::Source | Kind::OfRun => Ok(self.named.add(alloc, word, place)?),
+            Kind::Source | Kind::Steps | Kind::Ring => Ok(self.named.add(alloc, word, place)?),
             _ => Ok(()),
         }
     }
 
     /// Takes a word.
-    fn take(&mut self, alloc: Global, word: &str, place: usize) -> Result<(), Unread> {
-        if self.is_behind {
+    fn take(
+        &mut self,
+        alloc: Global,
+        own: OwnOption,
+        word: &str,
+        place: usize,
+    ) -> Result<(), Unread> {
+        if self.has_file {
             return Ok(self.named.add(alloc, word, place)?);
         }
         match self.awaiting {
@@ -138,20 +173,20 @@ impl Reading {
                 self.awaiting = None;
                 Ok(self.named.set(alloc, kind, word, place)?)
             }
-            None => self.take_option(alloc, word, place),
+            None => self.take_option(alloc, own, word, place),
         }
     }
 }
 
-/// What the words after `debug` name. Places count `debug` itself as 0.
-fn named_in(alloc: Global, words: &[String]) -> Result<Named, Unread> {
+/// What the words after the name of a view name. Places count that name as 0.
+fn named_in(alloc: Global, own: OwnOption, words: &[String]) -> Result<Named, Unread> {
     let mut reading = Reading {
         named: Named::new(alloc)?,
         awaiting: None,
-        is_behind: false,
+        has_file: false,
     };
     for (place, word) in words.iter().enumerate() {
-        reading.take(alloc, word.as_str(), place.saturating_add(1))?;
+        reading.take(alloc, own, word.as_str(), place.saturating_add(1))?;
     }
     if reading.awaiting.is_some() {
         return Err(Unread::Fault(WordsFault {
@@ -169,11 +204,11 @@ pub struct Ordered {
     pub order: Order,
 }
 
-/// What the words after `debug` order.
-pub fn order_in(alloc: Global, words: &[String]) -> Result<Ordered, Unread>
+/// What the words after the name of a view order.
+pub fn order_in(alloc: Global, own: OwnOption, words: &[String]) -> Result<Ordered, Unread>
     ensures { IfOk result (λ o. (o.order.file < length o.named.words.items) × (o.order.rest ≤ length o.named.words.items)) }
 {
-    let named = named_in(alloc, words)?;
+    let named = named_in(alloc, own, words)?;
     match read(named.words.as_slice()) {
         Ok(order) => Ok(Ordered { named, order }),
         Err(fault) => Err(Unread::Fault(WordsFault {

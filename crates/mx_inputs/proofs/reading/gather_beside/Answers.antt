@@ -1,4 +1,4 @@
-use Rattle.page_run.proofs.Parts.{part-after}
+use Rattle.mx_face.proofs.Parts.{part-after}
 use Rattle.page_run.proofs.reading.gather_beside.Goals as goal
 
 pub returns-in-Ok : goal.returns-in-Ok

@@ -1,4 +1,4 @@
-use Rattle.page_run.proofs.Parts.{part-failed-after}
+use Rattle.mx_face.proofs.Parts.{part-failed-after}
 use Rattle.page_run.proofs.reading.files_at.Goals as goal
 
 pub returns-in-Err : goal.returns-in-Err
