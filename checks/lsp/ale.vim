@@ -2,8 +2,12 @@
 " The environment names the program, the source and the file that is written.
 set nocompatible noswapfile hidden
 set runtimepath+=/usr/share/vim-scripts/vim-ale,/usr/share/vim/vimfiles/pack/dist-bundle/opt/ale
-silent! packadd! ale
 filetype plugin on
+silent! packadd ale
+if !exists(':ALELint')
+  call writefile([json_encode({'missing': 'ALE'})], $TARGET)
+  qall!
+endif
 let g:ale_linters_explicit = 1
 let g:ale_lint_on_enter = 0
 let g:ale_lint_delay = 0

@@ -29,9 +29,13 @@ FAULTY = SOURCE.replace("$1,Size", "$1,Sise")
 
 CLIENTS = [
     ("neovim", ["nvim", "--headless", "-u", "NONE", "-i", "NONE", "-S", os.path.join(PARTS, "neovim.lua")]),
-    ("emacs", ["emacs", "--batch", "-Q", "--eval", "(package-initialize)", "-l", os.path.join(PARTS, "eglot.el")]),
+    ("emacs", ["emacs", "--batch", "--eval", "(package-initialize)", "-l", os.path.join(PARTS, "eglot.el")]),
     ("vim", ["vim", "-N", "-u", os.path.join(PARTS, "ale.vim"), "-i", "NONE", "-es"]),
 ]
+
+
+class Missing(Exception):
+    """A part of a client that is not there."""
 
 
 def shown(command, folder, text):
@@ -43,8 +47,11 @@ def shown(command, folder, text):
         os.remove(target)
     more = {"MMIXVIEW": PROGRAM, "SOURCE": source, "TARGET": target, "LINE": "2", "COLUMN": "13", "NEW_NAME": "Length"}
     subprocess.run(command, env={**os.environ, **more}, cwd=folder, timeout=60, stdin=subprocess.DEVNULL, stdout=subprocess.PIPE, stderr=subprocess.PIPE)
-    with open(target, encoding="utf-8") as told:
-        return json.load(told)
+    with open(target, encoding="utf-8") as file:
+        told = json.load(file)
+    if "missing" in told:
+        raise Missing(told["missing"])
+    return told
 
 
 def checked(text, folder):
@@ -94,6 +101,9 @@ def main():
         with tempfile.TemporaryDirectory() as folder:
             try:
                 found = tried(name, command, folder)
+            except Missing as part:
+                print("%s: %s is missing: not tried" % (name, part))
+                continue
             except (OSError, subprocess.TimeoutExpired, ValueError, KeyError, TypeError) as fault:
                 found = ["no answer: %r" % fault]
         for it in found:

@@ -1,6 +1,8 @@
 ;;; eglot.el --- what emacs shows of a source by eglot, as JSON -*- lexical-binding: t -*-
 ;; The environment names the program, the source, the place (a line and a column, counted from 0) and the file that is written.
-(require 'eglot)
+(unless (require 'eglot nil t)
+  (with-temp-file (getenv "TARGET") (insert "{\"missing\": \"eglot\"}"))
+  (kill-emacs 0))
 (require 'flymake)
 (require 'json)
 
