@@ -96,7 +96,7 @@ read-head head rest plain few =
     let few_3 : length (head ++ 13 ∷ []) + 1 < 4096 = grind (arith, common_steps) in
     let few_2 : length ((head ++ 13 ∷ []) ++ 10 ∷ []) + 1 < 4096 = grind (arith, common_steps) in
     let whole : (((head ++ 13 ∷ []) ++ 10 ∷ []) ++ 13 ∷ []) ++ 10 ∷ [] ≡ head ++ head_end =
-      append_assoc ((head ++ 13 ∷ []) ++ 10 ∷ []) (13 ∷ []) (10 ∷ []) ∙ append_assoc (head ++ 13 ∷ []) (10 ∷ []) (13 ∷ 10 ∷ []) ∙ append_assoc head (13 ∷ []) (10 ∷ 13 ∷ 10 ∷ []) in
+    append_assoc ((head ++ 13 ∷ []) ++ 10 ∷ []) (13 ∷ []) (10 ∷ []) ∙ append_assoc (head ++ 13 ∷ []) (10 ∷ []) (13 ∷ 10 ∷ []) ∙ append_assoc head (13 ∷ []) (10 ∷ 13 ∷ 10 ∷ []) in
     ap (reads (Head [])) (append_assoc head head_end rest)
     ∙ walk [] head (head_end ++ rest) plain (omega (arith, few))
     ∙ goes-on head 13 (10 ∷ 13 ∷ 10 ∷ rest) (open-byte head 13 refl (ends_head (head ++ 13 ∷ [])) refl) (omega (arith, few))
@@ -215,12 +215,19 @@ from-head : (n : ℕ) (rest : List ℕ) → n ≤ 2 ^ 26 →
 from-head n rest le =
     plain-head n rest le ∙ ap (λ c. joined (settled c) (reads (settled c).coming rest)) (opened n le)
 
+open-body : (head : List ℕ) (n : ℕ) → 0 < n → settled (Body head n []) ≡ read_with [] (Body head n [])
+open-body head n some = let no : (0 == n) ≡ false = grind (arith, nat_tests) in rw no refl
+
+some-follow : (head : List ℕ) (n : ℕ) (bytes : List ℕ) → 0 < n → joined (settled (Body head n [])) (reads (settled (Body head n [])).coming bytes) ≡ reads (Body head n []) bytes
+some-follow head n bytes some = ap (λ (r : Read). joined r (reads r.coming bytes)) (open-body head n some)
+
 pub frame-read : (body rest : List ℕ) → length body ≤ 2 ^ 26 → reads nothing (framed body ++ rest) ≡ joined (read_with (frame_of body ∷ []) nothing) (reads nothing rest)
-frame-read [] rest le = from-head 0 rest le
+frame-read [] rest le = ap (λ h. reads nothing (h ++ rest)) (append-nil (head_for 0)) ∙ from-head 0 rest le
 frame-read (b ∷ body) rest le =
     ap (reads nothing) (append_assoc (head_for (length (b ∷ body))) (b ∷ body) rest)
     ∙ from-head (length (b ∷ body)) ((b ∷ body) ++ rest) le
-    ∙ body-walk (head_for (length (b ∷ body))) (length (b ∷ body)) [] (b ∷ body) rest refl (omega arith)
+    ∙ some-follow (head_for (length (b ∷ body))) (length (b ∷ body)) ((b ∷ body) ++ rest) (omega arith)
+    ∙ body-walk (head_for (length (b ∷ body))) (length (b ∷ body)) [] (b ∷ body) rest (omega arith) (omega arith)
 
 pub frames-read : (bodies : List (List ℕ)) (rest : List ℕ) → AllByRecursion IsShort bodies →
     reads nothing (flat_map framed bodies ++ rest) ≡ joined (read_with (map frame_of bodies) nothing) (reads nothing rest)

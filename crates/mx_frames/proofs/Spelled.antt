@@ -90,9 +90,9 @@ unfolding reads
 all-spelled coming [] is some = record { each = tt; spelled = append-nil (held coming); front = is }
 all-spelled coming (b ∷ bytes) is some =
     let one : Spells (held coming ++ b ∷ []) (settled (with_byte coming b)) =
-      byte-spells coming b is (λ e. some (ap (λ c. (reads c bytes).coming) e ∙ faulty-stays bytes)) in
+    byte-spells coming b is (λ e. some (ap (λ c. (reads c bytes).coming) e ∙ faulty-stays bytes)) in
     let both : Spells ((held coming ++ b ∷ []) ++ bytes) (joined (settled (with_byte coming b)) (reads (settled (with_byte coming b)).coming bytes)) =
-      both-spell (held coming ++ b ∷ []) bytes _ _ one (all-spelled (settled (with_byte coming b)).coming bytes one.front some) in
+    both-spell (held coming ++ b ∷ []) bytes _ _ one (all-spelled (settled (with_byte coming b)).coming bytes one.front some) in
     record { each = both.each; spelled = sym (append_assoc (held coming) (b ∷ []) bytes) ∙ both.spelled; front = both.front }
 
 pub stream-spelled : (stream : List ℕ) → (reads nothing stream).coming ≢ Faulty → Spells stream (reads nothing stream)

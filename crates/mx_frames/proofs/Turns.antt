@@ -25,4 +25,4 @@ pieces coming [] others = refl
 pieces coming (b ∷ piece) others =
     ap (joined (settled (with_byte coming b))) (pieces (settled (with_byte coming b)).coming piece others)
     ∙ sym (joined-assoc (settled (with_byte coming b)) (reads (settled (with_byte coming b)).coming piece)
-      (reads (reads (settled (with_byte coming b)).coming piece).coming others))
+    (reads (reads (settled (with_byte coming b)).coming piece).coming others))

@@ -61,7 +61,9 @@ fn begins_with_name(text: &[u8]) -> bool
 fn blank_count(text: &[u8]) -> usize
     ensures { result ≡ length (run spec.is_gap text.now) }
 {
-    text.iter().take_while(|b| **b == b' ' || **b == b'\t').count()
+    text.iter()
+        .take_while(|b| **b == b' ' || **b == b'\t')
+        .count()
 }
 
 /// How many digits are at the front of a text.
@@ -113,7 +115,11 @@ fn number_at(text: &[u8]) -> Option<u64>
         return None;
     }
     let value = value_of(front(text, count));
-    if value > BODY_LIMIT { None } else { Some(value) }
+    if value > BODY_LIMIT {
+        None
+    } else {
+        Some(value)
+    }
 }
 
 /// How many bytes the first line of a text has without the newline that ends it.

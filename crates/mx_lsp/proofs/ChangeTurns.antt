@@ -17,7 +17,7 @@ pub name-changed : (text : List ℕ) (named : Named) (name : List ℕ) (number :
 unfolding changed_line
 name-changed text named name number line done o names is =
     let more = changed_line named name number line (behind line o) names in
-    rw is (sym (append_assoc text (part line done o.from ++ new_text o name) more ) ∙ ap (λ t. t ++ more) (sym (append_assoc text (part line done o.from) (new_text o name))))
+    rw is (sym (append_assoc text (part line done o.from ++ new_text o name) more) ∙ ap (λ t. t ++ more) (sym (append_assoc text (part line done o.from) (new_text o name))))
 
 pub name-other : (text : List ℕ) (named : Named) (name : List ℕ) (number : ℕ) (line : List ℕ) (done : ℕ) (o : Occurrence) (names : List Occurrence) → is_in_line named number o ≡ false →
     text ++ changed_line named name number line done (o ∷ names) ≡ text ++ changed_line named name number line done names

@@ -82,7 +82,11 @@ fn add_cell(alloc: Global, text: &mut Bytes, cell: Cell, is_code: bool) -> Resul
 
 /// The first tetras of a line, at most 16.
 fn first_cells(cells: &[Cell]) -> &[Cell] {
-    if cells.len() > 16 { &cells[..16] } else { cells }
+    if cells.len() > 16 {
+        &cells[..16]
+    } else {
+        cells
+    }
 }
 
 /// Adds the first tetras of a line.

@@ -9,5 +9,4 @@ ghost use Rattle.mx_lsp.specs.declared.documents.Document.{Document};
 pub fn the_text_of_a_name_is_the_last_that_came()
     ensures { (documents : List Document) (uri text : List ℕ) →
         spec.text_of (spec.with_text documents uri text) uri ≡ Some text }
-{
-}
+{}

@@ -120,12 +120,7 @@ fn changed(
 
 /// The change of a name.
 #[tactic(auto, unfolding(crate::specs::Changes::edit_text))]
-fn edit_text(
-    alloc: Global,
-    source: &[u8],
-    name: &[u8],
-    o: &Occurrence,
-) -> Result<Bytes, NoMemory>
+fn edit_text(alloc: Global, source: &[u8], name: &[u8], o: &Occurrence) -> Result<Bytes, NoMemory>
     ensures { IfOk result (λ text. text ≡ spec.edit_text source.now name.now o.now) }
 {
     let range = range_text(alloc, source, o)?;
@@ -220,9 +215,7 @@ fn rename_all(
 {
     let text = changed(alloc, names, named, name, source)?;
     match compare(alloc, source, text.as_slice())? {
-        Compared::Same => Ok(Renamed::Done(edits(
-            alloc, uri, names, named, name, source,
-        )?)),
+        Compared::Same => Ok(Renamed::Done(edits(alloc, uri, names, named, name, source)?)),
         other => Ok(Renamed::Refused(why_not(other))),
     }
 }

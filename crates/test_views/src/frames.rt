@@ -26,7 +26,8 @@ fn framed(alloc: Global, body: &[u8]) -> Option<Bytes> {
 }
 
 /// Two frames, and the front of a third one.
-const STREAM: &[u8] = b"Content-Length: 2\r\n\r\n{}Content-Type: x\r\ncontent-length:3 \r\n\r\n[1]Content-Length: 7\r\n\r\nab";
+const STREAM: &[u8] =
+    b"Content-Length: 2\r\n\r\n{}Content-Type: x\r\ncontent-length:3 \r\n\r\n[1]Content-Length: 7\r\n\r\nab";
 
 /// A header that says no length.
 const NO_LENGTH: &[u8] = b"Content-Type: x\r\n\r\n{}";
@@ -55,7 +56,10 @@ fn frames_are_written(rt: HostRuntime) {
     match framed(rt.alloc(), b"null") {
         None => assert!(rt; false),
         Some(stream) => {
-            assert_eq!(rt; stream.as_slice(), b"Content-Length: 4\r\n\r\nnull".as_slice());
+            assert_eq!(rt;
+                stream.as_slice(),
+                b"Content-Length: 4\r\n\r\nnull".as_slice()
+            );
         }
     }
 }
