@@ -51,7 +51,7 @@ fn put_body<H: Host>(alloc: Global, host: &mut H, body: &[u8]) -> Result<(), Out
 }
 
 /// Writes bodies, each in its frame, up to one that is not written.
-#[tactic(auto, using(mx_face::proofs::Parts::parts))]
+#[tactic(auto, using(mx_face::proofs::Parts::parts), unfolding(crate::specs::Wire::bodies_put))]
 pub(crate) fn put_bodies<H: Host>(
     alloc: Global,
     host: &mut H,
@@ -61,9 +61,10 @@ pub(crate) fn put_bodies<H: Host>(
         (λ m. spec.bodies_put bodies.now m) }
     ensures causes { PartFaultsOnlyBy H.told H.faults host.old host.new result }
 {
-    for body in bodies {
+    let mut rest = bodies;
+    while let [body, more @ ..] = rest {
         match put_body(alloc, host, body.as_slice()) {
-            Ok(()) => {}
+            Ok(()) => rest = more,
             Err(outcome) => return Err(outcome),
         }
     }

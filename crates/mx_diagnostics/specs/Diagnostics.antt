@@ -15,9 +15,12 @@ use Rattle.mx_diagnostics.specs.declared.diagnostic.Severity.TheVariants as seve
 
 -- ---- faults
 
+unfoldable pub question : List ℕ
+question = codes "\nDid you mean `"
+
 unfoldable pub meant_text : List ℕ → List ℕ
 meant_text [] = []
-meant_text (b ∷ bs) = codes "\nDid you mean `" ++ (b ∷ bs) ++ codes "`?"
+meant_text (b ∷ bs) = question ++ (b ∷ bs) ++ codes "`?"
 
 -- what is wrong, which name is meant perhaps, and what mends it
 unfoldable pub fault_message : ToldFault → List ℕ

@@ -23,6 +23,14 @@ fn add_severity(text: &mut Bytes, severity: Severity) -> Result<(), NoMemory>
     }
 }
 
+/// Adds who tells it.
+#[tactic(auto, unfolding(crate::specs::Published::source_json))]
+fn add_source(text: &mut Bytes) -> Result<(), NoMemory>
+    ensures { OnOk result (text.new ≡ text.old ++ spec.source_json) }
+{
+    text.extend(b",\"source\":\"mmixview\"")
+}
+
 /// Adds what one place is told of.
 #[tactic(auto, unfolding(crate::specs::Published::diagnostic_json))]
 fn add_diagnostic(alloc: Global, text: &mut Bytes, d: &Diagnostic) -> Result<(), NoMemory>
@@ -38,7 +46,7 @@ fn add_diagnostic(alloc: Global, text: &mut Bytes, d: &Diagnostic) -> Result<(),
     )?;
     add_severity(text, d.severity)?;
     add_quoted(text, b",\"code\":", d.code.as_slice())?;
-    text.extend(b",\"source\":\"mmixview\"")?;
+    add_source(text)?;
     add_string(alloc, text, b",\"message\":", d.message.as_slice())?;
     text.extend(b"}")
 }
@@ -69,15 +77,31 @@ fn add_list(alloc: Global, text: &mut Bytes, told: &[Diagnostic]) -> Result<(), 
     }
 }
 
+/// The method of the notice.
+#[tactic(auto, unfolding(crate::specs::Published::method))]
+fn method() -> &'static [u8]
+    ensures { result.now ≡ spec.method }
+{
+    b"textDocument/publishDiagnostics"
+}
+
+/// Adds what is before the list.
+#[tactic(auto, unfolding(crate::specs::Published::list_name))]
+fn add_list_name(text: &mut Bytes) -> Result<(), NoMemory>
+    ensures { OnOk result (text.new ≡ text.old ++ spec.list_name) }
+{
+    text.extend(b",\"diagnostics\":")
+}
+
 /// The notice that tells an editor this of the text of a name.
 #[tactic(auto, unfolding(crate::specs::Published::notice))]
 fn notice(alloc: Global, uri: &[u8], told: &[Diagnostic]) -> Result<Bytes, NoMemory>
     ensures { IfOk result (λ body. body ≡ spec.notice uri.now told.now) }
 {
     let mut body = Bytes::new(alloc);
-    add_notice(&mut body, b"textDocument/publishDiagnostics")?;
+    add_notice(&mut body, method())?;
     add_string(alloc, &mut body, b"{\"uri\":", uri)?;
-    body.extend(b",\"diagnostics\":")?;
+    add_list_name(&mut body)?;
     add_list(alloc, &mut body, told)?;
     body.extend(b"}}")?;
     Ok(body)

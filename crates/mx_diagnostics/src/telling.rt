@@ -21,6 +21,14 @@ const MOST: usize = 20;
 /// The fault of a source that is too long.
 const TOO_LONG: u16 = 88;
 
+/// Adds the front of a question.
+#[tactic(auto, unfolding(crate::specs::Diagnostics::question))]
+fn add_question(text: &mut Bytes) -> Result<(), NoMemory>
+    ensures { OnOk result (text.new ≡ text.old ++ spec.question) }
+{
+    text.extend(b"\nDid you mean `")
+}
+
 /// Adds a name that is meant perhaps.
 #[tactic(auto, unfolding(crate::specs::Diagnostics::meant_text))]
 fn add_meant(text: &mut Bytes, name: &[u8]) -> Result<(), NoMemory>
@@ -29,7 +37,7 @@ fn add_meant(text: &mut Bytes, name: &[u8]) -> Result<(), NoMemory>
     if name.is_empty() {
         return Ok(());
     }
-    text.extend(b"\nDid you mean `")?;
+    add_question(text)?;
     text.extend(name)?;
     text.extend(b"`?")
 }

@@ -7,10 +7,14 @@ use Rattle.mx_lsp.specs.declared.renaming.Renamed.{Renamed}
 use Rattle.mx_lsp.specs.declared.renaming.Renamed.TheVariants.{Done, Refused}
 
 -- the change that puts a text in place of a whole one, which has so many lines
+unfoldable pub edit_front : List ℕ
+edit_front = codes "[{\"range\":{\"start\":{\"line\":0,\"character\":0},\"end\":{\"line\":"
+
+unfoldable pub text_name : List ℕ
+text_name = codes ",\"character\":0}},\"newText\":"
+
 unfoldable pub whole_edit : List ℕ → ℕ → List ℕ
-whole_edit text count =
-    codes "[{\"range\":{\"start\":{\"line\":0,\"character\":0},\"end\":" ++ codes "{\"line\":" ++ decimal count ++ codes ",\"character\":0}},\"newText\":"
-    ++ string text ++ codes "}]"
+whole_edit text count = edit_front ++ decimal count ++ text_name ++ string text ++ codes "}]"
 
 abbrev pub IsLaidOut : List ℕ → List ℕ → ℕ → Renamed → Type 0
 IsLaidOut source text count (Done edit) = AreOneProgram source text × (edit ≡ whole_edit text count)

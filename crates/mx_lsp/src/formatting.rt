@@ -101,17 +101,33 @@ fn formatted(alloc: Global, source: &[u8]) -> Result<(Bytes, u64), NoMemory> {
     Ok((text, count))
 }
 
+/// The beginning of the change of a whole text.
+#[tactic(auto, unfolding(crate::specs::Layouts::edit_front))]
+fn edit_front(alloc: Global) -> Result<Bytes, NoMemory>
+    ensures { IfOk result (λ edit. edit ≡ spec.edit_front) }
+{
+    Bytes::copy(
+        alloc,
+        b"[{\"range\":{\"start\":{\"line\":0,\"character\":0},\"end\":{\"line\":",
+    )
+}
+
+/// What is before the new text.
+#[tactic(auto, unfolding(crate::specs::Layouts::text_name))]
+fn text_name() -> &'static [u8]
+    ensures { result.now ≡ spec.text_name }
+{
+    b",\"character\":0}},\"newText\":"
+}
+
 /// The change that puts a text in place of a whole one, which has so many lines.
 #[tactic(auto, unfolding(crate::specs::Layouts::whole_edit))]
 fn whole_edit(alloc: Global, text: &[u8], count: u64) -> Result<Bytes, NoMemory>
     ensures { IfOk result (λ edit. edit ≡ spec.whole_edit text.now count) }
 {
-    let mut edit = Bytes::copy(
-        alloc,
-        b"[{\"range\":{\"start\":{\"line\":0,\"character\":0},\"end\":",
-    )?;
-    add_number(&mut edit, b"{\"line\":", count)?;
-    add_string(alloc, &mut edit, b",\"character\":0}},\"newText\":", text)?;
+    let mut edit = edit_front(alloc)?;
+    add_number(&mut edit, b"", count)?;
+    add_string(alloc, &mut edit, text_name(), text)?;
     edit.extend(b"}]")?;
     Ok(edit)
 }

@@ -60,15 +60,19 @@ pub(crate) fn may_have(named: &Named, name: &[u8]) -> bool
 }
 
 /// How many bytes of a name its last colon and what is before it have.
-#[tactic(auto, using(crate::proofs::Leads::leads))]
+#[tactic(auto, unfolding(crate::specs::Names::lead_from))]
 fn lead_length(text: &[u8]) -> usize
     ensures { result ≡ spec.lead_from 0 0 text.now }
 {
     let mut length = 0usize;
-    for (place, b) in text.iter().enumerate() {
+    let mut place = 0usize;
+    let mut rest = text;
+    while let [b, more @ ..] = rest {
+        place += 1;
         if *b == b':' {
-            length = place + 1;
+            length = place;
         }
+        rest = more;
     }
     length
 }

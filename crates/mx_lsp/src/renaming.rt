@@ -85,10 +85,12 @@ fn add_changed_line(
         ≡ text.old ++ spec.changed_line named.now name.now number line.now 0 names.now) }
 {
     let mut done = 0usize;
-    for o in names {
+    let mut rest = names;
+    while let [o, more @ ..] = rest {
         if is_in_line(named, number, o) {
             done = add_new(alloc, text, o, name, line, done)?;
         }
+        rest = more;
     }
     text.extend(part(line, done, line.len()))
 }

@@ -22,10 +22,13 @@ kind_of (Some (PseudoOp pseudo.Is)) = codes "14"
 kind_of (Some (PseudoOp p)) = codes "13"
 kind_of op = codes "12"
 
+unfoldable pub selection_name : List ℕ
+selection_name = codes ",\"selectionRange\":"
+
 abbrev pub label_in : List ℕ → List ℕ → Occurrence → List ℕ
 label_in source line o =
     codes "{\"name\":" ++ string o.text ++ codes ",\"kind\":" ++ kind_of (operation_of (operation_at line o.from))
-    ++ codes ",\"range\":" ++ line_range o.line line ++ codes ",\"selectionRange\":" ++ range_of source o ++ codes "}"
+    ++ codes ",\"range\":" ++ line_range o.line line ++ selection_name ++ range_of source o ++ codes "}"
 
 unfoldable pub label_text : List ℕ → Occurrence → List ℕ
 label_text source o = label_in source (line_text o.line (lines_of source)) o

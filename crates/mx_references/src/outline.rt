@@ -25,6 +25,14 @@ fn kind_of(op: Option<Op>) -> &'static [u8]
     }
 }
 
+/// What is before the range of a name.
+#[tactic(auto, unfolding(crate::specs::Outline::selection_name))]
+fn selection_name() -> &'static [u8]
+    ensures { result.now ≡ spec.selection_name }
+{
+    b",\"selectionRange\":"
+}
+
 /// A label.
 #[tactic(auto, unfolding(crate::specs::Outline::label_text))]
 fn label_text(alloc: Global, source: &[u8], o: &Occurrence) -> Result<Bytes, NoMemory>
@@ -37,7 +45,7 @@ fn label_text(alloc: Global, source: &[u8], o: &Occurrence) -> Result<Bytes, NoM
     text.extend(b",\"kind\":")?;
     text.extend(kind_of(find(operation_at(line, o.from))))?;
     add_line_range(&mut text, b",\"range\":", o.line, line)?;
-    add_between(&mut text, b",\"selectionRange\":", range.as_slice(), b"}")?;
+    add_between(&mut text, selection_name(), range.as_slice(), b"}")?;
     Ok(text)
 }
 

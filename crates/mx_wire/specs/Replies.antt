@@ -25,5 +25,11 @@ abbrev pub refusal_body : List ℕ → Refused → List ℕ → List ℕ
 refusal_body id refused message = answer_front id ++ refusal refused message
 
 -- the beginning of a notice, up to its parameters
+unfoldable pub notice_open : List ℕ
+notice_open = codes "{\"jsonrpc\":\"2.0\",\"method\":\""
+
+unfoldable pub params_name : List ℕ
+params_name = codes "\",\"params\":"
+
 unfoldable pub notice_front : List ℕ → List ℕ
-notice_front method = codes "{\"jsonrpc\":\"2.0\",\"method\":\"" ++ method ++ codes "\",\"params\":"
+notice_front method = notice_open ++ method ++ params_name

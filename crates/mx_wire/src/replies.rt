@@ -86,12 +86,28 @@ pub fn refusal_of(
     Ok(body)
 }
 
+/// Adds what is before the method of a notice.
+#[tactic(auto, unfolding(crate::specs::Replies::notice_open))]
+fn open_notice(body: &mut Bytes) -> Result<(), NoMemory>
+    ensures { OnOk result (body.new ≡ body.old ++ spec.notice_open) }
+{
+    body.extend(b"{\"jsonrpc\":\"2.0\",\"method\":\"")
+}
+
+/// Adds what is between the method of a notice and its parameters.
+#[tactic(auto, unfolding(crate::specs::Replies::params_name))]
+fn add_params_name(body: &mut Bytes) -> Result<(), NoMemory>
+    ensures { OnOk result (body.new ≡ body.old ++ spec.params_name) }
+{
+    body.extend(b"\",\"params\":")
+}
+
 /// Adds the beginning of a notice by this method, up to its parameters.
 #[tactic(auto, unfolding(crate::specs::Replies::notice_front))]
 pub fn add_notice(body: &mut Bytes, method: &[u8]) -> Result<(), NoMemory>
     ensures { OnOk result (body.new ≡ body.old ++ spec.notice_front method.now) }
 {
-    body.extend(b"{\"jsonrpc\":\"2.0\",\"method\":\"")?;
+    open_notice(body)?;
     body.extend(method)?;
-    body.extend(b"\",\"params\":")
+    add_params_name(body)
 }
