@@ -4,6 +4,7 @@ use Rattle.std.specs.List.{AllByRecursion, flat_map, slice_range}
 use Rattle.std.specs.Option.{option_map}
 use Rattle.std.proofs.lemmas.Bool.Decides.{nat_tests}
 use Rattle.std.proofs.lemmas.Grind.{common_steps}
+use Rattle.std.proofs.lemmas.List.{drop-drop, take-append-drop}
 use Rattle.mx_line.specs.declared.cutter.Cut.{Cut}
 use Rattle.mx_line.specs.declared.faults.LineFault.{LineFault}
 use Rattle.mx_line.specs.declared.spans.Span.{Span}
@@ -71,7 +72,10 @@ label-at line None label e = absurd (cc)
 label-at line (Some span) label e = let is : piece_at line span ≡ label = cc in rw (← is) (part-at line span)
 
 part-front : (line : List ℕ) (span : Span) → span.from ≤ span.to → span.to ≤ length line → drop span.from line ≡ part line span ++ drop span.to line
-part-front line span le within = grind (arith, common_steps)
+part-front line span le within =
+    let same : span.from + (span.to - span.from) ≡ span.to = omega (arith, le) in
+    sym (take-append-drop (span.to - span.from) (drop span.from line))
+    ∙ ap (λ t. part line span ++ t) (drop-drop (span.to - span.from) span.from line ∙ ap (λ n. drop n line) same)
 
 part-long : (line : List ℕ) (span : Span) → span.from ≤ span.to → span.to ≤ length line → span.to ≡ span.from + length (part line span)
 part-long line span le within = grind (arith, common_steps)

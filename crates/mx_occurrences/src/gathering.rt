@@ -119,7 +119,7 @@ fn add_statement(
 }
 
 /// Adds the names of statements, and gives what has come after them.
-#[tactic(auto, using(crate::proofs::NameTurns::statements))]
+#[tactic(auto, using(crate::proofs::NameTurns::turns), unfolding(crate::specs::Occurrences::in_statements, crate::specs::Occurrences::course_behind))]
 fn add_statements(
     alloc: Global,
     out: &mut Occurrences,
@@ -131,14 +131,16 @@ fn add_statements(
     ensures course { IfOk result (λ course. course ≡ spec.course_behind before statements.now) }
 {
     let mut course = before;
-    for statement in statements {
+    let mut rest = statements;
+    while let [statement, more @ ..] = rest {
         course = add_statement(alloc, out, &course, line, statement)?;
+        rest = more;
     }
     Ok(course)
 }
 
 /// Adds the names of lines.
-#[tactic(auto, using(crate::proofs::NameTurns::lines))]
+#[tactic(auto, using(crate::proofs::NameTurns::turns), unfolding(crate::specs::Occurrences::in_lines))]
 fn add_lines(
     alloc: Global,
     out: &mut Occurrences,
@@ -148,8 +150,10 @@ fn add_lines(
     ensures { OnOk result (out.new ≡ out.old ++ spec.in_lines before lines.now) }
 {
     let mut course = before;
-    for line in lines {
+    let mut rest = lines;
+    while let [line, more @ ..] = rest {
         course = add_statements(alloc, out, course, line.number, line.statements.as_slice())?;
+        rest = more;
     }
     Ok(())
 }

@@ -1,6 +1,10 @@
-use Rattle.std.proofs.Common.{◌≡◌, ◌++◌, drop}
+use Rattle.std.proofs.Common.{◌≡◌, ◌++◌, length}
 use Rattle.mx_occurrences.specs.Occurrences.{in_lines}
 use Rattle.mx_occurrences.proofs.gathering.add_lines.Given as goal
 
-abbrev pub invariant-loop-line : goal.invariant-loop-line
-invariant-loop-line l = l.out ++ in_lines l.course (drop l.line-index l.lines) ≡ l.fn.out ++ in_lines l.before l.lines
+-- the lines that are left are left to gather
+abbrev pub invariant-loop-rest : goal.invariant-loop-rest
+invariant-loop-rest l = l.out ++ in_lines l.course l.rest ≡ l.fn.out ++ in_lines l.fn.before l.lines
+
+abbrev pub decreases-loop-rest : goal.decreases-loop-rest
+decreases-loop-rest l = length l.rest
