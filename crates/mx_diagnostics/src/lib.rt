@@ -2,9 +2,9 @@
 #![tactic(auto)]
 
 mod diagnostic;
-mod published;
+mod notices;
 mod telling;
 
 pub use diagnostic::{Diagnostic, Diagnostics, Severity};
-pub use published::{published, withdrawn};
+pub use notices::{published, withdrawn};
 pub use telling::tell;

@@ -2,7 +2,7 @@
 
 ghost use Rattle.std.specs.Prelude.{◌≡◌, [], ◌∷◌, ◌++◌, IfOk, OnOk, codes, true};
 ghost use Rattle.mx_diagnostics.specs.Diagnostics.{diagnostics_of};
-ghost use Rattle.mx_diagnostics.specs.Published as published;
+ghost use Rattle.mx_diagnostics.specs.Published as notices;
 ghost use Rattle.mx_wire.specs.Replies.{refusal_body};
 ghost use Rattle.mx_lsp.specs.Sessions as spec;
 
@@ -171,7 +171,7 @@ fn take_text(
     text: &[u8],
     out: &mut Bodies,
 ) -> Result<(), NoMemory>
-    ensures told { OnOk result (out.new ≡ out.old ++ published.notice uri.now (diagnostics_of text.now) ∷ []) }
+    ensures told { OnOk result (out.new ≡ out.old ++ notices.notice uri.now (diagnostics_of text.now) ∷ []) }
     ensures open { OnOk result (session.new ≡ spec.with_text session.old uri.now text.now) }
 {
     let told = published(alloc, uri, text)?;
@@ -187,7 +187,7 @@ fn close_text(
     uri: &[u8],
     out: &mut Bodies,
 ) -> Result<(), NoMemory>
-    ensures told { OnOk result (out.new ≡ out.old ++ published.notice uri.now [] ∷ []) }
+    ensures told { OnOk result (out.new ≡ out.old ++ notices.notice uri.now [] ∷ []) }
     ensures closed { OnOk result (session.new ≡ spec.without session.old uri.now) }
 {
     let told = withdrawn(alloc, uri)?;
