@@ -27,7 +27,7 @@ use Rattle.mx_watch.proofs.Listened.{goes-on, left-heard}
 
 -- ---- the traces of some steps, and of one more
 
-MoreTraces : ℕ → State → HostModel → Trace → State → HostModel → Type 0
+abbrev MoreTraces : ℕ → State → HostModel → Trace → State → HostModel → Type 0
 MoreTraces i t k trace s m = run i no_flags false s m ≡ ended Spent t k → traces window_machine (i + 1) s m ≡ traces window_machine i s m ++ trace ∷ []
 
 by-first : (i : ℕ) (s : State) (m : HostModel) (x : Turn) → turn s m ≡ x → traces window_machine (suc i) s m ≡ traces_after (traces window_machine i) x

@@ -1,5 +1,7 @@
 -- The watcher at an index is told a trace: it stays, or it leaves with its place.
 use Rattle.std.proofs.Common.{◌≡◌, refl, ◌<◌, ◌+◌, ℕ, zero, suc, Bool, true, false, List, [], ◌∷◌, ◌++◌, take, drop, length, get_or, set, map, remove, zip, arith, ap, ◌∙◌, sym}
+use Rattle.std.proofs.Common.{Ok, Err}
+use Rattle.std.specs.Prelude.{Result, OnErr}
 use Rattle.std.proofs.lemmas.List.{append_assoc, append-nil, take-append-drop, take-set, drop-set-lt, get_or-set_same, length-map}
 use Rattle.mx_code.specs.declared.trace.Trace.{Trace}
 use Rattle.mx_watch.specs.Watching.{Watching, later, wish_if}
@@ -104,7 +106,7 @@ module _ {A : Type 0} (f : A → Watching) (t : Trace) (P : List ℕ) (xs : List
   pub left-next : Full ≡ wish_if ((get_or (map f xs) i nobody).full (t ∷ [])) → i ≡ i + length (still_listening t (take 1 (drop i (zip P (map f xs)))))
   left-next e = let here : i ≡ i + 0 = omega arith in here ∙ ap (λ (l : List (ℕ × Watching)). i + length l) (sym (gone e))
 
-  -- where memory runs out: it was not told the trace
+  -- where memory runs out, it was not told the trace
   pub untold : (N : List Watching) (R : List Report) → N ≡ map f xs → LacksAt t i (listening P (map f xs) R) (listening P N R)
   untold N R n =
       let z = zip P (map f xs) in
@@ -133,3 +135,8 @@ module _ {A : Type 0} (f : A → Watching) (t : Trace) (P : List ℕ) (xs : List
             ∙ ap (λ l. (take i z ++ l) ++ drop (i + 1) z) (sym now);
         kept = r;
       }
+
+-- so it is of any error
+pub on-error : {A E P : Type 0} (r : Result A E) → P → OnErr r P
+on-error (Ok a) p = tt
+on-error (Err e) p = p

@@ -31,4 +31,4 @@ returns-in-Err-clause-lacks g c = passed.untold _ c.args.t.now c.args.places.now
 pub returns-in_err-dismiss-in-Ok-Full-clause-lacks : goal.returns-in_err-dismiss-in-Ok-Full-clause-lacks
 returns-in_err-dismiss-in-Ok-Full-clause-lacks g c =
     let e = c.in_err-dismiss-in-Ok-Full.ensures in
-    passed.unreported _ c.args.t.now c.args.places.now.items _ c.args.at c.requires.same c.requires.inside _ _ _ _ _ (c.in-Ok-Full.ensures.ok nobody) e.lacks e.placed e.unkept
+    passed.on-error _ (passed.unreported _ c.args.t.now c.args.places.now.items _ c.args.at c.requires.same c.requires.inside _ _ _ _ _ (c.in-Ok-Full.ensures.ok nobody) e.lacks e.placed e.unkept)
