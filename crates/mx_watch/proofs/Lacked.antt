@@ -19,7 +19,6 @@ use Rattle.mx_run.proofs.FreeTurns.{none-made, run-from, run-went, run-halts, ru
 use Rattle.mx_watch.specs.Lacking.{ToldSome, in_step, at_first, in_telling, StopsTold}
 use Rattle.mx_watch.specs.Listening.{Listening, listening, starting, told, watched}
 use Rattle.mx_watch.specs.Traces.{traces, traces_after}
-use Rattle.mx_watch.specs.WatchedRuns.{left_with_reports}
 use Rattle.mx_watch.specs.Watching.{Watching}
 use Rattle.mx_watch.specs.declared.telling.Report.{Report}
 use Rattle.mx_watch.proofs.Heard.{zip-second}

@@ -19,24 +19,26 @@ use Rattle.mx_watch.specs.declared.telling.Report.{Report}
 abbrev pub told_one : Trace → ℕ × Watching → ℕ × Watching
 told_one t w = (w.0, later t w.1)
 
--- Memory ran out when watchers were told a trace. The first ones were told it, in order: each of them is left or, where it was full,
--- has given its report. One more may have been told it, whose report lacked memory: it is left, too.
+-- Memory ran out when watchers were told a trace. The first ones were told it, in order: each of them is left or, where it
+-- was full, has given its report. One more may have been told it, whose report lacked memory: it is left, too.
 pub record ToldSome (t : Trace) (before after : Listening) : Type 0 where
   pub first : ℕ
   pub more : ℕ
   pub one : more ≤ 1
-  pub left : after.left ≡ still_listening t (take first before.left) ++ map (told_one t) (take more (drop first before.left)) ++ drop (first + more) before.left
+  pub left : after.left ≡
+      still_listening t (take first before.left) ++ map (told_one t) (take more (drop first before.left)) ++ drop (first + more) before.left
   pub kept : after.kept ≡ before.kept ++ reports_at t (take first before.left)
 
--- Where memory ran out, after the steps of these traces: in the next step, and watchers were told all the traces; or before the first
--- one, and they were told nothing; or when they were told the last trace, and they were told all those before it.
+-- Where memory ran out, after the steps of these traces: in the next step, and watchers were told all the traces; or before
+-- the first one, and they were told nothing; or when they were told the last trace, and they were told all those before it.
 pub data Lacks (h : List Trace) (between new : RunWorld) (start now : Listening) : Type 0 where
   in_step : Stops running new (step_plan no_flags false) between → now ≡ watched h start → Lacks h between new start now
   at_first : h ≡ [] → new ≡ between → now ≡ start → Lacks h between new start now
-  in_telling : (g : List Trace) (t : Trace) → h ≡ g ++ t ∷ [] → new ≡ between → ToldSome t (watched g start) now → Lacks h between new start now
+  in_telling : (g : List Trace) (t : Trace) → h ≡ g ++ t ∷ [] → new ≡ between → ToldSome t (watched g start) now →
+      Lacks h between new start now
 
--- A run of at most n steps that these watchers were told of stopped for want of memory: so many steps were made, and they were told the
--- traces of these, up to where it ran out. Those that are left, and the reports that are kept, are as they were told.
+-- A run of at most n steps that these watchers were told of stopped for want of memory: so many steps were made, and they
+-- were told the traces of these, up to where it ran out. So those that are left are left, and the reports are kept.
 pub record StopsTold (n : ℕ) (old new : RunWorld) (start : Listening) (left : List Watching) (reports : List Report) : Type 0 where
   pub made : ℕ
   pub few : made ≤ n
@@ -57,5 +59,6 @@ StopsHearing old new before after n result start left reports =
 pub record LacksAt (t : Trace) (at : ℕ) (before after : Listening) : Type 0 where
   pub more : ℕ
   pub one : more ≤ 1
-  pub left : after.left ≡ take at before.left ++ map (told_one t) (take more (drop at before.left)) ++ drop (at + more) before.left
+  pub left : after.left ≡
+      take at before.left ++ map (told_one t) (take more (drop at before.left)) ++ drop (at + more) before.left
   pub kept : after.kept ≡ before.kept
