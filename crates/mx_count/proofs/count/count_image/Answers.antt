@@ -1,4 +1,4 @@
-use Rattle.std.proofs.Common.{refl, ap, []}
+use Rattle.std.proofs.Common.{refl, ap}
 use Rattle.mx_count.specs.Counting.{counting_as}
 use Rattle.mx_count.specs.Runs.{reporting}
 use Rattle.mx_count.specs.declared.count.Counted.{Counted}
@@ -22,4 +22,4 @@ pub returns-in-Ok-clause-left : goal.returns-in-Ok-clause-left
 returns-in-Ok-clause-left g c = λ t. started-left _ _ _ _ _ (c.in-Ok.ensures.window (λ e. absurd (cc))) (c.count_machine.ensures.left t)
 
 pub returns-in-Err-clause-left : goal.returns-in-Err-clause-left
-returns-in-Err-clause-left g c = λ t. unstarted-left _ _ _ _
+returns-in-Err-clause-left g c = λ t. unstarted-left c.args.order.now c.args.arguments.now _ _

@@ -14,10 +14,10 @@ returns-in-Err-Refused-clause-told g c =
     (c.uncounted.ensures ∙ ap uncounted (rw c.in-Err-Refused.field-0-is at c.outcome.ensures))
 
 pub returns-in-Ok-clause-left : goal.returns-in-Ok-clause-left
-returns-in-Ok-clause-left g c = λ t. meant-left _ _ _ _ _ _ (c.in-Ok.ensures (λ e. absurd (cc))) (c.count_meaning.ensures.left t)
+returns-in-Ok-clause-left g c = λ t. meant-left c.args.order.now c.args.arguments.now _ _ _ _ (c.in-Ok.ensures (λ e. absurd (cc))) (c.count_meaning.ensures.left t)
 
 pub returns-in-Err-Refused-clause-left : goal.returns-in-Err-Refused-clause-left
-returns-in-Err-Refused-clause-left g c = λ t. unmeant-left _ _ _ _
+returns-in-Err-Refused-clause-left g c = λ t. unmeant-left c.args.order.now c.args.arguments.now _ _
 
 pub returns-in-Err-OutOfMemory-clause-left : goal.returns-in-Err-OutOfMemory-clause-left
-returns-in-Err-OutOfMemory-clause-left g c = λ t. unmeant-left _ _ _ _
+returns-in-Err-OutOfMemory-clause-left g c = λ t. unmeant-left c.args.order.now c.args.arguments.now _ _

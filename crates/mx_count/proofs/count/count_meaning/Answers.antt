@@ -7,4 +7,4 @@ returns-in-Ok-clause-told g c =
     reported-told _ _ _ _ c.args.order.now c.args.arguments.now _ _ _ (text-from-none c.args.form c.args.source.now _ c.in-Ok.ensures) c.count_image.ensures.told
 
 pub returns-in-Err-clause-left : goal.returns-in-Err-clause-left
-returns-in-Err-clause-left g c = λ t. unstarted-left _ _ _ _
+returns-in-Err-clause-left g c = λ t. unstarted-left c.args.order.now c.args.arguments.now _ _

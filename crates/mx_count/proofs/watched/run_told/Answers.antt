@@ -17,8 +17,8 @@ returns-in-Ok-clause-told g c = λ w alone none tells.
 pub returns-in-Ok-clause-left : goal.returns-in-Ok-clause-left
 returns-in-Ok-clause-left g c = λ t. run-left _ _ _ _ _ _ (c.watched_run-end.ensures.plan t)
 
-pub returns-in-Err-clause-left : goal.returns-in-Err-clause-left
-returns-in-Err-clause-left g c = λ t. run-left _ _ _ _ _ _ (c.watched_run-end.ensures.plan t)
+pub returns-clause-left : goal.returns-clause-left
+returns-clause-left g c = λ t. run-left _ _ _ _ _ _ (c.watched_run-end.ensures.plan t)
 
 pub returns-then-is_lacking-clause-left : goal.returns-then-is_lacking-clause-left
 returns-then-is_lacking-clause-left g c = λ t. run-left _ _ _ _ _ _ (c.watched_run-end.ensures.plan t)
