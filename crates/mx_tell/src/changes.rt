@@ -218,9 +218,9 @@ fn add_octa(
     text.push(b'\n')
 }
 
-/// Adds what a step changed, a line for each value: registers, special registers but those that count steps and registers
-/// and, of a trap, those that each trap changes, and the octa that was written. After a call its arguments are told, and after a return its results, since all registers have
-/// other numbers then.
+/// Adds what a step changed, a line for each value: registers; special registers, but those that count steps and registers and,
+/// of a trap, those that each trap changes; and the octa that was written. After a call its arguments are told, and after a return
+/// its results, since all registers have other numbers then.
 pub fn add_changes(
     text: &mut Bytes,
     book: &Book,

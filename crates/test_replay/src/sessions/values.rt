@@ -170,7 +170,7 @@ takes one step back, or N steps
     },
     Row {
         lines: "re\nfoo bar\ncont\n",
-        answer: "? several words begin so: reverse-step reverse-next reverse-finish reverse-continue
+        answer: "? several words begin like this: reverse-step reverse-next reverse-finish reverse-continue
 ? no word foo: help lists all
 done
 step 24  sum.mms:19  Loop+36  TRAP 0,Halt,0
