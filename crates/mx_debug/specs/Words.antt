@@ -1,4 +1,5 @@
--- What the words of the debugger do: where each leads from a step, and which breaks and watches it leaves.
+-- What the words of the debugger do, which are those of gdb: where each leads from the step that is shown, and which breaks and
+-- watches it leaves.
 use Rattle.std.specs.Prelude.{ℕ, ◌≡◌, ◌≢◌, ◌+◌, ◌-◌, ◌==◌, not, Bool, false, true, List, [], ◌∷◌, Option, None, Some}
 use Rattle.std.specs.List.{filter}
 use Rattle.mx_ask.specs.Places.{count_in, number_in}
@@ -17,12 +18,21 @@ WhereSaid (Some a) said unsaid = said a
 
 -- ---- where a word leads
 
--- out of a call: where none has not returned, one stays
+-- Out of the call that the session is in: to where fewer registers are hidden than here, since a call hides some and its return
+-- brings them back. Where each call has returned, the session stays.
 pub record LeavesCall (d : Debugged) (at : ℕ) (Goes : Option ℕ → ℕ → Type 0) : Type 0 where
   pub within : depth_at d ≢ 0 → Goes (Some (depth_at d - 1)) at
   pub outside : depth_at d ≡ 0 → at ≡ d.at
 
--- Where a word leads with what follows it. A word that lacks its number or its place, and each other word, stays.
+-- Where a word leads with what follows it:
+-- `step N` N steps on, and `reverse-step N` N steps back, but not past the start; without N it is one step;
+-- `goto K` to step K, forward or back;
+-- `next` to the next step that is in no call made from here, and `reverse-next` back to the last one: at most as many registers are
+-- hidden there as here;
+-- `finish` to the step after the return from this call, and `reverse-finish` back to the step that made it;
+-- `continue` to the next break or watch, and `reverse-continue` back to the last one;
+-- `who PLACE` to the step that made the value there.
+-- `next` and `finish` stop at a break or a watch, too. A word that lacks its number or its place, and each other word, stays.
 unfoldable pub Leads : Debugged → Word → List ℕ → ℕ → Type 0
 Leads d word.Step rest at = WhereSaid (count_in rest) (λ n. GoesTo d (d.at + n) at) (at ≡ d.at)
 Leads d word.ReverseStep rest at = WhereSaid (count_in rest) (λ n. at ≡ d.at - n) (at ≡ d.at)
@@ -36,7 +46,7 @@ Leads d word.ReverseContinue rest at = GoesToLast d None at
 Leads d word.Who rest at = WhereSaid (place_in d.book rest) (λ place. GoesToMaker d place at) (at ≡ d.at)
 Leads d other rest at = at ≡ d.at
 
--- whether a word may lead to another step
+-- whether a word may lead to another step: those above
 abbrev pub goes : Word → Bool
 goes word.Break = false
 goes word.Watch = false
