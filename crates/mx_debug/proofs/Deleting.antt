@@ -1,5 +1,5 @@
 -- The breaks and watches that are left.
-use Rattle.std.proofs.Common.{◌≡◌, ◌≢◌, ◌<◌, ◌≤◌, ◌+◌, ℕ, Bool, true, false, cond, List, [], ◌∷◌, ◌++◌, length, get_or, drop, None, Some, arith, refl, sym, subst, ◌∙◌, ap, append_assoc}
+use Rattle.std.proofs.Common.{◌≡◌, ◌≢◌, ◌<◌, ◌≤◌, ◌+◌, ℕ, Bool, true, false, cond, List, [], ◌∷◌, ◌++◌, length, get_or, drop, None, Some, arith, refl, sym, subst, ◌∙◌, ap, append_assoc, append-nil}
 use Rattle.std.specs.Prelude.{Option}
 use Rattle.std.specs.List.{filter}
 use Rattle.std.proofs.lemmas.List.{at_drop_all, at_drop_more}
@@ -26,16 +26,22 @@ pub ruleset deleting = (deletes-all, deletes-one, deletes-none)
 -- ---- one after another
 
 module _ {A : Type 0} (p : A → Bool) where
-  abbrev Left : List A → ℕ → List A → Type 0
-  Left xs i left = filter p xs ≡ left ++ filter p (drop i xs)
+  -- the first of what is left is kept, or is left out
+  first-kept : (x : A) (xs left whole : List A) → p x ≡ true → whole ≡ left ++ filter p (x ∷ xs) → whole ≡ (left ++ x ∷ []) ++ filter p xs
+  first-kept x xs left whole e h = h ∙ ap (λ (b : Bool). left ++ cond b (x ∷ filter p xs) (filter p xs)) e ∙ sym (append_assoc left (x ∷ []) (filter p xs))
 
-  keeps-by : (x : A) (xs left whole : List A) (b : Bool) → p x ≡ b → whole ≡ left ++ filter p (x ∷ xs) → whole ≡ cond b (left ++ x ∷ []) left ++ filter p xs
-  keeps-by x xs left whole true e h = h ∙ ap (λ (b : Bool). left ++ cond b (x ∷ filter p xs) (filter p xs)) e ∙ sym (append_assoc left (x ∷ []) (filter p xs))
-  keeps-by x xs left whole false e h = h ∙ ap (λ (b : Bool). left ++ cond b (x ∷ filter p xs) (filter p xs)) e
+  first-out : (x : A) (xs left whole : List A) → p x ≡ false → whole ≡ left ++ filter p (x ∷ xs) → whole ≡ left ++ filter p xs
+  first-out x xs left whole e h = h ∙ ap (λ (b : Bool). left ++ cond b (x ∷ filter p xs) (filter p xs)) e
 
-  pub left-next : (xs : List A) (i : ℕ) (d : A) (left : List A) (b : Bool) → i < length xs → p (get_or xs i d) ≡ b → Left xs i left → Left xs (i + 1) (cond b (left ++ get_or xs i d ∷ []) left)
-  left-next xs i d left b inside e h =
-      keeps-by (get_or xs i d) (drop (i + 1) xs) left (filter p xs) b e (h ∙ at_drop_more (λ ys. left ++ filter p ys) xs i d inside)
+  pub kept-next : (xs : List A) (i : ℕ) (d : A) (left whole : List A) → i < length xs → p (get_or xs i d) ≡ true → whole ≡ left ++ filter p (drop i xs) →
+      whole ≡ (left ++ get_or xs i d ∷ []) ++ filter p (drop (i + 1) xs)
+  kept-next xs i d left whole inside e h = first-kept (get_or xs i d) (drop (i + 1) xs) left whole e (h ∙ at_drop_more (λ ys. left ++ filter p ys) xs i d inside)
 
-  pub left-all : (xs : List A) (i : ℕ) (left : List A) → length xs ≤ i → Left xs i left → left ≡ filter p xs
-  left-all xs i left end h = sym (h ∙ at_drop_all (λ ys. left ++ filter p ys) xs i end ∙ append-nil left)
+  pub out-next : (xs : List A) (i : ℕ) (d : A) (left whole : List A) → i < length xs → p (get_or xs i d) ≡ false → whole ≡ left ++ filter p (drop i xs) →
+      whole ≡ left ++ filter p (drop (i + 1) xs)
+  out-next xs i d left whole inside e h = first-out (get_or xs i d) (drop (i + 1) xs) left whole e (h ∙ at_drop_more (λ ys. left ++ filter p ys) xs i d inside)
+
+  pub kept-all : (xs : List A) (i : ℕ) (left whole : List A) → length xs ≤ i → whole ≡ left ++ filter p (drop i xs) → left ≡ whole
+  kept-all xs i left whole end h = sym (h ∙ at_drop_all (λ ys. left ++ filter p ys) xs i end ∙ append-nil left)
+
+pub ruleset keeping = (kept-next, out-next, kept-all)

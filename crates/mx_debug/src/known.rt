@@ -60,6 +60,7 @@ impl Stops {
 }
 
 /// The breaks but that of a number.
+#[tactic(auto, using(crate::proofs::Deleting::keeping))]
 pub(crate) fn breaks_but(
     alloc: Global,
     breaks: &[Break],
@@ -77,6 +78,7 @@ pub(crate) fn breaks_but(
 }
 
 /// What is watched but that of a number.
+#[tactic(auto, using(crate::proofs::Deleting::keeping))]
 pub(crate) fn watches_but(
     alloc: Global,
     watches: &[Watch],
