@@ -2,13 +2,14 @@
 """Checks the table of `mmixview explain` against the documents and the tables, and prints only what is wrong.
 
 - docs/MESSAGES.md has each fault, reason and kind of the table, with its name and the same example, and the table has each of
-  the document.
+  the document; so it has each warning with its name, and each exit status.
 - docs/LANGUAGE.md has each operation and each predefined symbol of the table, and the table has each of the document; the
   instructions that the table says are not performed are those that docs/MACHINE.md lists under 110 Float.
 - The tables of crates/mx_ops have them, too.
 - The manual pages name no fault that the table lacks, and docs/mmixview.1 has the command.
-- By the second assembler and machine of checks/model: a faulty example of a source, an object, a stop or of words has the
-  fault, reason or kind of its row, and what mends it has none; each other example is a good source.
+- By the second assembler and machine of checks/model: a faulty example of a source, an object, a stop, of words or of a status has the
+  fault, reason, kind or status of its row, and what mends it has none; an example of a warning, and what mends it, is accepted; each
+  other example is a good source. That the examples have their warnings is tested in crates/test_views.
 The table is read from its source text. Nothing is built, and no program is run.
 """
 import glob
@@ -23,12 +24,14 @@ sys.path.insert(0, f"{TOP}/checks/model")
 from mmixmodel.hosts import MemoryHost  # noqa: E402
 from mmixmodel.program import mmixware  # noqa: E402
 
-CRATES = ("mx_explain", "mx_operations", "face_explain")
+CRATES = ("mx_explain", "mx_operations", "mx_messages")
 NUMBERED = ("Source", "Object", "Stop", "Kind", "Inside")
 HEADINGS = {"Faulty words": "Kind", "A source that is refused": "Source", "An object that is refused": "Object",
             "A run that is stopped": "Stop"}
 # a stop that needs a million steps, and a kind of options that the model does not read
 SLOW, UNKNOWN = ("114",), ("10",)
+# statuses that only a system gives, or an input without end
+SYSTEM = ("71", "74", "76")
 STRING = r'"((?:[^"\\]|\\.|\\\n)*)"'
 wrongs = []
 
@@ -54,7 +57,7 @@ class Row:
     def __init__(self, where, topic, *texts):
         self.kind, number = re.fullmatch(r"(\w+)(?:\((\d+)\))?", topic).groups()
         name, self.says, self.example, self.mended = map(plain, texts)
-        self.key = number or name
+        self.key, self.name = number or name, name
         self.where = f"{where}: {self.key}"
 
 
@@ -111,6 +114,30 @@ def check_messages(rows):
     for number in kinds:
         if ("Kind", str(number)) not in given:
             wrong("crates/mx_outcome/specs/Names.antt", f"the kind {number} {kinds[number]} is not explained")
+
+
+def check_warnings(rows):
+    """The warnings of the table, of crates/mx_warn and of docs/MESSAGES.md."""
+    specs = text_of("crates/mx_warn/specs/Kinds.antt")
+    numbers = dict(re.findall(r"kind_number (\w+) = (\d+)", specs))
+    due = {f"{numbers[kind]} {name}" for kind, name in re.findall(r'kind_name (\w+) = codes "(\w+)"', specs)}
+    given = {f"{it.key} {it.name}" for it in rows if it.kind == "Warning"}
+    part = text_of("docs/MESSAGES.md").split("## Warnings")[1].split("\n## ")[0]
+    compare("warning", given, due, "crates/mx_warn/specs/Kinds.antt")
+    compare("warning", given, set(re.findall(r"^\| (\d+ \w+) \|", part, re.M)), "docs/MESSAGES.md")
+
+
+def check_statuses(rows):
+    """The exit statuses of the table, of crates/mx_outcome, of docs/MESSAGES.md and of the manual pages."""
+    given = {it.key for it in rows if it.kind == "Status"}
+    compare("status", given, set(re.findall(r"^status_of .* = (\d+)$", text_of("crates/mx_outcome/specs/Status.antt"), re.M)),
+            "crates/mx_outcome/specs/Status.antt")
+    lines = [it for it in rows_below("docs/MESSAGES.md", "Line") if len(it) == 5]
+    compare("status", given - {"0"}, {it[1] for it in lines}, "docs/MESSAGES.md")
+    for page in ("docs/mmixware.1", "docs/mmixview.1"):
+        part = text_of(page).split(".SH EXIT STATUS")[1].split("\n.SH ")[0]
+        for it in sorted(set(re.findall(r"^\.B (\d+)$", part, re.M)) - given, key=int):
+            wrong(page, f"the status {it} is not explained")
 
 
 def operations_of(cell):
@@ -211,6 +238,25 @@ def is_wordy(text):
     return not text or bool(re.match(r"([a-z]+|an Fread|[\d,]+ [a-z]+)[ ,:]", text)) and not re.match(r"\w+ [A-Z]+ ", text)
 
 
+def status_of(outcome):
+    """The status that an outcome has."""
+    return {"Done": outcome.values[0] if outcome.values else 0, "Usage": 64, "Refused": 65, "NoFile": 66, "Stopped": 70,
+            "StepsSpent": 75}[outcome.kind]
+
+
+def check_status(row):
+    """The example of a status has it, and what mends it does not, where the model can tell: it has one file, the source hello.mms."""
+    for text, due in ((row.example, True), (row.mended, False)):
+        if text.startswith("mmixware"):
+            outcome = answer_of(shlex.split(text)[1:], b"hello.mms", b"Main TRAP 0,Halt,0\n")
+        elif text and not is_wordy(text):
+            outcome = run_of(text)
+        else:
+            continue
+        if row.key not in SYSTEM and (status_of(outcome) == int(row.key)) != due:
+            wrong(row.where, f"{text} gives {outcome}")
+
+
 def check_examples(rows):
     for row in rows:
         if row.kind == "Source" and not is_wordy(row.example):
@@ -234,6 +280,10 @@ def check_examples(rows):
                 outcome = answer_of(shlex.split(text)[1:], None, None)
                 if (outcome.kind == "Usage") != due or due and outcome.values[0] != int(row.key):
                     wrong(row.where, f"{text} gives {outcome}")
+        if row.kind == "Warning" and row.key != "8" and (refusal_of(row.example) or refusal_of(row.mended)):
+            wrong(row.where, "its example, or what mends it, is refused")
+        if row.kind == "Status":
+            check_status(row)
         if row.kind in ("Operation", "Unperformed", "Symbol") and row.example:
             needed = ";".join(f"{it} SWYM 0" for it in ("Name", "Text", "Args", "Sub", "Fix")
                               if re.search(rf"\b{it}\b", row.example) and not re.search(rf"(^|;){it} ", row.example))
@@ -247,6 +297,8 @@ def main():
     rows = table()
     check_rows(rows)
     check_messages(rows)
+    check_warnings(rows)
+    check_statuses(rows)
     check_language(rows)
     check_manual()
     check_examples(rows)

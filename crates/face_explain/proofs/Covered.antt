@@ -11,16 +11,22 @@ use Rattle.mx_ops.specs.Predefined.{predefined_names, predefined_value, special_
 use Rattle.mx_ops.specs.Tables.{first_of}
 use Rattle.mx_ops.specs.declared.op.Op.{Op}
 use Rattle.mx_outcome.specs.Names.{fault_name_of, usage_name_of}
+use Rattle.mx_outcome.specs.Status.{status_of}
+use Rattle.mx_outcome.specs.declared.outcome.Outcome.{Outcome}
+use Rattle.mx_outcome.specs.declared.outcome.Outcome.TheVariants as ends
+use Rattle.mx_warn.specs.Kinds.{kind_name, kind_number}
+use Rattle.mx_warn.specs.declared.warnings.Kind.{Kind as Odd}
+use Rattle.mx_warn.specs.declared.warnings.Kind.TheVariants.{OperatorAfterBlank, BackslashInString, NoLabelBefore, PlacedTwice, GregOfZero, UnusedBase, DataAfterCode, OtherCase, LostReturn}
 use Rattle.mx_explain.specs.declared.row.Topic.{Topic}
-use Rattle.mx_explain.specs.declared.row.Topic.TheVariants.{Source, Object, Stop, Kind, Inside, Operation, Unperformed, Symbol}
+use Rattle.mx_explain.specs.declared.row.Topic.TheVariants.{Source, Object, Stop, Kind, Warning, Status, Inside, Operation, Unperformed, Symbol}
 use Rattle.mx_explain.specs.Topics.{Row, number_of, name_of, topic_name}
 use Rattle.mx_explain.specs.Facts.{value_of}
 use Rattle.mx_explain.specs.Matching.{fits, is_number}
 use Rattle.face_explain.specs.Tables.{table, sections}
-use Rattle.mx_explain.specs.Parts.{line_rows, expression_rows, statement_rows, place_rows, source_rows, object_rows, trie_rows, loading_rows, stop_rows, trap_rows, kind_rows, inside_rows}
+use Rattle.mx_messages.specs.Parts.{line_rows, expression_rows, statement_rows, place_rows, source_rows, warning_rows, object_rows, trie_rows, loading_rows, stop_rows, trap_rows, kind_rows, status_rows, inside_rows}
 use Rattle.mx_operations.specs.Parts.{arithmetic_rows, comparison_rows, bit_rows, byte_rows, wyde_rows, branch_rows, set_rows, load_rows, store_rows, hint_rows, jump_rows, system_rows, float_rows, more_float_rows}
-use Rattle.face_explain.specs.Parts.{pseudo_rows, register_rows, more_register_rows, event_rows, file_rows, service_rows, other_rows}
-use Rattle.face_explain.specs.Known.{is_fault, is_kind, is_operation, is_symbol, is_fault_topic, is_kind_topic, is_operation_topic, is_symbol_topic, explains, is_known}
+use Rattle.mx_explain.specs.Parts.{pseudo_rows, register_rows, more_register_rows, event_rows, file_rows, service_rows, other_rows}
+use Rattle.face_explain.specs.Known.{is_fault, is_kind, is_warning, is_status, is_its_own, is_operation, is_symbol, is_fault_topic, is_kind_topic, is_warning_topic, is_status_topic, is_operation_topic, is_symbol_topic, explains, is_known}
 
 -- ---- a row is found by its number and by its name
 
@@ -67,6 +73,26 @@ kind-number n other e = absurd (search rules)
 kind-name : (n : ℕ) (topic : Topic) (given : List ℕ) → is_kind_topic n topic ≡ true → usage_name_of n ≡ topic_name topic given
 kind-name n (Kind m) given e = ap usage_name_of (sym (eqb-true m n e))
 kind-name n other given e = absurd (search rules)
+
+warning-number : (n : ℕ) (topic : Topic) → is_warning_topic n topic ≡ true → number_of topic ≡ Some n
+warning-number n (Warning m) e = ap Some (eqb-true m n e)
+warning-number n other e = absurd (search rules)
+
+warning-own : (n : ℕ) (topic : Topic) (given : List ℕ) → is_warning_topic n topic ≡ true → given ≡ topic_name topic given
+warning-own n (Warning m) given e = refl
+warning-own n other given e = absurd (search rules)
+
+status-number : (n : ℕ) (topic : Topic) → is_status_topic n topic ≡ true → number_of topic ≡ Some n
+status-number n (Status m) e = ap Some (eqb-true m n e)
+status-number n other e = absurd (search rules)
+
+warned-number : (k : Odd) (row : Row) → is_warning k row ≡ true → number_of row.topic ≡ Some (kind_number k)
+warned-number k row e = warning-number (kind_number k) row.topic (and_parts (is_warning_topic (kind_number k) row.topic) (bytes_eq row.name (kind_name k)) e).0
+
+warned-name : (k : Odd) (row : Row) → is_warning k row ≡ true → kind_name k ≡ name_of row
+warned-name k row e =
+    let both = and_parts (is_warning_topic (kind_number k) row.topic) (bytes_eq row.name (kind_name k)) e in
+    sym ((bytes_eq-Decides row.name (kind_name k)).0 both.1) ∙ warning-own (kind_number k) row.topic row.name both.0
 
 own-name : (topic : Topic) (given : List ℕ) → is_operation_topic topic ≡ true → given ≡ topic_name topic given
 own-name Operation given e = refl
@@ -121,11 +147,11 @@ abbrev kind-covered : ℕ → Bool
 kind-covered n = no_bytes (usage_name_of n) || has (is_kind n)
 
 faults-below : below fault-covered 141 ≡ true
-unfolding table sections line_rows expression_rows statement_rows place_rows source_rows object_rows trie_rows loading_rows stop_rows trap_rows kind_rows inside_rows arithmetic_rows comparison_rows bit_rows byte_rows wyde_rows branch_rows set_rows load_rows store_rows hint_rows jump_rows system_rows float_rows more_float_rows pseudo_rows register_rows more_register_rows event_rows file_rows service_rows other_rows
+unfolding table sections line_rows expression_rows statement_rows place_rows source_rows warning_rows object_rows trie_rows loading_rows stop_rows trap_rows kind_rows status_rows inside_rows arithmetic_rows comparison_rows bit_rows byte_rows wyde_rows branch_rows set_rows load_rows store_rows hint_rows jump_rows system_rows float_rows more_float_rows pseudo_rows register_rows more_register_rows event_rows file_rows service_rows other_rows
 faults-below = refl
 
 kinds-below : below kind-covered 11 ≡ true
-unfolding table sections line_rows expression_rows statement_rows place_rows source_rows object_rows trie_rows loading_rows stop_rows trap_rows kind_rows inside_rows arithmetic_rows comparison_rows bit_rows byte_rows wyde_rows branch_rows set_rows load_rows store_rows hint_rows jump_rows system_rows float_rows more_float_rows pseudo_rows register_rows more_register_rows event_rows file_rows service_rows other_rows
+unfolding table sections line_rows expression_rows statement_rows place_rows source_rows warning_rows object_rows trie_rows loading_rows stop_rows trap_rows kind_rows status_rows inside_rows arithmetic_rows comparison_rows bit_rows byte_rows wyde_rows branch_rows set_rows load_rows store_rows hint_rows jump_rows system_rows float_rows more_float_rows pseudo_rows register_rows more_register_rows event_rows file_rows service_rows other_rows
 kinds-below = refl
 
 past : (n k : ℕ) → k ≤ n → nat_lt n k ≡ false
@@ -159,6 +185,35 @@ kind-there n some =
       | inr there ↦ absurd (some (no-kind n there))
     ]
 
+-- ---- warnings and statuses
+
+warning-there : (k : Odd) → has (is_warning k) ≡ true
+unfolding table sections line_rows expression_rows statement_rows place_rows source_rows warning_rows object_rows trie_rows loading_rows stop_rows trap_rows kind_rows status_rows inside_rows arithmetic_rows comparison_rows bit_rows byte_rows wyde_rows branch_rows set_rows load_rows store_rows hint_rows jump_rows system_rows float_rows more_float_rows pseudo_rows register_rows more_register_rows event_rows file_rows service_rows other_rows kind_name
+warning-there OperatorAfterBlank = refl
+warning-there BackslashInString = refl
+warning-there NoLabelBefore = refl
+warning-there PlacedTwice = refl
+warning-there GregOfZero = refl
+warning-there UnusedBase = refl
+warning-there DataAfterCode = refl
+warning-there OtherCase = refl
+warning-there LostReturn = refl
+
+status-there : (o : Outcome) → is_its_own o ≡ false → has (is_status (status_of o)) ≡ true
+unfolding table sections line_rows expression_rows statement_rows place_rows source_rows warning_rows object_rows trie_rows loading_rows stop_rows trap_rows kind_rows status_rows inside_rows arithmetic_rows comparison_rows bit_rows byte_rows wyde_rows branch_rows set_rows load_rows store_rows hint_rows jump_rows system_rows float_rows more_float_rows pseudo_rows register_rows more_register_rows event_rows file_rows service_rows other_rows
+status-there (ends.Done b) e = absurd (search rules)
+status-there ends.Quit e = refl
+status-there (ends.Usage fault) e = refl
+status-there (ends.Refused line fault from) e = refl
+status-there (ends.BadObject place fault) e = refl
+status-there (ends.BadSchedule place) e = refl
+status-there ends.NoFile e = refl
+status-there (ends.Stopped pc reason) e = refl
+status-there ends.OutOfMemory e = refl
+status-there ends.HostFault e = refl
+status-there (ends.StepsSpent steps) e = refl
+status-there ends.ConsoleLimit e = refl
+
 -- ---- names of operations and symbols
 
 listed-step : {A : Type 0} (p : List ℕ → Bool) (name given : List ℕ) (v : A) (rest : Option A) (b : Bool) → bytes_eq given name ≡ b → p given ≡ true → (v' : A) →
@@ -172,11 +227,11 @@ listed p name (entry ∷ entries) v all e =
     listed-step p name entry.0 entry.1 (first_of name entries) (bytes_eq entry.0 name) refl (and_parts (p entry.0) _ all).0 v (λ more. listed p name entries v (and_parts (p entry.0) _ all).1 more) e
 
 operations-covered : list_all (λ (e : List ℕ × Op). has (is_operation e.0)) operations ≡ true
-unfolding table sections line_rows expression_rows statement_rows place_rows source_rows object_rows trie_rows loading_rows stop_rows trap_rows kind_rows inside_rows arithmetic_rows comparison_rows bit_rows byte_rows wyde_rows branch_rows set_rows load_rows store_rows hint_rows jump_rows system_rows float_rows more_float_rows pseudo_rows register_rows more_register_rows event_rows file_rows service_rows other_rows operations opcode_names opcode_rows pseudo_operations chosen_operations
+unfolding table sections line_rows expression_rows statement_rows place_rows source_rows warning_rows object_rows trie_rows loading_rows stop_rows trap_rows kind_rows status_rows inside_rows arithmetic_rows comparison_rows bit_rows byte_rows wyde_rows branch_rows set_rows load_rows store_rows hint_rows jump_rows system_rows float_rows more_float_rows pseudo_rows register_rows more_register_rows event_rows file_rows service_rows other_rows operations opcode_names opcode_rows pseudo_operations chosen_operations
 operations-covered = refl
 
 symbols-covered : list_all (λ (e : List ℕ × ℕ). has (is_symbol e.0)) predefined_names ≡ true
-unfolding table sections line_rows expression_rows statement_rows place_rows source_rows object_rows trie_rows loading_rows stop_rows trap_rows kind_rows inside_rows arithmetic_rows comparison_rows bit_rows byte_rows wyde_rows branch_rows set_rows load_rows store_rows hint_rows jump_rows system_rows float_rows more_float_rows pseudo_rows register_rows more_register_rows event_rows file_rows service_rows other_rows predefined_names special_registers
+unfolding table sections line_rows expression_rows statement_rows place_rows source_rows warning_rows object_rows trie_rows loading_rows stop_rows trap_rows kind_rows status_rows inside_rows arithmetic_rows comparison_rows bit_rows byte_rows wyde_rows branch_rows set_rows load_rows store_rows hint_rows jump_rows system_rows float_rows more_float_rows pseudo_rows register_rows more_register_rows event_rows file_rows service_rows other_rows predefined_names special_registers
 symbols-covered = refl
 
 operation-there : (name : List ℕ) (op : Op) → operation_of name ≡ Some op → has (is_operation name) ≡ true
@@ -201,6 +256,16 @@ kinds-explained n some = by (decimal n) (is_kind n) (λ row e. by-number n row (
 pub kind-names-explained : (n : ℕ) → usage_name_of n ≢ [] → explains (usage_name_of n) (is_kind n) ≡ true
 kind-names-explained n some = by (usage_name_of n) (is_kind n) (λ row e. by-name (usage_name_of n) row (kind-name n row.topic row.name e)) (kind-there n some)
 
+pub warnings-explained : (k : Odd) → explains (decimal (kind_number k)) (is_warning k) ≡ true
+warnings-explained k = by (decimal (kind_number k)) (is_warning k) (λ row e. by-number (kind_number k) row (warned-number k row e)) (warning-there k)
+
+pub warning-names-explained : (k : Odd) → explains (kind_name k) (is_warning k) ≡ true
+warning-names-explained k = by (kind_name k) (is_warning k) (λ row e. by-name (kind_name k) row (warned-name k row e)) (warning-there k)
+
+pub statuses-explained : (o : Outcome) → is_its_own o ≡ false → explains (decimal (status_of o)) (is_status (status_of o)) ≡ true
+statuses-explained o own =
+    by (decimal (status_of o)) (is_status (status_of o)) (λ row e. by-number (status_of o) row (status-number (status_of o) row.topic e)) (status-there o own)
+
 pub operations-explained : (name : List ℕ) (op : Op) → operation_of name ≡ Some op → explains name (is_operation name) ≡ true
 operations-explained name op e = by name (is_operation name) (λ row at. by-name name row (operation-name name row at)) (operation-there name op e)
 
@@ -208,7 +273,7 @@ pub symbols-explained : (name : List ℕ) (v : ℕ) → value_of name ≡ Some v
 symbols-explained name v e = by name (is_symbol name) (λ row at. by-name name row (symbol-name name row at)) (symbol-there name v e)
 
 pub all-known : list_all is_known table ≡ true
-unfolding table sections line_rows expression_rows statement_rows place_rows source_rows object_rows trie_rows loading_rows stop_rows trap_rows kind_rows inside_rows arithmetic_rows comparison_rows bit_rows byte_rows wyde_rows branch_rows set_rows load_rows store_rows hint_rows jump_rows system_rows float_rows more_float_rows pseudo_rows register_rows more_register_rows event_rows file_rows service_rows other_rows operation_of operations opcode_names opcode_rows pseudo_operations chosen_operations predefined_value predefined_names special_registers
+unfolding table sections line_rows expression_rows statement_rows place_rows source_rows warning_rows object_rows trie_rows loading_rows stop_rows trap_rows kind_rows status_rows inside_rows arithmetic_rows comparison_rows bit_rows byte_rows wyde_rows branch_rows set_rows load_rows store_rows hint_rows jump_rows system_rows float_rows more_float_rows pseudo_rows register_rows more_register_rows event_rows file_rows service_rows other_rows operation_of operations opcode_names opcode_rows pseudo_operations chosen_operations predefined_value predefined_names special_registers kind_name
 all-known = refl
 
 pub ruleset rows = (all-known)

@@ -1,5 +1,4 @@
 pub mod Near
-pub mod Parts
 pub mod Tables
 pub mod Answers
 pub mod Lists

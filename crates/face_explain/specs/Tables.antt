@@ -2,9 +2,9 @@
 use Rattle.std.specs.Prelude.{ℕ, List, map, codes}
 use Rattle.std.specs.List.{flat_map}
 use Rattle.mx_explain.specs.Topics.{Row, row}
-use Rattle.mx_explain.specs.Parts.{line_rows, expression_rows, statement_rows, place_rows, source_rows, object_rows, trie_rows, loading_rows, stop_rows, trap_rows, kind_rows, inside_rows}
+use Rattle.mx_messages.specs.Parts.{line_rows, expression_rows, statement_rows, place_rows, source_rows, warning_rows, object_rows, trie_rows, loading_rows, stop_rows, trap_rows, kind_rows, status_rows, inside_rows}
 use Rattle.mx_operations.specs.Parts.{arithmetic_rows, comparison_rows, bit_rows, byte_rows, wyde_rows, branch_rows, set_rows, load_rows, store_rows, hint_rows, jump_rows, system_rows, float_rows, more_float_rows}
-use Rattle.face_explain.specs.Parts.{pseudo_rows, register_rows, more_register_rows, event_rows, file_rows, service_rows, other_rows}
+use Rattle.mx_explain.specs.Parts.{pseudo_rows, register_rows, more_register_rows, event_rows, file_rows, service_rows, other_rows}
 use Rattle.face_explain.specs.declared.sections.TheConstants.{ALL}
 use Rattle.face_explain.specs.declared.sections.Part.{Part as Seen}
 use Rattle.face_explain.specs.declared.sections.Section.{Section}
@@ -38,12 +38,14 @@ part_of section.Expressions = wide (codes "Faults of an expression") expression_
 part_of section.Statements = wide (codes "Faults of a statement") statement_rows
 part_of section.Places = wide (codes "Faults of addresses and labels") place_rows
 part_of section.Sources = wide (codes "Faults of a source as a whole") source_rows
+part_of section.Warnings = wide (codes "Warnings of a source") warning_rows
 part_of section.Objects = wide (codes "Faults of an object") object_rows
 part_of section.Tries = wide (codes "Faults of the symbols of an object") trie_rows
 part_of section.Loading = wide (codes "Faults of an object that is loaded") loading_rows
 part_of section.Stops = wide (codes "Reasons of a stop") stop_rows
 part_of section.Traps = wide (codes "Reasons of a stop of RESUME or TRAP") trap_rows
 part_of section.Kinds = wide (codes "Kinds of faulty words") kind_rows
+part_of section.Statuses = wide (codes "Exit statuses") status_rows
 part_of section.Inside = wide (codes "Numbers inside the program") inside_rows
 part_of section.Arithmetic = narrow (codes "Instructions on numbers") arithmetic_rows
 part_of section.Comparisons = narrow (codes "Comparisons, negations, shifts and copies") comparison_rows

@@ -6,12 +6,8 @@ mod columns;
 mod laws;
 mod near;
 mod nearest;
-mod parts;
-mod pseudo;
-mod registers;
 mod sections;
 mod showing;
-mod symbols;
 
 pub use answer::{Answer, explain};
 pub use columns::list;

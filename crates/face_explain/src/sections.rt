@@ -4,12 +4,13 @@ ghost use Rattle.std.specs.Prelude.{◌≡◌, map};
 ghost use Rattle.mx_explain.specs.Topics.{row};
 ghost use Rattle.face_explain.specs.Tables as spec;
 
-use crate::parts::{
-    event_rows, file_rows, more_register_rows, other_rows, pseudo_rows, register_rows, service_rows,
-};
 use mx_explain::{
-    Entry, expression_rows, inside_rows, kind_rows, line_rows, loading_rows, object_rows,
-    place_rows, source_rows, statement_rows, stop_rows, trap_rows, trie_rows,
+    Entry, event_rows, file_rows, more_register_rows, other_rows, pseudo_rows, register_rows,
+    service_rows,
+};
+use mx_messages::{
+    expression_rows, inside_rows, kind_rows, line_rows, loading_rows, object_rows, place_rows,
+    source_rows, statement_rows, status_rows, stop_rows, trap_rows, trie_rows, warning_rows,
 };
 use mx_operations::{
     arithmetic_rows, bit_rows, branch_rows, byte_rows, comparison_rows, float_rows, hint_rows,
@@ -24,12 +25,14 @@ pub(crate) enum Section {
     Statements,
     Places,
     Sources,
+    Warnings,
     Objects,
     Tries,
     Loading,
     Stops,
     Traps,
     Kinds,
+    Statuses,
     Inside,
     Arithmetic,
     Comparisons,
@@ -55,18 +58,20 @@ pub(crate) enum Section {
 }
 
 /// The sections in their order.
-pub(crate) static ALL: [Section; 33] = [
+pub(crate) static ALL: [Section; 35] = [
     Section::Lines,
     Section::Expressions,
     Section::Statements,
     Section::Places,
     Section::Sources,
+    Section::Warnings,
     Section::Objects,
     Section::Tries,
     Section::Loading,
     Section::Stops,
     Section::Traps,
     Section::Kinds,
+    Section::Statuses,
     Section::Inside,
     Section::Arithmetic,
     Section::Comparisons,
@@ -155,12 +160,14 @@ pub(crate) fn part_of(section: Section) -> Part
         Section::Statements => wide("Faults of a statement", statement_rows()),
         Section::Places => wide("Faults of addresses and labels", place_rows()),
         Section::Sources => wide("Faults of a source as a whole", source_rows()),
+        Section::Warnings => wide("Warnings of a source", warning_rows()),
         Section::Objects => wide("Faults of an object", object_rows()),
         Section::Tries => wide("Faults of the symbols of an object", trie_rows()),
         Section::Loading => wide("Faults of an object that is loaded", loading_rows()),
         Section::Stops => wide("Reasons of a stop", stop_rows()),
         Section::Traps => wide("Reasons of a stop of RESUME or TRAP", trap_rows()),
         Section::Kinds => wide("Kinds of faulty words", kind_rows()),
+        Section::Statuses => wide("Exit statuses", status_rows()),
         Section::Inside => wide("Numbers inside the program", inside_rows()),
         Section::Arithmetic => narrow("Instructions on numbers", arithmetic_rows()),
         Section::Comparisons => narrow(

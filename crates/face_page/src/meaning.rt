@@ -1,9 +1,8 @@
 //! What an outcome means, by the rows that `explain` has.
 
-use mx_explain::{
-    Entry, Row, Topic, loading_rows, object_rows, row_of, stop_rows, trap_rows, trie_rows,
-};
+use mx_explain::{Entry, Row, Topic, row_of};
 use mx_json::add_string;
+use mx_messages::{loading_rows, object_rows, stop_rows, trap_rows, trie_rows};
 use mx_outcome::Outcome;
 use mx_word::{Bytes, NoMemory};
 use std::alloc::Global;

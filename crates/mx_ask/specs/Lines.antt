@@ -1,5 +1,7 @@
 -- The parts of a line of the debugger.
-use Rattle.std.specs.Prelude.{ℕ, ◌==◌, ◌||◌, not, Bool, List}
+use Rattle.std.specs.Prelude.{ℕ, ◌-◌, ◌==◌, ◌||◌, not, Bool, List, length, take}
+use Rattle.std.specs.Char.{is_ascii_whitespace}
+use Rattle.std.specs.List.{suffix_len}
 use Rattle.mx_cmd.specs.Numerals.{front, past}
 
 abbrev pub is_blank : ℕ → Bool
@@ -32,3 +34,7 @@ form_in word = past is_no_stroke word
 -- what follows the label of a line of a source, and the blanks after it
 unfoldable pub code_of : List ℕ → List ℕ
 code_of line = without_blanks (past is_ink line)
+
+-- without white space at the end
+abbrev pub trimmed : List ℕ → List ℕ
+trimmed text = take (length text - suffix_len is_ascii_whitespace text) text

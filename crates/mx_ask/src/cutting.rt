@@ -1,7 +1,6 @@
 //! How a line is cut into its parts.
 
 ghost use Rattle.std.specs.Prelude.{◌≡◌, length};
-ghost use Rattle.std.specs.Str.{IsTrimAsciiEnd};
 ghost use Rattle.mx_cmd.specs.Numerals.{front, past};
 ghost use Rattle.mx_ask.specs.Lines as spec;
 
@@ -89,8 +88,9 @@ pub fn code_of(line: &[u8]) -> &[u8]
 }
 
 /// A text without blanks, tabs and returns at its end.
+#[tactic(auto, using(std::proofs::lemmas::Str::Ascii::trim_ascii_end_is))]
 pub fn without_end(text: &[u8]) -> &[u8]
-    ensures { IsTrimAsciiEnd text.now result.now }
+    ensures { result.now ≡ spec.trimmed text.now }
 {
     text.trim_ascii_end()
 }

@@ -48,9 +48,9 @@ pub fn word_asked(name: &[u8]) -> Asked {
     }
 }
 
-/// Adds that several words begin so, and which.
+/// Adds that several words begin like this, and which.
 fn add_ambiguous(out: &mut Bytes, name: &[u8]) -> Result<(), NoMemory> {
-    out.extend(b"? several words begin so:")?;
+    out.extend(b"? several words begin like this:")?;
     for row in &ROWS {
         if begins(row, name) {
             out.extend(b" ")?;

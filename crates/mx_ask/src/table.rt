@@ -23,7 +23,7 @@ pub static ROWS: [Row; 20] = [
         name: "goto",
         short: "g",
         form: "goto K",
-        help: "goes to step K, forth or back; step 0 is the start",
+        help: "goes to step K, forward or back; step 0 is the start",
     },
     Row {
         word: Word::Next,

@@ -160,7 +160,10 @@ impl Machine {
             0xb3 => self.store_known(at, 0xb3, word),
             0xb4 => self.store_known(at, 0xb4, word),
             0xb5 => self.store_known(at, 0xb5, word),
+            0xf2 => self.push_known(at, 0xf2, word),
+            0xf3 => self.push_known(at, 0xf3, word),
             0xf6 => self.put_known(at, 0xf6, word),
+            0xf8 => self.pop_known(at, 0xf8, word),
             _ => false,
         }
     }
@@ -179,9 +182,6 @@ impl Machine {
             0x1d => self.compute_known(at, 0x1d, word),
             0x1e => self.compute_known(at, 0x1e, word),
             0x1f => self.compute_known(at, 0x1f, word),
-            0xf2 => self.push_known(at, 0xf2, word),
-            0xf3 => self.push_known(at, 0xf3, word),
-            0xf8 => self.pop_known(at, 0xf8, word),
             _ => false,
         }
     }

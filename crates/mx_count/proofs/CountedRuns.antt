@@ -1,5 +1,5 @@
 -- A run that is counted from no steps on, over a window and over the list that it stands for.
-use Rattle.std.proofs.Common.{◌≡◌, ◌≢◌, ℕ, Bool, false, List, [], ◌∷◌, ◌++◌, refl, sym, subst, ap, ◌∙◌, Some, Ok, Err}
+use Rattle.std.proofs.Common.{◌≡◌, ◌≢◌, ℕ, Bool, false, List, [], ◌∷◌, ◌++◌, subst, ap, ◌∙◌, Some, Ok, Err}
 use Rattle.std.specs.Prelude.{Option, Result}
 use Rattle.mx_host.specs.HostModel.{HostModel, contents}
 use Rattle.mx_mmo.specs.Image.{Image}
@@ -26,7 +26,7 @@ use Rattle.mx_run.specs.AccompaniedRuns.{list_run}
 use Rattle.mx_view.specs.Loads.{loads_of}
 use Rattle.mx_count.specs.Counting.{counting_as, kept_tally}
 use Rattle.mx_count.specs.Reports.{report_of, report_text}
-use Rattle.mx_count.specs.Runs.{CountAnswer, CountsBoth, CountsByKind, EndsAsReported, EndsReported, GoesAs, Making, came_to, counted_to, halting_after, halting_steps, image_counted, machine_counted, mapped, meaning_counted, outcome_of, reporting, source_counted, start_counted, steps_counted, uncounted, went_wild}
+use Rattle.mx_count.specs.Runs.{CountAnswer, CountsBoth, CountsByKind, EndsAsReported, EndsReported, GoesAs, Making, came_to, counted_to, halting_after, halting_steps, image_counted, machine_counted, mapped, meaning_counted, outcome_of, reporting, source_counted, start_counted, steps_counted, went_wild}
 use Rattle.mx_count.specs.Tallies.{added, tally_in}
 use Rattle.mx_count.specs.declared.count.Counted.{Counted}
 use Rattle.mx_count.specs.declared.counts.Form.{Form}

@@ -1,5 +1,5 @@
 -- Tallies of entries that are added and set.
-use Rattle.std.proofs.Common.{◌≡◌, ◌<◌, ◌+◌, ℕ, zero, suc, Bool, true, false, cond, List, [], ◌∷◌, ◌++◌, length, get_or, set, arith, refl, sym, ap, ◌∙◌, length-append}
+use Rattle.std.proofs.Common.{◌≡◌, ◌<◌, ℕ, zero, suc, Bool, true, false, cond, List, [], ◌∷◌, ◌++◌, length, get_or, set, arith, refl, sym, ap, ◌∙◌, length-append}
 use Rattle.mx_count.specs.Counting.{IsAt, kept_tally}
 use Rattle.mx_count.specs.Tallies.{nothing, added}
 use Rattle.mx_count.specs.declared.table.Entry.{Entry}

@@ -5,6 +5,7 @@ pub mod SheetRows
 pub mod ToldCounts
 pub mod Alone
 pub mod CountedRuns
+pub mod LeftHosts
 pub mod TraceCounts
 pub mod ReadSheets
 pub mod TracedLines

@@ -4,3 +4,4 @@ pub mod Reports
 pub mod Counting
 pub mod InTurn
 pub mod Runs
+pub mod Leaving

@@ -1,11 +1,12 @@
 //! A source or an image that is run and counted.
 
-ghost use Rattle.std.specs.Prelude.{◌≡◌, ◌≢◌, false};
+ghost use Rattle.std.specs.Prelude.{◌≡◌, ◌≢◌, None, Some, false};
 ghost use Rattle.mx_core.specs.Bounds.{as_list_state};
 ghost use Rattle.mx_core.specs.Kept.{state_of};
 ghost use Rattle.mx_host.specs.Keeping.{Keeps};
 ghost use Rattle.mx_load.specs.Kept.{image_of};
 ghost use Rattle.mx_run.specs.WildRuns.{list_machine, window_machine};
+ghost use Rattle.mx_count.specs.Leaving.{ImageLeaves, IsLeft, RunLeaves, SourceLeaves};
 ghost use Rattle.mx_count.specs.Runs as spec;
 ghost use Rattle.mx_count.specs.Runs.{AreArguments, CountsBoth, CountsByKind, reporting};
 
@@ -41,6 +42,21 @@ fn uncounted(outcome: Outcome) -> Counted
     }
 }
 
+/// An outcome with the sheet of its run; where there was no memory, without it.
+fn with_sheet(outcome: Outcome, sheet: Bytes) -> Counted
+    ensures same { result.outcome ≡ outcome }
+    ensures value { outcome ≢ Outcome.OutOfMemory → result ≡ record { outcome = outcome; sheet = Some sheet } }
+    ensures none { result.outcome ≡ Outcome.OutOfMemory → result.sheet ≡ None }
+{
+    match outcome {
+        Outcome::OutOfMemory => uncounted(Outcome::OutOfMemory),
+        _ => Counted {
+            outcome,
+            sheet: Some(sheet),
+        },
+    }
+}
+
 /// The outcome of a run of at most this many steps, by its end. Without flags a run does not break.
 fn outcome_of(steps: u64, end: End) -> Outcome
     ensures value { result ≡ spec.outcome_of steps end }
@@ -69,16 +85,16 @@ fn count_machine<H: Host>(
         (state_of machine) m)
         (λ m. spec.machine_counted list_machine steps (reporting (⟦<Counts as Watcher>⟧.meaning counts).text)
         (as_list_state (state_of machine)) m) }
+    ensures left { IsLeft (H.told host.old) (H.told host.new)
+        (λ m k. RunLeaves steps (state_of machine) m k) }
+    ensures none { result.outcome ≡ Outcome.OutOfMemory → result.sheet ≡ None }
     ensures well { result.outcome ≢ Outcome.HostFault }
     ensures present { result.outcome ≢ Outcome.NoFile }
     ensures keeps { Keeps (H.told host.old) (H.told host.new) (H.faults host.old) (H.faults host.new) }
 {
     let mut machine = machine;
     match run_counted(alloc, host, &mut machine, steps, counts) {
-        Ok((end, sheet)) => Counted {
-            outcome: outcome_of(steps, end),
-            sheet: Some(sheet),
-        },
+        Ok((end, sheet)) => with_sheet(outcome_of(steps, end), sheet),
         Err(_) => uncounted(Outcome::OutOfMemory),
     }
 }
@@ -88,7 +104,7 @@ fn count_machine<H: Host>(
 ///
 /// Over a host that tells its contents, the outcome and all that the host then holds are those of the run, as
 /// `mmixware run` and `mmixware sim` make it, over the ring and over an unbounded list of registers; and the report is on
-/// the traces of this run.
+/// the traces of this run. Out of memory there is no sheet, and the host is as the steps that were made leave it.
 pub fn count_image<H: Host>(
     alloc: Global,
     host: &mut H,
@@ -101,6 +117,9 @@ pub fn count_image<H: Host>(
     ensures told { CountsByKind (H.told host.old) (H.told host.new) result.outcome result
         (λ kind m. spec.image_counted kind order.now arguments.now
         (reporting (⟦<Counts as Watcher>⟧.meaning counts).text) (image_of image) m) }
+    ensures left { IsLeft (H.told host.old) (H.told host.new)
+        (λ m k. ImageLeaves order.now arguments.now (image_of image) m k) }
+    ensures none { result.outcome ≡ Outcome.OutOfMemory → result.sheet ≡ None }
     ensures well { result.outcome ≢ Outcome.HostFault }
     ensures present { result.outcome ≢ Outcome.NoFile }
     ensures keeps { Keeps (H.told host.old) (H.told host.new) (H.faults host.old) (H.faults host.new) }
@@ -124,6 +143,9 @@ fn count_meaning<H: Host>(
     requires { AreArguments arguments.now }
     ensures told { CountsByKind (H.told host.old) (H.told host.new) result.outcome result
         (λ kind m. spec.image_counted kind order.now arguments.now (spec.in_form form source.now) (image_of image) m) }
+    ensures left { IsLeft (H.told host.old) (H.told host.new)
+        (λ m k. ImageLeaves order.now arguments.now (image_of image) m k) }
+    ensures none { result.outcome ≡ Outcome.OutOfMemory → result.sheet ≡ None }
     ensures well { result.outcome ≢ Outcome.HostFault }
     ensures present { result.outcome ≢ Outcome.NoFile }
     ensures keeps { Keeps (H.told host.old) (H.told host.new) (H.faults host.old) (H.faults host.new) }
@@ -146,6 +168,9 @@ pub(crate) fn count_in_form<H: Host>(
     requires { AreArguments arguments.now }
     ensures told { CountsByKind (H.told host.old) (H.told host.new) result.outcome result
         (λ kind m. spec.source_counted kind order.now arguments.now (spec.in_form form source.now) source.now m) }
+    ensures left { IsLeft (H.told host.old) (H.told host.new)
+        (λ m k. SourceLeaves order.now arguments.now source.now m k) }
+    ensures none { result.outcome ≡ Outcome.OutOfMemory → result.sheet ≡ None }
     ensures well { result.outcome ≢ Outcome.HostFault }
     ensures present { result.outcome ≢ Outcome.NoFile }
     ensures keeps { Keeps (H.told host.old) (H.told host.new) (H.faults host.old) (H.faults host.new) }
@@ -160,7 +185,7 @@ pub(crate) fn count_in_form<H: Host>(
 /// Runs a source with these arguments, on the ring and for the steps of an order, and counts its steps; or says why it is
 /// refused.
 ///
-/// The outcome and the host are as `count_image` says, and the sheet has for each line the tally of the traces of this run
+/// The outcome and the host are as `count_image` says, also where there is no memory, and the sheet has for each line the tally of the traces of this run
 /// at the addresses that the line loads.
 pub fn count_source<H: Host>(
     alloc: Global,
@@ -172,6 +197,9 @@ pub fn count_source<H: Host>(
     requires { AreArguments arguments.now }
     ensures told { CountsByKind (H.told host.old) (H.told host.new) result.outcome result
         (λ kind m. spec.source_counted kind order.now arguments.now (spec.in_form Form.Text source.now) source.now m) }
+    ensures left { IsLeft (H.told host.old) (H.told host.new)
+        (λ m k. SourceLeaves order.now arguments.now source.now m k) }
+    ensures none { result.outcome ≡ Outcome.OutOfMemory → result.sheet ≡ None }
     ensures well { result.outcome ≢ Outcome.HostFault }
     ensures present { result.outcome ≢ Outcome.NoFile }
     ensures keeps { Keeps (H.told host.old) (H.told host.new) (H.faults host.old) (H.faults host.new) }

@@ -1,7 +1,8 @@
 //! A source that is run and counted, line by line.
 
-ghost use Rattle.std.specs.Prelude.{◌≡◌, ◌≢◌};
+ghost use Rattle.std.specs.Prelude.{◌≡◌, ◌≢◌, None};
 ghost use Rattle.mx_host.specs.Keeping.{Keeps};
+ghost use Rattle.mx_count.specs.Leaving.{IsLeft, SourceLeaves};
 ghost use Rattle.mx_count.specs.Runs as spec;
 ghost use Rattle.mx_count.specs.Runs.{AreArguments, CountsByKind, mapped};
 
@@ -18,6 +19,8 @@ use std::alloc::Global;
 fn with_lines(alloc: Global, source: &[u8], counted: Counted) -> CountedLines
     ensures value { result.outcome ≢ Outcome.OutOfMemory → result ≡ spec.data_of source.now counted }
     ensures lacking { result.outcome ≢ Outcome.OutOfMemory → counted.outcome ≢ Outcome.OutOfMemory }
+    ensures none { (counted.outcome ≡ Outcome.OutOfMemory → counted.sheet ≡ None) →
+        result.outcome ≡ Outcome.OutOfMemory → result.sheet ≡ None }
     ensures well { counted.outcome ≢ Outcome.HostFault → result.outcome ≢ Outcome.HostFault }
     ensures present { counted.outcome ≢ Outcome.NoFile → result.outcome ≢ Outcome.NoFile }
 {
@@ -34,7 +37,7 @@ fn with_lines(alloc: Global, source: &[u8], counted: Counted) -> CountedLines
 }
 
 /// Runs a source, as `count_source` does, and counts its steps line by line: the sheet is read from the tallies of the
-/// traces of the run, which a watcher reports as octas.
+/// traces of the run, which a watcher reports as octas. Out of memory there is none.
 pub fn count_lines<H: Host>(
     alloc: Global,
     host: &mut H,
@@ -46,6 +49,9 @@ pub fn count_lines<H: Host>(
     ensures told { CountsByKind (H.told host.old) (H.told host.new) result.outcome result
         (λ kind m. mapped (spec.data_of source.now) (spec.source_counted kind order.now arguments.now
         (spec.in_form Form.Octas source.now) source.now m)) }
+    ensures left { IsLeft (H.told host.old) (H.told host.new)
+        (λ m k. SourceLeaves order.now arguments.now source.now m k) }
+    ensures none { result.outcome ≡ Outcome.OutOfMemory → result.sheet ≡ None }
     ensures well { result.outcome ≢ Outcome.HostFault }
     ensures present { result.outcome ≢ Outcome.NoFile }
     ensures keeps { Keeps (H.told host.old) (H.told host.new) (H.faults host.old) (H.faults host.new) }

@@ -5,6 +5,7 @@ ghost use Rattle.mx_core.specs.Kept.{state_of};
 ghost use Rattle.mx_code.specs.declared.trace.Trace.{Trace as Step};
 ghost use Rattle.mx_host.specs.Keeping.{Keeps};
 ghost use Rattle.mx_watch.specs.Watching.{Watching, later};
+ghost use Rattle.mx_count.specs.Leaving.{IsLeft, RunLeaves};
 ghost use Rattle.mx_count.specs.Runs as spec;
 ghost use Rattle.mx_count.specs.Runs.{EndsReported};
 
@@ -99,6 +100,7 @@ fn run_told<H: Host>(
 ) -> Result<(End, Bytes), NoMemory>
     ensures told { (w : Watching) → map meaning watchers.items ≡ w ∷ [] → ((h : List Step) → w.full h ≡ false) →
         EndsReported (H.told host.old) (H.told host.new) (state_of machine.old) (state_of machine.new) n w result }
+    ensures left { IsLeft (H.told host.old) (H.told host.new) (λ m k. RunLeaves n (state_of machine.old) m k) }
     ensures keeps { Keeps (H.told host.old) (H.told host.new) (H.faults host.old) (H.faults host.new) }
 {
     let mut watchers = watchers;
@@ -116,7 +118,8 @@ fn run_told<H: Host>(
 
 /// Makes at most n steps of a machine, and counts them. The end, and the sheet.
 ///
-/// Errors: out of memory.
+/// Errors: out of memory. Then the host is as the steps that were made leave it.
+#[tactic(auto, using(crate::proofs::LeftHosts::still))]
 pub(crate) fn run_counted<H: Host>(
     alloc: Global,
     host: &mut H,
@@ -126,6 +129,7 @@ pub(crate) fn run_counted<H: Host>(
 ) -> Result<(End, Bytes), NoMemory>
     ensures told { EndsReported (H.told host.old) (H.told host.new) (state_of machine.old) (state_of machine.new) n
         (⟦<Counts as Watcher>⟧.meaning counts) result }
+    ensures left { IsLeft (H.told host.old) (H.told host.new) (λ m k. RunLeaves n (state_of machine.old) m k) }
     ensures keeps { Keeps (H.told host.old) (H.told host.new) (H.faults host.old) (H.faults host.new) }
 {
     let watcher: Box<dyn Watcher> = match Box::new(alloc, counts) {

@@ -1,13 +1,20 @@
 -- The steps that one comes to.
 use Rattle.std.proofs.Common.{◌≡◌, ◌≢◌, ◌≤◌, ◌<◌, ◌+◌, ◌-◌, ◌^◌, ◌⊎◌, inl, inr, ℕ, true, false, Ok, Some, None, arith, refl, sym, subst, ◌∙◌, ap}
-use Rattle.std.specs.Prelude.{Option, Result, Err, OnOk, min}
+use Rattle.std.specs.Prelude.{Option, Result, Err, OnOk, List, min, unwrap_or}
 use Rattle.std.proofs.lemmas.Bool.{cases_lt}
 use Rattle.mx_word.specs.Results.{map_ok}
 use Rattle.mx_outcome.specs.declared.outcome.Outcome.{Outcome}
 use Rattle.mx_run.specs.Runs.{Ended}
 use Rattle.mx_run.specs.declared.end.End.TheVariants.{Spent}
 use Rattle.mx_replay.specs.Programs.{GoesOn, HasEnded, IsReached, is_over, step_of}
-use Rattle.mx_replay.specs.Searches.{FoundAt}
+use Rattle.mx_replay.specs.Marks.{changes, depth, stops_at}
+use Rattle.mx_replay.specs.Searches.{FoundAt, IsLast, IsNext}
+use Rattle.mx_replay.specs.declared.marks.Place.{Place}
+use Rattle.mx_ask.specs.declared.words.Word.{Word}
+use Rattle.mx_ask.specs.declared.words.Word.TheVariants as word
+use Rattle.mx_debug.specs.Going.{GoesToLast, GoesToMaker, GoesToNext, StandsBack, StandsBefore, depth_after, depth_at}
+use Rattle.mx_debug.specs.Sessions.{Debugged}
+use Rattle.mx_debug.specs.Words.{Leads, LeavesCall, goes}
 use Rattle.mx_replay.specs.declared.program.Program.{Program}
 use Rattle.mx_replay.proofs.Steps.{step-over}
 
@@ -59,11 +66,79 @@ pub reached-on : (p : Program) (at n most told k at2 : ℕ) → told < 2 ^ 64 �
 reached-on p at n most told k at2 h same e r =
     subst (λ x. IsReached p x at2) (few-on at n most k (subst (λ x. x < 2 ^ 64) same h) (e ∙ ap (min (min (at + n) (2 ^ 64 - 1))) same)) r
 
--- a session that found a step is there
-pub found-there : (p : Program) (until from at there : ℕ) (found : Option ℕ) → FoundAt p until from at found → there ≡ at → FoundAt p until from there found
-found-there p until from at there found f e = subst (λ x. FoundAt p until from x found) (sym e) f
+pub ruleset reaching = (back-exact, reached-after)
 
-pub ruleset reaching = (back-exact, reached-after, found-there)
+-- ---- where the words lead
+
+-- how many registers are hidden
+depth-told : (r : Result Ended Outcome) (n : ℕ) → map_ok (λ (e : Ended). depth e.state) r ≡ Ok n → n ≡ depth_after r
+depth-told (Err why) n h = absurd (cc)
+depth-told (Ok e) n h = let same : depth e.state ≡ n = cc in sym same
+
+pub depth-is : (d : Debugged) (p : Program) (at n : ℕ) → d.program ≡ p → d.at ≡ at → map_ok (λ (e : Ended). depth e.state) (step_of p at) ≡ Ok n → n ≡ depth_at d
+depth-is d p at n e f h = depth-told (step_of p at) n h ∙ ap depth_after (ap (λ q. step_of q at) (sym e) ∙ ap (step_of d.program) (sym f))
+
+pub ruleset depths = (depth-is)
+
+-- to a stop that was found, and to the step that makes a value
+pub next-led : (d : Debugged) (shallow : Option ℕ) (at there : ℕ) (found : Option ℕ) → IsNext d.program (stops_at d.breaks d.watches shallow) d.at d.most found →
+    FoundAt d.program d.most d.at at found → there ≡ at → GoesToNext d shallow there
+next-led d shallow at there found n f e = record { found = found; next = n; place = subst (λ x. FoundAt d.program d.most d.at x found) (sym e) f }
+
+stands-by : (d : Debugged) (shallow : Option ℕ) (there : ℕ) (found : Option ℕ) → IsLast d.program (stops_at d.breaks d.watches shallow) (d.at - 1) found →
+    there ≡ min (unwrap_or found 0) d.at → StandsBack there found
+stands-by d shallow there None l e = omega (arith, e)
+stands-by d shallow there (Some k) l e = omega (arith, e, l.0)
+
+pub last-led : (d : Debugged) (shallow : Option ℕ) (there : ℕ) (found : Option ℕ) → IsLast d.program (stops_at d.breaks d.watches shallow) (d.at - 1) found →
+    there ≡ min (unwrap_or found 0) d.at → GoesToLast d shallow there
+last-led d shallow there found l e = record { found = found; last = l; place = stands-by d shallow there found l e }
+
+pub maker-led : (d : Debugged) (place : Place) (there : ℕ) (found : Option ℕ) → IsLast d.program (changes place) d.at found → StandsBefore d.at there found → GoesToMaker d place there
+maker-led d place there found l s = record { found = found; last = l; stands = s }
+
+pub ruleset leading = (back-exact, next-led, last-led, maker-led)
+
+-- out of a call
+pub left-call : (d : Debugged) (at n : ℕ) (Goes : Option ℕ → ℕ → Type 0) → n ≡ depth_at d → n ≢ 0 → Goes (Some (n - 1)) at → LeavesCall d at Goes
+left-call d at n Goes e ne g = record {
+  within = λ h. subst (λ k. Goes (Some (k - 1)) at) e g;
+  outside = λ h. absurd (ne (e ∙ h));
+}
+
+pub no-call : (d : Debugged) (at n : ℕ) (Goes : Option ℕ → ℕ → Type 0) → n ≡ depth_at d → n ≡ 0 → at ≡ d.at → LeavesCall d at Goes
+no-call d at n Goes e h s = record {
+  within = λ ne. absurd (ne (sym e ∙ h));
+  outside = λ o. s;
+}
+
+pub ruleset leaving = (left-call, no-call)
+
+-- a word that leads nowhere
+pub stays : (d : Debugged) (w : Word) (rest : List ℕ) (at : ℕ) → goes w ≡ false → at ≡ d.at → Leads d w rest at
+unfolding Leads
+stays d word.Break rest at g e = e
+stays d word.Watch rest at g e = e
+stays d word.Delete rest at g e = e
+stays d word.Print rest at g e = e
+stays d word.Examine rest at g e = e
+stays d word.Backtrace rest at g e = e
+stays d word.Info rest at g e = e
+stays d word.List rest at g e = e
+stays d word.Help rest at g e = e
+stays d word.Quit rest at g e = e
+stays d word.Step rest at g e = absurd (cc)
+stays d word.ReverseStep rest at g e = absurd (cc)
+stays d word.GoTo rest at g e = absurd (cc)
+stays d word.Next rest at g e = absurd (cc)
+stays d word.ReverseNext rest at g e = absurd (cc)
+stays d word.Finish rest at g e = absurd (cc)
+stays d word.ReverseFinish rest at g e = absurd (cc)
+stays d word.Continue rest at g e = absurd (cc)
+stays d word.ReverseContinue rest at g e = absurd (cc)
+stays d word.Who rest at g e = absurd (cc)
+
+pub ruleset staying = (stays)
 
 -- what holds where there is a value
 pub on-ok : {A E P Q : Type 0} (r : Result A E) → (P → Q) → OnOk r P → OnOk r Q

@@ -1,7 +1,9 @@
 //! The words that go to another step.
 
-ghost use Rattle.std.specs.Prelude.{◌≡◌};
+ghost use Rattle.std.specs.Prelude.{◌≡◌, OnOk};
+ghost use Rattle.mx_debug.specs.Going.{GoesToLast, GoesToMaker, GoesToNext, depth_at};
 ghost use Rattle.mx_debug.specs.Sessions.{KeepsProgram, KeepsStops};
+ghost use Rattle.mx_debug.specs.Words.{Leads, LeavesCall};
 
 use crate::session::{Again, Session};
 use crate::telling::add_said;
@@ -11,13 +13,8 @@ use mx_replay::{Place, value_at};
 use mx_tell::{add_thing, add_value};
 use mx_word::{Bytes, NoMemory};
 
-/// Says nothing more of a step that was found.
-fn done(found: Result<Option<u64>, NoMemory>) -> Result<(), NoMemory> {
-    match found {
-        Ok(_) => Ok(()),
-        Err(NoMemory) => Err(NoMemory),
-    }
-}
+/// What is said where no call can be left.
+const NO_CALL: &[u8] = b"no call that has not returned";
 
 impl Session {
     /// Notes that another step is shown: `list` begins anew.
@@ -40,39 +37,45 @@ impl Session {
         };
     }
 
-    /// Makes steps, forth or back.
-    pub(crate) fn go_counted(
-        &mut self,
-        word: Word,
-        count: u64,
-        out: &mut Bytes,
-    ) -> Result<(), NoMemory>
-        ensures program { KeepsProgram self.old self.new }
-        ensures stops { KeepsStops self.old self.new }
+    /// How many registers are hidden.
+    #[tactic(auto, using(crate::proofs::Reaching::depths))]
+    fn depth(&self) -> u64
+        ensures { result ≡ depth_at self.now }
     {
-        self.note_count(count);
-        if word == Word::Step {
-            self.step_on(count, out)
-        } else {
-            self.step_back(count, out)
-        }
+        self.replay.depth()
     }
 
-    /// Obeys `step` and `reverse-step`.
-    fn obey_count(&mut self, word: Word, rest: &[u8], out: &mut Bytes) -> Result<(), NoMemory>
+    /// Obeys `step`.
+    fn obey_step(&mut self, rest: &[u8], out: &mut Bytes) -> Result<(), NoMemory>
         ensures program { KeepsProgram self.old self.new }
         ensures stops { KeepsStops self.old self.new }
+        ensures leads { OnOk result (Leads self.old Word.Step rest.now self.new.at) }
     {
-        match count_in(rest) {
-            Some(count) => self.go_counted(word, count, out),
-            None => add_said(out, b"? no number"),
-        }
+        let Some(count) = count_in(rest) else {
+            return add_said(out, b"? no number");
+        };
+        self.note_count(count);
+        self.step_on(count, out)
+    }
+
+    /// Obeys `reverse-step`.
+    fn obey_reverse_step(&mut self, rest: &[u8], out: &mut Bytes) -> Result<(), NoMemory>
+        ensures program { KeepsProgram self.old self.new }
+        ensures stops { KeepsStops self.old self.new }
+        ensures leads { OnOk result (Leads self.old Word.ReverseStep rest.now self.new.at) }
+    {
+        let Some(count) = count_in(rest) else {
+            return add_said(out, b"? no number");
+        };
+        self.note_count(count);
+        self.step_back(count, out)
     }
 
     /// Obeys `goto`.
     fn obey_goto(&mut self, rest: &[u8], out: &mut Bytes) -> Result<(), NoMemory>
         ensures program { KeepsProgram self.old self.new }
         ensures stops { KeepsStops self.old self.new }
+        ensures leads { OnOk result (Leads self.old Word.GoTo rest.now self.new.at) }
     {
         match number_in(rest) {
             Some(k) => self.go_to(k, out),
@@ -80,20 +83,32 @@ impl Session {
         }
     }
 
-    /// Obeys `finish` and `reverse-finish`.
-    fn obey_finish(&mut self, word: Word, out: &mut Bytes) -> Result<(), NoMemory>
+    /// Obeys `finish`.
+    #[tactic(auto, using(crate::proofs::Reaching::leaving))]
+    fn obey_finish(&mut self, out: &mut Bytes) -> Result<(), NoMemory>
         ensures program { KeepsProgram self.old self.new }
         ensures stops { KeepsStops self.old self.new }
+        ensures leads { OnOk result (LeavesCall self.old self.new.at (GoesToNext self.old)) }
     {
-        let depth = self.replay.depth();
+        let depth = self.depth();
         if depth == 0 {
-            return add_said(out, b"no call that has not returned");
+            return add_said(out, NO_CALL);
         }
-        if word == Word::Finish {
-            done(self.go_on(Some(depth - 1), out))
-        } else {
-            done(self.go_back(Some(depth - 1), out))
+        self.go_on(Some(depth - 1), out)
+    }
+
+    /// Obeys `reverse-finish`.
+    #[tactic(auto, using(crate::proofs::Reaching::leaving))]
+    fn obey_reverse_finish(&mut self, out: &mut Bytes) -> Result<(), NoMemory>
+        ensures program { KeepsProgram self.old self.new }
+        ensures stops { KeepsStops self.old self.new }
+        ensures leads { OnOk result (LeavesCall self.old self.new.at (GoesToLast self.old)) }
+    {
+        let depth = self.depth();
+        if depth == 0 {
+            return add_said(out, NO_CALL);
         }
+        self.go_back(Some(depth - 1), out)
     }
 
     /// Adds what a step makes of the value at a place, or that none made it.
@@ -119,19 +134,23 @@ impl Session {
     }
 
     /// Goes to the step that makes the value at a place.
+    #[tactic(auto, using(crate::proofs::Reaching::leading))]
     fn show_maker(&mut self, place: Place, out: &mut Bytes) -> Result<(), NoMemory>
         ensures program { KeepsProgram self.old self.new }
         ensures stops { KeepsStops self.old self.new }
+        ensures leads { OnOk result (GoesToMaker self.old place self.new.at) }
     {
         let value = value_at(self.replay.machine(), place);
         let made = self.go_to_maker(place, out)?;
-        self.add_made(place, made, value, out)
+        self.add_made(place, made, value, out)?;
+        Ok(())
     }
 
     /// Obeys `who`.
     fn obey_who(&mut self, rest: &[u8], out: &mut Bytes) -> Result<(), NoMemory>
         ensures program { KeepsProgram self.old self.new }
         ensures stops { KeepsStops self.old self.new }
+        ensures leads { OnOk result (Leads self.old Word.Who rest.now self.new.at) }
     {
         match place_in(&self.known.book, rest) {
             Some(place) => self.show_maker(place, out),
@@ -139,22 +158,26 @@ impl Session {
         }
     }
 
-    /// Obeys a word that goes to another step.
+    /// Obeys a word that goes to another step; any other one stays.
     pub(crate) fn go(&mut self, word: Word, rest: &[u8], out: &mut Bytes) -> Result<(), NoMemory>
         ensures program { KeepsProgram self.old self.new }
         ensures stops { KeepsStops self.old self.new }
+        ensures leads { OnOk result (Leads self.old word rest.now self.new.at) }
     {
         self.forget_listed();
-        let depth = self.replay.depth();
+        let depth = self.depth();
         match word {
-            Word::Step | Word::ReverseStep => self.obey_count(word, rest, out),
+            Word::Step => self.obey_step(rest, out),
+            Word::ReverseStep => self.obey_reverse_step(rest, out),
             Word::GoTo => self.obey_goto(rest, out),
-            Word::Next => done(self.go_on(Some(depth), out)),
-            Word::ReverseNext => done(self.go_back(Some(depth), out)),
-            Word::Finish | Word::ReverseFinish => self.obey_finish(word, out),
-            Word::Continue => done(self.go_on(None, out)),
-            Word::ReverseContinue => done(self.go_back(None, out)),
-            _ => self.obey_who(rest, out),
+            Word::Next => self.go_on(Some(depth), out),
+            Word::ReverseNext => self.go_back(Some(depth), out),
+            Word::Finish => self.obey_finish(out),
+            Word::ReverseFinish => self.obey_reverse_finish(out),
+            Word::Continue => self.go_on(None, out),
+            Word::ReverseContinue => self.go_back(None, out),
+            Word::Who => self.obey_who(rest, out),
+            _ => Ok(()),
         }
     }
 }

@@ -1,6 +1,7 @@
 //! What a session knows besides the run.
 
-ghost use Rattle.std.specs.Prelude.{◌≡◌, []};
+ghost use Rattle.std.specs.Prelude.{◌≡◌, [], IfOk};
+ghost use Rattle.mx_debug.specs.Words as spec;
 
 use mx_book::Book;
 use mx_replay::{Break, Watch};
@@ -56,23 +57,20 @@ impl Stops {
         self.breaks = Sequence::new(alloc);
         self.watches = Sequence::new(alloc);
     }
-
-    /// Whether one has this number.
-    pub(crate) fn has(&self, number: u32) -> bool {
-        self.breaks.as_slice().iter().any(|b| b.number == number)
-            || self.watches.as_slice().iter().any(|w| w.number == number)
-    }
 }
 
 /// The breaks but that of a number.
-pub(crate) fn without_break(
+#[tactic(auto, using(crate::proofs::Deleting::keeping))]
+pub(crate) fn breaks_but(
     alloc: Global,
     breaks: &[Break],
-    number: u32,
-) -> Result<Sequence<Break>, NoMemory> {
+    number: u64,
+) -> Result<Sequence<Break>, NoMemory>
+    ensures { IfOk result (λ left. left ≡ spec.breaks_but number breaks.now) }
+{
     let mut left = Sequence::new(alloc);
     for b in breaks {
-        if b.number != number {
+        if u64::from(b.number) != number {
             left.push(*b)?;
         }
     }
@@ -80,14 +78,17 @@ pub(crate) fn without_break(
 }
 
 /// What is watched but that of a number.
-pub(crate) fn without_watch(
+#[tactic(auto, using(crate::proofs::Deleting::keeping))]
+pub(crate) fn watches_but(
     alloc: Global,
     watches: &[Watch],
-    number: u32,
-) -> Result<Sequence<Watch>, NoMemory> {
+    number: u64,
+) -> Result<Sequence<Watch>, NoMemory>
+    ensures { IfOk result (λ left. left ≡ spec.watches_but number watches.now) }
+{
     let mut left = Sequence::new(alloc);
     for watch in watches {
-        if watch.number != number {
+        if u64::from(watch.number) != number {
             left.push(*watch)?;
         }
     }

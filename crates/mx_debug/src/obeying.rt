@@ -1,8 +1,9 @@
 //! Lines, and the words that they begin with.
 
-ghost use Rattle.std.specs.Prelude.{◌≡◌, false};
+ghost use Rattle.std.specs.Prelude.{◌≡◌, false, OnOk};
 ghost use Rattle.mx_debug.specs.Sessions.{KeepsProgram, KeepsStops};
 ghost use Rattle.mx_debug.specs.Words as spec;
+ghost use Rattle.mx_debug.specs.Words.{Deletes, Leads};
 
 use crate::session::{Again, Session};
 use crate::showing::{info, print};
@@ -82,6 +83,7 @@ impl Session {
     fn set(&mut self, word: Word, rest: &[u8], out: &mut Bytes) -> Result<(), NoMemory>
         ensures program { KeepsProgram self.old self.new }
         ensures place { self.new.at ≡ self.old.at }
+        ensures deletes { word ≡ Word.Delete → OnOk result (Deletes self.old rest.now self.new) }
     {
         match word {
             Word::Break => self.obey_break(rest, out),
@@ -114,6 +116,7 @@ impl Session {
     /// Obeys a word with the form after its stroke and what follows it, and adds the answer.
     ///
     /// Errors: out of memory; then it is at a step of the run all the same.
+    #[tactic(auto, using(crate::proofs::Reaching::staying))]
     pub fn obey_word(
         &mut self,
         word: Word,
@@ -122,8 +125,10 @@ impl Session {
         out: &mut Bytes,
     ) -> Result<(), NoMemory>
         ensures program { KeepsProgram self.old self.new }
+        ensures leads { OnOk result (Leads self.old word rest.now self.new.at) }
         ensures place { spec.goes word ≡ false → self.new.at ≡ self.old.at }
         ensures stops { spec.sets word ≡ false → KeepsStops self.old self.new }
+        ensures deletes { word ≡ Word.Delete → OnOk result (Deletes self.old rest.now self.new) }
     {
         self.note_word(word);
         if goes(word) {
@@ -143,8 +148,8 @@ impl Session {
         let again = self.again;
         match again.word {
             None => Ok(()),
-            Some(Word::Step) => self.go_counted(Word::Step, again.count, out),
-            Some(Word::ReverseStep) => self.go_counted(Word::ReverseStep, again.count, out),
+            Some(Word::Step) => self.step_on(again.count, out),
+            Some(Word::ReverseStep) => self.step_back(again.count, out),
             Some(Word::Examine) => self.examine_more(out),
             Some(Word::List) => self.obey_list(b"", out),
             Some(word) => self.go(word, b"", out),

@@ -1,10 +1,11 @@
 //! A session, and how it goes from step to step.
 
-ghost use Rattle.std.specs.Prelude.{◌≡◌, ◌≢◌, ◌+◌, ◌-◌, [], min, Err, IfErr, IfOk, OnOk};
-ghost use Rattle.mx_replay.specs.Marks.{changes, stops_at};
-ghost use Rattle.mx_replay.specs.Programs.{IsReached, NamesFile, step_of};
-ghost use Rattle.mx_replay.specs.Searches.{FoundAt, IsLast, IsNext};
-ghost use Rattle.mx_debug.specs.Sessions.{KeepsProgram, KeepsStops, StandsBack, StandsBefore};
+ghost use Rattle.std.specs.Prelude.{◌≡◌, ◌≢◌, ◌+◌, ◌-◌, [], Err, IfErr, IfOk, OnOk};
+ghost use Rattle.mx_replay.specs.Marks.{changes};
+ghost use Rattle.mx_replay.specs.Programs.{NamesFile, step_of};
+ghost use Rattle.mx_replay.specs.Searches.{IsLast};
+ghost use Rattle.mx_debug.specs.Going.{GoesTo, GoesToLast, GoesToNext, StandsBefore};
+ghost use Rattle.mx_debug.specs.Sessions.{KeepsProgram, KeepsStops};
 
 use crate::arriving::{arrive, arrive_back, arrive_here};
 use crate::known::{Known, Stops};
@@ -43,6 +44,7 @@ impl Model for Session {
 
     ghost view = { λ s. record {
       program = s.replay.program;
+      book = s.known.book;
       at = s.replay.at;
       most = s.known.most;
       breaks = s.known.stops.breaks;
@@ -57,7 +59,7 @@ impl Session {
     pub fn begin(alloc: Global, program: Program, book: Book, most: u64) -> Result<Session, Outcome>
         requires { NamesFile program }
         ensures start { IfOk result (λ s. s
-            ≡ record { program = program; at = 0; most = most; breaks = []; watches = [] }) }
+            ≡ record { program = program; book = book; at = 0; most = most; breaks = []; watches = [] }) }
         ensures refused { IfErr result (λ outcome. outcome ≢ Outcome.OutOfMemory → step_of program 0 ≡ Err outcome) }
     {
         let ring = program.order.ring.registers();
@@ -97,7 +99,7 @@ impl Session {
     pub fn go_to(&mut self, k: u64, out: &mut Bytes) -> Result<(), NoMemory>
         ensures program { KeepsProgram self.old self.new }
         ensures stops { KeepsStops self.old self.new }
-        ensures reached { OnOk result (IsReached self.old.program (min k self.old.most) self.new.at) }
+        ensures reached { OnOk result (GoesTo self.old k self.new.at) }
     {
         let since = Written::of(self.replay.host());
         let k = k.min(self.known.most);
@@ -116,7 +118,7 @@ impl Session {
     pub fn step_on(&mut self, n: u64, out: &mut Bytes) -> Result<(), NoMemory>
         ensures program { KeepsProgram self.old self.new }
         ensures stops { KeepsStops self.old self.new }
-        ensures reached { OnOk result (IsReached self.old.program (min (self.old.at + n) self.old.most) self.new.at) }
+        ensures reached { OnOk result (GoesTo self.old (self.old.at + n) self.new.at) }
     {
         let k = self.replay.at().saturating_add(n).min(self.most());
         self.go_to(k, out)
@@ -137,36 +139,31 @@ impl Session {
     /// Goes on to the next step at a break or a change of what is watched, or at which at most this many registers are hidden, if
     /// that is asked: the least after this one. Where there is none, it goes on to the end, or to the last step that may be gone
     /// to. It tells of the step.
-    #[tactic(auto, using(crate::proofs::Reaching::reaching))]
-    pub fn go_on(&mut self, depth: Option<u64>, out: &mut Bytes) -> Result<Option<u64>, NoMemory>
+    #[tactic(auto, using(crate::proofs::Reaching::leading))]
+    pub fn go_on(&mut self, depth: Option<u64>, out: &mut Bytes) -> Result<(), NoMemory>
         ensures program { KeepsProgram self.old self.new }
         ensures stops { KeepsStops self.old self.new }
-        ensures next { IfOk result (
-            IsNext self.old.program (stops_at self.old.breaks self.old.watches depth) self.old.at self.old.most) }
-        ensures place { IfOk result (FoundAt self.old.program self.old.most self.old.at self.new.at) }
+        ensures next { OnOk result (GoesToNext self.old depth self.new.at) }
     {
         let since = Written::of(self.replay.host());
         let stops = &self.known.stops;
-        let most = self.known.most;
-        let found = self.replay.next_stop(
+        self.replay.next_stop(
             stops.breaks.as_slice(),
             stops.watches.as_slice(),
             depth,
-            most,
+            self.known.most,
         )?;
         arrive_here(&mut self.replay, &self.known, since, out)?;
-        Ok(found)
+        Ok(())
     }
 
     /// Goes back to the last step at a break or a change of what is watched, or at which at most this many registers are hidden, if
     /// that is asked: the greatest before this one. Where there is none, it goes back to the start. It tells of the step.
-    #[tactic(auto, using(crate::proofs::Reaching::reaching))]
-    pub fn go_back(&mut self, depth: Option<u64>, out: &mut Bytes) -> Result<Option<u64>, NoMemory>
+    #[tactic(auto, using(crate::proofs::Reaching::leading))]
+    pub fn go_back(&mut self, depth: Option<u64>, out: &mut Bytes) -> Result<(), NoMemory>
         ensures program { KeepsProgram self.old self.new }
         ensures stops { KeepsStops self.old self.new }
-        ensures last { IfOk result (
-            IsLast self.old.program (stops_at self.old.breaks self.old.watches depth) (self.old.at - 1)) }
-        ensures place { IfOk result (StandsBack self.new.at) }
+        ensures last { OnOk result (GoesToLast self.old depth self.new.at) }
     {
         let since = Written::of(self.replay.host());
         let stops = &self.known.stops;
@@ -180,7 +177,7 @@ impl Session {
             found.unwrap_or(0),
             out,
         )?;
-        Ok(found)
+        Ok(())
     }
 
     /// Goes back to the step from which the turn leads on that made the value at a place: the greatest up to this one that

@@ -1,74 +1,19 @@
 //! The words that change the breaks and what is watched.
 
-ghost use Rattle.std.specs.Prelude.{◌≡◌};
+ghost use Rattle.std.specs.Prelude.{◌≡◌, [], OnOk};
 ghost use Rattle.mx_debug.specs.Sessions.{KeepsProgram};
+ghost use Rattle.mx_debug.specs.Words.{Deletes, LeavesAllBut};
 
 use crate::conditions::add_condition;
-use crate::known::{Known, without_break, without_watch};
+use crate::known::{Known, breaks_but, watches_but};
 use crate::session::Session;
 use crate::telling::add_said;
-use mx_ask::{cut_word, number_in};
-use mx_places::{Target, condition_in, place_in, target_in, thing_at};
-use mx_replay::{Break, Condition, Place, Watch};
+use mx_ask::number_in;
+use mx_places::{Unwanted, Wanted, place_in, thing_at, wanted_in};
+use mx_replay::{Break, Place, Watch};
 use mx_tell::{add_break_row, add_place, add_watch_row};
 use mx_text::add_decimal;
 use mx_word::{Bytes, NoMemory};
-
-/// A break as a line orders it.
-#[derive(Clone, Copy)]
-struct Wanted {
-    target: Target,
-    condition: Option<Condition>,
-}
-
-/// Why a line orders no break.
-#[derive(Clone, Copy)]
-enum Unwanted {
-    Target,
-    Condition,
-}
-
-/// What follows the place of a break: a condition, or nothing.
-fn wanted_condition(known: &Known, rest: &[u8]) -> Result<Option<Condition>, Unwanted> {
-    if rest.is_empty() {
-        return Ok(None);
-    }
-    let (word, rest) = cut_word(rest);
-    if word != b"if".as_slice() {
-        return Err(Unwanted::Condition);
-    }
-    match condition_in(&known.book, rest) {
-        Some(condition) => Ok(Some(condition)),
-        None => Err(Unwanted::Condition),
-    }
-}
-
-/// The place of a break: where nothing is written, the instruction that comes next.
-fn wanted_target(known: &Known, pc: u64, word: &[u8]) -> Result<Target, Unwanted> {
-    if word.is_empty() {
-        return Ok(Target {
-            address: pc,
-            line: None,
-        });
-    }
-    match target_in(&known.book, word) {
-        Some(target) => Ok(target),
-        None => Err(Unwanted::Target),
-    }
-}
-
-/// The break that a line orders.
-fn wanted_in(known: &Known, pc: u64, text: &[u8]) -> Result<Wanted, Unwanted> {
-    let (word, rest) = cut_word(text);
-    let target = match wanted_target(known, pc, word) {
-        Ok(target) => target,
-        Err(why) => return Err(why),
-    };
-    match wanted_condition(known, rest) {
-        Ok(condition) => Ok(Wanted { target, condition }),
-        Err(why) => Err(why),
-    }
-}
 
 /// Adds the row of a break.
 fn add_break(text: &mut Bytes, known: &Known, b: &Break) -> Result<(), NoMemory> {
@@ -136,7 +81,7 @@ impl Session {
         let number = self.known.stops.next();
         let b = Break {
             number,
-            address: wanted.target.address,
+            address: wanted.address,
             condition: wanted.condition,
         };
         self.known.stops.breaks.push(b)?;
@@ -161,7 +106,7 @@ impl Session {
         ensures place { self.new.at ≡ self.old.at }
     {
         let pc = self.replay.machine().pc();
-        match wanted_in(&self.known, pc, rest) {
+        match wanted_in(&self.known.book, pc, rest) {
             Ok(wanted) => self.set_break(wanted, out),
             Err(why) => add_unwanted(out, why),
         }
@@ -179,40 +124,48 @@ impl Session {
     }
 
     /// Deletes the break or the watch of a number.
-    fn delete(&mut self, number: u32, out: &mut Bytes) -> Result<(), NoMemory>
+    fn delete(&mut self, number: u64, out: &mut Bytes) -> Result<(), NoMemory>
         ensures program { KeepsProgram self.old self.new }
         ensures place { self.new.at ≡ self.old.at }
+        ensures left { OnOk result (LeavesAllBut number self.old self.new) }
     {
-        if !self.known.stops.has(number) {
-            return add_said(out, b"? no break and no watch has this number");
-        }
-        let alloc = self.known.alloc;
-        let breaks = without_break(alloc, self.known.stops.breaks.as_slice(), number)?;
-        let watches = without_watch(alloc, self.known.stops.watches.as_slice(), number)?;
+        let stops = &self.known.stops;
+        let breaks = breaks_but(self.known.alloc, stops.breaks.as_slice(), number)?;
+        let watches = watches_but(self.known.alloc, stops.watches.as_slice(), number)?;
+        let is_known = breaks.as_slice().len() < stops.breaks.as_slice().len()
+            || watches.as_slice().len() < stops.watches.as_slice().len();
         self.known.stops.breaks = breaks;
         self.known.stops.watches = watches;
-        add_said(out, b"deleted")
+        if is_known {
+            add_said(out, b"deleted")
+        } else {
+            add_said(out, b"? no break and no watch has this number")
+        }
     }
 
     /// Deletes all breaks and watches.
     fn delete_all(&mut self, out: &mut Bytes) -> Result<(), NoMemory>
         ensures program { KeepsProgram self.old self.new }
         ensures place { self.new.at ≡ self.old.at }
+        ensures breaks { self.new.breaks ≡ [] }
+        ensures watches { self.new.watches ≡ [] }
     {
         self.known.stops.clear(self.known.alloc);
         add_said(out, b"all deleted")
     }
 
     /// Obeys `delete`.
+    #[tactic(auto, using(crate::proofs::Deleting::deleting))]
     pub(crate) fn obey_delete(&mut self, rest: &[u8], out: &mut Bytes) -> Result<(), NoMemory>
         ensures program { KeepsProgram self.old self.new }
         ensures place { self.new.at ≡ self.old.at }
+        ensures left { OnOk result (Deletes self.old rest.now self.new) }
     {
         if rest.is_empty() {
             return self.delete_all(out);
         }
         match number_in(rest) {
-            Some(number) => self.delete(u32::try_from(number).unwrap_or(0), out),
+            Some(number) => self.delete(number, out),
             None => add_said(out, b"? no number"),
         }
     }

@@ -1,56 +1,34 @@
 -- The rows of the table, part by part.
 use Rattle.std.specs.Prelude.{List, map}
 use Rattle.mx_explain.specs.Topics.{Row, row}
-use Rattle.mx_explain.specs.declared.sources.TheConstants.{LINES, EXPRESSIONS, STATEMENTS, PLACES, SOURCES}
-use Rattle.mx_explain.specs.declared.objects.TheConstants.{OBJECTS, TRIES, LOADING}
-use Rattle.mx_explain.specs.declared.stops.TheConstants.{STOPS, TRAPS}
-use Rattle.mx_explain.specs.declared.kinds.TheConstants.{KINDS}
-use Rattle.mx_explain.specs.declared.inside.TheConstants.{INSIDE}
+use Rattle.mx_explain.specs.declared.pseudo.TheConstants.{PSEUDO}
+use Rattle.mx_explain.specs.declared.registers.TheConstants.{REGISTERS, MORE_REGISTERS}
+use Rattle.mx_explain.specs.declared.symbols.TheConstants.{EVENTS, FILES, SERVICES, OTHERS}
 
--- faults of a line
-unfoldable pub line_rows : List Row
-line_rows = map (λ e. row e.0 e.1.now e.2.now e.3.now e.4.now) LINES
+-- pseudo-operations
+unfoldable pub pseudo_rows : List Row
+pseudo_rows = map (λ e. row e.0 e.1.now e.2.now e.3.now e.4.now) PSEUDO
 
--- faults of an expression
-unfoldable pub expression_rows : List Row
-expression_rows = map (λ e. row e.0 e.1.now e.2.now e.3.now e.4.now) EXPRESSIONS
+-- special registers
+unfoldable pub register_rows : List Row
+register_rows = map (λ e. row e.0 e.1.now e.2.now e.3.now e.4.now) REGISTERS
 
--- faults of a statement
-unfoldable pub statement_rows : List Row
-statement_rows = map (λ e. row e.0 e.1.now e.2.now e.3.now e.4.now) STATEMENTS
+-- more special registers
+unfoldable pub more_register_rows : List Row
+more_register_rows = map (λ e. row e.0 e.1.now e.2.now e.3.now e.4.now) MORE_REGISTERS
 
--- faults of addresses and labels
-unfoldable pub place_rows : List Row
-place_rows = map (λ e. row e.0 e.1.now e.2.now e.3.now e.4.now) PLACES
+-- bits and handlers of events
+unfoldable pub event_rows : List Row
+event_rows = map (λ e. row e.0 e.1.now e.2.now e.3.now e.4.now) EVENTS
 
--- faults of a source as a whole
-unfoldable pub source_rows : List Row
-source_rows = map (λ e. row e.0 e.1.now e.2.now e.3.now e.4.now) SOURCES
+-- handles and modes of files
+unfoldable pub file_rows : List Row
+file_rows = map (λ e. row e.0 e.1.now e.2.now e.3.now e.4.now) FILES
 
--- faults of an object
-unfoldable pub object_rows : List Row
-object_rows = map (λ e. row e.0 e.1.now e.2.now e.3.now e.4.now) OBJECTS
+-- services of TRAP
+unfoldable pub service_rows : List Row
+service_rows = map (λ e. row e.0 e.1.now e.2.now e.3.now e.4.now) SERVICES
 
--- faults of the symbols of an object
-unfoldable pub trie_rows : List Row
-trie_rows = map (λ e. row e.0 e.1.now e.2.now e.3.now e.4.now) TRIES
-
--- faults of an object that is loaded
-unfoldable pub loading_rows : List Row
-loading_rows = map (λ e. row e.0 e.1.now e.2.now e.3.now e.4.now) LOADING
-
--- reasons of a stop
-unfoldable pub stop_rows : List Row
-stop_rows = map (λ e. row e.0 e.1.now e.2.now e.3.now e.4.now) STOPS
-
--- reasons of a stop of RESUME or TRAP
-unfoldable pub trap_rows : List Row
-trap_rows = map (λ e. row e.0 e.1.now e.2.now e.3.now e.4.now) TRAPS
-
--- kinds of faulty words
-unfoldable pub kind_rows : List Row
-kind_rows = map (λ e. row e.0 e.1.now e.2.now e.3.now e.4.now) KINDS
-
--- numbers inside the program
-unfoldable pub inside_rows : List Row
-inside_rows = map (λ e. row e.0 e.1.now e.2.now e.3.now e.4.now) INSIDE
+-- other predefined symbols
+unfoldable pub other_rows : List Row
+other_rows = map (λ e. row e.0 e.1.now e.2.now e.3.now e.4.now) OTHERS

@@ -6,7 +6,7 @@ use Rattle.mx_ops.specs.Opcodes.{operation_of}
 use Rattle.mx_ops.specs.declared.op.Op.{Op}
 use Rattle.mx_ops.specs.declared.op.Op.TheVariants.{Pseudo, Code}
 use Rattle.mx_explain.specs.declared.row.Topic.{Topic}
-use Rattle.mx_explain.specs.declared.row.Topic.TheVariants.{Source, Object, Stop, Kind, Inside, Operation, Unperformed, Symbol}
+use Rattle.mx_explain.specs.declared.row.Topic.TheVariants.{Source, Object, Stop, Kind, Warning, Status, Inside, Operation, Unperformed, Symbol}
 use Rattle.mx_explain.specs.Topics.{Row, number_of, name_of}
 use Rattle.mx_explain.specs.Operands.{operands}
 use Rattle.mx_explain.specs.Facts.{operation_codes, operation_cost, value_line, value_of}
@@ -32,6 +32,8 @@ kind_of (Source number) name = codes "a fault of a source"
 kind_of (Object number) name = codes "a fault of an object"
 kind_of (Stop number) name = codes "a reason of a stop"
 kind_of (Kind number) name = codes "a kind of faulty words"
+kind_of (Warning number) name = codes "a warning of a source"
+kind_of (Status number) name = codes "an exit status"
 kind_of (Inside number) name = codes "a number inside the program"
 kind_of Operation name = operation_kind (operation_of name)
 kind_of Unperformed name = codes "an instruction that this machine does not perform"

@@ -3,7 +3,7 @@ use Rattle.std.specs.Prelude.{ℕ, List, Option, None, Some}
 use Rattle.mx_outcome.specs.Names.{fault_name_of, usage_name_of}
 use Rattle.mx_explain.specs.declared.row.Topic.{Topic}
 use Rattle.mx_explain.specs.declared.row.Row.{Row as Seen}
-use Rattle.mx_explain.specs.declared.row.Topic.TheVariants.{Source, Object, Stop, Kind, Inside, Operation, Unperformed, Symbol}
+use Rattle.mx_explain.specs.declared.row.Topic.TheVariants.{Source, Object, Stop, Kind, Warning, Status, Inside, Operation, Unperformed, Symbol}
 
 -- a row: its topic, the name that it has of its own, its sentences, its example, and what mends it
 pub record Row : Type 0 where
@@ -25,6 +25,8 @@ number_of (Source number) = Some number
 number_of (Object number) = Some number
 number_of (Stop number) = Some number
 number_of (Kind number) = Some number
+number_of (Warning number) = Some number
+number_of (Status number) = Some number
 number_of (Inside number) = Some number
 number_of Operation = None
 number_of Unperformed = None
@@ -36,6 +38,8 @@ topic_name (Source number) given = fault_name_of number
 topic_name (Object number) given = fault_name_of number
 topic_name (Stop number) given = fault_name_of number
 topic_name (Kind number) given = usage_name_of number
+topic_name (Warning number) given = given
+topic_name (Status number) given = given
 topic_name (Inside number) given = fault_name_of number
 topic_name Operation given = given
 topic_name Unperformed given = given

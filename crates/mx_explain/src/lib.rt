@@ -1,22 +1,20 @@
-//! What a number or a name means that the program prints or that MMIXAL has: rows of sentences, and the text of a row.
+//! What a number or a name means that the programs print or that MMIXAL has: what a row of sentences is, its text, and which rows a
+//! word is about; and the rows on pseudo-operations and predefined symbols.
 #![tactic(auto)]
 
 mod facts;
-mod inside;
-mod kinds;
 mod matching;
-mod objects;
 mod operands;
 mod parts;
+mod pseudo;
+mod registers;
 mod row;
-mod sources;
-mod stops;
+mod symbols;
 mod text;
 
 pub use matching::fits;
 pub use parts::{
-    expression_rows, inside_rows, kind_rows, line_rows, loading_rows, object_rows, place_rows,
-    source_rows, statement_rows, stop_rows, trap_rows, trie_rows,
+    event_rows, file_rows, more_register_rows, other_rows, pseudo_rows, register_rows, service_rows,
 };
 pub use row::{Entry, Row, Topic, name_of, row_of};
 pub use text::{add_label, add_row};

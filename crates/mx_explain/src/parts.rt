@@ -4,105 +4,63 @@ ghost use Rattle.std.specs.Prelude.{◌≡◌, map};
 ghost use Rattle.mx_explain.specs.Topics.{row};
 ghost use Rattle.mx_explain.specs.Parts as spec;
 
-use crate::inside::INSIDE;
-use crate::kinds::KINDS;
-use crate::objects::{LOADING, OBJECTS, TRIES};
+use crate::pseudo::PSEUDO;
+use crate::registers::{MORE_REGISTERS, REGISTERS};
 use crate::row::Entry;
-use crate::sources::{EXPRESSIONS, LINES, PLACES, SOURCES, STATEMENTS};
-use crate::stops::{STOPS, TRAPS};
+use crate::symbols::{EVENTS, FILES, OTHERS, SERVICES};
 
-/// Faults of a line.
-#[tactic(auto, unfolding(crate::specs::Parts::line_rows))]
-pub fn line_rows() -> &'static [Entry]
-    ensures { map (λ e. row e.0 e.1.now e.2.now e.3.now e.4.now) result.now ≡ spec.line_rows }
+/// Pseudo-operations.
+#[tactic(auto, unfolding(crate::specs::Parts::pseudo_rows))]
+pub fn pseudo_rows() -> &'static [Entry]
+    ensures { map (λ e. row e.0 e.1.now e.2.now e.3.now e.4.now) result.now ≡ spec.pseudo_rows }
 {
-    &LINES
+    &PSEUDO
 }
 
-/// Faults of an expression.
-#[tactic(auto, unfolding(crate::specs::Parts::expression_rows))]
-pub fn expression_rows() -> &'static [Entry]
-    ensures { map (λ e. row e.0 e.1.now e.2.now e.3.now e.4.now) result.now ≡ spec.expression_rows }
+/// Special registers.
+#[tactic(auto, unfolding(crate::specs::Parts::register_rows))]
+pub fn register_rows() -> &'static [Entry]
+    ensures { map (λ e. row e.0 e.1.now e.2.now e.3.now e.4.now) result.now ≡ spec.register_rows }
 {
-    &EXPRESSIONS
+    &REGISTERS
 }
 
-/// Faults of a statement.
-#[tactic(auto, unfolding(crate::specs::Parts::statement_rows))]
-pub fn statement_rows() -> &'static [Entry]
-    ensures { map (λ e. row e.0 e.1.now e.2.now e.3.now e.4.now) result.now ≡ spec.statement_rows }
+/// More special registers.
+#[tactic(auto, unfolding(crate::specs::Parts::more_register_rows))]
+pub fn more_register_rows() -> &'static [Entry]
+    ensures { map (λ e. row e.0 e.1.now e.2.now e.3.now e.4.now) result.now ≡ spec.more_register_rows }
 {
-    &STATEMENTS
+    &MORE_REGISTERS
 }
 
-/// Faults of addresses and labels.
-#[tactic(auto, unfolding(crate::specs::Parts::place_rows))]
-pub fn place_rows() -> &'static [Entry]
-    ensures { map (λ e. row e.0 e.1.now e.2.now e.3.now e.4.now) result.now ≡ spec.place_rows }
+/// Bits and handlers of events.
+#[tactic(auto, unfolding(crate::specs::Parts::event_rows))]
+pub fn event_rows() -> &'static [Entry]
+    ensures { map (λ e. row e.0 e.1.now e.2.now e.3.now e.4.now) result.now ≡ spec.event_rows }
 {
-    &PLACES
+    &EVENTS
 }
 
-/// Faults of a source as a whole.
-#[tactic(auto, unfolding(crate::specs::Parts::source_rows))]
-pub fn source_rows() -> &'static [Entry]
-    ensures { map (λ e. row e.0 e.1.now e.2.now e.3.now e.4.now) result.now ≡ spec.source_rows }
+/// Handles and modes of files.
+#[tactic(auto, unfolding(crate::specs::Parts::file_rows))]
+pub fn file_rows() -> &'static [Entry]
+    ensures { map (λ e. row e.0 e.1.now e.2.now e.3.now e.4.now) result.now ≡ spec.file_rows }
 {
-    &SOURCES
+    &FILES
 }
 
-/// Faults of an object.
-#[tactic(auto, unfolding(crate::specs::Parts::object_rows))]
-pub fn object_rows() -> &'static [Entry]
-    ensures { map (λ e. row e.0 e.1.now e.2.now e.3.now e.4.now) result.now ≡ spec.object_rows }
+/// Services of TRAP.
+#[tactic(auto, unfolding(crate::specs::Parts::service_rows))]
+pub fn service_rows() -> &'static [Entry]
+    ensures { map (λ e. row e.0 e.1.now e.2.now e.3.now e.4.now) result.now ≡ spec.service_rows }
 {
-    &OBJECTS
+    &SERVICES
 }
 
-/// Faults of the symbols of an object.
-#[tactic(auto, unfolding(crate::specs::Parts::trie_rows))]
-pub fn trie_rows() -> &'static [Entry]
-    ensures { map (λ e. row e.0 e.1.now e.2.now e.3.now e.4.now) result.now ≡ spec.trie_rows }
+/// Other predefined symbols.
+#[tactic(auto, unfolding(crate::specs::Parts::other_rows))]
+pub fn other_rows() -> &'static [Entry]
+    ensures { map (λ e. row e.0 e.1.now e.2.now e.3.now e.4.now) result.now ≡ spec.other_rows }
 {
-    &TRIES
-}
-
-/// Faults of an object that is loaded.
-#[tactic(auto, unfolding(crate::specs::Parts::loading_rows))]
-pub fn loading_rows() -> &'static [Entry]
-    ensures { map (λ e. row e.0 e.1.now e.2.now e.3.now e.4.now) result.now ≡ spec.loading_rows }
-{
-    &LOADING
-}
-
-/// Reasons of a stop.
-#[tactic(auto, unfolding(crate::specs::Parts::stop_rows))]
-pub fn stop_rows() -> &'static [Entry]
-    ensures { map (λ e. row e.0 e.1.now e.2.now e.3.now e.4.now) result.now ≡ spec.stop_rows }
-{
-    &STOPS
-}
-
-/// Reasons of a stop of RESUME or TRAP.
-#[tactic(auto, unfolding(crate::specs::Parts::trap_rows))]
-pub fn trap_rows() -> &'static [Entry]
-    ensures { map (λ e. row e.0 e.1.now e.2.now e.3.now e.4.now) result.now ≡ spec.trap_rows }
-{
-    &TRAPS
-}
-
-/// Kinds of faulty words.
-#[tactic(auto, unfolding(crate::specs::Parts::kind_rows))]
-pub fn kind_rows() -> &'static [Entry]
-    ensures { map (λ e. row e.0 e.1.now e.2.now e.3.now e.4.now) result.now ≡ spec.kind_rows }
-{
-    &KINDS
-}
-
-/// Numbers inside the program.
-#[tactic(auto, unfolding(crate::specs::Parts::inside_rows))]
-pub fn inside_rows() -> &'static [Entry]
-    ensures { map (λ e. row e.0 e.1.now e.2.now e.3.now e.4.now) result.now ≡ spec.inside_rows }
-{
-    &INSIDE
+    &OTHERS
 }

@@ -16,6 +16,10 @@ pub enum Topic {
     Stop(u16),
     /// A kind of faulty words.
     Kind(u16),
+    /// A warning of a source.
+    Warning(u16),
+    /// A status that a program ends with.
+    Status(u16),
     /// A number of a part of the program, which no message has.
     Inside(u16),
     /// An operation of MMIXAL that the machine performs or that the assembler carries out.
@@ -26,9 +30,9 @@ pub enum Topic {
     Symbol,
 }
 
-/// A row as the tables have it: its topic; the name of an operation or a symbol, and no text where a number has its name from the
-/// tables of the program; sentences, of an operation after a line that says what it does in the notation of the book; an example, or
-/// no text; and what mends the example, or no text where it is good.
+/// A row as the tables have it: its topic; the name of a warning, a status, an operation or a symbol, and no text where a number has
+/// its name from the tables of the program; sentences, of an operation after a line that says what it does in the notation of the
+/// book; an example, or no text; and what mends the example, or no text where it is good.
 pub type Entry = (
     Topic,
     &'static str,
@@ -70,6 +74,8 @@ pub(crate) fn number_of(topic: Topic) -> Option<u16>
         | Topic::Object(number)
         | Topic::Stop(number)
         | Topic::Kind(number)
+        | Topic::Warning(number)
+        | Topic::Status(number)
         | Topic::Inside(number) => Some(number),
         Topic::Operation | Topic::Unperformed | Topic::Symbol => None,
     }
@@ -85,7 +91,11 @@ pub(crate) fn topic_name(topic: Topic, given: &'static str) -> &'static str
         | Topic::Object(number)
         | Topic::Stop(number)
         | Topic::Inside(number) => { fault_name(number) }
-        Topic::Operation | Topic::Unperformed | Topic::Symbol => given,
+        Topic::Warning(_)
+        | Topic::Status(_)
+        | Topic::Operation
+        | Topic::Unperformed
+        | Topic::Symbol => given,
     }
 }
 

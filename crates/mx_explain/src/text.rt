@@ -33,6 +33,8 @@ fn kind_of(topic: Topic, name: &str) -> &'static str
         Topic::Object(_) => "a fault of an object",
         Topic::Stop(_) => "a reason of a stop",
         Topic::Kind(_) => "a kind of faulty words",
+        Topic::Warning(_) => "a warning of a source",
+        Topic::Status(_) => "an exit status",
         Topic::Inside(_) => "a number inside the program",
         Topic::Operation => operation_kind(find(name.as_bytes())),
         Topic::Unperformed => "an instruction that this machine does not perform",

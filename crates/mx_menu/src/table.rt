@@ -156,7 +156,7 @@ pub static COMMANDS: [Row; 8] = [
     Row {
         face: Face::Explain,
         name: "explain",
-        about: "says what a number or a name means: a fault, a reason, an operation, a symbol",
+        about: "says what a number or a name means: a fault, a warning, a status, an operation, a symbol",
         words: &[Word {
             id: "WORD",
             form: Form::Maybe,

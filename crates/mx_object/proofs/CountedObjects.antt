@@ -14,17 +14,19 @@ use Rattle.mx_outcome.specs.declared.outcome.Outcome.TheVariants.{BadObject, Out
 use Rattle.mx_view.specs.declared.cells.Cell.{Cell}
 use Rattle.mx_count.specs.Counting.{counting_as}
 unfoldable use Rattle.mx_count.specs.Counting.{kept_tally}
+use Rattle.mx_count.specs.Leaving.{ImageLeaves}
 use Rattle.mx_count.specs.Reports.{sheet_bytes}
 use Rattle.mx_count.specs.Runs.{CountsByKind, GoesAs, came_to, image_counted, reporting}
 use Rattle.mx_count.specs.Tallies.{added, tally_in}
 use Rattle.mx_count.specs.declared.count.Counted.{Counted}
 use Rattle.mx_count.specs.declared.counts.Form.TheVariants.{Octas}
 use Rattle.mx_count.proofs.CountedRuns.{mapped-told, reported-told}
+use Rattle.mx_count.proofs.LeftHosts.{unstarted-left}
 use Rattle.mx_count.proofs.TallyLaws.{nothing-first}
 use Rattle.mx_object.specs.Addresses.{addresses_of, items_in}
 use Rattle.mx_object.specs.Counting.{loads_of}
 use Rattle.mx_object.specs.Listing.{tetras_at}
-use Rattle.mx_object.specs.Runs.{by_report, loaded_with, object_counted, object_in, report_on, uncounted}
+use Rattle.mx_object.specs.Runs.{LoadedLeaves, by_report, loaded_with, object_counted, object_in, report_on, uncounted}
 use Rattle.mx_object.specs.declared.counted.CountedObject.{CountedObject}
 use Rattle.mx_object.specs.declared.tetras.ListedTetra.{ListedTetra}
 
@@ -67,3 +69,13 @@ refused-told old result o arguments bytes place fault e is = (
   λ t ne. (λ i. came_to (is i) (contents old)) ∙ ap (λ r. loaded_with by_report window_machine o arguments bytes r (contents old)) e,
   λ t ne. subst (λ x. GoesAs x result (contents old)) (ap (λ r. loaded_with by_report list_machine o arguments bytes r (contents old)) e) (is, refl),
 )
+
+-- ---- how the host is left
+
+pub loaded-left : (o : Order) (arguments : List (List ℕ)) (r : Result (Image × List Symbol) (ℕ × ℕ)) (image : Image) (symbols : List Symbol) (m k : HostModel) → Ok (image, symbols) ≡ r →
+    ImageLeaves o arguments image m k → LoadedLeaves o arguments r m k
+loaded-left o arguments r image symbols m k e h = subst (λ (x : Result (Image × List Symbol) (ℕ × ℕ)). LoadedLeaves o arguments x m k) e h
+
+pub unloaded-left : (o : Order) (arguments : List (List ℕ)) (r : Result (Image × List Symbol) (ℕ × ℕ)) (m : HostModel) → LoadedLeaves o arguments r m m
+unloaded-left o arguments (Ok (image, symbols)) m = unstarted-left o arguments image m
+unloaded-left o arguments (Err fault) m = refl

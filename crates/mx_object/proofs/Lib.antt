@@ -1,6 +1,7 @@
 pub mod AddressLists
 pub mod AddressLaws
 pub mod LabelLists
+pub mod Bests
 pub mod NearestLaws
 pub mod ListedImages
 pub mod ShortObjects

@@ -1,6 +1,6 @@
 -- What an object comes to that is run and counted: the outcome, the host as it then is, and the sheet where a machine ran. The machine
 -- is that over a ring of registers, or that over an unbounded list.
-use Rattle.std.specs.Prelude.{ℕ, List, Option, None, Some, Result, Ok, Err}
+use Rattle.std.specs.Prelude.{ℕ, ◌≡◌, List, Option, None, Some, Result, Ok, Err}
 use Rattle.mx_word.specs.declared.symbols.Symbol.{Symbol}
 use Rattle.mx_host.specs.HostModel.{HostModel}
 use Rattle.mx_mmo.specs.Image.{Image}
@@ -11,6 +11,7 @@ use Rattle.mx_run.specs.WildRuns.{MachineKind}
 use Rattle.mx_words.specs.declared.order.Order.{Order}
 use Rattle.mx_outcome.specs.declared.outcome.Outcome.{Outcome}
 use Rattle.mx_outcome.specs.declared.outcome.Outcome.TheVariants.{BadObject}
+use Rattle.mx_count.specs.Leaving.{ImageLeaves}
 use Rattle.mx_count.specs.Reports.{sheet_bytes}
 use Rattle.mx_count.specs.Runs.{CountAnswer, Making, came_to, image_counted, mapped, reporting}
 use Rattle.mx_count.specs.Tallies.{tally_in}
@@ -70,3 +71,12 @@ object_counted kind o arguments bytes m = object_with by_report kind o arguments
 
 abbrev pub object_traced : MachineKind → Order → List (List ℕ) → List ℕ → HostModel → CountAnswer CountedObject
 object_traced kind o arguments bytes m = object_with by_steps kind o arguments bytes m
+
+-- ---- how the host is left, also where there is no memory
+
+abbrev pub LoadedLeaves : Order → List (List ℕ) → Result (Image × List Symbol) (ℕ × ℕ) → HostModel → HostModel → Type 0
+LoadedLeaves o arguments (Err fault) old new = new ≡ old
+LoadedLeaves o arguments (Ok (image, symbols)) old new = ImageLeaves o arguments image old new
+
+abbrev pub ObjectLeaves : Order → List (List ℕ) → List ℕ → HostModel → HostModel → Type 0
+ObjectLeaves o arguments bytes old new = LoadedLeaves o arguments (object_loaded bytes) old new

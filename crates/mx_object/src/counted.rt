@@ -1,12 +1,14 @@
 //! An object that is run and counted.
 
-ghost use Rattle.std.specs.Prelude.{◌≡◌, ◌≢◌, ◌≤◌, ◌^◌, IfOk, length};
+ghost use Rattle.std.specs.Prelude.{◌≡◌, ◌≢◌, ◌≤◌, ◌^◌, IfOk, None, length};
 ghost use Rattle.mx_host.specs.Keeping.{Keeps};
 ghost use Rattle.mx_load.specs.Kept.{image_of};
+ghost use Rattle.mx_count.specs.Leaving.{ImageLeaves, IsLeft};
 ghost use Rattle.mx_count.specs.Runs.{AreArguments, CountsByKind};
 ghost use Rattle.mx_object.specs.Counting.{loads_of as lists_of};
 ghost use Rattle.mx_object.specs.Listing.{listed_of};
 ghost use Rattle.mx_object.specs.Runs as spec;
+ghost use Rattle.mx_object.specs.Runs.{ObjectLeaves};
 
 use crate::counting::{ObjectSheet, loads_of, sheet_in};
 use crate::tetras::ListedTetras;
@@ -55,6 +57,8 @@ fn sheet_if(
 fn with_tetras(alloc: Global, tetras: ListedTetras, counted: &Counted) -> CountedObject
     ensures value { result.outcome ≢ Outcome.OutOfMemory → result ≡ spec.object_in tetras counted.now }
     ensures same { result.outcome ≢ Outcome.OutOfMemory → result.outcome ≡ counted.now.outcome }
+    ensures none { (counted.now.outcome ≡ Outcome.OutOfMemory → counted.now.sheet ≡ None) →
+        result.outcome ≡ Outcome.OutOfMemory → result.sheet ≡ None }
     ensures well { counted.now.outcome ≢ Outcome.HostFault → result.outcome ≢ Outcome.HostFault }
     ensures present { counted.now.outcome ≢ Outcome.NoFile → result.outcome ≢ Outcome.NoFile }
 {
@@ -81,6 +85,9 @@ fn count_loads<H: Host>(
     requires lists { loads ≡ lists_of tetras }
     ensures told { CountsByKind (H.told host.old) (H.told host.new) result.outcome result
         (λ kind m. spec.by_report kind order.now arguments.now tetras (image_of image) m) }
+    ensures left { IsLeft (H.told host.old) (H.told host.new)
+        (λ m k. ImageLeaves order.now arguments.now (image_of image) m k) }
+    ensures none { result.outcome ≡ Outcome.OutOfMemory → result.sheet ≡ None }
     ensures well { result.outcome ≢ Outcome.HostFault }
     ensures present { result.outcome ≢ Outcome.NoFile }
     ensures keeps { Keeps (H.told host.old) (H.told host.new) (H.faults host.old) (H.faults host.new) }
@@ -102,6 +109,9 @@ fn count_tetras<H: Host>(
     requires { AreArguments arguments.now }
     ensures told { CountsByKind (H.told host.old) (H.told host.new) result.outcome result
         (λ kind m. spec.by_report kind order.now arguments.now tetras (image_of image) m) }
+    ensures left { IsLeft (H.told host.old) (H.told host.new)
+        (λ m k. ImageLeaves order.now arguments.now (image_of image) m k) }
+    ensures none { result.outcome ≡ Outcome.OutOfMemory → result.sheet ≡ None }
     ensures well { result.outcome ≢ Outcome.HostFault }
     ensures present { result.outcome ≢ Outcome.NoFile }
     ensures keeps { Keeps (H.told host.old) (H.told host.new) (H.faults host.old) (H.faults host.new) }
@@ -126,6 +136,9 @@ fn count_loaded<H: Host>(
     ensures told { CountsByKind (H.told host.old) (H.told host.new) result.outcome result
         (λ kind m. spec.by_report kind order.now arguments.now
         (listed_of (image_of image) image.symbols bytes.now).tetras (image_of image) m) }
+    ensures left { IsLeft (H.told host.old) (H.told host.new)
+        (λ m k. ImageLeaves order.now arguments.now (image_of image) m k) }
+    ensures none { result.outcome ≡ Outcome.OutOfMemory → result.sheet ≡ None }
     ensures well { result.outcome ≢ Outcome.HostFault }
     ensures present { result.outcome ≢ Outcome.NoFile }
     ensures keeps { Keeps (H.told host.old) (H.told host.new) (H.faults host.old) (H.faults host.new) }
@@ -141,7 +154,8 @@ fn count_loaded<H: Host>(
 ///
 /// Over a host that tells its contents, the outcome and all that the host then holds are those of the run, as
 /// `mmixware sim` makes it, over the ring and over an unbounded list of registers; and the sheet has for each tetra that
-/// the object loads the tally of the steps there.
+/// the object loads the tally of the steps there. Out of memory there is no sheet, and the host is as the steps that were
+/// made leave it.
 #[tactic(auto, using(crate::proofs::ShortObjects::short))]
 pub fn count_object<H: Host>(
     alloc: Global,
@@ -153,6 +167,9 @@ pub fn count_object<H: Host>(
     requires { AreArguments arguments.now }
     ensures told { CountsByKind (H.told host.old) (H.told host.new) result.outcome result
         (λ kind m. spec.object_counted kind order.now arguments.now bytes.now m) }
+    ensures left { IsLeft (H.told host.old) (H.told host.new)
+        (λ m k. ObjectLeaves order.now arguments.now bytes.now m k) }
+    ensures none { result.outcome ≡ Outcome.OutOfMemory → result.sheet ≡ None }
     ensures well { result.outcome ≢ Outcome.HostFault }
     ensures present { result.outcome ≢ Outcome.NoFile }
     ensures keeps { Keeps (H.told host.old) (H.told host.new) (H.faults host.old) (H.faults host.new) }

@@ -1,5 +1,8 @@
 //! What a text names: values, places in memory, and instructions.
 
+ghost use Rattle.std.specs.Prelude.{◌≡◌, None};
+ghost use Rattle.mx_places.specs.Named as spec;
+
 use mx_ask::{address_in, number_in, octa_in, subject_in};
 use mx_book::{Book, Thing, thing_of};
 use mx_replay::Place;
@@ -12,7 +15,9 @@ const DATA: u64 = 0x2000_0000_0000_0000;
 const MEMORY_END: u64 = 1 << 63;
 
 /// The place as a thing.
-pub fn thing_at(place: Place) -> Thing {
+pub fn thing_at(place: Place) -> Thing
+    ensures { result ≡ spec.thing_at place }
+{
     match place {
         Place::Register(k) => Thing::Register(k),
         Place::Octa(a) => Thing::Octa(a),
@@ -20,28 +25,52 @@ pub fn thing_at(place: Place) -> Thing {
     }
 }
 
+/// What `$K`, `rX`, `M#ADDRESS` or a number writes.
+fn thing_written(text: &[u8]) -> Option<Thing>
+    ensures { result ≡ spec.thing_written text.now }
+{
+    match subject_in(text) {
+        Some(subject) => thing_of(subject),
+        None => Some(Thing::Number(octa_in(text)?)),
+    }
+}
+
 /// What a text names: a symbol, `$K`, `rX`, `M#ADDRESS`, or a number.
-pub fn named_thing(book: &Book, text: &[u8]) -> Option<Thing> {
-    if let Some(thing) = book.thing(text) {
-        return Some(thing);
+#[tactic(auto, unfolding(crate::specs::Named::named_thing))]
+pub fn named_thing(book: &Book, text: &[u8]) -> Option<Thing>
+    ensures { result ≡ spec.named_thing book.now text.now }
+{
+    match book.thing(text) {
+        Some(thing) => Some(thing),
+        None => thing_written(text),
     }
-    if let Some(subject) = subject_in(text) {
-        return thing_of(subject);
+}
+
+/// The octa at an address of data, where a symbol has that value.
+fn as_data(thing: Thing) -> Thing
+    ensures { result ≡ spec.as_data thing }
+{
+    match thing {
+        Thing::Number(a) if DATA <= a && a < MEMORY_END => Thing::Octa(a),
+        thing => thing,
     }
-    Some(Thing::Number(octa_in(text)?))
 }
 
 /// The same, but for a name with an address of data: it stands for the octa there.
-pub fn shown_thing(book: &Book, text: &[u8]) -> Option<Thing> {
+#[tactic(auto, unfolding(crate::specs::Named::shown_thing))]
+pub fn shown_thing(book: &Book, text: &[u8]) -> Option<Thing>
+    ensures { result ≡ spec.shown_thing book.now text.now }
+{
     match book.thing(text) {
-        Some(Thing::Number(a)) if DATA <= a && a < MEMORY_END => Some(Thing::Octa(a)),
-        Some(thing) => Some(thing),
-        None => named_thing(book, text),
+        Some(thing) => Some(as_data(thing)),
+        None => thing_written(text),
     }
 }
 
 /// The place that a thing has: a number is an address.
-pub fn place_of(thing: Thing) -> Option<Place> {
+pub fn place_of(thing: Thing) -> Option<Place>
+    ensures { result ≡ spec.place_of thing }
+{
     match thing {
         Thing::Register(k) => Some(Place::Register(k)),
         Thing::Special(code) => Some(Place::Special(code)),
@@ -56,12 +85,17 @@ pub fn place_of(thing: Thing) -> Option<Place> {
 }
 
 /// The place that a text names.
-pub fn place_in(book: &Book, text: &[u8]) -> Option<Place> {
+#[tactic(auto, unfolding(crate::specs::Named::place_in))]
+pub fn place_in(book: &Book, text: &[u8]) -> Option<Place>
+    ensures { result ≡ spec.place_in book.now text.now }
+{
     place_of(named_thing(book, text)?)
 }
 
 /// The value of a symbol that is an address, or a number.
-fn symbol_address(book: &Book, name: &[u8]) -> Option<u64> {
+fn symbol_address(book: &Book, name: &[u8]) -> Option<u64>
+    ensures { result ≡ spec.symbol_address book.now name.now }
+{
     match book.symbol(name)? {
         Value::Pure(a) => Some(a),
         Value::Reg(_) => None,
@@ -76,7 +110,9 @@ pub struct Target {
 }
 
 /// The instruction at an address.
-fn target_at(address: u64) -> Target {
+fn target_at(address: u64) -> Target
+    ensures { result ≡ spec.at_address address }
+{
     Target {
         address,
         line: None,
@@ -84,28 +120,45 @@ fn target_at(address: u64) -> Target {
 }
 
 /// The first instruction from a line on.
-fn line_target(book: &Book, line: u64) -> Option<Target> {
-    let line = u32::try_from(line).ok()?;
-    let spot = book.address_of_line(line)?;
+fn line_target(book: &Book, line: u64) -> Option<Target>
+    ensures { result ≡ spec.at_line book.now line }
+{
+    if line >= 1 << 32 {
+        return None;
+    }
+    let load = book.address_of_line(line as u32)?;
     Some(Target {
-        address: spot.address,
-        line: Some(spot.line),
+        address: load.address,
+        line: Some(load.line),
     })
 }
 
+/// The instruction that a text names by an address or a label.
+fn named_target(book: &Book, text: &[u8]) -> Option<Target>
+    ensures { result ≡ spec.by_number None book.now text.now }
+{
+    match address_in(text) {
+        Some(address) => Some(target_at(address)),
+        None => Some(target_at(symbol_address(book, text)?)),
+    }
+}
+
 /// The instruction that a text names by a label, a line or an address.
-pub fn target_in(book: &Book, text: &[u8]) -> Option<Target> {
-    if let Some(line) = number_in(text) {
-        return line_target(book, line);
+#[tactic(auto, unfolding(crate::specs::Named::target_in))]
+pub fn target_in(book: &Book, text: &[u8]) -> Option<Target>
+    ensures { result ≡ spec.target_in book.now text.now }
+{
+    match number_in(text) {
+        Some(line) => line_target(book, line),
+        None => named_target(book, text),
     }
-    if let Some(address) = address_in(text) {
-        return Some(target_at(address));
-    }
-    Some(target_at(symbol_address(book, text)?))
 }
 
 /// The number that a text writes, or the value of a symbol.
-pub fn value_in(book: &Book, text: &[u8]) -> Option<u64> {
+#[tactic(auto, unfolding(crate::specs::Named::value_in))]
+pub fn value_in(book: &Book, text: &[u8]) -> Option<u64>
+    ensures { result ≡ spec.value_in book.now text.now }
+{
     match octa_in(text) {
         Some(n) => Some(n),
         None => symbol_address(book, text),

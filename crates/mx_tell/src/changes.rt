@@ -28,6 +28,9 @@ const LOCALS: u8 = 20;
 /// The code of POP.
 const POP: u32 = 0xf8;
 
+/// The code of TRAP.
+const TRAP: u32 = 0x00;
+
 /// This many values are shown of a call or a return, and no more.
 const TOLD: u64 = 8;
 
@@ -155,9 +158,15 @@ fn add_given(
     Ok(())
 }
 
-/// Whether a special register is told where it changes.
-fn is_told(code: u8) -> bool {
-    code != CYCLES && code != HIDDEN && code != SPILLED && code != LOCALS
+/// Whether a special register goes with traps: rBB, rWW, rXX, rYY or rZZ.
+fn is_of_traps(code: u8) -> bool {
+    code == 7 || 28 <= code
+}
+
+/// Whether a special register is told where a step changes it. Those that each trap changes are told of no trap.
+fn is_told(code: u8, word: u32) -> bool {
+    let is_counted = code == CYCLES || code == HIDDEN || code == SPILLED || code == LOCALS;
+    !is_counted && (word >> 24 != TRAP || !is_of_traps(code))
 }
 
 /// Adds a special register, if it is told and has another value than before.
@@ -167,8 +176,9 @@ fn add_special(
     code: u8,
     old: u64,
     new: u64,
+    word: u32,
 ) -> Result<(), NoMemory> {
-    if old == new || !is_told(code) {
+    if old == new || !is_told(code, word) {
         return Ok(());
     }
     add_change(text, book, Thing::Special(code), old, new)
@@ -179,11 +189,12 @@ fn add_specials(
     text: &mut Bytes,
     book: &Book,
     before: &Before,
+    word: u32,
     machine: &Machine,
 ) -> Result<(), NoMemory> {
     for code in 0..32usize {
         let new = machine.special(code as u8);
-        add_special(text, book, code as u8, before.special[code], new)?;
+        add_special(text, book, code as u8, before.special[code], new, word)?;
     }
     Ok(())
 }
@@ -207,9 +218,9 @@ fn add_octa(
     text.push(b'\n')
 }
 
-/// Adds what a step changed, a line for each value: registers, special registers but those that count steps and registers,
-/// and the octa that was written. After a call its arguments are told, and after a return its results, since all registers have
-/// other numbers then.
+/// Adds what a step changed, a line for each value: registers; special registers, but those that count steps and registers and,
+/// of a trap, those that each trap changes; and the octa that was written. After a call its arguments are told, and after a return
+/// its results, since all registers have other numbers then.
 pub fn add_changes(
     text: &mut Bytes,
     book: &Book,
@@ -222,7 +233,7 @@ pub fn add_changes(
     } else {
         add_registers(text, book, before, trace.dest, machine)?;
     }
-    add_specials(text, book, before, machine)?;
+    add_specials(text, book, before, trace.word, machine)?;
     match trace.writes {
         Some(touch) => add_octa(text, book, before, touch, machine),
         None => Ok(()),

@@ -15,7 +15,7 @@ fn advice(reason: u16) -> &'static str {
         112 => "only an operating system may do this",
         113 => "an address is 2^63 or more; look at the register with the address",
         114 =>
-            "there are too many hidden registers; a recursion may not end, or a return lacks POP",
+            "there are too many hidden registers; a recursion may not end, or a subroutine returns without POP",
         115 => "there is nothing to return to; a subroutine that calls another one has to keep rJ",
         116 => "UNSAVE finds no frame; give it the address that SAVE gave",
         117 => "the handler of the trip is missing; it begins with a tetra of 0",

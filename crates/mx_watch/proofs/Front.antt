@@ -5,6 +5,7 @@ use Rattle.std.proofs.lemmas.Grind.{flat_map-append}
 use Rattle.std.proofs.lemmas.List.{append_assoc, append-nil, take_at, drop_at, drop-drop, take_all, drop_all, length-append, length-drop, length-map}
 use Rattle.mx_code.specs.declared.trace.Trace.{Trace}
 use Rattle.mx_watch.specs.Watching.{Watching}
+use Rattle.mx_watch.specs.Lacking.{LacksAt, ToldSome, told_one}
 use Rattle.mx_watch.specs.Listening.{Listening, listening, told, told_at, stays, leaves, still_listening, reports_at}
 use Rattle.mx_watch.specs.declared.telling.Report.{Report}
 
@@ -39,6 +40,23 @@ front_more t start now left kept k at next f l r n =
           ∙ append_assoc start.kept reports (reports_at t (take 1 rest)) ∙ ap (λ xs. start.kept ++ xs) (sym report);
       next = n ∙ ap (λ xs. at + length (still_listening t (take 1 xs))) dropped ∙ ap (λ m. m + length (still_listening t (take 1 rest))) f.next
           ∙ sym (length-append front (still_listening t (take 1 rest))) ∙ ap (λ (xs : List (ℕ × Watching)). length xs) (sym stay);
+    }
+
+-- where memory runs out in the next one
+pub front_lacks : (t : Trace) (start now next : Listening) (k at : ℕ) → Front t start k now at → LacksAt t at now next → ToldSome t start next
+front_lacks t start now next k at f l =
+    let front = still_listening t (take k start.left) in
+    let rest = drop k start.left in
+    let dropped : drop at now.left ≡ rest = ap (drop at) f.left ∙ drop_at front rest at (sym f.next) in
+    let taken : take at now.left ≡ front = ap (take at) f.left ∙ take_at front rest at (sym f.next) in
+    let behind : drop (at + l.more) now.left ≡ drop (k + l.more) start.left = sym (drop-drop l.more at now.left) ∙ ap (drop l.more) dropped ∙ drop-drop l.more k start.left in
+    record {
+      first = k;
+      more = l.more;
+      one = l.one;
+      left = l.left ∙ ap (λ xs. (xs ++ map (told_one t) (take l.more (drop at now.left))) ++ drop (at + l.more) now.left) taken
+          ∙ ap (λ xs. (front ++ map (told_one t) (take l.more xs)) ++ drop (at + l.more) now.left) dropped ∙ ap (λ xs. (front ++ map (told_one t) (take l.more rest)) ++ xs) behind;
+      kept = l.kept ∙ f.kept;
     }
 
 front_all : (t : Trace) (start now : Listening) (k at : ℕ) → Front t start k now at → length start.left ≤ k → now ≡ told t start

@@ -12,6 +12,7 @@ pub mod HearingLaws
 pub mod HeardFronts
 pub mod Listened
 pub mod ListTraces
+pub mod Lacked
 pub mod Watched
 pub mod Remembered
 pub mod AllReported

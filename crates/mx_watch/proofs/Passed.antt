@@ -1,9 +1,12 @@
 -- The watcher at an index is told a trace: it stays, or it leaves with its place.
 use Rattle.std.proofs.Common.{◌≡◌, refl, ◌<◌, ◌+◌, ℕ, zero, suc, Bool, true, false, List, [], ◌∷◌, ◌++◌, take, drop, length, get_or, set, map, remove, zip, arith, ap, ◌∙◌, sym}
-use Rattle.std.proofs.lemmas.List.{append_assoc, append-nil, take-set, drop-set-lt, get_or-set_same, length-map}
+use Rattle.std.proofs.Common.{Ok, Err}
+use Rattle.std.specs.Prelude.{Result, OnErr}
+use Rattle.std.proofs.lemmas.List.{append_assoc, append-nil, take-append-drop, take-set, drop-set-lt, get_or-set_same, length-map}
 use Rattle.mx_code.specs.declared.trace.Trace.{Trace}
 use Rattle.mx_watch.specs.Watching.{Watching, later, wish_if}
-use Rattle.mx_watch.specs.Listening.{told_at, still_listening, reports_at}
+use Rattle.mx_watch.specs.Lacking.{LacksAt, told_one}
+use Rattle.mx_watch.specs.Listening.{listening, told_at, still_listening, reports_at}
 use Rattle.mx_watch.specs.declared.telling.Report.{Report}
 use Rattle.mx_watch.specs.declared.watcher.Wish.TheVariants.{More, Full}
 
@@ -102,3 +105,38 @@ module _ {A : Type 0} (f : A → Watching) (t : Trace) (P : List ℕ) (xs : List
 
   pub left-next : Full ≡ wish_if ((get_or (map f xs) i nobody).full (t ∷ [])) → i ≡ i + length (still_listening t (take 1 (drop i (zip P (map f xs)))))
   left-next e = let here : i ≡ i + 0 = omega arith in here ∙ ap (λ (l : List (ℕ × Watching)). i + length l) (sym (gone e))
+
+  -- where memory runs out, it was not told the trace
+  pub untold : (N : List Watching) (R : List Report) → N ≡ map f xs → LacksAt t i (listening P (map f xs) R) (listening P N R)
+  untold N R n =
+      let z = zip P (map f xs) in
+      let none : i + 0 ≡ i = omega arith in
+      record {
+        more = 0;
+        one = omega arith;
+        left = ap (λ l. zip P l) n ∙ sym (take-append-drop i z) ∙ ap (λ k. take i z ++ drop k z) (sym none) ∙ ap (λ l. l ++ drop (i + 0) z) (sym (append-nil (take i z)));
+        kept = refl;
+      }
+
+  -- or its report lacked memory
+  pub unreported : (Q : List ℕ) (M N : List Watching) (K R : List Report) → M ≡ set (map f xs) i (later t (get_or (map f xs) i nobody)) → N ≡ M → Q ≡ P → R ≡ K
+      → LacksAt t i (listening P (map f xs) K) (listening Q N R)
+  unreported Q M N K R m n q r =
+      let long = length-map xs f in
+      let w : ℕ × Watching = (get_or P i 0, get_or (map f xs) i nobody) in
+      let z = zip P (map f xs) in
+      let now : map (told_one t) (take 1 (drop i z)) ≡ (w.0, later t w.1) ∷ [] = ap (map (told_one t)) the-one in
+      let next : i + 1 ≡ suc i = omega arith in
+      record {
+        more = 1;
+        one = omega arith;
+        left = ap (λ l. zip l N) q ∙ ap (λ l. zip P l) (n ∙ m) ∙ zip-set P (map f xs) i (later t w.1) (omega arith) (omega arith)
+            ∙ sym (append_assoc (take i z) ((w.0, later t w.1) ∷ []) (drop (suc i) z)) ∙ ap (λ k. (take i z ++ (w.0, later t w.1) ∷ []) ++ drop k z) (sym next)
+            ∙ ap (λ l. (take i z ++ l) ++ drop (i + 1) z) (sym now);
+        kept = r;
+      }
+
+-- so it is of any error
+pub on-error : {A E P : Type 0} (r : Result A E) → P → OnErr r P
+on-error (Ok a) p = tt
+on-error (Err e) p = p

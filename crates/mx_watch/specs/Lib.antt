@@ -7,3 +7,4 @@ pub mod Hearing
 pub mod Reporting
 pub mod Traces
 pub mod WatchedRuns
+pub mod Lacking

@@ -8,7 +8,8 @@ ghost use Rattle.mx_run.specs.Clauses.{IsRun};
 ghost use Rattle.mx_run.specs.RunPlans.{SparesMemory};
 ghost use Rattle.mx_run.specs.Runs.{IsLater, no_flags};
 ghost use Rattle.mx_run.specs.WildRuns.{HasWindow};
-ghost use Rattle.mx_watch.specs.Listening.{listening};
+ghost use Rattle.mx_watch.specs.Lacking.{StopsHearing};
+ghost use Rattle.mx_watch.specs.Listening.{listening, starting};
 ghost use Rattle.mx_watch.specs.WatchedRuns.{HearsAsList, HearsFrom, HearsFromList, HearsRun, StepsTo};
 
 use crate::Watcher;
@@ -24,8 +25,9 @@ use std::alloc::Global;
 /// index that it had in the list at the start.
 ///
 /// The watchers change nothing: end, machine and host are those of the run alone. Out of memory, where a step lacked
-/// it, they are as the run leaves them then; where a watcher or a report lacked it, the steps up to there were made,
-/// and those that are left were told some of the traces. With no watchers it takes no more memory than the run.
+/// it, they are as the run leaves them then, and the watchers were told all steps before it; where a watcher or a report
+/// lacked it, the steps up to there were made, and the watchers were told them, the last step only the first ones. One
+/// whose report lacked memory is left. With no watchers it takes no more memory than the run.
 pub fn watched_run<H: Host>(
     alloc: Global,
     machine: &mut Machine,
@@ -39,6 +41,8 @@ pub fn watched_run<H: Host>(
     ensures run { IsRun (H.told host.old) (H.told host.new) (H.faults host.old) (H.faults host.new) (state_of machine.old)
         (state_of machine.new) n no_flags false result }
     ensures spared { watchers.old.items ≡ [] → SparesMemory n (state_of machine.old) → result ≢ End.OutOfMemory }
+    ensures stops { StopsHearing (H.told host.old) (H.told host.new) (state_of machine.old) (state_of machine.new) n result
+        (starting (map meaning watchers.old.items) kept.old) (map meaning watchers.new.items) kept.new }
     ensures heard { HearsRun (H.told host.old) (state_of machine.old) n result
         (map meaning watchers.old.items) (map meaning watchers.new.items) kept.old kept.new }
     ensures list_heard { HearsAsList (H.told host.old) (state_of machine.old) n result
@@ -72,6 +76,9 @@ fn listen<H: Host>(
         n result }
     ensures run { IsRun (H.told host.old) (H.told host.new) (H.faults host.old) (H.faults host.new) (state_of machine.old)
         (state_of machine.new) n no_flags false result }
+    ensures stops { StopsHearing (H.told host.old) (H.told host.new) (state_of machine.old) (state_of machine.new) n result
+        (listening places.old.items (map meaning watchers.old.items) kept.old)
+        (map meaning watchers.new.items) kept.new }
     ensures heard { HearsFrom (H.told host.old) (state_of machine.old) n result
         (listening places.old.items (map meaning watchers.old.items) kept.old)
         (map meaning watchers.new.items) kept.new }

@@ -3,6 +3,7 @@
 ghost use Rattle.std.specs.Prelude.{◌≡◌, ◌<◌, ◌+◌, ◌++◌, [], ◌∷◌, IfOk, OnOk, OnErr, drop, length, map, slice_index, slice_index_or, slice_set, take};
 ghost use Rattle.std.specs.List.{remove, zip};
 ghost use Rattle.mx_watch.specs.Watching.{Watching, later, wish_if};
+ghost use Rattle.mx_watch.specs.Lacking.{LacksAt, ToldSome};
 ghost use Rattle.mx_watch.specs.Listening.{listening, reports_at, still_listening, told, told_at};
 
 use crate::{Watcher, Wish};
@@ -76,10 +77,11 @@ fn keep_report(
 ) -> Result<(), NoMemory>
     requires inside { at < length watchers.now.items }
     requires same { length places.now.items ≡ length watchers.now.items }
-    ensures { (d : Watching) → OnOk result (kept.new ≡ kept.old ++ record {
+    ensures ok { (d : Watching) → OnOk result (kept.new ≡ kept.old ++ record {
       place = slice_index places.now.items at;
       text = (slice_index_or (map meaning watchers.now.items) at d).text [];
     } ∷ []) }
+    ensures lacks { OnErr result (kept.new ≡ kept.old) }
 {
     let text = report_at(watchers, at)?;
     kept.push(Report {
@@ -89,6 +91,8 @@ fn keep_report(
 }
 
 /// Keeps the report of the watcher at an index, which then leaves the list with its place.
+///
+/// Errors: out of memory; then nothing changed.
 fn dismiss(
     watchers: &mut Vec<Box<dyn Watcher>>,
     places: &mut Vec<usize>,
@@ -103,6 +107,9 @@ fn dismiss(
       place = slice_index places.old.items at;
       text = (slice_index_or (map meaning watchers.old.items) at d).text [];
     } ∷ []) }
+    ensures lacks { OnErr result (map meaning watchers.new.items ≡ map meaning watchers.old.items) }
+    ensures placed { OnErr result (places.new.items ≡ places.old.items) }
+    ensures unkept { OnErr result (kept.new ≡ kept.old) }
     ensures same { length places.new.items ≡ length watchers.new.items }
 {
     keep_report(watchers, places, kept, at)?;
@@ -113,6 +120,8 @@ fn dismiss(
 
 /// Tells the watcher at an index a trace. Where it is full, its report is kept and it leaves the list with its
 /// place. Answers the index of the one after it.
+///
+/// Errors: out of memory. Then it was not told the trace; or it was, its report lacked memory, and it is left.
 fn pass(
     watchers: &mut Vec<Box<dyn Watcher>>,
     places: &mut Vec<usize>,
@@ -128,6 +137,8 @@ fn pass(
         kept.old ++ reports_at t.now (take 1 (drop at (zip places.old.items (map meaning watchers.old.items))))) }
     ensures next { IfOk result (λ next. next ≡ at +
         length (still_listening t.now (take 1 (drop at (zip places.old.items (map meaning watchers.old.items)))))) }
+    ensures lacks { OnErr result (LacksAt t.now at (listening places.old.items (map meaning watchers.old.items) kept.old)
+        (listening places.new.items (map meaning watchers.new.items) kept.new)) }
     ensures same { length places.new.items ≡ length watchers.new.items }
 {
     match tell_at(watchers, at, t) {
@@ -143,7 +154,7 @@ fn pass(
 /// Tells each watcher a trace, in order. The report of one that is full is kept, and it leaves the list with its
 /// place.
 ///
-/// Errors: out of memory.
+/// Errors: out of memory. Then the first ones were told the trace, and one more whose report lacked memory, which is left.
 #[tactic(auto, using(crate::proofs::Front::turns))]
 pub(crate) fn tell_all(
     watchers: &mut Vec<Box<dyn Watcher>>,
@@ -154,6 +165,8 @@ pub(crate) fn tell_all(
     requires { length places.now.items ≡ length watchers.now.items }
     ensures told { OnOk result (listening places.new.items (map meaning watchers.new.items) kept.new ≡
         told t.now (listening places.old.items (map meaning watchers.old.items) kept.old)) }
+    ensures lacks { OnErr result (ToldSome t.now (listening places.old.items (map meaning watchers.old.items) kept.old)
+        (listening places.new.items (map meaning watchers.new.items) kept.new)) }
     ensures same { length places.new.items ≡ length watchers.new.items }
 {
     let mut at = 0;

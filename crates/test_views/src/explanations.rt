@@ -2,12 +2,16 @@
 //! of MMIXware's predefined symbols.
 
 use face_explain::{Answer, explain, list};
+use mx_explain::{Entry, Row as Meaning, Topic, row_of};
+use mx_messages::warning_rows;
+use mx_warn::{Warning, tell_warnings};
+use mx_word::{Bytes, NoMemory};
 use std::alloc::Global;
 
 /// A word, and a part of what is answered.
 type Row = (&'static str, &'static str);
 
-static PARTS: [Row; 37] = [
+static PARTS: [Row; 49] = [
     // by number and by name, in any case
     ("43", "43 Fit: a fault of a source\n"),
     ("Fit", "43 Fit: a fault of a source\n"),
@@ -16,9 +20,29 @@ static PARTS: [Row; 37] = [
     ("61", "61 NoPre: a fault of an object\n"),
     ("badring", "6 BadRing: a kind of faulty words\n"),
     ("140", "140 NothingKept: a number inside the program\n"),
+    ("39", "39 UnknownOpcode: a fault of a source\n"),
+    ("unknownopcode", "  Mended:    SUB $0,$0,1\n"),
+    // warnings of a source
+    ("7", "7 DataAfterCode: a warning of a source\n"),
+    ("dataaftercode", "7 DataAfterCode: a warning of a source\n"),
+    (
+        "LostReturn",
+        "  Keep rJ in a register by GET before the call",
+    ),
+    (
+        "NoLabelBefore",
+        "  Mended:   Main JMP 1F;1H TRAP 0,Halt,0\n",
+    ),
+    // exit statuses
+    ("0", "0 Done: an exit status\n"),
+    ("66", "66 NoFile: an exit status\n"),
+    ("stopped", "70 Stopped: an exit status\n"),
+    ("74", "  Mended:   mmixware run examples/hello.mms\n"),
     // a number and a name of several
     ("3", "3 BadLocal: a fault of a source\n"),
     ("3", "3 UnknownOption: a kind of faulty words\n"),
+    ("3", "3 NoLabelBefore: a warning of a source\n"),
+    ("70", "70 Truncated: a fault of an object\n"),
     ("Twice", "30 Twice: a fault of a source\n"),
     ("Twice", "73 Twice: a fault of an object\n"),
     // operations of other machines
@@ -137,8 +161,10 @@ fn unknown_words(rt: HostRuntime) {
 }
 
 /// Lines of the list: columns of three widths, and the last line of a part.
-static LISTED: [&str; 4] = [
+static LISTED: [&str; 6] = [
     "Faults of a line\n  1 TooLong               2 BadLabel              3 BadLocal\n",
+    "Warnings of a source\n  1 OperatorAfterBlank    2 BackslashInString     3 NoLabelBefore\n",
+    "Exit statuses\n  0 Done                  64 Usage                65 Refused\n",
     "Pseudo-operations\n  IS      LOC     PREFIX  GREG    LOCAL   BYTE    WYDE    TETRA   OCTA\n",
     "Special registers\n  rB      rD      rE      rH      rJ      rM      rR      rBB     rC\n",
     "  ROUND_OFF         ROUND_UP          ROUND_DOWN        ROUND_NEAR\n  Inf\n",
@@ -149,4 +175,59 @@ fn listed_words(rt: HostRuntime) {
     for part in &LISTED {
         assert!(rt; is_listed(rt.alloc(), part), "{part}");
     }
+}
+
+/// An example as a source: in an example `;` stands for the end of a line.
+fn source_of(alloc: Global, example: &str) -> Result<Bytes, NoMemory> {
+    let mut source = Bytes::new(alloc);
+    for b in example.as_bytes() {
+        source.push(if *b == b';' { b'\n' } else { *b })?;
+    }
+    source.push(b'\n')?;
+    Ok(source)
+}
+
+/// The name of the only warning; more than one, or none, has no name.
+fn only_name(told: &[Warning]) -> &'static str {
+    match told {
+        [warning] => warning.kind.name(),
+        _ => "",
+    }
+}
+
+/// Whether the only warning of an example has this name, or whether it has no warning and the name is no text.
+fn is_warned(alloc: Global, example: &str, name: &str) -> Result<bool, NoMemory> {
+    let source = source_of(alloc, example)?;
+    let told = tell_warnings(alloc, source.as_slice())?;
+    let told = told.as_slice();
+    Ok(told.is_empty() == name.is_empty() && only_name(told) == name)
+}
+
+/// Whether the example of a row has its warning and no other, and what mends it has none.
+fn is_shown(alloc: Global, row: Meaning) -> Result<bool, NoMemory> {
+    let is_of_warning = matches!(row.topic, Topic::Warning(_));
+    Ok(
+        is_of_warning
+            && is_warned(alloc, row.example, row.name)?
+            && is_warned(alloc, row.mended, "")?,
+    )
+}
+
+/// The name of the first row whose example, or what mends it, has other warnings.
+fn first_unshown(alloc: Global, entries: &[Entry]) -> Result<&'static str, NoMemory> {
+    for entry in entries {
+        let row = row_of(entry);
+        if !is_shown(alloc, row)? {
+            return Ok(row.name);
+        }
+    }
+    Ok("")
+}
+
+#[test]
+fn examples_of_warnings(rt: HostRuntime) {
+    assert_eq!(rt;
+        first_unshown(rt.alloc(), warning_rows()).unwrap_or("memory"),
+        ""
+    );
 }

@@ -55,9 +55,6 @@ $255 = #2000000000000008 <Text>  (was 256)
 done
 step 16  sum.mms:16  Loop+24  SET $4,sum
 $255 = 5  (was #2000000000000008 <Text>)
-rBB = 5  (was 0)
-rWW = #120 <Loop+24>  (was #0)
-rXX = #8000000000000701  (was 0)
 output taken back: 5 bytes
 step 15  sum.mms:15  Loop+20  TRAP 0,Fputs,StdOut
 $255 = #2000000000000008 <Text>  (was 256)

@@ -18,9 +18,6 @@ rJ = #128 <Loop+32>  (was #0)
         answer: "done
 step 16  sum.mms:16  Loop+24  SET $4,sum
 $255 = 5  (was #2000000000000008 <Text>)
-rBB = 5  (was 0)
-rWW = #120 <Loop+24>  (was #0)
-rXX = #8000000000000701  (was 0)
 output taken back: 5 bytes
 step 10  sum.mms:10  Loop  ADD sum,sum,k
 makes $2 (sum) = 6  (was 5)
@@ -104,9 +101,6 @@ M8[#2000000000000000] (Total) = 5  (was 3)
 done
 step 16  sum.mms:16  Loop+24  SET $4,sum
 $255 = 5  (was #2000000000000008 <Text>)
-rBB = 5  (was 0)
-rWW = #120 <Loop+24>  (was #0)
-rXX = #8000000000000701  (was 0)
 done
 ? info breaks, output, registers, ring or symbols
 ",
@@ -176,7 +170,7 @@ takes one step back, or N steps
     },
     Row {
         lines: "re\nfoo bar\ncont\n",
-        answer: "? several words begin so: reverse-step reverse-next reverse-finish reverse-continue
+        answer: "? several words begin like this: reverse-step reverse-next reverse-finish reverse-continue
 ? no word foo: help lists all
 done
 step 24  sum.mms:19  Loop+36  TRAP 0,Halt,0

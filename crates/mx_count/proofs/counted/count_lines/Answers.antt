@@ -7,3 +7,6 @@ pub returns-clause-told : goal.returns-clause-told
 returns-clause-told g c =
     mapped-told _ _ _ _ _ _ (data_of c.args.source.now) (λ kind m. source_counted kind c.args.order.now c.args.arguments.now (in_form Octas c.args.source.now) c.args.source.now m)
     c.with_lines.ensures.lacking c.with_lines.ensures.value c.count_in_form-counted.ensures.told
+
+pub returns-clause-none : goal.returns-clause-none
+returns-clause-none g c = c.with_lines.ensures.none c.count_in_form-counted.ensures.none

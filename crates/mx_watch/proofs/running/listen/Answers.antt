@@ -1,7 +1,8 @@
-use Rattle.std.proofs.Common.{arith, sym, subst, refl, IsTrue, false}
+use Rattle.std.proofs.Common.{arith, ◌≡◌, sym, subst, refl, IsTrue, false}
 use Rattle.mx_host.specs.HostModel.{contents}
 use Rattle.mx_core.specs.Kept.{state_of}
 use Rattle.mx_run.specs.Runs.{no_flags}
+use Rattle.mx_run.specs.declared.end.End.TheVariants.{OutOfMemory, Spent}
 use Rattle.mx_run.proofs.AccompaniedRuns.{went-rest, went-made, ended-so, lacking-so, spent-so, of-run, accompanied-is}
 use Rattle.mx_run.proofs.FreeTurns.{none-made}
 use Rattle.mx_run.proofs.Later.{begun-later, few-later, turned-later, last-later}
@@ -9,6 +10,7 @@ use Rattle.mx_run.proofs.RunBoth.{rest-begun-both, rest-listed}
 use Rattle.mx_run.proofs.Runners.{run-is}
 use Rattle.mx_plan.proofs.Standing.{stands-all, stands-kept, stands-then}
 use Rattle.mx_watch.proofs.Listened.{goes-on, begun-heard, went-heard, ended-heard, spent-heard, left-heard}
+use Rattle.mx_watch.proofs.Lacked.{begun-told, went-told, lacked-step, lacked-telling}
 use Rattle.mx_watch.proofs.ListTraces.{unless-wild, went-by-list, ended-by-list, spent-by-list, begun-by-list}
 use Rattle.mx_watch.proofs.running.listen.Goals as goal
 
@@ -16,6 +18,7 @@ pub loop-made-init : goal.loop-made-init
 loop-made-init g c = record {
   told = λ t. rest-begun-both c.args.n no_flags false (state_of c.args.machine.now, contents (g.H.Host.told c.args.host.now));
   made = λ t. none-made (state_of c.args.machine.now) (contents (g.H.Host.told c.args.host.now));
+  so_far = λ t. begun-told (state_of c.args.machine.now) (contents (g.H.Host.told c.args.host.now)) _;
   heard = λ t. begun-heard c.args.n _ _ _;
   list_heard = λ t u. begun-by-list c.args.n _ _ _ _;
   same = c.requires;
@@ -34,6 +37,7 @@ loop-made-preserved g c =
     record {
       told = λ t. went-rest _ _ tt _ _ _ _ _ inside e.over (goes-on _ _ _ _ _ (e.told (subst IsTrue (sym was.stands.0) t))) (was.told t);
       made = λ t. went-made _ tt _ _ _ (goes-on _ _ _ _ _ (e.told (subst IsTrue (sym was.stands.0) t))) (was.made t);
+      so_far = λ t. went-told _ _ _ _ _ _ _ _ _ _ _ (e.told (subst IsTrue (sym was.stands.0) t)) (was.made t) c.in-Ok-tell_all.ensures.told (was.so_far t);
       heard = λ t. went-heard _ _ _ _ _ _ _ _ _ _ inside (e.told (subst IsTrue (sym was.stands.0) t)) c.in-Ok-tell_all.ensures.told (was.heard t);
       list_heard = λ t u. went-by-list _ _ _ _ _ _ _ _ _ _ _ inside e.over (e.told (subst IsTrue (sym was.stands.0) t)) c.in-Ok-tell_all.ensures.told (rest-listed _ _ no_flags false false _ _ _ _ (was.told t) u) (was.list_heard t u);
       same = c.in-Ok-tell_all.ensures.same;
@@ -53,6 +57,11 @@ returns-in-Err-tell_all-clause-run g c =
     let was = c.loop-made.invariant in
     accompanied-is _ _ _ _ _ _ _ _ (returns-in-Err-tell_all-clause-plan g c) (λ t ne. absurd (ne refl)) (last-later _ _ _ _ _ c.loop-made-test.true was.bound c.in-Ok.ensures.bound)
     (stands-then _ _ _ _ _ _ was.stands (stands-kept _ _ _ _ c.in-Ok.ensures.keeps))
+
+pub returns-in-Err-tell_all-clause-stops : goal.returns-in-Err-tell_all-clause-stops
+returns-in-Err-tell_all-clause-stops g c = λ t o.
+    let was = c.loop-made.invariant in
+    lacked-telling _ _ _ _ c.in-Err-tell_all.ensures.same _ _ _ _ _ _ _ _ _ _ _ c.loop-made-test.true (c.in-Ok.ensures.told (subst IsTrue (sym was.stands.0) t)) (was.made t) (was.so_far t) c.in-Err-tell_all.ensures.lacks
 
 pub returns-in-Err-tell_all-clause-heard : goal.returns-in-Err-tell_all-clause-heard
 returns-in-Err-tell_all-clause-heard g c = λ t ne. absurd (ne refl)
@@ -75,6 +84,11 @@ returns-in-Err-clause-run g c =
     run-is _ _ _ _ _ _ _ _ _ _ (λ t. ended-so _ _ _ _ _ _ _ _ c.loop-made-test.true e.over (was.told t) (e.told (subst IsTrue (sym was.stands.0) t)))
     (last-later _ _ _ _ _ c.loop-made-test.true was.bound e.bound) (stands-then _ _ _ _ _ _ was.stands (stands-kept _ _ _ _ e.keeps))
 
+pub returns-in-Err-clause-stops : goal.returns-in-Err-clause-stops
+returns-in-Err-clause-stops g c = λ t o.
+    let was = c.loop-made.invariant in
+    lacked-step _ _ _ _ was.same _ _ _ _ _ _ _ _ _ _ c.loop-made-test.true (was.made t) (c.in-Err.ensures.told (subst IsTrue (sym was.stands.0) t)) (was.so_far t) o
+
 pub returns-in-Err-clause-heard : goal.returns-in-Err-clause-heard
 returns-in-Err-clause-heard g c = λ t ne.
     let was = c.loop-made.invariant in
@@ -95,6 +109,9 @@ pub returns-clause-run : goal.returns-clause-run
 returns-clause-run g c =
     let was = c.loop-made.invariant in
     run-is _ _ _ _ _ _ _ _ _ _ (λ t. spent-so _ _ _ _ c.loop-made-test.false (was.told t)) (few-later _ _ _ _ (omega (arith, c.loop-made-test.false)) was.bound) was.stands
+
+pub returns-clause-stops : goal.returns-clause-stops
+returns-clause-stops g c = λ t o. let wrong : Spent ≡ OutOfMemory = o in absurd (cc)
 
 pub returns-clause-heard : goal.returns-clause-heard
 returns-clause-heard g c = λ t ne. left-heard _ _ _ _ _ c.loop-made.invariant.same (spent-heard _ _ _ _ _ _ c.loop-made-test.false (c.loop-made.invariant.heard t))

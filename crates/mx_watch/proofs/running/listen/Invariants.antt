@@ -17,6 +17,10 @@ invariant-loop-made g l = record {
       Rest l.n (l.n - l._made) (state_of l.machine, contents (g.H.Host.told l.host)) (state_of l.fn.machine, contents (g.H.Host.told l.fn.host));
   made : IsTrue (tells (g.H.Host.told l.fn.host)) →
       Made l._made (state_of l.machine, contents (g.H.Host.told l.host)) (state_of l.fn.machine, contents (g.H.Host.told l.fn.host));
+  so_far : IsTrue (tells (g.H.Host.told l.fn.host)) →
+      listening l.places.items (map (λ b. (goal.Watcher-dyn g (b.vtable, b.value)).meaning b.value) l.watchers.items) l.kept
+      ≡ watched (traces window_machine l._made (state_of l.fn.machine) (contents (g.H.Host.told l.fn.host)))
+      (listening l.fn.places.items (map (λ b. (goal.Watcher-dyn g (b.vtable, b.value)).meaning b.value) l.fn.watchers.items) l.fn.kept);
   heard : IsTrue (tells (g.H.Host.told l.fn.host)) →
       watched (traces window_machine (l.n - l._made) (state_of l.machine) (contents (g.H.Host.told l.host)))
       (listening l.places.items (map (λ b. (goal.Watcher-dyn g (b.vtable, b.value)).meaning b.value) l.watchers.items) l.kept)

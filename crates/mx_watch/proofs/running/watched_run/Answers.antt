@@ -5,6 +5,7 @@ use Rattle.mx_run.proofs.AccompaniedRuns.{of-run, lacking-so, accompanied-is}
 use Rattle.mx_run.proofs.FreeTurns.{none-made}
 use Rattle.mx_run.proofs.Later.{none-later}
 use Rattle.mx_watch.proofs.Heard.{place_count}
+use Rattle.mx_watch.proofs.Lacked.{lacked-alone, lacked-first, lacked-placed}
 use Rattle.mx_watch.proofs.Watched.{hears-placed, hears-nobody, either-way, unless-by}
 use Rattle.mx_watch.proofs.running.watched_run.Goals as goal
 
@@ -12,6 +13,10 @@ use Rattle.mx_watch.proofs.running.watched_run.Goals as goal
 
 pub returns-then-is_empty-clause-plan : goal.returns-then-is_empty-clause-plan
 returns-then-is_empty-clause-plan g c = λ t. of-run _ _ _ _ (c.run_freely.ensures.plan t)
+
+pub returns-then-is_empty-clause-stops : goal.returns-then-is_empty-clause-stops
+returns-then-is_empty-clause-stops g c = λ t o.
+    lacked-alone _ _ _ _ _ _ (nil_from_length _ (sym c.args.watchers.now.ok.0 ∙ eqb-true _ 0 (sym c.is_empty.ensures ∙ c.if-is_empty.true))) ((c.run_freely.ensures.plan t).stopping o)
 
 pub returns-then-is_empty-clause-heard : goal.returns-then-is_empty-clause-heard
 returns-then-is_empty-clause-heard g c = λ t ne.
@@ -25,6 +30,10 @@ returns-then-is_empty-clause-list_heard g c = λ t ne u.
 
 pub listen-requires : goal.listen-requires
 listen-requires g c = place_count _ _ c.in-Ok.ensures ∙ c.len.ensures ∙ c.args.watchers.now.ok.0
+
+pub returns-in-Ok-clause-stops : goal.returns-in-Ok-clause-stops
+returns-in-Ok-clause-stops g c = λ t o.
+    lacked-placed _ _ _ _ _ _ _ _ _ _ c.in-Ok.ensures (c.len.ensures ∙ c.args.watchers.now.ok.0) (c.listen.ensures.stops t o)
 
 pub returns-in-Ok-clause-heard : goal.returns-in-Ok-clause-heard
 returns-in-Ok-clause-heard g c = λ t ne.
@@ -41,3 +50,6 @@ returns-in-Err-clause-plan g c = λ t. lacking-so _ 0 _ _ (omega arith) (none-ma
 
 pub returns-in-Err-clause-run : goal.returns-in-Err-clause-run
 returns-in-Err-clause-run g c = accompanied-is _ _ _ _ _ _ _ _ (returns-in-Err-clause-plan g c) (λ t ne. absurd (ne refl)) (none-later _ _ _ refl) (stands-all _ _)
+
+pub returns-in-Err-clause-stops : goal.returns-in-Err-clause-stops
+returns-in-Err-clause-stops g c = λ t o. lacked-first _ _ _ _

@@ -24,3 +24,11 @@ returns-in_ok-dismiss-in-Ok-Full-clause-kept g c =
 
 pub returns-in_ok-dismiss-in-Ok-Full-clause-next : goal.returns-in_ok-dismiss-in-Ok-Full-clause-next
 returns-in_ok-dismiss-in-Ok-Full-clause-next g c = passed.left-next _ c.args.t.now c.args.places.now.items _ c.args.at c.requires.same c.requires.inside (sym c.in-Ok-Full.field-0-is ∙ c.in-Ok-Full.ensures.wish nobody)
+
+pub returns-in-Err-clause-lacks : goal.returns-in-Err-clause-lacks
+returns-in-Err-clause-lacks g c = passed.untold _ c.args.t.now c.args.places.now.items _ c.args.at c.requires.same c.requires.inside _ _ c.in-Err.ensures.err
+
+pub returns-in_err-dismiss-in-Ok-Full-clause-lacks : goal.returns-in_err-dismiss-in-Ok-Full-clause-lacks
+returns-in_err-dismiss-in-Ok-Full-clause-lacks g c =
+    let e = c.in_err-dismiss-in-Ok-Full.ensures in
+    passed.on-error _ (passed.unreported _ c.args.t.now c.args.places.now.items _ c.args.at c.requires.same c.requires.inside _ _ _ _ _ (c.in-Ok-Full.ensures.ok nobody) e.lacks e.placed e.unkept)

@@ -1,6 +1,6 @@
 //! Predefined symbols other than registers.
 
-use mx_explain::{Entry, Topic};
+use crate::row::{Entry, Topic};
 
 /// Bits and handlers of events.
 pub(crate) static EVENTS: [Entry; 16] = [
@@ -281,7 +281,7 @@ pub(crate) static SERVICES: [Entry; 11] = [
     (
         Topic::Symbol,
         "Ftell",
-        "The service that tells the place in the file of the handle Z, which is open\n\
+        "The service that gives the place in the file of the handle Z, which is open\n\
         in a binary mode. The result in $255 is the place, or -1.",
         " TRAP 0,Ftell,3",
         "",

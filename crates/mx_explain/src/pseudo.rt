@@ -1,6 +1,6 @@
 //! Pseudo-operations.
 
-use mx_explain::{Entry, Topic};
+use crate::row::{Entry, Topic};
 
 /// Pseudo-operations.
 pub(crate) static PSEUDO: [Entry; 9] = [

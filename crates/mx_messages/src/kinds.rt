@@ -1,6 +1,6 @@
 //! The kinds of faulty words.
 
-use crate::row::{Entry, Topic};
+use mx_explain::{Entry, Topic};
 
 /// Kinds of faulty words.
 pub(crate) static KINDS: [Entry; 9] = [

@@ -1,6 +1,6 @@
 //! The faults of an object.
 
-use crate::row::{Entry, Topic};
+use mx_explain::{Entry, Topic};
 
 /// Faults of an object.
 pub(crate) static OBJECTS: [Entry; 6] = [
@@ -37,7 +37,7 @@ pub(crate) static OBJECTS: [Entry; 6] = [
     (
         Topic::Object(64),
         "",
-        "The object ends before its end is told: it has no post, no stab or no end.",
+        "The object ends too early: it has no post, no stab or no end.",
         "98090101 00000000",
         "the file was cut, or is what asm left of a source that it refused: make it again",
     ),

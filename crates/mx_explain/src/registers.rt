@@ -1,6 +1,6 @@
 //! Special registers.
 
-use mx_explain::{Entry, Topic};
+use crate::row::{Entry, Topic};
 
 /// Special registers.
 pub(crate) static REGISTERS: [Entry; 16] = [

@@ -1,6 +1,6 @@
 //! The reasons of a stop.
 
-use crate::row::{Entry, Topic};
+use mx_explain::{Entry, Topic};
 
 /// Reasons of a stop.
 pub(crate) static STOPS: [Entry; 9] = [

@@ -1,6 +1,6 @@
 //! The faults of a source.
 
-use crate::row::{Entry, Topic};
+use mx_explain::{Entry, Topic};
 
 /// Faults of a line.
 pub(crate) static LINES: [Entry; 7] = [
@@ -187,9 +187,10 @@ pub(crate) static STATEMENTS: [Entry; 8] = [
     (
         Topic::Source(39),
         "",
-        "There is no operation of this name. Operations are in capitals. A semicolon\n\
-        begins the next statement and no comment. A label begins in the first\n\
-        column, and a word after a blank is an operation.",
+        "There is no operation of this name. Operations are in capitals. A label\n\
+        begins in the first column: a word after a blank is an operation. A\n\
+        semicolon begins the next statement, and no comment. If the name is that of\n\
+        another machine, as MOV, ask mmixview explain what MMIX has in its place.",
         " SUBTRACT $0,$0,1",
         " SUB $0,$0,1",
     ),

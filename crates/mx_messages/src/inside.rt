@@ -1,13 +1,13 @@
 //! Numbers that no message has.
 
-use crate::row::{Entry, Topic};
+use mx_explain::{Entry, Topic};
 
 /// Numbers inside the program.
 pub(crate) static INSIDE: [Entry; 4] = [
     (
         Topic::Inside(100),
         "",
-        "The number of the crate mx_registers for what the program tells as 114\n\
+        "The number of the crate mx_registers for what the program prints as 114\n\
         StackFull.",
         "",
         "",
@@ -15,7 +15,7 @@ pub(crate) static INSIDE: [Entry; 4] = [
     (
         Topic::Inside(101),
         "",
-        "The number of the crate mx_registers for what the program tells as 115\n\
+        "The number of the crate mx_registers for what the program prints as 115\n\
         Underflow.",
         "",
         "",
@@ -23,7 +23,7 @@ pub(crate) static INSIDE: [Entry; 4] = [
     (
         Topic::Inside(102),
         "",
-        "The number of the crate mx_registers for what the program tells as 116\n\
+        "The number of the crate mx_registers for what the program prints as 116\n\
         BadFrame.",
         "",
         "",
@@ -32,7 +32,7 @@ pub(crate) static INSIDE: [Entry; 4] = [
         Topic::Inside(140),
         "",
         "The answer of the crate mx_back where no step is kept that could be taken\n\
-        back. The program asks only for steps that are kept, so that it never tells\n\
+        back. The program asks only for steps that are kept, so it never prints\n\
         it.",
         "",
         "",
