@@ -14,10 +14,22 @@ severity_json Warning = codes ",\"severity\":2"
 unfoldable pub source_json : List ℕ
 source_json = codes ",\"source\":\"mmixview\""
 
+unfoldable pub code_json : List ℕ → List ℕ
+code_json code = codes ",\"code\":" ++ quoted code
+
+unfoldable pub message_name : List ℕ
+message_name = codes ",\"message\":"
+
+-- where it is, how severe it is, and its short name
+unfoldable pub place_json : Diagnostic → List ℕ
+place_json d = codes "{\"range\":" ++ range d.number d.line d.from d.to ++ severity_json d.severity ++ code_json d.code
+
+-- who tells it, and what is wrong
+unfoldable pub said_json : Diagnostic → List ℕ
+said_json d = source_json ++ message_name ++ string d.message ++ codes "}"
+
 unfoldable pub diagnostic_json : Diagnostic → List ℕ
-diagnostic_json d =
-    codes "{\"range\":" ++ range d.number d.line d.from d.to ++ severity_json d.severity ++ codes ",\"code\":" ++ quoted d.code
-    ++ source_json ++ codes ",\"message\":" ++ string d.message ++ codes "}"
+diagnostic_json d = place_json d ++ said_json d
 
 unfoldable pub method : List ℕ
 method = codes "textDocument/publishDiagnostics"

@@ -31,10 +31,26 @@ fn add_source(text: &mut Bytes) -> Result<(), NoMemory>
     text.extend(b",\"source\":\"mmixview\"")
 }
 
-/// Adds what one place is told of.
-#[tactic(auto, unfolding(crate::specs::Published::diagnostic_json))]
-fn add_diagnostic(alloc: Global, text: &mut Bytes, d: &Diagnostic) -> Result<(), NoMemory>
-    ensures { OnOk result (text.new ≡ text.old ++ spec.diagnostic_json d.now) }
+/// Adds the short name.
+#[tactic(auto, unfolding(crate::specs::Published::code_json))]
+fn add_code(text: &mut Bytes, code: &[u8]) -> Result<(), NoMemory>
+    ensures { OnOk result (text.new ≡ text.old ++ spec.code_json code.now) }
+{
+    add_quoted(text, b",\"code\":", code)
+}
+
+/// What is before what is wrong.
+#[tactic(auto, unfolding(crate::specs::Published::message_name))]
+fn message_name() -> &'static [u8]
+    ensures { result.now ≡ spec.message_name }
+{
+    b",\"message\":"
+}
+
+/// Adds where it is, how severe it is, and its short name.
+#[tactic(auto, unfolding(crate::specs::Published::place_json))]
+fn add_place(text: &mut Bytes, d: &Diagnostic) -> Result<(), NoMemory>
+    ensures { OnOk result (text.new ≡ text.old ++ spec.place_json d.now) }
 {
     add_range(
         text,
@@ -45,10 +61,26 @@ fn add_diagnostic(alloc: Global, text: &mut Bytes, d: &Diagnostic) -> Result<(),
         d.to,
     )?;
     add_severity(text, d.severity)?;
-    add_quoted(text, b",\"code\":", d.code.as_slice())?;
+    add_code(text, d.code.as_slice())
+}
+
+/// Adds who tells it, and what is wrong.
+#[tactic(auto, unfolding(crate::specs::Published::said_json))]
+fn add_said(alloc: Global, text: &mut Bytes, d: &Diagnostic) -> Result<(), NoMemory>
+    ensures { OnOk result (text.new ≡ text.old ++ spec.said_json d.now) }
+{
     add_source(text)?;
-    add_string(alloc, text, b",\"message\":", d.message.as_slice())?;
+    add_string(alloc, text, message_name(), d.message.as_slice())?;
     text.extend(b"}")
+}
+
+/// Adds what one place is told of.
+#[tactic(auto, unfolding(crate::specs::Published::diagnostic_json))]
+fn add_diagnostic(alloc: Global, text: &mut Bytes, d: &Diagnostic) -> Result<(), NoMemory>
+    ensures { OnOk result (text.new ≡ text.old ++ spec.diagnostic_json d.now) }
+{
+    add_place(text, d)?;
+    add_said(alloc, text, d)
 }
 
 /// Adds further ones.
