@@ -231,7 +231,7 @@ fn rename_at(
     name: &[u8],
     source: &[u8],
 ) -> Result<Renamed, NoMemory>
-    ensures { IfOk result (λ r. spec.IsRenamedAt uri.now names.now (option_copied o) name.now source.now r) }
+    ensures { IfOk result (λ r. spec.IsRenamedAt uri.now names.now (option_copied o.entry) name.now source.now r) }
 {
     match o {
         None => Ok(Renamed::Refused("no name is here")),

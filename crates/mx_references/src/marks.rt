@@ -74,7 +74,7 @@ fn marks(
     names: &[Occurrence],
     o: Option<&Occurrence>,
 ) -> Result<Values, NoMemory>
-    ensures { IfOk result (λ values. values ≡ spec.marks source.now names.now (option_copied o)) }
+    ensures { IfOk result (λ values. values ≡ spec.marks source.now names.now (option_copied o.entry)) }
 {
     let mut values = Values::new(alloc);
     if let Some(o) = o {

@@ -38,7 +38,7 @@ fn location_text(
 
 /// The label that a name names, if there is one.
 fn label_of<'a>(names: &'a [Occurrence], o: Option<&Occurrence>) -> Option<&'a Occurrence>
-    ensures { option_copied result ≡ spec.label_of names.now (option_copied o) }
+    ensures { option_copied result ≡ spec.label_of names.now (option_copied o.entry) }
 {
     match o {
         None => None,
@@ -53,7 +53,7 @@ fn location_if(
     source: &[u8],
     label: Option<&Occurrence>,
 ) -> Result<Bytes, NoMemory>
-    ensures { IfOk result (λ text. text ≡ spec.location_if uri.now source.now (option_copied label)) }
+    ensures { IfOk result (λ text. text ≡ spec.location_if uri.now source.now (option_copied label.entry)) }
 {
     match label {
         None => Bytes::copy(alloc, b"null"),
@@ -132,7 +132,7 @@ fn uses(
     o: Option<&Occurrence>,
 ) -> Result<Values, NoMemory>
     ensures { IfOk result (λ values.
-        values ≡ spec.uses uri.now source.now has_labels names.now (option_copied o)) }
+        values ≡ spec.uses uri.now source.now has_labels names.now (option_copied o.entry)) }
 {
     let mut values = Values::new(alloc);
     if let Some(o) = o {
@@ -162,7 +162,7 @@ pub fn references(
 
 /// The range of a name, or nothing.
 fn range_if(alloc: Global, source: &[u8], o: Option<&Occurrence>) -> Result<Bytes, NoMemory>
-    ensures { IfOk result (λ text. text ≡ spec.range_if source.now (option_copied o)) }
+    ensures { IfOk result (λ text. text ≡ spec.range_if source.now (option_copied o.entry)) }
 {
     match o {
         None => Bytes::copy(alloc, b"null"),
