@@ -1,4 +1,1 @@
-pub mod ChangeTurns
-pub mod Layouts
-pub mod Leads
-pub mod SameImages
+pub mod Taken

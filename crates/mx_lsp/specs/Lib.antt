@@ -1,6 +1,3 @@
-pub mod Changes
 pub mod Documents
-pub mod Images
-pub mod Layouts
-pub mod Names
+pub mod Lines
 pub mod Sessions

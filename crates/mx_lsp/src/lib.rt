@@ -3,14 +3,10 @@
 
 mod completion;
 mod documents;
-mod formatting;
 mod hover;
-mod images;
 mod laws;
 mod lines;
 mod message;
-mod names;
-mod renaming;
 mod session;
 mod signature;
 

@@ -4,7 +4,7 @@ ghost use Rattle.std.specs.Prelude.{◌≡◌};
 ghost use Rattle.mx_frames.specs.Columns.{place_of};
 ghost use Rattle.mx_line.specs.Lines.{lines_of};
 ghost use Rattle.mx_marks.specs.Mending.{line_text};
-ghost use Rattle.mx_lsp.specs.Names.{number_of};
+ghost use Rattle.mx_lsp.specs.Lines as spec;
 
 use mx_frames::place_of;
 use mx_marks::line_text;
@@ -18,7 +18,7 @@ pub(crate) struct Place {
 
 /// The number of a line that is counted from 0 on the wire.
 fn number_of(line: u64) -> u32
-    ensures { result ≡ number_of line }
+    ensures { result ≡ spec.number_of line }
 {
     if line < 0xffff_ffff {
         (line + 1) as u32
@@ -29,8 +29,8 @@ fn number_of(line: u64) -> u32
 
 /// The place that a line and a column on the wire are, both counted from 0; what is beyond the line is its end.
 pub(crate) fn place_at(text: &[u8], line: u64, column: u64) -> Place
-    ensures line { result.line ≡ number_of line }
-    ensures from { result.from ≡ place_of (line_text (number_of line) (lines_of text.now)) column }
+    ensures line { result.line ≡ spec.number_of line }
+    ensures from { result.from ≡ place_of (line_text (spec.number_of line) (lines_of text.now)) column }
 {
     let number = number_of(line);
     Place {

@@ -8,14 +8,13 @@ ghost use Rattle.mx_lsp.specs.Sessions as spec;
 
 use crate::completion::completion;
 use crate::documents::{Documents, text_of, with_text, without};
-use crate::formatting::formatting;
 use crate::hover::hover;
 use crate::lines::{Place, place_at};
 use crate::message::{
     Method, id_of, last_change, method_of, number_at, text_at, uri_of, wants_label,
 };
-use crate::renaming::{Renamed, rename};
 use crate::signature::signature;
+use mx_changes::{Change, formatting_of, rename};
 use mx_diagnostics::{published, withdrawn};
 use mx_references::{definition, highlights, name_range, outline, references};
 use mx_wire::{Refused, refusal_of, result_of};
@@ -64,10 +63,10 @@ fn place_of_message(message: &Value, source: &[u8]) -> Place {
 }
 
 /// The answer to a change that may be refused.
-fn changed_answer(alloc: Global, id: &[u8], renamed: &Renamed) -> Result<Bytes, NoMemory> {
-    match renamed {
-        Renamed::Done(result) => result_of(alloc, id, result.as_slice()),
-        Renamed::Refused(why) => refusal_of(alloc, id, Refused::Failed, why.as_bytes()),
+fn changed_answer(alloc: Global, id: &[u8], change: &Change) -> Result<Bytes, NoMemory> {
+    match change {
+        Change::Done(result) => result_of(alloc, id, result.as_slice()),
+        Change::Refused(why) => refusal_of(alloc, id, Refused::Failed, why.as_bytes()),
     }
 }
 
@@ -108,12 +107,12 @@ fn answer_in(
         Method::Rename => {
             let place = place_of_message(message, source);
             let name = text_at(message, "/params/newName");
-            let renamed = rename(alloc, uri_of(message), place, name, source)?;
-            changed_answer(alloc, id, &renamed)
+            let change = rename(alloc, uri_of(message), place.line, place.from, name, source)?;
+            changed_answer(alloc, id, &change)
         }
         Method::Formatting => {
-            let formatted = formatting(alloc, source)?;
-            changed_answer(alloc, id, &formatted)
+            let change = formatting_of(alloc, source)?;
+            changed_answer(alloc, id, &change)
         }
         _ => {
             let result = result_in(alloc, method, message, source)?;
