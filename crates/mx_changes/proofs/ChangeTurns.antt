@@ -6,25 +6,10 @@ use Rattle.mx_occurrences.specs.declared.occurrence.Named.{Named}
 use Rattle.mx_occurrences.specs.declared.occurrence.Occurrence.{Occurrence}
 use Rattle.mx_changes.specs.Changes.{behind, changed_line, changed_lines, is_in_line, new_text, next, part}
 
-pub name-none : (text : List ℕ) (named : Named) (name : List ℕ) (number : ℕ) (line : List ℕ) (done : ℕ) →
-    text ++ changed_line named name number line done [] ≡ text ++ part line done (length line)
-unfolding changed_line
-name-none text named name number line done = refl
+pub texts-join : (xs ys zs : List ℕ) → (xs ++ ys) ++ zs ≡ xs ++ (ys ++ zs)
+texts-join xs ys zs = append_assoc xs ys zs
 
-pub name-changed : (text : List ℕ) (named : Named) (name : List ℕ) (number : ℕ) (line : List ℕ) (done : ℕ) (o : Occurrence) (names : List Occurrence) → is_in_line named number o ≡ true →
-    text ++ changed_line named name number line done (o ∷ names)
-    ≡ ((text ++ part line done o.from) ++ new_text o name) ++ changed_line named name number line (behind line o) names
-unfolding changed_line
-name-changed text named name number line done o names is =
-    let more = changed_line named name number line (behind line o) names in
-    rw is (sym (append_assoc text (part line done o.from ++ new_text o name) more) ∙ ap (λ t. t ++ more) (sym (append_assoc text (part line done o.from) (new_text o name))))
-
-pub name-other : (text : List ℕ) (named : Named) (name : List ℕ) (number : ℕ) (line : List ℕ) (done : ℕ) (o : Occurrence) (names : List Occurrence) → is_in_line named number o ≡ false →
-    text ++ changed_line named name number line done (o ∷ names) ≡ text ++ changed_line named name number line done names
-unfolding changed_line
-name-other text named name number line done o names is = rw is refl
-
-pub ruleset names = (name-none, name-changed, name-other)
+pub ruleset texts = (texts-join)
 
 pub line-next : (text : List ℕ) (names : List Occurrence) (named : Named) (name : List ℕ) (number : ℕ) (source rest line : List ℕ) → lines_of source ≡ line ∷ lines_of rest →
     text ++ changed_lines names named name number (lines_of source)

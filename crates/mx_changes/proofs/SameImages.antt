@@ -1,6 +1,6 @@
 -- Sources whose images are the same.
 use Rattle.std.proofs.Common.{◌≡◌, List, ℕ, Ok}
-use Rattle.mx_files.specs.Meaning.{source_meaning}
+use Rattle.mx_files.specs.Sources.{source_meaning}
 use Rattle.mx_mmo.specs.Image.{Image}
 use Rattle.mx_changes.specs.Images.{AreOneProgram, AreSame}
 

@@ -1,6 +1,6 @@
 -- Two sources that come to one program: they have the same octas in memory and the same global registers. Memory ends at 2^63.
 use Rattle.std.specs.Prelude.{◌≡◌, ◌<◌, ◌%◌, ◌^◌, ℕ, List, Result, Ok, Err}
-use Rattle.mx_files.specs.Meaning.{source_meaning}
+use Rattle.mx_files.specs.Sources.{source_meaning}
 use Rattle.mx_files.specs.declared.refusal.Refusal.{Refusal}
 use Rattle.mx_mmo.specs.Image.{Image}
 

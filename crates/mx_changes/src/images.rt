@@ -1,7 +1,7 @@
 //! Whether two sources have one image.
 
 ghost use Rattle.std.specs.Prelude.{◌≡◌, ◌≤◌, ◌<◌, ◌%◌, ◌^◌, ℕ, true, Ok, IfOk, IfSome};
-ghost use Rattle.mx_files.specs.Meaning.{source_meaning};
+ghost use Rattle.mx_files.specs.Sources.{source_meaning};
 ghost use Rattle.mx_load.specs.Kept.{image_of};
 ghost use Rattle.mx_mem.specs.Memory.{octa_at};
 ghost use Rattle.mx_changes.specs.Images as spec;

@@ -70,7 +70,7 @@ fn add_new(
 }
 
 /// Adds a line with the names of it that name this changed.
-#[tactic(auto, using(crate::proofs::ChangeTurns::names))]
+#[tactic(auto, using(crate::proofs::ChangeTurns::texts), unfolding(crate::specs::Changes::changed_line))]
 fn add_changed_line(
     alloc: Global,
     text: &mut Bytes,
