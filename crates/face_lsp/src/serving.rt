@@ -175,19 +175,26 @@ fn turn<H: Host>(
     }
 }
 
-/// Answers the messages of standard input on standard output, up to the message that ends the session or to the end of the input.
+/// Answers the messages of a session.
 #[tactic(auto, using(mx_face::proofs::Parts::parts))]
-pub fn serve<H: Host>(alloc: Global, host: &mut H) -> Outcome
-    ensures causes { FaultsOnlyBy H.told H.faults host.old host.new result }
+fn answer_all<H: Host>(alloc: Global, host: &mut H, session: &mut Session) -> Outcome
+    ensures { FaultsOnlyBy H.told H.faults host.old host.new result }
 {
-    let mut session = new_session(alloc);
     let mut coming = start(alloc);
     for _turn in 0..u64::MAX {
-        match turn(alloc, host, &mut session, coming) {
+        match turn(alloc, host, session, coming) {
             Ok(Next::Reads(next)) => coming = next,
             Ok(Next::Ends(status)) => return Outcome::Done(status),
             Err(outcome) => return outcome,
         }
     }
     Outcome::Done(1)
+}
+
+/// Answers the messages of standard input on standard output, up to the message that ends the session or to the end of the input.
+pub fn serve<H: Host>(alloc: Global, host: &mut H) -> Outcome
+    ensures causes { FaultsOnlyBy H.told H.faults host.old host.new result }
+{
+    let mut session = new_session(alloc);
+    answer_all(alloc, host, &mut session)
 }

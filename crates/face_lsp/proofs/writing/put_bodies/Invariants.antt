@@ -8,7 +8,7 @@ use Rattle.face_lsp.proofs.writing.put_bodies.Given as goal
 abbrev pub invariant-loop-rest : goal.invariant-loop-rest
 invariant-loop-rest g l = record {
   told : IsTrue (tells (g.H.Host.told l.fn.host)) →
-    bodies_put l.bodies (contents (g.H.Host.told l.fn.host)) ≡ bodies_put l.rest (contents (g.H.Host.told l.host));
+      bodies_put l.bodies (contents (g.H.Host.told l.fn.host)) ≡ bodies_put l.rest (contents (g.H.Host.told l.host));
   keeps : Keeps (g.H.Host.told l.fn.host) (g.H.Host.told l.host) (g.H.Host.faults l.fn.host) (g.H.Host.faults l.host);
 }
 
