@@ -93,6 +93,9 @@ if command -v python3 >/dev/null; then
   # the files for editors have the words of the tables, and their tools read them, where they are there
   python3 editors/words.py --check || bad=1
   python3 checks/editors/try.py >/dev/null || bad=1
+  # the server for editors answers as the program's other commands do, and editors show that, where they are there
+  python3 checks/lsp/try.py >/dev/null || bad=1
+  python3 checks/lsp/clients.py >/dev/null || bad=1
 fi
 
 # objects of a compiler for C run, where they are there

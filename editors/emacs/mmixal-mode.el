@@ -244,6 +244,11 @@ Where another command than those of this mode was called, it is its last word."
 ;;;###autoload
 (add-to-list 'auto-mode-alist '("\\.mms\\'" . mmixal-mode))
 
+;; M-x eglot asks `mmixview lsp` for faults, meaning and names.
+(defvar eglot-server-programs)
+(with-eval-after-load 'eglot
+  (add-to-list 'eglot-server-programs '(mmixal-mode "mmixview" "lsp")))
+
 (provide 'mmixal-mode)
 
 ;;; mmixal-mode.el ends here

@@ -8,6 +8,7 @@ use face_check::{Form, check};
 use face_count::count;
 use face_debug::debug;
 use face_explain::{show_list, show_word};
+use face_lsp::serve;
 use face_page::page;
 use face_source::{find_lines, list, read_address, refuse_address};
 use mx_menu::{Choice, Face, VERSION, choose, count_words, debug_words, page_words};
@@ -48,6 +49,7 @@ fn carry_out(alloc: Global, host: &mut RealHost, choice: &Choice) -> Outcome {
         },
         Face::Count => count(alloc, host, &[]),
         Face::Debug => debug(alloc, host, &[], false),
+        Face::Lsp => serve(alloc, host),
         Face::Page => page(alloc, host, VERSION, &[]),
         Face::Explain => match choice.word {
             Some(word) => show_word(alloc, host, word),

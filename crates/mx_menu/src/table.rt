@@ -17,6 +17,8 @@ pub enum Face {
     Debug,
     /// A program and its run on one page. Its words are read as those of `mmixware run`, after its own options.
     Page,
+    /// A server for editors.
+    Lsp,
 }
 
 /// How a word is given: by a name after two dashes, alone or with a value, or by its place, where it may be left out or come often.
@@ -52,7 +54,7 @@ pub const VERSION: &str = "0.4.0";
 pub const ABOUT: &str = "Views of a source in MMIXAL, and of a run of it.";
 
 /// The commands in the order in which help has them.
-pub static COMMANDS: [Row; 7] = [
+pub static COMMANDS: [Row; 8] = [
     Row {
         face: Face::List,
         name: "list",
@@ -244,5 +246,11 @@ pub static COMMANDS: [Row; 7] = [
                 help: "what the program is handed",
             },
         ],
+    },
+    Row {
+        face: Face::Lsp,
+        name: "lsp",
+        about: "serves an editor over standard input and output, by the Language Server Protocol",
+        words: &[],
     },
 ];

@@ -13,6 +13,8 @@ mod data;
 #[cfg(test)]
 mod explanations;
 #[cfg(test)]
+mod frames;
+#[cfg(test)]
 mod object_pages;
 #[cfg(test)]
 mod objects;

@@ -1,0 +1,134 @@
+#!/usr/bin/env python3
+"""A session with `mmixview lsp`, compared with what `mmixview check` and `mmixview list` say of the same sources.
+
+usage: checks/lsp/try.py [PROGRAM]
+"""
+import json
+import os
+import subprocess
+import sys
+
+HERE = os.path.dirname(os.path.dirname(os.path.dirname(os.path.abspath(__file__))))
+sys.path.insert(0, os.path.join(HERE, "checks", "lsp"))
+import wire  # noqa: E402
+
+PROGRAM = wire.program(sys.argv[1:])
+URI = "file:///text.mms"
+faults = []
+
+
+def want(what, is_so, got=None):
+    """Says what is not so."""
+    if not is_so:
+        faults.append(what)
+        print("not so:", what, "" if got is None else got)
+
+
+def checked(path):
+    """What `check --json` says of a source."""
+    run = subprocess.run([PROGRAM, "check", "--json", path], stdout=subprocess.PIPE)
+    return json.loads(run.stdout)
+
+
+def units(text):
+    """How many units of UTF-16 a text has."""
+    return len(text.encode("utf-16-le")) // 2
+
+
+def ranges(told):
+    """The faults of `check --json`, as the server tells them."""
+    found = []
+    for fault in told["faults"][:20]:
+        line = (fault["text"] or "").encode()
+        at = max(fault["at"] - 1, 0)
+        if fault["caret"] is None:
+            found.append((at, 0, units(line.decode()), fault["name"]))
+        else:
+            start = fault["caret"] - 1
+            end = start + fault["length"]
+            found.append((at, units(line[:start].decode(errors="ignore")), units(line[:end].decode(errors="ignore")), fault["name"]))
+    return found
+
+
+def told(diagnostics, severity):
+    """The diagnostics of a severity, in the same form."""
+    return [
+        (d["range"]["start"]["line"], d["range"]["start"]["character"], d["range"]["end"]["character"], d["code"])
+        for d in diagnostics
+        if d["severity"] == severity
+    ]
+
+
+def sources():
+    """The sources of the examples, and some of the checks."""
+    for folder, _, names in sorted(os.walk(os.path.join(HERE, "examples"))):
+        for name in sorted(names):
+            if name.endswith(".mms"):
+                yield os.path.join(folder, name)
+
+
+PROGRAM_TEXT = """\tLOC #100
+Size\tIS 10
+Main\tSETL $1,Size
+2H\tSUBU $1,$1,1
+\tPBNZ $1,2B
+\tJMP 2F
+2H\tTRAP 0,Halt,0\tend
+"""
+
+
+def main():
+    """All of it."""
+    server = wire.Server(PROGRAM)
+    offers = server.ask("initialize", {"capabilities": {}})
+    want("the server offers rename", offers["result"]["capabilities"]["renameProvider"])
+    for path in sources():
+        text = open(path, encoding="utf-8", errors="replace").read()
+        if "\ufffd" in text:
+            continue
+        diagnostics = server.open(URI, text)
+        want("faults of " + path, told(diagnostics, 1) == ranges(checked(path)), diagnostics)
+    want("a good text has no faults", server.change(URI, PROGRAM_TEXT) == [])
+    hover = server.at("hover", URI, 2, 6)["result"]["contents"]["value"]
+    want("an instruction is told", hover.startswith("#0000000000000100: e301000a  SETL $1,10  1\u03c5\n"), hover)
+    hover = server.at("hover", URI, 2, 14)["result"]["contents"]["value"]
+    want("a name is told", hover == ":Size = #000000000000000a\nline 2: Size\tIS 10\n", hover)
+    label = server.at("definition", URI, 4, 10)["result"]
+    want("2B is the first 2H", label and label["range"]["start"]["line"] == 3, label)
+    label = server.at("definition", URI, 5, 6)["result"]
+    want("2F is the second 2H", label and label["range"]["start"]["line"] == 6, label)
+    uses = server.at("references", URI, 1, 1, context={"includeDeclaration": True})["result"]
+    want("Size is at two places", [u["range"]["start"]["line"] for u in uses] == [1, 2], uses)
+    marks = server.at("documentHighlight", URI, 3, 0)["result"]
+    want("2H is at two places", [m["range"]["start"]["line"] for m in marks] == [3, 4], marks)
+    want("a name can be changed", server.at("prepareRename", URI, 1, 0)["result"]["end"]["character"] == 4)
+    new = server.at("rename", URI, 1, 0, newName="Length")
+    want("Size becomes Length", len(new["result"]["changes"][URI]) == 2, new)
+    new = server.at("rename", URI, 3, 0, newName="3H")
+    want("2H becomes 3H", [e["newText"] for e in new["result"]["changes"][URI]] == ["3H", "3B"], new)
+    new = server.at("rename", URI, 2, 0, newName="Begin")
+    want("Main stays", "error" in new, new)
+    new = server.at("rename", URI, 1, 0, newName="Main")
+    want("no name twice", "error" in new, new)
+    outline = server.ask("textDocument/documentSymbol", {"textDocument": {"uri": URI}})["result"]
+    want("the labels", [s["name"] for s in outline] == ["Size", "Main"], outline)
+    words = server.at("completion", URI, 2, 6)["result"]["items"]
+    want("the words", {"SETL", "Main", "GREG"} <= {w["label"] for w in words})
+    form = server.at("signatureHelp", URI, 2, 12)["result"]
+    want("SETL is written", form and form["signatures"][0]["label"] == "SETL $X,YZ", form)
+    changes = server.ask("textDocument/formatting", {"textDocument": {"uri": URI}, "options": {}})
+    rows = changes["result"][0]["newText"].splitlines()
+    want("the columns", rows[:2] + rows[6:] == ["        LOC   #100", "Size    IS    10", "2H      TRAP  0,Halt,0        end"], rows)
+    want("places beyond a line", "error" not in server.at("hover", URI, 3, 1000) and "error" not in server.at("hover", URI, 1000, 0))
+    want("no such request", server.ask("workspace/none", {})["error"]["code"] == -32601)
+    want("the end", server.end() == 0)
+    stream = wire.message("initialize", {}, 1) + wire.message("shutdown", None, 2) + wire.message("textDocument/hover", {}, 3)
+    out, status = wire.session(PROGRAM, stream + wire.message("exit", None))
+    want("after shutdown", [b.get("error", {}).get("code") for b in wire.bodies(out)[0]] == [None, None, -32600] and status == 0, out)
+    for bad in (b"Content-Type: x\r\n\r\n{}", b"Content-Length: 67108865\r\n\r\n", wire.frame(b"{"), b"x" * 5000):
+        out, status = wire.session(PROGRAM, bad)
+        want("no message", wire.bodies(out)[0][0]["error"]["code"] == -32700 and status == 1, out)
+    return 1 if faults else 0
+
+
+sys.exit(main())

@@ -1,0 +1,4 @@
+pub mod ChangeTurns
+pub mod Layouts
+pub mod Leads
+pub mod SameImages

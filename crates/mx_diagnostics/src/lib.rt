@@ -1,0 +1,10 @@
+//! The faults and the warnings of a source as an editor is told of them.
+#![tactic(auto)]
+
+mod diagnostic;
+mod notices;
+mod telling;
+
+pub use diagnostic::{Diagnostic, Diagnostics, Severity};
+pub use notices::{published, withdrawn};
+pub use telling::tell;

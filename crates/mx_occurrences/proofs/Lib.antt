@@ -1,0 +1,2 @@
+pub mod NameTurns
+pub mod InPlace

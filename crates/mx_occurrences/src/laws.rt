@@ -1,0 +1,11 @@
+//! Laws on the places of names.
+
+ghost use Rattle.std.specs.Prelude.{ℕ, List};
+ghost use Rattle.mx_occurrences.specs.Occurrences.{occurrences_of};
+ghost use Rattle.mx_occurrences.specs.Places as spec;
+
+/// At the place of each name of a source are the bytes of the name.
+#[tactic(auto, using(crate::proofs::InPlace::laws))]
+pub fn names_are_in_their_places()
+    ensures { (source : List ℕ) → spec.AreInPlace source (occurrences_of source) }
+{}

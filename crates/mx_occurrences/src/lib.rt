@@ -1,0 +1,14 @@
+//! The names of a source in their places: where each is, and which symbol or local label it names.
+#![tactic(auto)]
+
+mod course;
+mod finding;
+mod gathering;
+mod laws;
+mod occurrence;
+
+pub use course::full_name;
+pub use finding::{definition_of, occurrence_at, same_named};
+pub use gathering::occurrences;
+pub use laws::names_are_in_their_places;
+pub use occurrence::{Named, Occurrence, Occurrences};
