@@ -30,6 +30,8 @@ HEADINGS = {"Faulty words": "Kind", "A source that is refused": "Source", "An ob
             "A run that is stopped": "Stop"}
 # a stop that needs a million steps, and a kind of options that the model does not read
 SLOW, UNKNOWN = ("114",), ("10",)
+# a status that a protocol gives, as that of lsp does after an end without `shutdown`
+OF_PROTOCOL = {"1"}
 # statuses that only a system gives, or an input without end
 SYSTEM = ("71", "74", "76")
 STRING = r'"((?:[^"\\]|\\.|\\\n)*)"'
@@ -136,7 +138,7 @@ def check_statuses(rows):
     compare("status", given - {"0"}, {it[1] for it in lines}, "docs/MESSAGES.md")
     for page in ("docs/mmixware.1", "docs/mmixview.1"):
         part = text_of(page).split(".SH EXIT STATUS")[1].split("\n.SH ")[0]
-        for it in sorted(set(re.findall(r"^\.B (\d+)$", part, re.M)) - given, key=int):
+        for it in sorted(set(re.findall(r"^\.B (\d+)$", part, re.M)) - given - OF_PROTOCOL, key=int):
             wrong(page, f"the status {it} is not explained")
 
 

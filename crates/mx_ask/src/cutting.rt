@@ -88,7 +88,6 @@ pub fn code_of(line: &[u8]) -> &[u8]
 }
 
 /// A text without blanks, tabs and returns at its end.
-#[tactic(auto, using(std::proofs::lemmas::Str::Ascii::trim_ascii_end_is))]
 pub fn without_end(text: &[u8]) -> &[u8]
     ensures { result.now ≡ spec.trimmed text.now }
 {

@@ -7,7 +7,7 @@ use Rattle.mx_book.specs.Lookups.{IsAsEarly, earlier, from_line}
 unfoldable use Rattle.mx_book.specs.Lookups.{earliest}
 use Rattle.mx_book.specs.declared.loads.Load.{Load}
 
-is_earlier : Load → Load → Bool
+abbrev is_earlier : Load → Load → Bool
 is_earlier q p = nat_lt q.line p.line
 
 ranked : IsRanking is_earlier

@@ -7,7 +7,7 @@ use Rattle.mx_object.specs.declared.labels.Label.{Label}
 use Rattle.mx_book.specs.Lookups.{IsAsNear, address_before, greater}
 unfoldable use Rattle.mx_book.specs.Lookups.{nearest_address}
 
-is_greater : ℕ → ℕ → Bool
+abbrev is_greater : ℕ → ℕ → Bool
 is_greater y x = nat_lt x y
 
 ranked : IsRanking is_greater

@@ -24,7 +24,6 @@ AsGood beats None (Some r) = ⊥
 AsGood beats (Some p) (Some r) = beats r p ≡ false
 
 module _ {A P : Type 0} (beats : P → P → Bool) (of : A → Option P) (better : Option P → Option P → Option P) (best : List A → Option P) (h : IsBest beats of better best) where
-
   unbeaten : (p q r : P) → beats q p ≡ false → beats r q ≡ false → beats r p ≡ false
   unbeaten p q r e f = by (beats r p) refl
     where
@@ -53,8 +52,10 @@ module _ {A P : Type 0} (beats : P → P → Bool) (of : A → Option P) (better
     where
       left : (b : Bool) → beats q p ≡ b → better (better (Some p) (Some q)) (Some r) ≡ better (cond b (Some q) (Some p)) (Some r)
       left b e = ap (λ t. better t (Some r)) (picked p q b e)
+
       right : (c : Bool) → beats r q ≡ c → better (Some p) (better (Some q) (Some r)) ≡ better (Some p) (cond c (Some r) (Some q))
       right c f = ap (better (Some p)) (picked q r c f)
+
       by : (b c : Bool) → beats q p ≡ b → beats r q ≡ c → better (better (Some p) (Some q)) (Some r) ≡ better (Some p) (better (Some q) (Some r))
       by true true e f = left true e ∙ picked q r true f ∙ sym (right true f ∙ picked p r true (h.ranking.through p q r e f))
       by true false e f = left true e ∙ picked q r false f ∙ sym (right false f ∙ picked p q true e)

@@ -9,7 +9,7 @@ use Rattle.mx_object.specs.Listed.{IsAsNear}
 use Rattle.mx_object.specs.declared.labels.Place.{Place}
 use Rattle.mx_object.proofs.Bests.{AsGood, IsBest, IsRanking, best-all, best-next, none-better}
 
-is_nearer : Place → Place → Bool
+abbrev is_nearer : Place → Place → Bool
 is_nearer q p = nat_lt q.offset p.offset
 
 ranked : IsRanking is_nearer

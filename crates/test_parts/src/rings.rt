@@ -150,12 +150,12 @@ fn call(rt: &impl Abort, ring: &mut Ring, x: u8, own: u8, n: u8) {
 }
 
 /// What $k is after such a call.
-fn behind(k: u8, x: u8, n: u8) -> u64 {
+fn after_call(k: u8, x: u8, n: u8) -> u64 {
     if k < x {
         100 + u64::from(k)
     } else if k == x && n > 0 {
         199 + u64::from(n)
-    } else if k < x + n {
+    } else if k < x.saturating_add(n) {
         199 + u64::from(k - x)
     } else {
         0
@@ -167,12 +167,12 @@ fn calls_of_width(rt: &impl Abort, ring: &mut Ring, x: u8) {
     for own in [3, 8, 9, 16, 17] {
         for n in 0..4 {
             call(rt, ring, x, own, n);
-            assert_eq!(rt; (ring.l(), ring.hidden()), (x + n, 0));
+            assert_eq!(rt; (ring.l(), ring.hidden()), (x.saturating_add(n), 0));
             for k in 0..32 {
                 assert_eq!(rt;
                     ring.get(k),
-                    behind(k, x, n),
-                    "${k} behind PUSHJ ${x} and POP {n}"
+                    after_call(k, x, n),
+                    "${k} after PUSHJ ${x} and POP {n}"
                 );
             }
         }
