@@ -8,6 +8,9 @@ use std::alloc::Global;
 /// more may be asked for.
 fn counts(alloc: Global, stream: &[u8], cut: usize) -> Option<(usize, usize, u64)> {
     let mut frames = Frames::new(alloc);
+    if cut > stream.len() {
+        return None;
+    }
     let (front, others) = stream.split_at(cut);
     let coming = feed(alloc, &mut frames, start(alloc), front).ok()?;
     let coming = feed(alloc, &mut frames, coming, others).ok()?;
