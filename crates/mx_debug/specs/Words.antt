@@ -33,7 +33,7 @@ pub record LeavesCall (d : Debugged) (at : ℕ) (Goes : Option ℕ → ℕ → T
 -- `continue` to the next break or watch, and `reverse-continue` back to the last one;
 -- `who PLACE` to the step that made the value there.
 -- `next` and `finish` stop at a break or a watch, too. A word that lacks its number or its place, and each other word, stays.
-unfoldable pub Leads : Debugged → Word → List ℕ → ℕ → Type 0
+abbrev pub Leads : Debugged → Word → List ℕ → ℕ → Type 0
 Leads d word.Step rest at = WhereSaid (count_in rest) (λ n. GoesTo d (d.at + n) at) (at ≡ d.at)
 Leads d word.ReverseStep rest at = WhereSaid (count_in rest) (λ n. at ≡ d.at - n) (at ≡ d.at)
 Leads d word.GoTo rest at = WhereSaid (number_in rest) (λ k. GoesTo d k at) (at ≡ d.at)
