@@ -61,7 +61,7 @@ FUNCTIONS = {
         ending::undefined             undefined_fault
         padded_trie                   make_padded_trie
         ending::padded                pad_to_tetra
-        fixes::moved                  items_with_lambda     # the items, with a change of lambda where it is needed
+        fixes::moved                  lambda_items          # the items that set lambda, where it is another
         lowered                       round_down
         raised                        round_up
         told_line                     short_line            # the number of a line where it is below 2^16, or 0
@@ -159,7 +159,7 @@ FUNCTIONS = {
         names_no_special              has_bad_special
         Machine::advance_anyhow       advance_general
         machine::half                 tetra_of_half
-        noting::place_of              area_place
+        noting::place_of              written_place
     """,
     "mx_start": """
         pool::padded                  pad_to_octa
