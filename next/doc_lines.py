@@ -119,7 +119,7 @@ JOINED = {"mx_plan": "mx_host", "mx_json": "mx_face", "mx_places": "mx_book"}
 
 def renamed(crate, name):
     """The name after names.py too."""
-    rows = [line.split("#")[0].split() for line in names_table.FUNCTIONS.get(crate, "").splitlines()]
+    rows = [line.replace("~", " ").split("#")[0].split() for line in names_table.FUNCTIONS.get(crate, "").splitlines()]
     return {name} | {row[1] for row in rows if len(row) == 2 and row[0].split("::")[-1] == name}
 
 

@@ -1,6 +1,7 @@
 #!/usr/bin/env python3
-"""names.py [-n] [-v] [CRATE..]: gives functions, clauses, modules and definitions of the tree that it is run in better names, by the
-tables of names_table.py. With crates, those of their rows alone. `-n` writes nothing and counts; `-v` prints each place.
+"""names.py [-n] [-v] [--more] [CRATE..]: gives functions, clauses, modules and definitions of the tree that it is run in better names, by the
+tables of names_table.py. With crates, those of their rows alone. `-n` writes nothing and counts; `-v` prints each place. `--more` takes
+the rows with a `~`, too: private nouns, and private functions of tests.
 
 It follows a name through sources (calls, methods, `use`), specs and proofs (paths, the folders of a function's answers, steps and goals
 named after a callee, clauses), must-fail edits, documents and checks/. A row that is done already says nothing, so it can be run again. A
@@ -744,6 +745,10 @@ def load(renames, wanted):
             continue
         for line in rows.splitlines():
             line = line.split("#")[0].split()
+            if line[:1] == ["~"]:
+                if "--more" not in sys.argv:
+                    continue
+                line = line[1:]
             if len(line) == 2:
                 renames.add_function(crate, *line)
             elif line:

@@ -23,11 +23,11 @@ FUNCTIONS = {
         spans::part                   slice_span            # `part` is a part of an octa elsewhere
     """,
     "mx_expr": """
-        Reader::beyond                read_after_primary    # a byte after a primary that it does not go on
-        Reader::after                 read_after_product
-        Reader::bound                 find_passed_bound     # the bound that a byte would pass
-        valuing::down                 descend
-        valuing::up                   ascend
+      ~ Reader::beyond                read_after_primary    # a byte after a primary that it does not go on
+      ~ Reader::after                 read_after_product
+      ~ Reader::bound                 find_passed_bound     # the bound that a byte would pass
+      ~ valuing::down                 descend
+      ~ valuing::up                   ascend
         Expr::turned                  rotate                # one node less to the left
     """,
     "mx_mmo": """
@@ -44,12 +44,12 @@ FUNCTIONS = {
         first_item                    read_first_item
         tail_of                       read_tail
         counted_tail                  read_counted_tail
-        due::wide                     wyde_of               # the number of the bytes Y and Z; `wide` is of tables elsewhere
+      ~ due::wide                     wyde_of               # the number of the bytes Y and Z; `wide` is of tables elsewhere
     """,
     "mx_stab": """
         values::value                 value_of_kind
         values::serial                split_serial          # gives the number and the bytes after it
-        values::number                number_of_bytes       # 21 functions are called number; the others are of a fault
+      ~ values::number                number_of_bytes       # 21 functions are called number; the others are of a fault
     """,
     "mx_stmt": """
         rounded_last                  last_after_mode       # the last operand after a rounding mode
@@ -65,7 +65,7 @@ FUNCTIONS = {
         lowered                       round_down
         raised                        round_up
         told_line                     short_line            # the number of a line where it is below 2^16, or 0
-        head::cover                   pad_around            # bytes with the zeros around them
+      ~ head::cover                   pad_around            # bytes with the zeros around them
     """,
     "mx_mem": """
         places::place_of              find_place
@@ -87,7 +87,7 @@ FUNCTIONS = {
         scaled                        shift_signed
         chosen_bytes                  select_bytes
         answer::low                   wrap                  # modulo 2^64
-        arithmetic::value             signed_value
+      ~ arithmetic::value             signed_value
     """,
     "mx_registers": """
         Hidden::spilled               spilled_count
@@ -103,7 +103,7 @@ FUNCTIONS = {
         Visible::keep_from            drop_first            # the first n go, the others become $0 ..
         Visible::keep_few             drop_first_few
         Visible::keep_fewer           drop_first_fewer
-        Visible::keep_all             drop_first_any
+      ~ Visible::keep_all             drop_first_any
         Visible::cut                  truncate
         Visible::become_those         copy_from
     """,
@@ -112,7 +112,7 @@ FUNCTIONS = {
         Ring::staying                 count_staying
         Ring::staying_at_pop          count_staying_at_pop
         Ring::octa_noted              overwritten_octa
-        Ring::work                    perform               # Ring::note only notes it
+      ~ Ring::work                    perform               # Ring::note only notes it
     """,
     "mx_code": """
         Instruction::coded            with_code             # a constructor
@@ -127,7 +127,7 @@ FUNCTIONS = {
         loaded_value                  extract_loaded
         loaded_within                 extract_loaded_tetra
         stored_value                  convert_stored
-        part::half                    least_negative        # the least number of a part that is negative
+      ~ part::half                    least_negative        # the least number of a part that is negative
     """,
     "mx_core": """
         # the frequent steps, as the type `Usual`
@@ -157,15 +157,15 @@ FUNCTIONS = {
         Machine::memory_noted         octa_before
         stopped_for                   stop_for
         names_no_special              has_bad_special
-        Machine::advance_anyhow       advance_general
-        machine::half                 tetra_of_half
-        noting::place_of              written_place
+      ~ Machine::advance_anyhow       advance_general
+      ~ machine::half                 tetra_of_half
+      ~ noting::place_of              written_place
     """,
     "mx_start": """
         pool::padded                  pad_to_octa
         starts::loaded                load_machine
         globals_in                    collect_globals
-        pool::places                  text_places
+      ~ pool::places                  text_places
     """,
     "mx_back": """
         ended_at                      check_turn_end        # the end of the run, if the turn is one
@@ -173,9 +173,9 @@ FUNCTIONS = {
     "mx_trap": """
         requests::opening             open_request
         requests::arguments           read_arguments
-        requests::buffer              read_buffer
+      ~ requests::buffer              read_buffer
         service_numbered              service_by_number
-        calls::carry_out              do_request            # seven functions were carry_out, four of them one below the other
+      ~ calls::carry_out              do_request            # seven functions were carry_out, four of them one below the other
         meets_segment                 is_any_in_segment
     """,
     "mx_run": """
@@ -184,9 +184,9 @@ FUNCTIONS = {
         flagged_in                    find_flagged
         first_flagged                 find_first_flagged
         end_of_turn                   check_turn_end
-        turning::carry_out            do_trap
-        turning::finish               finish_with_answer
-        turning::complete             finish_with_value
+      ~ turning::carry_out            do_trap
+      ~ turning::finish               finish_with_answer
+      ~ turning::complete             finish_with_value
     """,
     "mx_multi": """
         told_at                       turn_without_trace
@@ -200,16 +200,16 @@ FUNCTIONS = {
     """,
     "mx_text": """
         shown_byte                    printable_byte
-        instructions::near            near_operand
-        instructions::far             far_operand
-        instructions::target          relative_target
+      ~ instructions::near            near_operand
+      ~ instructions::far             far_operand
+      ~ instructions::target          relative_target
     """,
     "mx_words": """
         commanded                     read_command
         options::option               read_option
-        words::file                   read_file_words
-        words::defaults               default_settings
-        values::number                parse_number
+      ~ words::file                   read_file_words
+      ~ words::defaults               default_settings
+      ~ values::number                parse_number
         runs_file                     is_file_command
         takes_steps                   has_step_options
         takes_ring                    has_ring_option
@@ -218,17 +218,17 @@ FUNCTIONS = {
         octa_written                  parse_octa_digits
         address_written               parse_address_digits
         command_of                    parse_command
-        numerals::minus               negate_octa
+      ~ numerals::minus               negate_octa
         numerals::digits              split_digits
-        parsing::letters              split_letters
-        specials::place               find_name
+      ~ parsing::letters              split_letters
+      ~ specials::place               find_name
     """,
     "mx_show": """
         shown_line                    format_subject
     """,
     "mx_con": """
-        host_lines::grow              read_into_line        # reads a byte
-        sessions::carry_out           obey_line
+      ~ host_lines::grow              read_into_line        # reads a byte
+      ~ sessions::carry_out           obey_line
         Bad::text                     message
     """,
     "mx_outcome": """
@@ -246,7 +246,7 @@ FUNCTIONS = {
         judged                        check_schedule
         typing::unread                refuse_bytes
         typing::unread_trie           refuse_trie
-        schedule::greatest            greatest_byte
+      ~ schedule::greatest            greatest_byte
     """,
     "mx_begin": """
         argument::word                word_bytes
@@ -266,37 +266,37 @@ FUNCTIONS = {
         found_reports                 reports_after
         processors_named              count_processors
         multi_file                    run_scheduled
-        last::least                   count_back            # how many steps are taken back
+      ~ last::least                   count_back            # how many steps are taken back
         takes_back                    is_taken_back
-        schedules::greatest           greatest_byte
-        top::carry_out                do_command
-        top::tell                     write_message
-        top::say                      write_line
-        top::finish                   write_all
+      ~ schedules::greatest           greatest_byte
+      ~ top::carry_out                do_command
+      ~ top::tell                     write_message
+      ~ top::say                      write_line
+      ~ top::finish                   write_all
     """,
     "mmixware": """
         answered                      print_text
         own_text                      find_own_text
-        main::carry_out               run_watched
+      ~ main::carry_out               run_watched
     """,
     "mmixview": """
         main::answered                answer_error
         main::debugged                run_debug
         main::counted                 run_count
         main::paged                   run_page
-        main::form                    form_of
-        main::carry_out               do_choice
+      ~ main::form                    form_of
+      ~ main::carry_out               do_choice
     """,
     "mx_menu": """
         choice::chosen                find_choice
-        choice::word                  word_named
+      ~ choice::word                  word_named
         parser::parser                build_parser
     """,
     "mx_ask": """
         cutting::code_of              skip_label            # what follows the label of a line; a code is an opcode
-        cutting::ink                  split_word
+      ~ cutting::ink                  split_word
         without_end                   trim_end
-        units::digits                 split_digits
+      ~ units::digits                 split_digits
         number_in                     parse_number
         count_in                      parse_count
         address_in                    parse_address
@@ -327,7 +327,7 @@ FUNCTIONS = {
         mending::replaced             choose_line           # a line, or the text in its place
         under::parted                 split_at_most
         under::following              continuation_count
-        under::under                  byte_under
+      ~ under::under                  byte_under
         begins_digit                  starts_with_digit
         begins_name                   starts_with_name
     """,
@@ -359,11 +359,11 @@ FUNCTIONS = {
         told_text                     format_faults
         told::faults                  list_faults
         lines::shown                  choose_tetra          # of the line's own or of memory
-        lines::once                   dedup_cells
+      ~ lines::once                   dedup_cells
         joined_with                   join_cells
         all_joined                    join_all_cells
         view::shown                   make_sheet
-        view::walk                    walk_lines
+      ~ view::walk                    walk_lines
         lines_holding                 list_lines_at
     """,
     "mx_slips": """
@@ -428,7 +428,7 @@ FUNCTIONS = {
         found_of                      find_tetra_in
         counted::uncounted            without_sheet
         begins_part                   is_part_start
-        counting::less                subtract_tally
+      ~ counting::less                subtract_tally
     """,
     "mx_count": """
         count::uncounted              without_sheet
@@ -437,7 +437,7 @@ FUNCTIONS = {
         goes_away                     is_transfer           # the next address is not the one after the step
         halting_step                  trace_of_halt
         octas_of                      to_octas
-        watched::only                 list_of_one
+      ~ watched::only                 list_of_one
     """,
     "mx_explain": """
         matching::fits                is_number_or_name_of
@@ -447,7 +447,7 @@ FUNCTIONS = {
         Book::thing                   look_up_thing
         Book::nearest                 nearest_label
         thing_of                      thing_of_subject
-        things::register              register_thing
+      ~ things::register              register_thing
         symbol_named                  find_symbol
         lookups::telling              find_load
         tells_line                    has_known_line
@@ -468,13 +468,13 @@ FUNCTIONS = {
         lines::around                 first_line_around
         first_given                   first_given_register
         changes::moves                has_moved_registers
-        changes::third                third_operand
-        names::near                   find_near_label
-        ring::mark                    mark_of_place
+      ~ changes::third                third_operand
+      ~ names::near                   find_near_label
+      ~ ring::mark                    mark_of_place
     """,
     "mx_pieces": """
         shown_byte                    printable_byte
-        characters::front             take_front
+      ~ characters::front             take_front
     """,
     "mx_debug": """
         going::done                   discard_step
@@ -503,7 +503,7 @@ FUNCTIONS = {
         stops::holds                  is_condition_met
         meets_any                     is_at_any_break
         visit::start                  start_visit
-        finding::locals               collect_locals
+      ~ finding::locals               collect_locals
     """,
     "mx_record": """
         Recorder::at                  step_number
@@ -532,8 +532,8 @@ FUNCTIONS = {
     """,
     "face_check": """
         columns::continues            is_continuation_byte
-        columns::front                take_front
-        columns::characters           count_characters
+      ~ columns::front                take_front
+      ~ columns::characters           count_characters
         warning_name                  warning_key
     """,
     "face_count": """
@@ -545,19 +545,19 @@ FUNCTIONS = {
         table_page                    object_table_page
         object_page                   object_json_page
         order_in                      read_order
-        object_json::wide             widen_line
+      ~ object_json::wide             widen_line
     """,
     "face_debug": """
         named_in                      read_named
         order_in                      read_order
-        talking::prompt               write_prompt
+      ~ talking::prompt               write_prompt
     """,
     "face_explain": """
         showing::shown                page_of_text
-        answer::explanation           explain_word
-        sections::wide                numbers_section       # by what is in it, not by its width
-        sections::narrow              operations_section
-        sections::middle              symbols_section
+      ~ answer::explanation           explain_word
+      ~ sections::wide                numbers_section       # by what is in it, not by its width
+      ~ sections::narrow              operations_section
+      ~ sections::middle              symbols_section
     """,
     "face_page": """
         source_told                   view_source_run
@@ -565,8 +565,8 @@ FUNCTIONS = {
         showing::told                 view_run
         showing::untold               view_without_run
         showing::shown                make_page
-        showing::record               record_program
-        showing::around               put_into_page
+      ~ showing::record               record_program
+      ~ showing::around               put_into_page
     """,
     "face_source": """
         accepted_name                 accepted_key
@@ -578,52 +578,52 @@ FUNCTIONS = {
     """,
     "test_language": """
         orders::told                  read_order
-        assembler::told               item_numbers
-        assembler::assembled          assemble_items
-        expressions::told             evaluate_field
-        lines::found                  find_statement
-        lines::begins_with            starts_with_line
-        operations::misnumbered       find_misnumbered
-        statements::names_behind      names_after_prefix
-        statements::placed            place_statement
-        statements::placed_behind     place_after_prefix
-        statements::told              effect_numbers
+      ~ assembler::told               item_numbers
+      ~ assembler::assembled          assemble_items
+      ~ expressions::told             evaluate_field
+      ~ lines::found                  find_statement
+      ~ lines::begins_with            starts_with_line
+      ~ operations::misnumbered       find_misnumbered
+      ~ statements::names_behind      names_after_prefix
+      ~ statements::placed            place_statement
+      ~ statements::placed_behind     place_after_prefix
+      ~ statements::told              effect_numbers
     """,
     "test_outside": """
         row::comes                    check_outcome
-        console::all_come             check_sessions
-        turns::begun                  begin_processors
-        watchers::heard               feed_watcher
+      ~ console::all_come             check_sessions
+      ~ turns::begun                  begin_processors
+      ~ watchers::heard               feed_watcher
     """,
     "test_parts": """
-        back::seen                    observe
-        images::seen                  observe_image
-        instructions::gives           check_answer
-        items::ended                  end_object
-        items::written_again          rewrite_object
-        listings::listed              list_object
-        listings::joined              join_listing
-        memory::seen                  observe_memory
-        rings::come_back              pop_all
+      ~ back::seen                    observe
+      ~ images::seen                  observe_image
+      ~ instructions::gives           check_answer
+      ~ items::ended                  end_object
+      ~ items::written_again          rewrite_object
+      ~ listings::listed              list_object
+      ~ listings::joined              join_listing
+      ~ memory::seen                  observe_memory
+      ~ rings::come_back              pop_all
     """,
     "test_replay": """
-        sessions::is_so               is_row_met
-        sessions::faults::is_so       is_fault_met
+      ~ sessions::is_so               is_row_met
+      ~ sessions::faults::is_so       is_fault_met
         sessions::first_wrong         find_mismatch         # 14 functions were first_wrong
-        sessions::faults::first_wrong find_fault_mismatch
-        recorded::walks::first_wrong  find_recording_mismatch
+      ~ sessions::faults::first_wrong find_fault_mismatch
+      ~ recorded::walks::first_wrong  find_recording_mismatch
         states::first_wrong           find_state_mismatch
         steps::first_wrong            find_step_mismatch
-        calls::first_wrong            find_call_mismatch
-        far::first_wrong              find_far_mismatch
-        searches::first_wrong         find_search_mismatch
-        visited::walks::first_wrong   find_walk_mismatch
-        programs::ordered             program_of_order
-        states::shows                 is_state_shown
-        steps::shows                  is_step_shown
-        calls::shows                  are_calls_shown
-        far::shows                    is_half_shown
-        visited::walks::shows         is_walk_shown
+      ~ calls::first_wrong            find_call_mismatch
+      ~ far::first_wrong              find_far_mismatch
+      ~ searches::first_wrong         find_search_mismatch
+      ~ visited::walks::first_wrong   find_walk_mismatch
+      ~ programs::ordered             program_of_order
+      ~ states::shows                 is_state_shown
+      ~ steps::shows                  is_step_shown
+      ~ calls::shows                  are_calls_shown
+      ~ far::shows                    is_half_shown
+      ~ visited::walks::shows         is_walk_shown
     """,
     "test_rows": """
         rows::done                    due_done
@@ -641,16 +641,16 @@ FUNCTIONS = {
         row::goes                     check_goes_on
         row::answers                  check_answer
         walk::come_back               count_returns
-        walk::started                 start_machine
+      ~ walk::started                 start_machine
     """,
     "test_views": """
-        objects::refused              fault_of_object
-        objects::counted              count_object_run
-        costs::first_wrong            find_cost_mismatch
-        count_pages::first_wrong      find_count_mismatch
-        pages::first_wrong            find_page_mismatch
-        search::first_wrong           find_search_mismatch
-        warnings::first_wrong         find_warning_mismatch
+      ~ objects::refused              fault_of_object
+      ~ objects::counted              count_object_run
+      ~ costs::first_wrong            find_cost_mismatch
+      ~ count_pages::first_wrong      find_count_mismatch
+      ~ pages::first_wrong            find_page_mismatch
+      ~ search::first_wrong           find_search_mismatch
+      ~ warnings::first_wrong         find_warning_mismatch
     """,
 }
 
@@ -679,7 +679,8 @@ CLAUSES_BY = [
     ("requires", "y", r"HasDigits", "digits_y"),
     ("requires", "z", r"HasDigits", "digits_z"),
     ("ensures", "over", r"HasWindow", "has_window"),
-    ("requires", "some", r"^(1 ≤|0 <)", "not_empty"),
+    ("requires", "some", r"^(1 ≤|0 <) length ", "not_empty"),
+    ("requires", "some", r"^(1 ≤|0 <) \w+$", "positive"),
     ("requires", "there", r"has_page", "has_page"),
     ("ensures", "present", r"≢ .*NoFile", "no_missing_file"),
     ("ensures", "words", r"is_usage \w+ ≡ false", "no_usage"),
