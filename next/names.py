@@ -23,13 +23,13 @@ from names_calls import Calls
 from names_index import File, Tree
 
 # crates that join others, so that a row finds its function in either
-JOINED = {"mx_plan": "mx_host", "mx_json": "mx_face", "mx_places": "mx_book"}
+JOINED = {"mx_plan": ["mx_host"], "mx_json": ["mx_face"], "mx_places": ["mx_book"]}
 ANTT_WORD = re.compile(r"(?<![\w'’])[A-Za-z_◌][\w'’-]*(?:\.[\w'’-]+)*")
 PART = re.compile(r"(?<![\w'’])[A-Za-z_][\w'’]*")
 # fields of a step, after which a path has no more names of steps
 FIELDS = {"ensures", "requires", "result", "new", "args", "now", "old", "invariant", "is", "was", "branch", "auto", "true", "false", "type_inv", "view_is"}
 PREFIXES = {"in", "in_ok", "in_err", "in_default", "if", "then", "else", "match", "loop", "index", "returns"}
-complaints, notes = [], []
+complaints, notes, gone = [], [], []
 
 
 def read(path):
@@ -89,13 +89,14 @@ class Renames:
 
     # ---- rows
     def crates_of(self, crate):
-        return [it for it in (crate, JOINED.get(crate)) if it in self.tree.crates]
+        return [it for it in [crate, *JOINED.get(crate, [])] if it in self.tree.crates]
 
     def found(self, crate, path):
         words = path.split("::")
         out = []
         for it in self.crates_of(crate):
-            out += [x for x in self.tree.functions if x.crate == it and x.path.split("::")[-len(words):] == words]
+            if not out:
+                out += [x for x in self.tree.functions if x.crate == it and x.path.split("::")[-len(words):] == words]
         if len(out) > 1:
             exact = [x for x in out if x.path == path]
             out = exact or out
@@ -106,7 +107,7 @@ class Renames:
         words = path.split("::")
         if not found:
             if not self.found(crate, "::".join([*words[:-1], new])):
-                complain(f"no function {crate}::{path}")
+                gone.append(f"{crate}::{path}")
             return
         owners = {(x.crate, x.module, x.owner) for x in found}
         if len(found) > 1 and len(owners) > 1:
@@ -158,7 +159,7 @@ class Renames:
                     self.clauses.setdefault(x.key, {})[kind, old] = new
                     hits += 1
         if not hits and not any(m is not None and m.text == new for x in made for _, m, _, _ in x.clauses):
-            complain(f"no clause {kind} {crate}::{path}.{old}")
+            gone.append(f"{kind} {crate}::{path}.{old}")
 
     def add_clauses_by(self, kind, old, pattern, new):
         """The clauses of a name whose statement matches a pattern, in all crates."""
@@ -1017,6 +1018,8 @@ def main():
         print(f"{n:6} {kind}")
     for it in notes:
         print("look:", it)
+    if gone:
+        print("gone:", " ".join(gone))
     for it in complaints:
         print("refused:", it)
     if is_dry:

@@ -455,6 +455,9 @@ FUNCTIONS = {
         begin_with_place              starts_with_place
     """,
     "mx_places": """
+        wanted_condition              parse_break_condition
+        wanted_address                parse_break_address
+        wanted_in                     parse_break
         thing_at                      thing_of_place
         named_thing                   resolve_name
         shown_thing                   resolve_for_display
@@ -477,10 +480,6 @@ FUNCTIONS = {
       ~ characters::front             take_front
     """,
     "mx_debug": """
-        going::done                   discard_step
-        wanted_condition              parse_break_condition
-        wanted_target                 parse_break_target
-        wanted_in                     parse_break
         examined_in                   parse_examined
         asked_units                   parse_examined_units
         obeying::goes                 is_step_word
@@ -527,7 +526,6 @@ FUNCTIONS = {
         copied_files                  copy_files
         made_of                       make_rest
         made::refused                 make_refused
-        named_in                      read_named
         order_in                      read_order
     """,
     "face_check": """
@@ -548,9 +546,11 @@ FUNCTIONS = {
       ~ object_json::wide             widen_line
     """,
     "face_debug": """
+      ~ talking::prompt               write_prompt
+    """,
+    "mx_inputs": """
         named_in                      read_named
         order_in                      read_order
-      ~ talking::prompt               write_prompt
     """,
     "face_explain": """
         showing::shown                page_of_text
