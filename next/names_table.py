@@ -49,7 +49,7 @@ FUNCTIONS = {
     "mx_stab": """
         values::value                 value_of_kind
         values::serial                split_serial          # gives the number and the bytes after it
-      ~ values::number                number_of_bytes       # 21 functions are called number; the others are of a fault
+        values::number                number_of_bytes       # 21 functions are called number; the others are of a fault
     """,
     "mx_stmt": """
         rounded_last                  last_after_mode       # the last operand after a rounding mode
@@ -103,7 +103,7 @@ FUNCTIONS = {
         Visible::keep_from            drop_first            # the first n go, the others become $0 ..
         Visible::keep_few             drop_first_few
         Visible::keep_fewer           drop_first_fewer
-      ~ Visible::keep_all             drop_first_any
+        Visible::keep_all             drop_first_any
         Visible::cut                  truncate
         Visible::become_those         copy_from
     """,
@@ -112,7 +112,7 @@ FUNCTIONS = {
         Ring::staying                 count_staying
         Ring::staying_at_pop          count_staying_at_pop
         Ring::octa_noted              overwritten_octa
-      ~ Ring::work                    perform               # Ring::note only notes it
+        Ring::work                    perform               # Ring::note only notes it
     """,
     "mx_code": """
         Instruction::coded            with_code             # a constructor
@@ -157,7 +157,7 @@ FUNCTIONS = {
         Machine::memory_noted         octa_before
         stopped_for                   stop_for
         names_no_special              has_bad_special
-      ~ Machine::advance_anyhow       advance_general
+        Machine::advance_anyhow       advance_general
       ~ machine::half                 tetra_of_half
       ~ noting::place_of              written_place
     """,
@@ -175,7 +175,7 @@ FUNCTIONS = {
         requests::arguments           read_arguments
       ~ requests::buffer              read_buffer
         service_numbered              service_by_number
-      ~ calls::carry_out              do_request            # seven functions were carry_out, four of them one below the other
+        calls::carry_out              do_request            # seven functions were carry_out, four of them one below the other
         meets_segment                 is_any_in_segment
     """,
     "mx_run": """
@@ -184,9 +184,9 @@ FUNCTIONS = {
         flagged_in                    find_flagged
         first_flagged                 find_first_flagged
         end_of_turn                   check_turn_end
-      ~ turning::carry_out            do_trap
-      ~ turning::finish               finish_with_answer
-      ~ turning::complete             finish_with_value
+        turning::carry_out            do_trap
+        turning::finish               finish_with_answer
+        turning::complete             finish_with_value
     """,
     "mx_multi": """
         told_at                       turn_without_trace
@@ -209,7 +209,7 @@ FUNCTIONS = {
         options::option               read_option
       ~ words::file                   read_file_words
       ~ words::defaults               default_settings
-      ~ values::number                parse_number
+        values::number                parse_number
         runs_file                     is_file_command
         takes_steps                   has_step_options
         takes_ring                    has_ring_option
@@ -227,8 +227,8 @@ FUNCTIONS = {
         shown_line                    format_subject
     """,
     "mx_con": """
-      ~ host_lines::grow              read_into_line        # reads a byte
-      ~ sessions::carry_out           obey_line
+        host_lines::grow              read_into_line        # reads a byte
+        sessions::carry_out           obey_line
         Bad::text                     message
     """,
     "mx_outcome": """
@@ -269,15 +269,15 @@ FUNCTIONS = {
       ~ last::least                   count_back            # how many steps are taken back
         takes_back                    is_taken_back
       ~ schedules::greatest           greatest_byte
-      ~ top::carry_out                do_command
-      ~ top::tell                     write_message
-      ~ top::say                      write_line
-      ~ top::finish                   write_all
+        top::carry_out                do_command
+        top::tell                     write_message
+        top::say                      write_line
+        top::finish                   write_all
     """,
     "mmixware": """
         answered                      print_text
         own_text                      find_own_text
-      ~ main::carry_out               run_watched
+        main::carry_out               run_watched
     """,
     "mmixview": """
         main::answered                answer_error
@@ -285,7 +285,7 @@ FUNCTIONS = {
         main::counted                 run_count
         main::paged                   run_page
       ~ main::form                    form_of
-      ~ main::carry_out               do_choice
+        main::carry_out               do_choice
     """,
     "mx_menu": """
         choice::chosen                find_choice
@@ -555,9 +555,9 @@ FUNCTIONS = {
     "face_explain": """
         showing::shown                page_of_text
       ~ answer::explanation           explain_word
-      ~ sections::wide                numbers_section       # by what is in it, not by its width
-      ~ sections::narrow              operations_section
-      ~ sections::middle              symbols_section
+        sections::wide                numbers_section       # by what is in it, not by its width
+        sections::narrow              operations_section
+        sections::middle              symbols_section
     """,
     "face_page": """
         source_told                   view_source_run
@@ -610,14 +610,14 @@ FUNCTIONS = {
       ~ sessions::is_so               is_row_met
       ~ sessions::faults::is_so       is_fault_met
         sessions::first_wrong         find_mismatch         # 14 functions were first_wrong
-      ~ sessions::faults::first_wrong find_fault_mismatch
-      ~ recorded::walks::first_wrong  find_recording_mismatch
+        sessions::faults::first_wrong find_fault_mismatch
+        recorded::walks::first_wrong  find_recording_mismatch
         states::first_wrong           find_state_mismatch
         steps::first_wrong            find_step_mismatch
-      ~ calls::first_wrong            find_call_mismatch
-      ~ far::first_wrong              find_far_mismatch
-      ~ searches::first_wrong         find_search_mismatch
-      ~ visited::walks::first_wrong   find_walk_mismatch
+        calls::first_wrong            find_call_mismatch
+        far::first_wrong              find_far_mismatch
+        searches::first_wrong         find_search_mismatch
+        visited::walks::first_wrong   find_walk_mismatch
       ~ programs::ordered             program_of_order
       ~ states::shows                 is_state_shown
       ~ steps::shows                  is_step_shown
@@ -646,11 +646,11 @@ FUNCTIONS = {
     "test_views": """
       ~ objects::refused              fault_of_object
       ~ objects::counted              count_object_run
-      ~ costs::first_wrong            find_cost_mismatch
-      ~ count_pages::first_wrong      find_count_mismatch
-      ~ pages::first_wrong            find_page_mismatch
-      ~ search::first_wrong           find_search_mismatch
-      ~ warnings::first_wrong         find_warning_mismatch
+        costs::first_wrong            find_cost_mismatch
+        count_pages::first_wrong      find_count_mismatch
+        pages::first_wrong            find_page_mismatch
+        search::first_wrong           find_search_mismatch
+        warnings::first_wrong         find_warning_mismatch
     """,
 }
 
