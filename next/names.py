@@ -678,7 +678,7 @@ class Renames:
             parts.update(PART.findall(text))
         rows = dict(names_table.WORDS)
         for part in parts:
-            if re.search(names_table.BEHIND, part) and part not in names_table.NOT_BEHIND and part not in rows and part not in self.old_names:
+            if re.search(names_table.BEHIND, part) and part not in names_table.NOT_BEHIND and part not in rows:
                 rows[part] = part.replace("behind", "after")
         laws = {x.name for x in self.tree.functions if x.is_test or re.search(r"laws?(/|\.rt)", x.file.path)}
         for old, new in rows.items():
@@ -886,10 +886,11 @@ def document_edits(renames, path, text):
             for it in re.finditer(r"`([^`\n]+)`", line):
                 code = it[1]
                 name = re.fullmatch(r"(?:([a-z]\w*)[.:]+)?(?:([A-Za-z]\w*)(?:\.|::))?([a-z_][\w'-]*)(?:\.([a-z_]\w*))?(?:\(\))?", code)
-                dotted = re.fullmatch(r"([a-z]+_[a-z_]+)\.((?:[A-Z]\w*\.)*)([\w'-]+)(?:\.(\w+))?", code)
+                dotted = re.fullmatch(r"([a-z]+_[a-z_]+)\.((?:[A-Z]\w*(?:\.|::))*)([\w'-]+)(?:\.(\w+))?", code)
                 if dotted and dotted[1] in renames.tree.crates:
                     base = at + it.start(1)
-                    fn = [x for x in renames.by_crate_name.get((dotted[1], dotted[3]), [])]
+                    owner = dotted[2].rstrip(".:")
+                    fn = [x for x in renames.by_crate_name.get((dotted[1], dotted[3]), []) if not owner or x.owner == owner]
                     if fn and dotted[4]:
                         for x in fn:
                             for kind in ("ensures", "requires"):
@@ -899,7 +900,7 @@ def document_edits(renames, path, text):
                     news = {renames.keys.get(x.key) for x in fn}
                     if len(news) == 1 and None not in news:
                         edits.append((base + dotted.start(3), base + dotted.end(3), news.pop()))
-                    new = renames.definitions.get((dotted[1], dotted[2].rstrip("."), dotted[3]))
+                    new = renames.definitions.get((dotted[1], dotted[2].rstrip(".:"), dotted[3]))
                     if new:
                         edits.append((base + dotted.start(3), base + dotted.end(3), new))
                     continue
@@ -915,8 +916,11 @@ def document_edits(renames, path, text):
                   if word[0] in renames.words and it.start() + word.start() not in have]
     for crate, moves in renames.path_moves().items():
         for old, new in moves:
-            for it in re.finditer(re.escape(f"crates/{crate}/{old}") + r"(?![\w])", text):
+            for it in re.finditer(re.escape(f"crates/{crate}/{old}") + ("" if old.endswith("/") else r"(?!\w)"), text):
                 edits.append((it.start(), it.end(), f"crates/{crate}/{new}"))
+    for page, key, old, new in names_table.DOCUMENTS:
+        if page == path and any(x.crate == key[0] and x.path == key[1] and x.key in renames.keys for x in renames.tree.functions):
+            edits += [(it.start(), it.end(), new) for it in re.finditer(re.escape(old), text)]
     return edits
 
 

@@ -717,6 +717,12 @@ DEFINITIONS = {
     """,
 }
 
+# what a page says of a function by a path within a folder, or by a name that many have: page, (crate, function), old, new
+DOCUMENTS = [
+    ("CONTRIBUTING.md", ("mx_con", "sessions::carry_out"), "sessions/carry_out/Answers.antt", "sessions/obey_line/Answers.antt"),
+    ("CONTRIBUTING.md", ("mx_con", "sessions::carry_out"), "`carry_out`", "`obey_line`"),
+]
+
 # src|specs|proofs OLD NEW
 MODULES = {
     "mx_warn": "src idle unused_bases           # an idle GREG is one that nothing uses",
