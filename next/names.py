@@ -937,7 +937,7 @@ def path_moves(self):
     for place in glob.glob("crates/*/proofs/**/", recursive=True):
         it = re.fullmatch(r"crates/(\w+)/(proofs/.+)/", place)
         last = it and it[2].split("/")[-1]
-        if it and last in self.words:
+        if it and last in self.words and (it[1], tuple(it[2].split("/")[1:])) not in self.folder_names:
             out.setdefault(it[1], []).append((it[2] + "/", "/".join(it[2].split("/")[:-1] + [self.words[last]]) + "/"))
     for (crate, words), new in self.folder_names.items():
         out.setdefault(crate, []).append((f"proofs/{'/'.join(words)}/", f"proofs/{'/'.join([*words[:-1], new])}/"))
