@@ -49,7 +49,7 @@ offers '' mmixware sim --last ''
 offers a.mms mmixware run --last 5 a
 offers '' mmixware other ''
 
-offers '--help|--version|check|count|debug|explain|help|list|lsp|page|where' mmixview ''
+offers '--help|--version|check|count|dap|debug|explain|help|list|lsp|page|where' mmixview ''
 offers 'check|count' mmixview c
 offers 'a.mms|b c.mms|programs' mmixview list ''
 offers '' mmixview list a.mms ''
@@ -77,7 +77,7 @@ offers '--file|--input|--json|--ring|--steps' mmixview page -
 offers 'a.mms|b c.mms|programs' mmixview page --json ''
 offers notes mmixview page --input n
 offers 'a.mms|b c.mms|d.mmo|notes|programs' mmixview page a.mms ''
-offers 'check|count|debug|explain|list|lsp|page|where' mmixview help ''
+offers 'check|count|dap|debug|explain|list|lsp|page|where' mmixview help ''
 
 offers programs grade ''
 offers '--shield|--show|--size|--sshlogin|--steps|--suffix' grade --s

@@ -3,7 +3,8 @@
 
 - Links lead to files, and to headings in them. Each crate has a row in docs/ARCHITECTURE.md.
 - Names in backquotes are there: crates `mx_..`, paths, the modules that docs/ARCHITECTURE.md names, and on each page the clauses
-  and definitions `CRATE.NAME`. In a path a word of capitals, as NAME, or a * means any word.
+  and definitions `CRATE.NAME`. In a path a word of capitals, as NAME, or a * means any word. A name with an underscore is a word of
+  the sources or of a script, but for docs/PROVING.md and docs/GRADING.md, which name what is not here.
 - A block with a path of crates/ quotes that file.
 - Each crate names those that crates.txt lists after it.
 - A table of CONTRIBUTING.md with the head "`WORD` in" names the files of sources, definitions and proofs that have the word.
@@ -154,6 +155,27 @@ def check_claims():
                 crate, _, rest = name.partition(".")
                 if crate not in sources.crates() or not is_claim(crate, rest):
                     wrong(where, f"there is no such clause or definition as {name}")
+
+
+def known_words():
+    """The words of sources, definitions, lemmas and scripts, and the names of their files."""
+    paths = [it for end in ("rt", "antt") for it in glob.glob(f"crates/**/*.{end}", recursive=True) if "/out/" not in it]
+    scripts = [it for part in ("checks", "editors", "grading", "packaging", "bench") for it in glob.glob(f"{part}/**/*", recursive=True)]
+    paths += [it for it in [*scripts, "grade", "install", "try", "release"] if os.path.isfile(it) and not it.endswith((".md", ".pyc"))]
+    return {word for path in paths for word in re.findall(r"\w+", f"{path} {text_of(path)}")}
+
+
+def check_words():
+    """A name with an underscore in backquotes is a word of the repository."""
+    known = known_words()
+    for page in pages():
+        if page in ("docs/PROVING.md", "docs/GRADING.md", "docs/CLAIMS.md"):
+            continue
+        for where, line in lines_of(page):
+            for name in re.findall(r"`([^`\s]+)`", line):
+                for word in re.findall(r"\w+_\w+", name):
+                    if word not in known:
+                        wrong(where, f"there is no {word} in the repository")
 
 
 def check_quotes():
@@ -362,7 +384,7 @@ def main(words):
         FOLDER = os.path.realpath(f"{words[1]}/bin")
         GRADER = f"{FOLDER}/grade"
     else:
-        checks = [check_links_and_paths, check_needs, check_architecture, check_claims, check_quotes, check_file_tables, check_messages, check_crates, *checks]
+        checks = [check_links_and_paths, check_needs, check_architecture, check_claims, check_words, check_quotes, check_file_tables, check_messages, check_crates, *checks]
     os.chdir(TOP)
     for check in checks:
         check()

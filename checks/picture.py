@@ -4,9 +4,8 @@
 usage: checks/picture.py          writes the picture
        checks/picture.py --check  says whether the picture is that of crates.txt, and no chain is too long
 A crate is in the column of its area and in a layer above all that it depends on; a line leads from a crate to each one
-that it depends on and that no other line leads to. No line is drawn to mx_word, on which all but mx_ops and mx_costs
-depend; crates of tests (test_...) and of laws alone (law_...) have none. No chain may have more than 13 crates, those of tests
-aside.
+that it depends on and that no other line leads to. No line is drawn to mx_word, which is below most crates; crates of tests (test_...)
+and of laws alone (law_...) have none. No chain may have more than 14 crates, those of tests aside.
 """
 import os
 import sys
@@ -20,11 +19,17 @@ AREAS = [
     ("host and runs", "mx_host mx_plan mx_trap mx_run mx_back mx_watch mx_multi mx_real"),
     ("console", "mx_text mx_cmd mx_show mx_con"),
     ("program", "mx_words mx_outcome mx_files mx_begin mx_dump mx_top mmixware"),
-    ("views", "mx_marks mx_sentences mx_walk mx_view mx_slips mx_warn mx_costs mx_count mx_object mx_ask mx_replay mx_record mx_json mx_face mx_explain mx_operations mx_messages "
-     "mx_book mx_pieces mx_tell mx_places mx_debug mx_foreign page_parts mx_inputs page_run face_source face_check face_count face_explain face_debug face_page mx_frames mx_wire mx_occurrences mx_diagnostics mx_references mx_changes mx_lsp face_lsp mx_menu mmixview"),
+    (
+        "views",
+        "mx_marks mx_sentences mx_walk mx_view mx_slips mx_warn mx_costs mx_count mx_object mx_ask mx_replay mx_record "
+        "mx_json mx_face mx_explain mx_operations mx_messages mx_book mx_pieces mx_tell mx_places mx_debug mx_foreign "
+        "page_parts mx_inputs page_run face_source face_check face_count face_explain face_debug face_page mx_frames "
+        "mx_wire mx_occurrences mx_diagnostics mx_references mx_changes mx_lsp mx_serve face_lsp mx_adapter mx_panes mx_dap "
+        "face_dap mx_menu mmixview"
+    ),
 ]
 BASE = "mx_word"
-CHAIN = 13
+CHAIN = 14
 WIDE, HIGH, GAP, STEP, LEFT, TOP = 96, 26, 10, 74, 16, 62
 FILL = ["#e8f0fa", "#eaf5e6", "#fdf1dc", "#f9e6e6", "#efe8f7", "#eeeeee", "#e3f4f2"]
 

@@ -41,7 +41,7 @@ done
 # of its own, so that it does not grow, and its reason in docs/DECISIONS.md
 most_lines() {
   case $1 in
-    mx_core) echo 4648 ;;
+    mx_core) echo 4650 ;;
     mx_mmo) echo 1519 ;;
     test_*) echo 5000 ;;
     *) echo 1500 ;;
@@ -96,7 +96,13 @@ if command -v python3 >/dev/null; then
   # the server for editors answers as the program's other commands do, and editors show that, where they are there
   python3 checks/lsp/try.py >/dev/null || bad=1
   python3 checks/lsp/clients.py >/dev/null || bad=1
+  # the debug adapter keeps to its protocol, and editors show by it what a run leaves, where they are there
+  python3 checks/dap/schema.py >/dev/null || bad=1
+  python3 checks/dap/clients.py >/dev/null || bad=1
 fi
+
+# the patch of the recipe of CONTRIBUTING.md applies
+sh checks/recipe.sh || bad=1
 
 # objects of a compiler for C run, where they are there
 sh checks/c.sh >/dev/null || bad=1

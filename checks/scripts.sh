@@ -284,6 +284,7 @@ install: to/share/vim/vimfiles/ftdetect/mmixal.vim
 install: to/share/vim/vimfiles/ftplugin/mmixal.vim
 install: to/share/vim/vimfiles/compiler/mmixware.vim
 install: to/share/emacs/site-lisp/mmixal-mode.el
+install: to/share/emacs/site-lisp/mmixal-dap.el
 install: to/share/org.kde.syntax-highlighting/syntax/mmixal.xml
 install: to/share/gtksourceview-4/language-specs/mmixal.lang
 install: to/share/gtksourceview-5/language-specs/mmixal.lang

@@ -10,7 +10,7 @@ _mmixview_files() {
   compopt -o filenames 2>/dev/null
 }
 
-# how many words after the command are no options: the options stand before the file
+# how many words after the command are no options: options come before the file
 _mmixview_given() {
   local at=2 given=0
   while [ "$at" -lt "$COMP_CWORD" ]; do
@@ -29,7 +29,7 @@ _mmixview() {
   local given words='' files=none
   given=$(_mmixview_given)
   case $COMP_CWORD/$command/$given/$before in
-    1/*) words='list check where count debug page explain lsp help --help --version' ;;
+    1/*) words='list check where count debug page explain lsp dap help --help --version' ;;
     */list/0/*) words='--json' files=.mms ;;
     */check/0/*) words='--json --gnu --no-warnings' files=.mms ;;
     */where/0/*) words='--json' ;;
@@ -49,7 +49,7 @@ _mmixview() {
     */page/0/--input | */page/0/--file) files='' ;;
     */page/0/*) words='--json --input --file --ring --steps' files=.mms ;;
     */page/*) files='' ;;
-    2/help/*) words='list check where count debug page explain lsp' ;;
+    2/help/*) words='list check where count debug page explain lsp dap' ;;
   esac
   if [ "$files" != none ] && { [ -z "$words" ] || [ "${word#-}" = "$word" ]; }; then
     _mmixview_files "$files" "$word"

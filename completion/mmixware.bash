@@ -10,7 +10,7 @@ _mmixware_files() {
   compopt -o filenames 2>/dev/null
 }
 
-# how many words after the command are no options: the options stand before the file
+# how many words after the command are no options: options come before the file
 _mmixware_given() {
   local at=2 given=0
   while [ "$at" -lt "$COMP_CWORD" ]; do

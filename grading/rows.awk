@@ -123,7 +123,7 @@ function padded(text) {
   return sprintf("%s%" (wide - columns(text)) "s", text, "")
 }
 
-# whether a test is told before another: a visible one before a hidden one, of which there is little to tell
+# whether a test is shown before another: a visible one before a hidden one, of which little can be shown
 function is_told_before(i, first) {
   return !first || is_hidden[first] && !is_hidden[i] && !revealed
 }

@@ -65,7 +65,7 @@ inside() {
   (become_program "$@") <&5 >&6 2>&7 3>&- 5<&- 6>&- 7>&-
   status=$?
   if [ "$shield" = bwrap ]; then
-    # bwrap tells the status only of a program that was begun
+    # bwrap gives the status only of a program that was started
     status=$(sed -n 's/.*"exit-code": *\([0-9]*\).*/\1/p' "$run/json")
     [ -n "$status" ] || exit 1
   fi

@@ -55,7 +55,7 @@ def shown(command, folder, text):
 
 
 def checked(text, folder):
-    """The lines of the faults that `check --json` tells."""
+    """The lines of the faults that `check --json` prints."""
     source = os.path.join(folder, "checked.mms")
     with open(source, "w", encoding="utf-8") as out:
         out.write(text)

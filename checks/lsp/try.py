@@ -36,7 +36,7 @@ def units(text):
 
 
 def ranges(told):
-    """The faults of `check --json`, as the server tells them."""
+    """The faults of `check --json`, as the server reports them."""
     found = []
     for fault in told["faults"][:20]:
         line = (fault["text"] or "").encode()
@@ -110,6 +110,11 @@ def main():
     want("Main stays", "error" in new, new)
     new = server.at("rename", URI, 1, 0, newName="Main")
     want("no name twice", "error" in new, new)
+    server.change(URI, PROGRAM_TEXT.replace("\tPBNZ", "3H\tSWYM\n\tPBNZ"))
+    for line, name in ((3, "3H"), (4, "2H")):
+        new = server.at("rename", URI, line, 0, newName=name)
+        want("2B would lead elsewhere", "another one" in new["error"]["message"], new)
+    server.change(URI, PROGRAM_TEXT)
     outline = server.ask("textDocument/documentSymbol", {"textDocument": {"uri": URI}})["result"]
     want("the labels", [s["name"] for s in outline] == ["Size", "Main"], outline)
     words = server.at("completion", URI, 2, 6)["result"]["items"]

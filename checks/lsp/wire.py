@@ -1,90 +1,46 @@
-"""The wire of the Language Server Protocol: messages in frames, and a server that is talked to."""
-import json
+"""The wire of the Language Server Protocol: requests, notifications, and a server that is talked to."""
 import os
-import subprocess
 import sys
 
-HERE = os.path.dirname(os.path.dirname(os.path.dirname(os.path.abspath(__file__))))
+sys.path.append(os.path.dirname(os.path.dirname(os.path.abspath(__file__))))
+import frames  # noqa: E402
+from frames import bodies, frame, framed  # noqa: E402, F401
 
 
 def program(words):
-    """The program that is tried: the first word, or the one that is kept, if it is that of these sources. Without one nothing is tried."""
-    if words:
-        return os.path.abspath(words[0])
-    ready = "here=$PWD tool=mmixview; . packaging/kept.sh; is_ready"
-    if subprocess.run(["sh", "-c", ready], cwd=HERE, stdout=subprocess.DEVNULL, stderr=subprocess.DEVNULL).returncode == 0:
-        return os.path.join(HERE, ".built", "mmixview")
-    print("checks/lsp: mmixview is not built; nothing is tried")
-    sys.exit(0)
-
-
-def frame(body):
-    """The frame of a body."""
-    return b"Content-Length: %d\r\n\r\n" % len(body) + body
+    """The program that is tried."""
+    return frames.program(words, "checks/lsp")
 
 
 def message(method, params, mark=None):
-    """A request, where it has a mark, or else a notification."""
+    """A request, where it has a mark, or else a notification, in its frame."""
     it = {"jsonrpc": "2.0", "method": method, "params": params}
     if mark is not None:
         it["id"] = mark
-    return frame(json.dumps(it).encode())
-
-
-def bodies(stream):
-    """The bodies of the frames of a stream, and whether it ends behind one."""
-    found = []
-    while stream:
-        head, between, rest = stream.partition(b"\r\n\r\n")
-        if not between:
-            return found, False
-        fields = dict(line.split(b": ", 1) for line in head.split(b"\r\n"))
-        length = int(fields[b"Content-Length"])
-        if len(rest) < length:
-            return found, False
-        found.append(json.loads(rest[:length]))
-        stream = rest[length:]
-    return found, True
+    return framed(it)
 
 
 def session(program, stream, seconds=60):
     """What the server writes on a stream, and its status."""
-    run = subprocess.run([program, "lsp"], input=stream, stdout=subprocess.PIPE, stderr=subprocess.PIPE, timeout=seconds)
-    return run.stdout, run.returncode
+    return frames.session([program, "lsp"], stream, seconds)
 
 
-class Server:
+class Server(frames.Server):
     """A server that is talked to, one message after another."""
 
     def __init__(self, program):
-        self.run = subprocess.Popen([program, "lsp"], stdin=subprocess.PIPE, stdout=subprocess.PIPE)
+        super().__init__([program, "lsp"])
         self.mark = 0
         self.told = {}
 
-    def read(self):
-        """The next message of the server."""
-        length = None
-        while True:
-            line = self.run.stdout.readline()
-            if not line:
-                raise EOFError
-            if line == b"\r\n":
-                break
-            name, value = line.split(b":", 1)
-            if name.lower() == b"content-length":
-                length = int(value)
-        return json.loads(self.run.stdout.read(length))
-
     def tell(self, method, params):
         """A notification."""
-        self.run.stdin.write(message(method, params))
-        self.run.stdin.flush()
+        self.send({"jsonrpc": "2.0", "method": method, "params": params})
 
     def ask(self, method, params):
         """A request: its answer. Diagnostics that come before it are kept."""
         self.mark += 1
-        self.run.stdin.write(message(method, params, self.mark))
-        self.run.stdin.flush()
+        self.send({"jsonrpc": "2.0", "method": method, "params": params, "id": self.mark})
         while True:
             it = self.read()
             if it.get("id") == self.mark:
@@ -121,5 +77,4 @@ class Server:
         """The status after shutdown and exit."""
         self.ask("shutdown", None)
         self.tell("exit", None)
-        self.run.stdin.close()
-        return self.run.wait(10)
+        return self.close()

@@ -1,5 +1,5 @@
 #!/usr/bin/env python3
-"""Runs the built program and the model on the same random cases, and tells each difference.
+"""Runs the built program and the model on the same random cases, and prints each difference.
 
 Compared are the status and the message line, standard output, standard error, and the files that are left. With --self
 the model is compared with itself instead: the window of registers with the list of hidden ones, up to what only a
@@ -115,7 +115,7 @@ def main():
     parser.add_argument("--self", action="store_true", dest="own", help="compare the model with itself")
     parser.add_argument("--cases", type=int, default=100)
     parser.add_argument("--seed", type=int, default=1)
-    parser.add_argument("--kind", action="append", help="source, program, object, console, words or pages; may repeat")
+    parser.add_argument("--kind", action="append", help="source, program, object, console, followed, multi, words or pages; may repeat")
     arguments = parser.parse_args()
     if bool(arguments.program) == arguments.own:
         parser.error("give --program PATH or --self")

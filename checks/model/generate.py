@@ -15,6 +15,37 @@ from sources import Sources
 
 RINGS = ("256", "256", "512", "1024", "2048", "65536")
 
+# sources for processors that meet on one octa
+SHARED = (""" LOC Data_Segment
+ GREG @
+Sum OCTA 0
+Lock OCTA 0
+ LOC #100
+Main PUT rP,0
+ SET $3,1
+ CSWAP $3,Lock
+ BZ $3,Main
+ LDO $3,Sum
+ ADDU $3,$3,$1
+ STO $3,Sum
+ STCO 0,Lock
+ SET $255,$3
+ TRAP 0,Halt,0
+""", """ LOC Data_Segment
+ GREG @
+Sum OCTA 0
+ LOC #100
+Main SETL $5,9
+1H LDO $3,Sum
+ ADDU $3,$3,$0
+ STO $3,Sum
+ SUBU $5,$5,1
+ PBNZ $5,1B
+ PBZ $1,2F
+ POP 0,0
+2H TRAP 0,Halt,0
+""")
+
 
 @dataclass
 class Case:
@@ -36,7 +67,7 @@ class Cases:
 
     def case(self, kinds=None):
         """A case of a kind, by weight."""
-        weights = 3 * ("source",) + 4 * ("program",) + 2 * ("object",) + 2 * ("console",) + ("words",)
+        weights = 3 * ("source",) + 4 * ("program",) + 2 * ("object",) + 2 * ("console",) + 2 * ("followed",) + 2 * ("multi",) + ("words",)
         kind = self.rng.choice(kinds or weights)
         if not kinds and self.rng.random() < 0.002:
             kind = "pages"
@@ -75,6 +106,25 @@ class Cases:
             files[other], name = files[name], other
         words = [command, *self.options(self.rng.choice((500, 3000, 10000))), name, *arguments]
         return Case(self.seed, "program", words, files, self.input())
+
+    def followed(self):
+        """A program whose run is reported, or whose last steps are taken back."""
+        case = self.program()
+        wanted = ["--report"] if self.rng.random() < 0.4 else ["--last", str(self.rng.choice((1, 2, 5, 40, 1024)))]
+        place = self.rng.choice((1, self.rng.choice([at for at, word in enumerate(case.words) if word == "--steps"])))
+        return Case(self.seed, "followed", case.words[:place] + wanted + case.words[place:], case.files, case.given)
+
+    def multi(self):
+        """An object that several processors run by a schedule, which may be faulty."""
+        rng = self.rng
+        case = self.program()
+        text = rng.choice(SHARED).encode() if rng.random() < 0.3 else case.files.get("p.mms") or next(iter(case.files.values()))
+        assembly = Assembly(text)
+        files = {"in.txt": case.files["in.txt"], "p.mmo": assembly.object()}
+        most = rng.choice((1, 2, 2, 3, 5, 8, 8 if rng.random() < 0.9 else 10))
+        files["turns"] = bytes(rng.randrange(most) for _ in range(rng.choice((1, 2, 3, 7, 20)) if rng.random() < 0.97 else 0))
+        words = ["multi", *self.options(rng.choice((40, 500, 3000))), "turns", "p.mmo"]
+        return Case(self.seed, "multi", words, files, self.input())
 
     def input(self):
         """What a program finds on its standard input."""
@@ -121,19 +171,19 @@ class Cases:
 
     def words(self):
         """Random words."""
-        pool = ("run sim asm gen type --ring --steps -i --dump 256 512 300 1 10 0 0000000000010 x -1 p.mms none.mms p.mmo - "
-                "-- --x 1000000000000 1000000000001 99999999999999 10000 10001 65536 131072").split() + [""]
+        pool = ("run sim asm gen type multi --ring --steps -i --dump --report --last 256 512 300 1 10 0 0000000000010 x -1 p.mms none.mms "
+                "p.mmo turns - -- --x 1024 1025 1000000000000 1000000000001 99999999999999 10000 10001 65536 131072").split() + [""]
         words = [self.rng.choice(pool) for _ in range(self.rng.randrange(7))]
         if self.rng.random() < 0.8:
-            words[:1] = [self.rng.choice(("run", "sim", "asm", "gen", "type"))]
+            words[:1] = [self.rng.choice(("run", "sim", "asm", "gen", "type", "multi"))]
         if words[:1] == ["gen"] and any(int(it) > 30 for it in words[1:] if it.isdigit() and it not in RINGS):
             words = ["gen", "--ring", self.rng.choice(RINGS), str(self.rng.randrange(12))]
-        files = {"p.mms": b"Main SET $255,7\n TRAP 0,Halt,0\n", "p.mmo": b""}
+        files = {"p.mms": b"Main SET $255,7\n TRAP 0,Halt,0\n", "p.mmo": b"", "turns": b"\0\1"}
         return Case(self.seed, "words", words, files)
 
 
 def case_of(seed, kinds=None):
-    """The case of a seed, of one of the kinds told."""
+    """The case of a seed, of one of these kinds."""
     return Cases(seed).case(kinds)
 
 

@@ -96,3 +96,14 @@ BAD_OBJECTS = {
     "98090100 980a00ff 00000000 00000000 980b0000 00000001 980c0001": (21, 71),
     "98090100 980a00ff 00000000 00000000 980b0000 40404040 980c0001": (24, 70),
 }
+
+# processors that add 1 to one octa: by a load and a store, by CSWAP, and while they have a lock
+LOST = ("_LOC Data_Segment/_GREG @/Sum OCTA 0/_LOC #100/Main LDO $3,Sum/_ADDU $3,$3,1/_STO $3,Sum/_TRAP 0,Halt,0")
+COUNTER = ("_LOC Data_Segment/_GREG @/Sum OCTA 0/_LOC #100/Main LDO $3,Sum/_PUT rP,$3/_ADDU $4,$3,1/_CSWAP $4,Sum/_BZ $4,Main/"
+           "_TRAP 0,Halt,0")
+LOCK = ("_LOC Data_Segment/_GREG @/Sum OCTA 0/Lock OCTA 0/_LOC #100/Main PUT rP,0/_SET $3,1/_CSWAP $3,Lock/_BZ $3,Main/"
+        "_LDO $3,Sum/_ADDU $3,$3,1/_STO $3,Sum/_STCO 0,Lock/_TRAP 0,Halt,0")
+
+# a program that loses its way: the address is in $0, and it takes $1
+ASTRAY = "_LOC #100/Main SETL $2,5/_GO $0,$1,0"
+SUM = "_LOC #100/Main SETL $0,0/_SETL $1,10/Loop ADD $0,$0,$1/_SUB $1,$1,1/_PBP $1,Loop/_SET $255,$0/_TRAP 0,Halt,0"

@@ -92,7 +92,7 @@ class Sources:
                          f"$({number}+256)-256" if kind > 2 else f"$({number})", f"{number}+$0")
 
     def target(self):
-        """The target of a relative address, with the label behind or ahead."""
+        """The target of a relative address, with the label before or after it."""
         kind = self.rng.random()
         if kind < 0.25:
             return f"{self.rng.randrange(4)}F"

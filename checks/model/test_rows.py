@@ -15,15 +15,15 @@ from mmixmodel.machine import Machine
 from mmixmodel.assembler import Assembly
 from mmixmodel.program import mmixware
 from mmixmodel.stack import WindowStack
-from rows import (BAD_OBJECTS, CONSOLE_OUTPUT, FIRST, FIRST_OBJECT, FRAME, HELLO, HELLO_OBJECT, INSERTION_END, LINE,
-                  OVERFLOW, PLACED, RECURSION, REFUSALS, SMALL_OBJECT, SPILL)
+from rows import (ASTRAY, BAD_OBJECTS, CONSOLE_OUTPUT, COUNTER, FIRST, FIRST_OBJECT, FRAME, HELLO, HELLO_OBJECT, INSERTION_END,
+                  LINE, LOCK, LOST, OVERFLOW, PLACED, RECURSION, REFUSALS, SMALL_OBJECT, SPILL, SUM)
 
 BASE = 0x6 << 60
 counts = [0, 0]
 
 
 def check(name, got, wanted):
-    """Counts one row, and tells where it is wrong."""
+    """Counts one row, and prints where it is wrong."""
     counts[got != wanted] += 1
     if got != wanted:
         print(f"{name}:\n  got    {got!r}\n  wanted {wanted!r}")
@@ -92,7 +92,7 @@ def octa(number):
 def value(text, back=None):
     """The value of an expression over a machine without labels, or its fault."""
     known = Knowledge()
-    known.locals_behind = back or {}
+    known.last_locals = back or {}
     try:
         found = [value_of(it, known) for it in read_operands(text.encode("latin-1"))]
         return found[0] if len(found) == 1 else found
@@ -476,6 +476,71 @@ def test_console():
     check("spent at a break", console(FIRST, "bx104\nc\n", "run -i --steps 1 p.mms")[0], ("StepsSpent", 1))
 
 
+def by_turns(text, turns, words="multi --dump turns p.mmo"):
+    """An object by a schedule: the outcome, and the lines but for those of code."""
+    host = MemoryHost(files={b"turns": bytes(turns), b"p.mmo": Assembly(source_of(text)).object()})
+    ended = mmixware(words.split(), host)
+    shown = [line for line in bytes(host.output).decode().splitlines() if not line.startswith("M#0")]
+    return (ended.kind, *ended.values), shown
+
+
+def test_processors():
+    """Processors that take turns."""
+    octa_row = "M#2000000000000000=#000000000000000"
+    rows = [(LOST, (0, 1), 4, 4, 1), (LOST, (0, 0, 0, 0, 1), 4, 4, 2), (COUNTER, (0, 1), 6, 11, 2), (LOCK, (0, 1), 9, 17, 2)]
+    for text, turns, first, second, total in rows:
+        check(f"turns {turns} of {text[:60]}", by_turns(text, turns),
+              (("Done", 0), [f"processor 0 halted 0 steps {first}", f"processor 1 halted 0 steps {second}", octa_row + str(total)]))
+    check("one that no byte names", by_turns("Main SET $255,$0/_TRAP 0,0,0", (1,), "multi turns p.mmo"),
+          (("Done", 0), ["processor 0 running steps 0", "processor 1 halted 2 steps 2"]))
+    check("its own number", by_turns("Main SET $255,$1/_TRAP 0,0,0", (0, 2), "multi turns p.mmo")[1][2], "processor 2 halted 2 steps 2")
+    check("stopped", by_turns("Main PBZ $1,@+8/_POP 0,0/_JMP Main", (0, 1), "multi turns p.mmo"),
+          (("Stopped", 4, 115), ["processor 0 running steps 2", "processor 1 stopped 115 steps 1"]))
+    check("spent", by_turns("Main JMP Main", (0, 1), "multi --steps 3 turns p.mmo"),
+          (("StepsSpent", 3), ["processor 0 running steps 2", "processor 1 running steps 1"]))
+    check("halted with the last step", by_turns("Main TRAP 0,0,0", (0, 1), "multi --steps 2 turns p.mmo")[0], ("Done", 0))
+    faults = {(): 0, (0, 9): 1, (8,): 0, (0, 7, 8, 9): 2}
+    for turns, place in faults.items():
+        check(f"schedule {turns}", by_turns(FIRST, turns), (("BadSchedule", place), []))
+    check("a long one", by_turns(FIRST, bytes((1 << 22) + 1))[0], ("BadSchedule", 1 << 22))
+    check("no object", by_turns(FIRST, (0,), "multi turns none")[0], ("NoFile",))
+    check("no schedule", by_turns(FIRST, (0,), "multi none p.mmo")[0], ("NoFile",))
+
+
+def test_reports():
+    """What the steps of a run did, after the message."""
+    profile = "profile 20 ADD 10\nprofile 25 SUB 10\nprofile 55 PBP 10\nprofile c1 OR 1\nprofile e3 SETL 2\ncover 6\n"
+    check("sum", run(SUM, "run --report p.mms").errors, profile)
+    check("refused", run("Main FROB", "run --report p.mms").errors, "line 1: 39 UnknownOpcode\ncover 0\n")
+    check("missing", Ran(None, "run --report none.mms").errors, "no file\ncover 0\n")
+    check("usage", Ran(None, "run --report").errors, "usage fault 7 MissingFile at word 2\n")
+    check("stopped", run(LOST.replace("TRAP 0,Halt,0", "POP 0,0"), "run --report p.mms").errors,
+          "#000000000000010c: 115 Underflow\nprofile 23 ADDU 1\nprofile 8d LDO 1\nprofile ad STO 1\ncover 3\n"
+          "write #0000000000000108 #2000000000000000 8\n")
+    many = "_LOC Data_Segment/_GREG @/x OCTA 0/_LOC #100/Main SETL $1,150/1H STB $1,x/_SUB $1,$1,1/_PBP $1,1B/_TRAP 0,0,0"
+    check("a hundred writes", run(many, "run --report p.mms").errors.count("write #0000000000000104 #2000000000000000 1\n"), 100)
+
+
+def test_last_steps():
+    """Steps that are taken back."""
+    shown = ("steps 2 at #4000000000000008 L 3 G 255\nsteps 1 at #0000000000000104 L 3 G 255\n"
+             "steps 0 at #0000000000000100 L 2 G 255\n")
+    ran = run(ASTRAY, "run --last 3 p.mms")
+    check("astray", (ran.output, ran.errors), (shown, "#400000000000000c: 124 UnknownTrap\n"))
+    check("no more than there are", run(ASTRAY, "run --last 1024 p.mms").output.count("\n"), 3)
+    check("one", run(ASTRAY, "run --last 1 p.mms").output, shown[:39])
+    check("dump of the last", run(ASTRAY, "run --last 2 --dump p.mms").output.splitlines()[2:4], ["rB=#0000000000000000", "rD=#0000000000000000"])
+    check("its step", "rC=#0000000000000001" in run(ASTRAY, "run --last 2 --dump p.mms").output.splitlines(), True)
+    check("halted", run(FIRST, "run --last 3 p.mms").shown(), (("Done", 3), "hi\n"))
+    after = "_LOC #100/Main GETA $255,1F/_TRAP 0,Fputs,StdOut/_SET $1,5/_POP 0,0/1H BYTE \"a\",10,0"
+    check("after a trap", run(after, "run --last 9 p.mms").output, "a\nsteps 2 at #0000000000000108 L 2 G 255\n")
+    twice = "_LOC #100/Main GETA $255,1F/_TRAP 0,Fputs,StdOut/_GETA $255,1F/_TRAP 0,Fputs,StdOut/_SET $1,5/_POP 0,0/1H BYTE \"a\",10,0"
+    check("after two traps", run(twice, "run --last 9 p.mms").output, "a\na\nsteps 4 at #0000000000000110 L 2 G 255\n")
+    check("a thousand and twenty-four", run("Main JMP Main", "run --steps 1100 --last 1024 p.mms").output.count("\n"), 1024)
+    check("spent", run("Main JMP Main", "run --steps 2 --last 1 p.mms").shown(), (("StepsSpent", 2), "steps 1 at #0000000000000000 L 2 G 255\n"))
+    check("no line is written", run(ASTRAY, "run --last 3 p.mms", failing=(3,)).shown(), (("HostFault",), ""))
+
+
 def test_words():
     """Faults of the words."""
     rows = {"": (1, 0), "run --ring 300 a.mms": (6, 2), "asm a.mms": (7, 2), "run -x a.mms": (3, 1), "gen 0": (5, 1),
@@ -483,7 +548,10 @@ def test_words():
             "gen": (7, 1), "gen 1 2": (8, 2), "run --steps -5 a": (5, 2), "run -": (3, 1), "asm -i a b": (3, 1),
             "run --steps 1000000000001 a": (5, 2), "run --ring x a": (5, 2), "gen --ring 256": (7, 3), "gen -5": (3, 1),
             "run --steps 00000000000001 a": (5, 2), "list a": (2, 0),
-            "type": (7, 1), "type --ring 256 a": (3, 1), "type a b": (8, 2)}
+            "type": (7, 1), "type --ring 256 a": (3, 1), "type a b": (8, 2), "multi": (7, 1), "multi a": (7, 2),
+            "multi a b c": (8, 3), "multi -i a b": (3, 1), "multi --report a b": (3, 1), "multi --last 1 a b": (3, 1),
+            "run -i --report a": (10, 2), "run --report -i a": (10, 2), "run --last 3 -i a": (10, 3), "run --report --last x a": (10, 2),
+            "sim --last 1025 a": (5, 2), "sim --last 0 a": (5, 2), "sim --last": (4, 2), "asm --report a b": (3, 1)}
     for words, wanted in rows.items():
         check(words, Ran(None, words).shown()[0], ("Usage", *wanted))
     check("message", Ran(None, "run --ring 300 a.mms").errors, "usage fault 6 BadRing at word 2\n")

@@ -6,39 +6,23 @@
 
 FOLDER has the built programs mmixware and mmixview. It prints each difference, and how many states were compared.
 """
-import argparse
-import os
 import random
 import re
 import subprocess
-import sys
-import tempfile
 
-from generate import case_of
+from runs import INPUT, run_steps, parts_of, put_files, walk_programs
 
 MOST = 3000
 WORDS = ("step", "step 2", "next", "reverse-step", "reverse-step 3", "reverse-next")
-SHOWN = re.compile(rb"(\$\d+|r[A-Z]{1,2})\b.*#([0-9a-f]{16})$")
-DUMPED = re.compile(rb"(\$\d+|r[A-Z]{1,2})=#([0-9a-f]{16})$")
+SHOWN = re.compile(rb"(\$\d+|r[A-Z]{1,2})\b.*#([0-9a-f]{16})$", re.M)
 
 
-def registers(text, form):
-    """The registers that are not 0, with their octas, but rS."""
-    found = (form.match(line) for line in text.split(b"\n"))
-    return {it[1]: it[2] for it in found if it and int(it[2], 16) and it[1] != b"rS"}
+def without_zeros(registers):
+    """The registers that are not 0, but rS."""
+    return {name: octa for name, octa in registers.items() if octa and name != "rS"}
 
 
-def parts_of(words):
-    """The options for the ring, the file and the arguments of a run."""
-    ring, rest = [], words[1:]
-    while rest[0].startswith("-"):
-        if rest[0] == "--ring":
-            ring = rest[:2]
-        rest = rest[2:] if rest[0] in ("--ring", "--steps", "--last") else rest[1:]
-    return ring, rest[0], rest[1:]
-
-
-def walk(rng):
+def make_session(rng):
     """The lines of a session, which shows the registers after some words."""
     lines = []
     for _ in range(6):
@@ -48,69 +32,34 @@ def walk(rng):
     return "\n".join(lines).encode() + b"\n"
 
 
-def put_files(room, case):
-    for name, data in {**case.files, "the input": case.given}.items():
-        with open(os.path.join(room, name), "wb") as file:
-            file.write(data)
-
-
-def stops_of(case, folder, room):
+def find_stops(case, words, folder, room):
     """The steps that a session stops at, each with its registers; none where the source is refused."""
-    ring, name, arguments = parts_of(case.words)
-    files = [word for other in case.files if other != name for word in ("--file", other)]
-    words = ["debug", "--input", "the input", "--steps", str(MOST), *ring, *files, name, *arguments]
-    done = subprocess.run([f"{folder}/mmixview", *words], cwd=room, input=walk(random.Random(case.seed)), capture_output=True,
+    files = [word for other in case.files if other != words.name for word in ("--file", other)]
+    line = ["debug", "--input", INPUT, "--steps", str(MOST), *words.ring, *files, words.name, *words.arguments]
+    done = subprocess.run([f"{folder}/mmixview", *line], cwd=room, input=make_session(random.Random(case.seed)), capture_output=True,
                           timeout=60, check=False)
     pieces = re.split(rb"77777\n", done.stdout)
     for before, after in zip(pieces, pieces[1:]):
-        yield int(re.findall(rb"^step (\d+)\b", before, re.M)[-1]), registers(after.split(b"88888")[0], SHOWN)
+        rows = SHOWN.findall(after.split(b"88888")[0])
+        yield int(re.findall(rb"^step (\d+)\b", before, re.M)[-1]), {name.decode(): int(octa, 16) for name, octa in rows}
 
 
-def left_by(case, folder, room, step):
-    """The registers that a run of so many steps leaves; nothing where it leaves no dump."""
-    ring, name, arguments = parts_of(case.words)
-    put_files(room, case)
-    words = ["run", "--steps", str(step), "--dump", *ring, name, *arguments]
-    done = subprocess.run([f"{folder}/mmixware", *words], cwd=room, input=case.given, capture_output=True, timeout=60, check=False)
-    at = done.stdout.rfind(b"rB=#")
-    return registers(done.stdout[at:], DUMPED) if at >= 0 else None
-
-
-def compared(case, folder):
+def compare(case, folder, room):
     """How many states of a case were compared, and how many differ."""
     states = different = 0
-    with tempfile.TemporaryDirectory() as room:
+    words = parts_of(case)
+    for step, shown in list(find_stops(case, words, folder, room)):
         put_files(room, case)
-        for step, shown in list(stops_of(case, folder, room)):
-            left = left_by(case, folder, room, step) if step else None
-            if left is None:
-                continue
-            states += 1
-            if left != shown:
-                different += 1
-                print(f"seed {case.seed}, step {step}: the registers differ in {sorted(set(left.items()) ^ set(shown.items()))}")
+        left = run_steps(f"{folder}/mmixware", words, step, case.given, room) if step else None
+        if left is None:
+            continue
+        states += 1
+        if without_zeros(left.registers) != without_zeros(shown):
+            different += 1
+            names = sorted(set(without_zeros(left.registers).items()) ^ set(without_zeros(shown).items()))
+            print(f"seed {case.seed}, step {step}: the registers differ in {names}")
     return states, different
 
 
-def main():
-    words = argparse.ArgumentParser(description="Walks of the debugger beside runs.")
-    words.add_argument("--folder", default="../../.built")
-    words.add_argument("--programs", type=int, default=500)
-    words.add_argument("--seed", type=int, default=1)
-    given = words.parse_args()
-    done = states = different = 0
-    seed = given.seed - 1
-    while done < given.programs:
-        seed += 1
-        case = case_of(seed, ["program"])
-        if case.words[0] == "run":
-            some, wrong = compared(case, os.path.abspath(given.folder))
-            done += some > 0
-            states += some
-            different += wrong
-    print(f"{done} programs, {states} states, {different} differences")
-    return different > 0
-
-
 if __name__ == "__main__":
-    sys.exit(main())
+    walk_programs(compare, "Walks of the debugger beside runs.")

@@ -155,7 +155,7 @@ class Assembly:
         return Image(memory, self.known.lowest_global(), self.global_values())
 
     def object(self):
-        """The object of an accepted source, or what stands of it before the faulty statement.
+        """The object of an accepted source, or what there is of it before the faulty statement.
 
         First come `pre` with time 0 and `file` 0 with the name .mms. For each statement follow: for a label that
         references wait for, `loc` where lambda is not the label, and a fix record for each; then its bytes. At the end

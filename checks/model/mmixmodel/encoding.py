@@ -43,7 +43,7 @@ class Knowledge:
 
     def __init__(self):
         self.labels = {}
-        self.locals_behind = {}
+        self.last_locals = {}
         self.prefix = b":"
         self.place = 0
         self.gregs = {}
@@ -65,7 +65,7 @@ class Knowledge:
 
     def back(self, digit):
         """dB is the last dH of an earlier statement, and pure 0 before any."""
-        return self.locals_behind.get(digit, pure(0))
+        return self.last_locals.get(digit, pure(0))
 
     def lowest_global(self):
         """The lowest register that GREG gave, or 255."""
@@ -119,7 +119,7 @@ class Encoder:
             return
         if 48 <= label[0] <= 57:
             self.piece.label = label[0] - 48
-            self.known.locals_behind[self.piece.label] = self.piece.value
+            self.known.last_locals[self.piece.label] = self.piece.value
             return
         complete = self.known.complete(label)
         if complete in opcodes.PREDEFINED:
@@ -143,7 +143,7 @@ class Encoder:
         return value.number
 
     def refers(self, place, at, kind):
-        """Notes a reference where the operand is a name that is not known or a local label ahead, and tells so.
+        """Notes a reference where the operand is a name that is not known or a later local label, and answers whether it is.
 
         Parentheses round it make no difference.
         """

@@ -100,7 +100,7 @@ def read_closings(field, at, waiting, output):
 
 
 def read_operator(field, at):
-    """The binary operator that stands at a place, or None, and the place after it."""
+    """The binary operator at a place, or None, and the place after it."""
     for length in (2, 1):
         text = field[at:at + length]
         if len(text) == length:
@@ -113,7 +113,7 @@ def read_operator(field, at):
 def read_expression(field, at):
     """One expression in postfix order, and the place after it.
 
-    Unary operators stand before a primary. Strong binary operators bind tighter than weak ones, and equal strength goes
+    Unary operators come before a primary. Strong binary operators bind tighter than weak ones, and equal strength goes
     from left to right.
     """
     output, waiting = [], []
@@ -133,7 +133,7 @@ def read_expression(field, at):
 
 
 def read_string(field, at):
-    """A string in double quotes stands for its bytes as separate operands; fault 19 where it has none."""
+    """A string in double quotes means its bytes as separate operands; fault 19 where it has none."""
     close = field.find(b'"', at + 1)
     if close < 0:
         raise Fault(10)
@@ -146,7 +146,7 @@ def read_operands(field):
     """The operands of a field, separated by commas. An empty field counts as 0.
 
     Of several faults the one whose place is furthest to the left counts. The place of fault 10 is the first byte with
-    which the field up to there begins no list; the others stand at the first byte of what is too wide, too deep or
+    which the field up to there begins no list; the others are at the first byte of what is too wide, too deep or
     empty. So the first fault met from the left is the fault.
     """
     if not field:
@@ -228,7 +228,7 @@ def signed_or_turned(operator, value):
 
 
 def value_of(expression, known):
-    """The value of an expression, where `known` tells the values of names, of local labels behind, and the place.
+    """The value of an expression, where `known` has the values of names and of earlier local labels, and the place.
 
     A name that is not known is fault 17, and so is a local label ahead.
     """

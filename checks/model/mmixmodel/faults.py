@@ -1,6 +1,6 @@
 """Faults, their numbers and their names.
 
-A fault of a source, of an object or of a run has one number, and its name stands beside the number in messages.
+A fault of a source, of an object or of a run has one number, and messages have its name beside the number.
 """
 
 NAMES = {
@@ -30,7 +30,7 @@ NAMES = {
 
 USAGE_NAMES = {
     1: "NoCommand", 2: "UnknownCommand", 3: "UnknownOption", 4: "MissingValue", 5: "BadNumber", 6: "BadRing",
-    7: "MissingFile", 8: "TooMany",
+    7: "MissingFile", 8: "TooMany", 10: "Conflict",
 }
 
 

@@ -31,7 +31,7 @@ class Slot:
         self.place = 0
 
     def is_binary_file(self):
-        """Only a file in a binary mode has a place that may be told or sought."""
+        """Only a file in a binary mode has a place that may be asked for or changed."""
         return isinstance(self.target, bytes) and self.mode >= BINARY_READ
 
 

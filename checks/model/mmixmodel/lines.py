@@ -33,7 +33,7 @@ def is_letter(byte):
 
 
 def end_of_word(text, at):
-    """The place after the letters and digits that stand at a place."""
+    """The place after the letters and digits at a place."""
     while at < len(text) and (is_letter(text[at]) or is_digit(text[at])):
         at += 1
     return at
@@ -88,7 +88,7 @@ def next_statement(text, at, line=1):
 
     A first byte that is neither a blank nor a letter nor a digit makes the rest of the line a comment; so does an empty
     opcode field without a label, and with one it is fault 7. The byte after an opcode is a blank or a semicolon (else
-    4). A semicolon begins a new statement where only blanks stand between it and the operand field; anything else
+    4). A semicolon begins a new statement where only blanks are between it and the operand field; anything else
     there is a comment to the end of the line. An empty operand field counts as 0.
     """
     if at >= len(text) or not (text[at] in BLANKS or is_letter(text[at]) or is_digit(text[at])):

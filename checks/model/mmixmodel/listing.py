@@ -1,6 +1,6 @@
 """The listing of an object: a line for each item but `stab`, then one for the trie, and one for each symbol.
 
-Numbers are decimal, but for tetras and bytes, and for what stands behind `#`. Lambda, the place where tetras are loaded,
+Numbers are decimal, but for tetras and bytes, and for what follows `#`. Lambda, the place where tetras are loaded,
 starts at 0; a loaded tetra is shown with its address, which is lambda lowered to a multiple of 4.
 """
 from .expressions import LIMIT

@@ -47,7 +47,7 @@ class Trace(NamedTuple):
 
 
 class Work(NamedTuple):
-    """An instruction to perform: its tetra, the address at which it stands, and its operands y and z where RESUME
+    """An instruction to perform: its tetra, its address, and its operands y and z where RESUME
     gives them."""
 
     word: int
@@ -227,7 +227,7 @@ class Machine(State):
     def check_event(self, event):
         """The handler of an event that trips, or None. 117 where the handler's tetra is 0.
 
-        rA has the event bits; the enable bits stand 8 places higher.
+        rA has the event bits; the enable bits are 8 places higher.
         """
         if not event or not self.special[RA] & event << 8:
             return None

@@ -77,7 +77,7 @@ class ObjectWriter:
     def place(self, line, rows):
         """Tetras at ascending addresses, which one statement places; its line is 0 where it is above 65,535.
 
-        `loc` stands where lambda is not in the first tetra, and `line` where the line in force is another. A tetra that
+        `loc` comes where lambda is not in the first tetra, and `line` where the line in force is another. A tetra that
         begins with #98 is quoted. After each the line in force grows by 1, unless it is 0.
         """
         if not rows:
@@ -191,7 +191,7 @@ class Reader:
                 return [self.tetra(it) for it in range(start, self.at)]
 
     def end(self):
-        """After `stab` the trie stands up to the last tetra, which is `end` with the number of its tetras."""
+        """After `stab` comes the trie, up to the last tetra, which is `end` with the number of its tetras."""
         if len(self.data) % 4:
             raise Fault(60, 4 * self.count)
         last = self.tetra(self.count - 1)

@@ -1,24 +1,28 @@
 """The whole program: `mmixware WORDS` over a host.
 
 It reads the words; reads the file on slot 256; assembles or loads; writes the object on slot 257, or starts the machine
-and runs it, or holds the console session; writes the dump to slot 259; and writes one message line to slot 260.
+and runs it, or holds the console session; writes the lines of the steps that are taken back, and the dump, to slot 259; and
+writes one message line to slot 260, and the reports after it. With `multi` the schedule is read first, and then the object.
 """
 from typing import NamedTuple
 
 from .assembler import Assembly
 from .console import End, Session
 from .faults import Fault, Stop, Wild
+from .history import History
 from .hosts import BINARY_READ, BINARY_WRITE, Absent, Failed
 from .lines import SOURCE_LIMIT
 from .listing import listing
 from .machine import Machine
 from .objects import OBJECT_LIMIT, read_object
 from .orders import UsageFault, read_order
-from .texts import dump_lines, message
+from .processors import Processors, schedule_fault
+from .reports import reports
+from .texts import dump_lines, message, octa_lines, state_line
 from .traps import PIECE
 
 IN_FILE, OUT_FILE, OUTPUT_SLOT, ERROR_SLOT = 256, 257, 259, 260
-STATUSES = {"Quit": 0, "Usage": 64, "Refused": 65, "BadObject": 65, "NoFile": 66, "Stopped": 70, "HostFault": 74,
+STATUSES = {"Quit": 0, "Usage": 64, "Refused": 65, "BadObject": 65, "BadSchedule": 65, "NoFile": 66, "Stopped": 70, "HostFault": 74,
             "StepsSpent": 75, "ConsoleLimit": 76}
 GENERATOR_STEPS = 1 << 26
 
@@ -77,12 +81,14 @@ class Program:
         self.words, self.host, self.kind = words, host, kind
         self.order = None
         self.machine = None
+        self.traces = []
 
     def run(self):
         """The outcome before its message. A failed call of the program itself ends its work at once."""
         try:
             self.order = read_order(self.words)
-            return {"asm": self.assemble, "gen": self.generate, "type": self.show}.get(self.order.command, self.execute)()
+            return {"asm": self.assemble, "gen": self.generate, "type": self.show,
+                    "multi": self.take_turns}.get(self.order.command, self.execute)()
         except UsageFault as fault:
             return Outcome("Usage", (fault.kind, fault.word))
         except Failed:
@@ -141,20 +147,58 @@ class Program:
         name = name[:-4] if name.endswith((b".mms", b".mmo")) else name
         outcome = self.started(image, [name] + [word.encode() for word in self.words[self.order.rest:]])
         if self.machine and self.order.has_dump and outcome.kind != "HostFault":
-            for line in dump_lines(self.machine):
-                self.host.write_slot(OUTPUT_SLOT, line.encode())
+            self.write_lines(dump_lines(self.machine))
         return outcome
+
+    def write_lines(self, lines):
+        """Writes lines to standard output, one call each."""
+        for line in lines:
+            self.host.write_slot(OUTPUT_SLOT, line.encode())
 
     def started(self, image, arguments):
         """Starts the machine, and runs it or holds the session."""
+
+        def start(of_image):
+            return Machine(of_image, arguments, self.kind, self.order.ring)
+
+        history = History(image, self.host) if self.order.last else None
         try:
-            self.machine = Machine(image, arguments, self.kind, self.order.ring)
+            self.machine = start(image)
         except Stop as stop:
             return Outcome("Stopped", (image.values[-1] // 4 * 4, stop.reason))
         session = Session(self.machine, self.host, self.order.steps)
-        end = session.run() if self.order.is_interactive else run_to_end(session)
+        end = session.run() if self.order.is_interactive else run_to_end(session, self.traces)
+        if history:
+            for state in history.states_before(start, self.traces, end, self.order.last, self.order.steps):
+                self.machine = state
+                self.host.write_slot(OUTPUT_SLOT, state_line(state).encode())
+        return self.outcome_of(end)
+
+    def outcome_of(self, end):
+        """The outcome of a run, of a session or of turns, by its end."""
         kind = {"Halted": "Done", "Spent": "StepsSpent"}.get(end.kind, end.kind)
         return Outcome(kind, (self.order.steps,) if end.kind == "Spent" else end.values)
+
+    def take_turns(self):
+        """`multi`: the schedule is read, and where it is in order the object; then its processors run."""
+        schedule = self.read_input(SOURCE_LIMIT)
+        if schedule is None:
+            return Outcome("NoFile")
+        fault = schedule_fault(schedule)
+        if fault is not None:
+            return Outcome("BadSchedule", (fault,))
+        try:
+            image = read_object(read_file(self.host, self.words[self.order.rest].encode(), OBJECT_LIMIT))
+        except Absent:
+            return Outcome("NoFile")
+        except Fault as fault_of_object:
+            return Outcome("BadObject", (fault_of_object.place, fault_of_object.number))
+        processors = Processors(image, schedule, self.host, self.kind, self.order.ring)
+        end = processors.run(self.order.steps)
+        self.write_lines(processors.lines())
+        if self.order.has_dump:
+            self.write_lines(octa_lines(processors.memory.nonzero()))
+        return self.outcome_of(end)
 
     def generate(self):
         """`gen`: runs the generated source and writes a summary."""
@@ -168,28 +212,33 @@ class Program:
         return Outcome("Done", (0,))
 
 
-def run_to_end(session):
-    """Steps to the end, without flags."""
+def run_to_end(session, traces=None):
+    """Steps to the end, without flags; their traces are kept where a list is given."""
     while True:
         step = session.step()
         if isinstance(step, End):
             return step
+        if traces is not None:
+            traces.append(step)
 
 
 def mmixware(words, host, kind="window"):
-    """The outcome of the program; what it wrote stands in the host.
+    """The outcome of the program; what it wrote is in the host.
 
     A failed write of the dump or of the summary is HostFault in place of the outcome, and a failed write of the message
-    changes nothing. With a list of hidden registers the run ends at its first wild step or line with the outcome Wild.
+    or of a report changes nothing. With a list of hidden registers the run ends at its first wild step or line with the
+    outcome Wild.
     """
+    program = Program(words, host, kind)
     try:
-        outcome = Program(words, host, kind).run()
+        outcome = program.run()
     except Wild:
         return Outcome("Wild")
     text = message(outcome)
-    if text:
+    has_report = program.order and program.order.has_report
+    for told in ([text] if text else []) + (reports(program.traces) if has_report else []):
         try:
-            host.write_slot(ERROR_SLOT, text.encode())
+            host.write_slot(ERROR_SLOT, told.encode())
         except Failed:
             pass
     return outcome

@@ -1,4 +1,4 @@
-"""The register stack, in two forms that should never be told apart by an ordinary program.
+"""The register stack, in two forms between which no ordinary program should see a difference.
 
 Register k is global where k >= G, local where k < L, and otherwise 0. PUSHJ hides local registers, and POP brings them
 back. `ListStack` keeps all hidden registers in a list without a bound of its own. `WindowStack` keeps at most R - 1
@@ -35,7 +35,7 @@ class Stack:
         self.set_local(k, value)
 
     def grow_to(self, count):
-        """Makes the first registers local, as many as told, with zeros where they were not."""
+        """Makes the first registers local, so many, with zeros where they were not."""
         if count > self.l:
             self.append([0] * (count - self.l))
 
@@ -138,7 +138,7 @@ class ListStack(Stack):
         return self.hidden_list[index]
 
     def spilled(self):
-        """A list has no stack memory, so it cannot tell rS."""
+        """A list has no stack memory, so it has no rS."""
         raise Wild()
 
     def octa_of(self, index):

@@ -108,7 +108,7 @@ class State:
     # changing the state from outside
 
     def set_register(self, k, value):
-        """Writes $k, and tells whether that was possible: the stack may not be overfilled."""
+        """Writes $k, and answers whether that was possible: the stack may not be overfilled."""
         if self.stack.needed(k) > STACK_LIMIT:
             return False
         self.stack.set(k, value)

@@ -71,7 +71,12 @@ def dump_lines(machine):
     rows = machine.memory.nonzero()
     if machine.touched:
         rows += [(BASE + 8 * index, octa) for index, octa in machine.stack.octas.items() if octa]
-    for address, octa in sorted(rows):
+    yield from octa_lines(sorted(rows))
+
+
+def octa_lines(rows):
+    """A line for each octa with its address."""
+    for address, octa in rows:
         yield f"M{octa_text(address)}={octa_text(octa)}\n"
 
 
@@ -92,6 +97,8 @@ def message(outcome):
         return f"line {line}: {fault} {NAMES[fault]}" + (f" from line {from_line}" if from_line else "") + "\n"
     if kind == "BadObject":
         return f"byte {values[0]}: {values[1]} {NAMES[values[1]]}\n"
+    if kind == "BadSchedule":
+        return f"schedule byte {values[0]}\n"
     if kind == "Stopped":
         return f"{octa_text(values[0])}: {values[1]} {NAMES[values[1]]}\n"
     if kind == "StepsSpent":

@@ -80,7 +80,7 @@ class FileTrap:
         return address, size
 
     def put_bytes(self, address, data):
-        """Stores bytes one by one; a page too many is 123, and the bytes before stand."""
+        """Stores bytes one by one; a page too many is 123, and the bytes before it stay."""
         for number, byte in enumerate(data):
             try:
                 self.machine.store(address + number, 1, byte)

@@ -71,7 +71,7 @@ class TrieReader:
     The bytes end within the trie (70, at the end). A node with the mark of a two-byte character has no character, met
     at its byte m, or its character is below #80 or from #d800 to #dfff, met at the character (72). The characters on
     the way have more than 1,024 bytes, met at the character (74). A serial is 2^32 or more (76), or the name came
-    before (73), both met at the end of the serial. These stand at the byte m of their node. After the trie stand four
+    before (73), both met at the end of the serial. These are at the byte m of their node. After the trie come four
     or more bytes, or one that is not zero (71, at the first byte after it).
     """
 
@@ -89,7 +89,7 @@ class TrieReader:
         return self.data[self.at - 1]
 
     def read(self):
-        """All symbols, in the order of the trie; no bytes give none. A list of tasks stands in place of recursion."""
+        """All symbols, in the order of the trie; no bytes give none. A list of tasks takes the place of recursion."""
         if not self.data:
             return self.symbols
         tasks = [("node", b"")]

@@ -8,7 +8,7 @@ use mx_json::add_number;
 use mx_word::{Bytes, NoMemory};
 
 /// Whether a byte of UTF-8 goes on with a character.
-fn continues(b: u8) -> bool
+fn is_continuation_byte(b: u8) -> bool
     ensures { result ≡ spec.continues b }
 {
     128 <= b && b < 192
@@ -34,7 +34,7 @@ fn characters(text: &[u8]) -> usize
     let mut count = 0usize;
     let mut rest = text;
     while let [b, more @ ..] = rest {
-        if !continues(*b) {
+        if !is_continuation_byte(*b) {
             count += 1;
         }
         rest = more;

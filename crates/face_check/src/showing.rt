@@ -14,7 +14,7 @@ use crate::warning_lines::add_warnings;
 use mx_face::{Page, outcome_of, put_page, read_source, tell};
 use mx_host::Host;
 use mx_outcome::Outcome;
-use mx_view::{Sheet, faults, tell_faults};
+use mx_view::{Sheet, list_faults, tell_faults};
 use mx_warn::{Warnings, tell_warnings, warnings_text};
 use mx_word::{Bytes, NoMemory};
 use std::alloc::Global;
@@ -47,7 +47,7 @@ fn check_as_text(alloc: Global, no_warnings: bool, source: &[u8]) -> Result<Shee
         sheet.text ≡ faults_of source.now ++ spec.warnings_after no_warnings source.now) }
     ensures refused { IfOk result (λ sheet. sheet.refused ≡ refusal_in source.now) }
 {
-    let mut sheet = faults(alloc, source)?;
+    let mut sheet = list_faults(alloc, source)?;
     let warnings = warnings_after(alloc, no_warnings, source)?;
     sheet.text.extend(warnings.as_slice())?;
     Ok(sheet)

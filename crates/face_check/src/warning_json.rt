@@ -13,7 +13,7 @@ use std::alloc::Global;
 
 /// The name of the number of a warning.
 #[tactic(auto, unfolding(crate::specs::CheckPages::warning_name))]
-fn warning_name() -> &'static [u8]
+fn warning_key() -> &'static [u8]
     ensures { result.now ≡ spec.warning_name }
 {
     b",\"warning\":"
@@ -33,7 +33,7 @@ fn add_kind(text: &mut Bytes, warning: &Warning) -> Result<(), NoMemory>
     ensures { OnOk result (text.new ≡ text.old ++ spec.kind_members warning.now) }
 {
     add_number(text, b"\"line\":", u64::from(warning.line))?;
-    add_number(text, warning_name(), u64::from(warning.kind.number()))?;
+    add_number(text, warning_key(), u64::from(warning.kind.number()))?;
     add_quoted(text, b",\"name\":", warning.kind.name().as_bytes())
 }
 

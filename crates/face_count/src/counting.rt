@@ -9,9 +9,12 @@ ghost use Rattle.face_count.specs.CountPages as spec;
 ghost use Rattle.mx_outcome.specs.Kinds.{is_usage};
 ghost use Rattle.face_count.specs.CountPages.{AnswersByKind, CountsOrder};
 
-use crate::pages::{json_page, object_page, put_made, sheet_page, table_page, unread_page};
-use crate::words::{is_json_word, order_in, run_words};
-use mx_begin::{arguments, word};
+use crate::pages::{
+    object_json_page, object_table_page, put_made, source_json_page, source_table_page,
+    unread_file_page,
+};
+use crate::words::{is_json_word, read_order, run_words};
+use mx_begin::{collect_arguments, word_bytes};
 use mx_count::{count_lines, count_source};
 use mx_face::tell;
 use mx_files::{OBJECT_PIECES, read_file};
@@ -38,11 +41,11 @@ fn show_source<H: Host>(
 {
     if is_json {
         let counted = count_lines(alloc, host, order, source, given);
-        let page = json_page(alloc, &counted);
+        let page = source_json_page(alloc, &counted);
         return put_made(alloc, host, page);
     }
     let counted = count_source(alloc, host, order, source, given);
-    put_made(alloc, host, sheet_page(alloc, counted))
+    put_made(alloc, host, source_table_page(alloc, counted))
 }
 
 /// Runs an object with these arguments, and shows what is counted of it.
@@ -61,9 +64,9 @@ fn show_object<H: Host>(
 {
     let counted = count_object(alloc, host, order, bytes, given);
     if is_json {
-        return put_made(alloc, host, object_page(alloc, &counted));
+        return put_made(alloc, host, object_json_page(alloc, &counted));
     }
-    put_made(alloc, host, table_page(alloc, &counted))
+    put_made(alloc, host, object_table_page(alloc, &counted))
 }
 
 /// Runs the object or the source that bytes are, and shows what is counted of it.
@@ -93,7 +96,7 @@ fn show_unread<H: Host>(alloc: Global, host: &mut H, is_json: bool, outcome: Out
     ensures lacking { outcome ≡ Outcome.OutOfMemory → result ≡ Outcome.OutOfMemory }
     ensures onward { FaultsOnward H.told H.faults host.old host.new outcome result }
 {
-    put_made(alloc, host, unread_page(alloc, is_json, outcome))
+    put_made(alloc, host, unread_file_page(alloc, is_json, outcome))
 }
 
 /// Runs the source or the object in the file of this name with these arguments, and shows what is counted. The file is
@@ -132,13 +135,13 @@ fn count_ordered<H: Host>(
         (arguments (map string_bytes words.now) order.now) m) }
     ensures causes { FaultsOnlyBy H.told H.faults host.old host.new result }
 {
-    match arguments(alloc, words, order) {
+    match collect_arguments(alloc, words, order) {
         Ok(given) => show_file(
             alloc,
             host,
             is_json,
             order,
-            word(words, order.file),
+            word_bytes(words, order.file),
             given.as_slice(),
         ),
         Err(_) => tell(alloc, host, Outcome::OutOfMemory),
@@ -146,7 +149,7 @@ fn count_ordered<H: Host>(
 }
 
 /// Faulty words, in front of which `--json` is, or nothing.
-fn misordered(fault: WordsFault, is_json: bool) -> Outcome
+fn refuse_words(fault: WordsFault, is_json: bool) -> Outcome
     ensures view { IsOfView result }
     ensures usage { is_usage result ≡ true }
 {
@@ -161,9 +164,9 @@ fn count_words<H: Host>(alloc: Global, host: &mut H, is_json: bool, words: &[Str
     ensures told { CountsOrder (H.told host.old) (H.told host.new) result is_json (map string_bytes words.now) }
     ensures causes { FaultsOnlyBy H.told H.faults host.old host.new result }
 {
-    match order_in(words) {
+    match read_order(words) {
         Ok(order) => count_ordered(alloc, host, is_json, words, &order),
-        Err(fault) => tell(alloc, host, misordered(fault, is_json)),
+        Err(fault) => tell(alloc, host, refuse_words(fault, is_json)),
     }
 }
 

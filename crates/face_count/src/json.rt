@@ -232,7 +232,7 @@ fn add_counted_front(
 
 /// The name of a refusal, after other members.
 #[tactic(auto, unfolding(crate::specs::CountJson::refused_name))]
-fn refused_name() -> &'static [u8]
+fn refused_key() -> &'static [u8]
     ensures { result.now ≡ spec.refused_name }
 {
     b",\"refused\":"
@@ -243,7 +243,7 @@ fn refused_name() -> &'static [u8]
 fn add_counted_end(text: &mut Bytes, counted: &CountedLines) -> Result<(), NoMemory>
     ensures { OnOk result (text.new ≡ text.old ++ spec.counted_end counted.now) }
 {
-    add_refused(text, refused_name(), counted.outcome)?;
+    add_refused(text, refused_key(), counted.outcome)?;
     text.extend(b",\"total\":")?;
     add_total(text, &counted.sheet)?;
     text.extend(b"}\n")

@@ -11,7 +11,7 @@ use crate::object_json::add_counted_object;
 use mx_count::{Counted, CountedLines};
 use mx_face::{Page, put_page, tell};
 use mx_host::Host;
-use mx_object::{CountedObject, ObjectSheet, sheet_text};
+use mx_object::{CountedObject, ObjectSheet, format_sheet};
 use mx_outcome::{Outcome, message};
 use mx_word::{Bytes, NoMemory};
 use std::alloc::Global;
@@ -53,7 +53,7 @@ fn text_if(alloc: Global, sheet: Option<Bytes>) -> Bytes
 
 /// The table of what was counted of a source.
 #[tactic(auto, unfolding(crate::specs::CountPages::sheet_page))]
-pub fn sheet_page(alloc: Global, counted: Counted) -> Result<Page, NoMemory>
+pub fn source_table_page(alloc: Global, counted: Counted) -> Result<Page, NoMemory>
     ensures page { IfOk result (λ page. page ≡ spec.sheet_page counted) }
     ensures outcome { IfOk result (λ page. page.outcome ≡ counted.outcome) }
     ensures enough { IfOk result (λ page. counted.outcome ≢ Outcome.OutOfMemory) }
@@ -65,7 +65,7 @@ pub fn sheet_page(alloc: Global, counted: Counted) -> Result<Page, NoMemory>
 
 /// What was counted of a source as JSON.
 #[tactic(auto, unfolding(crate::specs::CountPages::json_page))]
-pub fn json_page(alloc: Global, counted: &CountedLines) -> Result<Page, NoMemory>
+pub fn source_json_page(alloc: Global, counted: &CountedLines) -> Result<Page, NoMemory>
     ensures page { IfOk result (λ page. page ≡ spec.json_page counted.now) }
     ensures outcome { IfOk result (λ page. page.outcome ≡ counted.now.outcome) }
     ensures enough { IfOk result (λ page. counted.now.outcome ≢ Outcome.OutOfMemory) }
@@ -82,13 +82,13 @@ fn table_if(alloc: Global, sheet: &Option<ObjectSheet>) -> Result<Bytes, NoMemor
 {
     match sheet {
         None => Ok(Bytes::new(alloc)),
-        Some(sheet) => sheet_text(alloc, sheet),
+        Some(sheet) => format_sheet(alloc, sheet),
     }
 }
 
 /// The table of what was counted of an object.
 #[tactic(auto, unfolding(crate::specs::CountPages::table_page))]
-pub fn table_page(alloc: Global, counted: &CountedObject) -> Result<Page, NoMemory>
+pub fn object_table_page(alloc: Global, counted: &CountedObject) -> Result<Page, NoMemory>
     ensures page { IfOk result (λ page. page ≡ spec.table_page counted.now) }
     ensures outcome { IfOk result (λ page. page.outcome ≡ counted.now.outcome) }
     ensures enough { IfOk result (λ page. counted.now.outcome ≢ Outcome.OutOfMemory) }
@@ -99,7 +99,7 @@ pub fn table_page(alloc: Global, counted: &CountedObject) -> Result<Page, NoMemo
 
 /// What was counted of an object as JSON.
 #[tactic(auto, unfolding(crate::specs::CountPages::object_page))]
-pub fn object_page(alloc: Global, counted: &CountedObject) -> Result<Page, NoMemory>
+pub fn object_json_page(alloc: Global, counted: &CountedObject) -> Result<Page, NoMemory>
     ensures page { IfOk result (λ page. page ≡ spec.object_page counted.now) }
     ensures outcome { IfOk result (λ page. page.outcome ≡ counted.now.outcome) }
     ensures enough { IfOk result (λ page. counted.now.outcome ≢ Outcome.OutOfMemory) }
@@ -111,7 +111,7 @@ pub fn object_page(alloc: Global, counted: &CountedObject) -> Result<Page, NoMem
 
 /// What is said of a file that is not read.
 #[tactic(auto, unfolding(crate::specs::CountPages::unread_page))]
-pub fn unread_page(alloc: Global, is_json: bool, outcome: Outcome) -> Result<Page, NoMemory>
+pub fn unread_file_page(alloc: Global, is_json: bool, outcome: Outcome) -> Result<Page, NoMemory>
     ensures page { IfOk result (λ page. page ≡ spec.unread_page is_json outcome) }
     ensures outcome { IfOk result (λ page. page.outcome ≡ outcome) }
     ensures enough { IfOk result (λ page. outcome ≢ Outcome.OutOfMemory) }
@@ -121,13 +121,13 @@ pub fn unread_page(alloc: Global, is_json: bool, outcome: Outcome) -> Result<Pag
             outcome,
             sheet: None,
         };
-        return json_page(alloc, &counted);
+        return source_json_page(alloc, &counted);
     }
     let counted = Counted {
         outcome,
         sheet: None,
     };
-    sheet_page(alloc, counted)
+    source_table_page(alloc, counted)
 }
 
 /// Shows a page. Where there was no memory for it, that is told alone.

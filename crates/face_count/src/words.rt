@@ -56,7 +56,7 @@ fn first_fault(fault: WordsFault, unknown: usize) -> WordsFault {
 }
 
 /// What the words of a run order, if they have no option that `count` has not.
-pub fn order_in(words: &[String]) -> Result<Order, WordsFault>
+pub fn read_order(words: &[String]) -> Result<Order, WordsFault>
     ensures order { IfOk result (λ o. order_of (map string_bytes words.now) ≡ Ok o) }
     ensures places { IfOk result (λ o. (o.file < length words.now) × (o.rest ≤ length words.now)) }
 {

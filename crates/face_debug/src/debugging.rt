@@ -6,12 +6,12 @@ ghost use Rattle.mx_replay.specs.Programs.{NamesFile};
 
 use crate::talking::talk;
 use face_check::{Form as FaultForm, check};
-use mx_begin::{Form, word};
+use mx_begin::{Form, word_bytes};
 use mx_book::Book;
 use mx_debug::Session;
 use mx_face::tell;
 use mx_host::{Host, StoredFile};
-use mx_inputs::{Gathered, Ordered, OwnOption, Unread, file_at, gather, order_in};
+use mx_inputs::{Gathered, Ordered, OwnOption, Unread, file_at, gather, read_order};
 use mx_load::ObjectFault;
 use mx_object::is_object;
 use mx_outcome::Outcome;
@@ -60,7 +60,7 @@ fn program_of(
     ensures { IfOk result NamesFile }
 {
     let form = form_of(source.as_slice());
-    let name = Bytes::copy(alloc, word(words.as_slice(), order.file))?;
+    let name = Bytes::copy(alloc, word_bytes(words.as_slice(), order.file))?;
     let mut files = files;
     files.push(StoredFile {
         name,
@@ -91,22 +91,25 @@ fn base_name(name: &[u8]) -> &[u8] {
     name.split_at(name.len().saturating_sub(count)).1
 }
 
-/// The session of a source or an object at its start, or the outcome where it is refused.
-fn session_of(
+/// The session of what was read, at its start, or the outcome where the source or the object is refused.
+pub fn begin_session(
     alloc: Global,
     ordered: Ordered,
-    source: Bytes,
-    input: Bytes,
-    files: Sequence<StoredFile>,
+    gathered: Gathered,
 ) -> Result<Session, Outcome>
     requires file { ordered.order.file < length ordered.named.words.items }
     requires rest { ordered.order.rest ≤ length ordered.named.words.items }
     ensures { IfErr result IsOfView }
 {
     let Ordered { named, order } = ordered;
+    let Gathered {
+        source,
+        input,
+        files,
+    } = gathered;
     let words = named.words;
     let steps = order.steps;
-    let name = base_name(word(words.as_slice(), order.file));
+    let name = base_name(word_bytes(words.as_slice(), order.file));
     let book = match book_of(alloc, name, source.as_slice()) {
         Ok(book) => book,
         Err(outcome) => return Err(outcome),
@@ -146,18 +149,12 @@ fn debug_gathered<H: Host>(
 {
     let name = Bytes::copy(
         alloc,
-        word(ordered.named.words.as_slice(), ordered.order.file),
+        word_bytes(ordered.named.words.as_slice(), ordered.order.file),
     );
     let Ok(name) = name else {
         return tell(alloc, host, Outcome::OutOfMemory);
     };
-    match session_of(
-        alloc,
-        ordered,
-        gathered.source,
-        gathered.input,
-        gathered.files,
-    ) {
+    match begin_session(alloc, ordered, gathered) {
         Ok(mut session) => talk(alloc, host, &mut session, lines, has_prompt),
         Err(outcome) => refuse(alloc, host, name.as_slice(), outcome),
     }
@@ -210,7 +207,7 @@ pub fn debug<H: Host>(alloc: Global, host: &mut H, words: &[String], has_prompt:
         name: "--command",
         has_value: true,
     };
-    match order_in(alloc, own, words) {
+    match read_order(alloc, own, words) {
         Ok(ordered) => debug_ordered(alloc, host, words, ordered, has_prompt),
         Err(Unread::Fault(fault)) => tell(alloc, host, Outcome::Usage(fault)),
         Err(Unread::OutOfMemory) => tell(alloc, host, Outcome::OutOfMemory),

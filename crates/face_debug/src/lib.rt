@@ -5,4 +5,4 @@ mod debugging;
 mod lines;
 mod talking;
 
-pub use debugging::debug;
+pub use debugging::{begin_session, debug};

@@ -22,52 +22,52 @@ abbrev pub seen_part : Seen → Part
 seen_part p = record { title = p.title.now; rows = map (λ e. row e.0 e.1.now e.2.now e.3.now e.4.now) p.entries.now; width = p.width; most = p.most }
 
 -- sections of numbers with their names, of operations or registers, and of symbols
-abbrev pub wide : List ℕ → List Row → Part
-wide title rows = record { title = title; rows = rows; width = 24; most = 2 }
+abbrev pub numbers_section : List ℕ → List Row → Part
+numbers_section title rows = record { title = title; rows = rows; width = 24; most = 2 }
 
-abbrev pub narrow : List ℕ → List Row → Part
-narrow title rows = record { title = title; rows = rows; width = 8; most = 8 }
+abbrev pub operations_section : List ℕ → List Row → Part
+operations_section title rows = record { title = title; rows = rows; width = 8; most = 8 }
 
-abbrev pub middle : List ℕ → List Row → Part
-middle title rows = record { title = title; rows = rows; width = 18; most = 3 }
+abbrev pub symbols_section : List ℕ → List Row → Part
+symbols_section title rows = record { title = title; rows = rows; width = 18; most = 3 }
 
 -- what a section has
 abbrev pub part_of : Section → Part
-part_of section.Lines = wide (codes "Faults of a line") line_rows
-part_of section.Expressions = wide (codes "Faults of an expression") expression_rows
-part_of section.Statements = wide (codes "Faults of a statement") statement_rows
-part_of section.Places = wide (codes "Faults of addresses and labels") place_rows
-part_of section.Sources = wide (codes "Faults of a source as a whole") source_rows
-part_of section.Warnings = wide (codes "Warnings of a source") warning_rows
-part_of section.Objects = wide (codes "Faults of an object") object_rows
-part_of section.Tries = wide (codes "Faults of the symbols of an object") trie_rows
-part_of section.Loading = wide (codes "Faults of an object that is loaded") loading_rows
-part_of section.Stops = wide (codes "Reasons of a stop") stop_rows
-part_of section.Traps = wide (codes "Reasons of a stop of RESUME or TRAP") trap_rows
-part_of section.Kinds = wide (codes "Kinds of faulty words") kind_rows
-part_of section.Statuses = wide (codes "Exit statuses") status_rows
-part_of section.Inside = wide (codes "Numbers inside the program") inside_rows
-part_of section.Arithmetic = narrow (codes "Instructions on numbers") arithmetic_rows
-part_of section.Comparisons = narrow (codes "Comparisons, negations, shifts and copies") comparison_rows
-part_of section.Bits = narrow (codes "Instructions on bits") bit_rows
-part_of section.Bytes = narrow (codes "Instructions on bytes and single bits") byte_rows
-part_of section.Wydes = narrow (codes "Instructions on wydes") wyde_rows
-part_of section.Branches = narrow (codes "Branches") branch_rows
-part_of section.Sets = narrow (codes "Registers that are set by a condition") set_rows
-part_of section.Loads = narrow (codes "Loads") load_rows
-part_of section.Stores = narrow (codes "Stores") store_rows
-part_of section.Hints = narrow (codes "Hints to the cache") hint_rows
-part_of section.Jumps = narrow (codes "Jumps, subroutines and special registers") jump_rows
-part_of section.System = narrow (codes "Trips, traps and the state") system_rows
-part_of section.Floats = narrow (codes "Instructions on floating-point numbers") float_rows
-part_of section.MoreFloats = narrow (codes "More instructions on floating-point numbers") more_float_rows
-part_of section.PseudoOperations = narrow (codes "Pseudo-operations") pseudo_rows
-part_of section.Registers = narrow (codes "Special registers") register_rows
-part_of section.MoreRegisters = narrow (codes "More special registers") more_register_rows
-part_of section.Events = middle (codes "Bits and handlers of events") event_rows
-part_of section.Files = middle (codes "Handles and modes of files") file_rows
-part_of section.Services = middle (codes "Services of TRAP") service_rows
-part_of section.Others = middle (codes "Other predefined symbols") other_rows
+part_of section.Lines = numbers_section (codes "Faults of a line") line_rows
+part_of section.Expressions = numbers_section (codes "Faults of an expression") expression_rows
+part_of section.Statements = numbers_section (codes "Faults of a statement") statement_rows
+part_of section.Places = numbers_section (codes "Faults of addresses and labels") place_rows
+part_of section.Sources = numbers_section (codes "Faults of a source as a whole") source_rows
+part_of section.Warnings = numbers_section (codes "Warnings of a source") warning_rows
+part_of section.Objects = numbers_section (codes "Faults of an object") object_rows
+part_of section.Tries = numbers_section (codes "Faults of the symbols of an object") trie_rows
+part_of section.Loading = numbers_section (codes "Faults of an object that is loaded") loading_rows
+part_of section.Stops = numbers_section (codes "Reasons of a stop") stop_rows
+part_of section.Traps = numbers_section (codes "Reasons of a stop of RESUME or TRAP") trap_rows
+part_of section.Kinds = numbers_section (codes "Kinds of faulty words") kind_rows
+part_of section.Statuses = numbers_section (codes "Exit statuses") status_rows
+part_of section.Inside = numbers_section (codes "Numbers inside the program") inside_rows
+part_of section.Arithmetic = operations_section (codes "Instructions on numbers") arithmetic_rows
+part_of section.Comparisons = operations_section (codes "Comparisons, negations, shifts and copies") comparison_rows
+part_of section.Bits = operations_section (codes "Instructions on bits") bit_rows
+part_of section.Bytes = operations_section (codes "Instructions on bytes and single bits") byte_rows
+part_of section.Wydes = operations_section (codes "Instructions on wydes") wyde_rows
+part_of section.Branches = operations_section (codes "Branches") branch_rows
+part_of section.Sets = operations_section (codes "Registers that are set by a condition") set_rows
+part_of section.Loads = operations_section (codes "Loads") load_rows
+part_of section.Stores = operations_section (codes "Stores") store_rows
+part_of section.Hints = operations_section (codes "Hints to the cache") hint_rows
+part_of section.Jumps = operations_section (codes "Jumps, subroutines and special registers") jump_rows
+part_of section.System = operations_section (codes "Trips, traps and the state") system_rows
+part_of section.Floats = operations_section (codes "Instructions on floating-point numbers") float_rows
+part_of section.MoreFloats = operations_section (codes "More instructions on floating-point numbers") more_float_rows
+part_of section.PseudoOperations = operations_section (codes "Pseudo-operations") pseudo_rows
+part_of section.Registers = operations_section (codes "Special registers") register_rows
+part_of section.MoreRegisters = operations_section (codes "More special registers") more_register_rows
+part_of section.Events = symbols_section (codes "Bits and handlers of events") event_rows
+part_of section.Files = symbols_section (codes "Handles and modes of files") file_rows
+part_of section.Services = symbols_section (codes "Services of TRAP") service_rows
+part_of section.Others = symbols_section (codes "Other predefined symbols") other_rows
 
 -- all sections, in order
 unfoldable pub sections : List Section

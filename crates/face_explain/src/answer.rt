@@ -8,7 +8,7 @@ ghost use Rattle.face_explain.specs.Answers as spec;
 
 use crate::nearest::unknown_text;
 use crate::sections::{Section, all, part_of};
-use mx_explain::{Entry, Row, add_row, fits, row_of};
+use mx_explain::{Entry, Row, add_row, is_number_or_name_of, row_of};
 use mx_foreign::advice_on;
 use mx_word::{Bytes, NoMemory};
 use std::alloc::Global;
@@ -24,7 +24,7 @@ pub enum Answer {
 fn add_fitting(alloc: Global, text: &mut Bytes, word: &str, row: Row) -> Result<(), NoMemory>
     ensures { OnOk result (text.new ≡ text.old ++ spec.fitting word.now (seen row)) }
 {
-    if fits(word, row) {
+    if is_number_or_name_of(word, row) {
         return add_row(alloc, text, row);
     }
     Ok(())

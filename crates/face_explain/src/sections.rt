@@ -115,8 +115,8 @@ pub(crate) fn all() -> &'static [Section]
 }
 
 /// A section of numbers with their names.
-fn wide(title: &'static str, entries: &'static [Entry]) -> Part
-    ensures { spec.seen_part result ≡ spec.wide title.now (map (λ e. row e.0 e.1.now e.2.now e.3.now e.4.now) entries.now) }
+fn numbers_section(title: &'static str, entries: &'static [Entry]) -> Part
+    ensures { spec.seen_part result ≡ spec.numbers_section title.now (map (λ e. row e.0 e.1.now e.2.now e.3.now e.4.now) entries.now) }
 {
     Part {
         title,
@@ -127,8 +127,8 @@ fn wide(title: &'static str, entries: &'static [Entry]) -> Part
 }
 
 /// A section of operations or registers.
-fn narrow(title: &'static str, entries: &'static [Entry]) -> Part
-    ensures { spec.seen_part result ≡ spec.narrow title.now (map (λ e. row e.0 e.1.now e.2.now e.3.now e.4.now) entries.now) }
+fn operations_section(title: &'static str, entries: &'static [Entry]) -> Part
+    ensures { spec.seen_part result ≡ spec.operations_section title.now (map (λ e. row e.0 e.1.now e.2.now e.3.now e.4.now) entries.now) }
 {
     Part {
         title,
@@ -139,8 +139,8 @@ fn narrow(title: &'static str, entries: &'static [Entry]) -> Part
 }
 
 /// A section of symbols.
-fn middle(title: &'static str, entries: &'static [Entry]) -> Part
-    ensures { spec.seen_part result ≡ spec.middle title.now (map (λ e. row e.0 e.1.now e.2.now e.3.now e.4.now) entries.now) }
+fn symbols_section(title: &'static str, entries: &'static [Entry]) -> Part
+    ensures { spec.seen_part result ≡ spec.symbols_section title.now (map (λ e. row e.0 e.1.now e.2.now e.3.now e.4.now) entries.now) }
 {
     Part {
         title,
@@ -155,46 +155,55 @@ pub(crate) fn part_of(section: Section) -> Part
     ensures { spec.seen_part result ≡ spec.part_of section }
 {
     match section {
-        Section::Lines => wide("Faults of a line", line_rows()),
-        Section::Expressions => wide("Faults of an expression", expression_rows()),
-        Section::Statements => wide("Faults of a statement", statement_rows()),
-        Section::Places => wide("Faults of addresses and labels", place_rows()),
-        Section::Sources => wide("Faults of a source as a whole", source_rows()),
-        Section::Warnings => wide("Warnings of a source", warning_rows()),
-        Section::Objects => wide("Faults of an object", object_rows()),
-        Section::Tries => wide("Faults of the symbols of an object", trie_rows()),
-        Section::Loading => wide("Faults of an object that is loaded", loading_rows()),
-        Section::Stops => wide("Reasons of a stop", stop_rows()),
-        Section::Traps => wide("Reasons of a stop of RESUME or TRAP", trap_rows()),
-        Section::Kinds => wide("Kinds of faulty words", kind_rows()),
-        Section::Statuses => wide("Exit statuses", status_rows()),
-        Section::Inside => wide("Numbers inside the program", inside_rows()),
-        Section::Arithmetic => narrow("Instructions on numbers", arithmetic_rows()),
-        Section::Comparisons => narrow(
+        Section::Lines => numbers_section("Faults of a line", line_rows()),
+        Section::Expressions => numbers_section("Faults of an expression", expression_rows()),
+        Section::Statements => numbers_section("Faults of a statement", statement_rows()),
+        Section::Places => numbers_section("Faults of addresses and labels", place_rows()),
+        Section::Sources => numbers_section("Faults of a source as a whole", source_rows()),
+        Section::Warnings => numbers_section("Warnings of a source", warning_rows()),
+        Section::Objects => numbers_section("Faults of an object", object_rows()),
+        Section::Tries => numbers_section("Faults of the symbols of an object", trie_rows()),
+        Section::Loading => numbers_section("Faults of an object that is loaded", loading_rows()),
+        Section::Stops => numbers_section("Reasons of a stop", stop_rows()),
+        Section::Traps => numbers_section("Reasons of a stop of RESUME or TRAP", trap_rows()),
+        Section::Kinds => numbers_section("Kinds of faulty words", kind_rows()),
+        Section::Statuses => numbers_section("Exit statuses", status_rows()),
+        Section::Inside => numbers_section("Numbers inside the program", inside_rows()),
+        Section::Arithmetic => operations_section("Instructions on numbers", arithmetic_rows()),
+        Section::Comparisons => operations_section(
             "Comparisons, negations, shifts and copies",
             comparison_rows(),
         ),
-        Section::Bits => narrow("Instructions on bits", bit_rows()),
-        Section::Bytes => narrow("Instructions on bytes and single bits", byte_rows()),
-        Section::Wydes => narrow("Instructions on wydes", wyde_rows()),
-        Section::Branches => narrow("Branches", branch_rows()),
-        Section::Sets => narrow("Registers that are set by a condition", set_rows()),
-        Section::Loads => narrow("Loads", load_rows()),
-        Section::Stores => narrow("Stores", store_rows()),
-        Section::Hints => narrow("Hints to the cache", hint_rows()),
-        Section::Jumps => narrow("Jumps, subroutines and special registers", jump_rows()),
-        Section::System => narrow("Trips, traps and the state", system_rows()),
-        Section::Floats => narrow("Instructions on floating-point numbers", float_rows()),
-        Section::MoreFloats => narrow(
+        Section::Bits => operations_section("Instructions on bits", bit_rows()),
+        Section::Bytes => operations_section("Instructions on bytes and single bits", byte_rows()),
+        Section::Wydes => operations_section("Instructions on wydes", wyde_rows()),
+        Section::Branches => operations_section("Branches", branch_rows()),
+        Section::Sets => operations_section("Registers that are set by a condition", set_rows()),
+        Section::Loads => operations_section("Loads", load_rows()),
+        Section::Stores => operations_section("Stores", store_rows()),
+        Section::Hints => operations_section("Hints to the cache", hint_rows()),
+        Section::Jumps => operations_section(
+            "Jumps, subroutines and special registers",
+            jump_rows(),
+        ),
+        Section::System => operations_section("Trips, traps and the state", system_rows()),
+        Section::Floats => operations_section(
+            "Instructions on floating-point numbers",
+            float_rows(),
+        ),
+        Section::MoreFloats => operations_section(
             "More instructions on floating-point numbers",
             more_float_rows(),
         ),
-        Section::PseudoOperations => narrow("Pseudo-operations", pseudo_rows()),
-        Section::Registers => narrow("Special registers", register_rows()),
-        Section::MoreRegisters => narrow("More special registers", more_register_rows()),
-        Section::Events => middle("Bits and handlers of events", event_rows()),
-        Section::Files => middle("Handles and modes of files", file_rows()),
-        Section::Services => middle("Services of TRAP", service_rows()),
-        Section::Others => middle("Other predefined symbols", other_rows()),
+        Section::PseudoOperations => operations_section("Pseudo-operations", pseudo_rows()),
+        Section::Registers => operations_section("Special registers", register_rows()),
+        Section::MoreRegisters => operations_section(
+            "More special registers",
+            more_register_rows(),
+        ),
+        Section::Events => symbols_section("Bits and handlers of events", event_rows()),
+        Section::Files => symbols_section("Handles and modes of files", file_rows()),
+        Section::Services => symbols_section("Services of TRAP", service_rows()),
+        Section::Others => symbols_section("Other predefined symbols", other_rows()),
     }
 }

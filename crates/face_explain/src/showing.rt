@@ -15,7 +15,7 @@ use mx_words::WordsFault;
 use std::alloc::Global;
 
 /// A page with this text.
-fn shown(alloc: Global, text: Bytes) -> Page
+fn page_of_text(alloc: Global, text: Bytes) -> Page
     ensures page { result ≡ spec.shown text }
     ensures view { IsOfView result.outcome }
 {
@@ -44,7 +44,7 @@ fn word_page(alloc: Global, word: &str) -> Result<Page, NoMemory>
     ensures view { IfOk result (λ page. IsOfView page.outcome) }
 {
     match explain(alloc, word)? {
-        Answer::Explained(text) => Ok(shown(alloc, text)),
+        Answer::Explained(text) => Ok(page_of_text(alloc, text)),
         Answer::Unknown(remark) => Ok(unknown(alloc, remark)),
     }
 }
@@ -54,7 +54,7 @@ fn list_page(alloc: Global) -> Result<Page, NoMemory>
     ensures page { IfOk result (λ page. page ≡ spec.list_page) }
     ensures view { IfOk result (λ page. IsOfView page.outcome) }
 {
-    Ok(shown(alloc, list(alloc)?))
+    Ok(page_of_text(alloc, list(alloc)?))
 }
 
 /// Says what a word means on standard output; an unknown word is told on standard error. Answers the outcome: that the words are at

@@ -5,7 +5,7 @@ ghost use Rattle.mx_count.specs.Runs.{AreArguments};
 ghost use Rattle.mx_face.specs.Pages.{FaultsOnlyBy, IsOfView};
 
 use crate::data::{Call, Program, data};
-use mx_begin::{Form, arguments};
+use mx_begin::{Form, collect_arguments};
 use mx_count::count_lines;
 use mx_face::{Page, put_page, tell};
 use mx_host::Host;
@@ -15,8 +15,10 @@ use mx_outcome::{Outcome, message};
 use mx_view::{Wanted, list_source, tell_faults};
 use mx_word::{Bytes, NoMemory};
 use mx_words::Order;
-use page_parts::{end, front};
-use page_run::{Ending, Made, host_of, of_memory, order_in, program_of, record_run, refused};
+use page_parts::{page_head, page_tail};
+use page_run::{
+    Ending, Made, host_of, make_refused, of_memory, program_of, read_order, record_run,
+};
 use std::alloc::Global;
 
 /// Whether bytes are a source or an object.
@@ -47,7 +49,7 @@ fn record(
 }
 
 /// What is shown of a source that was run: it is run once more, for as many steps, and counted.
-fn source_told(
+fn view_source_run(
     alloc: Global,
     order: &Order,
     gathered: &Gathered,
@@ -65,7 +67,7 @@ fn source_told(
 }
 
 /// What is shown of an object that was run.
-fn object_told(
+fn view_object_run(
     alloc: Global,
     order: &Order,
     gathered: &Gathered,
@@ -88,7 +90,7 @@ fn object_told(
 }
 
 /// What is shown of a program that was run for this many steps.
-fn told(
+fn view_run(
     alloc: Global,
     words: &[String],
     order: &Order,
@@ -98,19 +100,19 @@ fn told(
     requires file { order.now.file < length words.now }
     requires rest { order.now.rest ≤ length words.now }
 {
-    let given = arguments(alloc, words, order)?;
+    let given = collect_arguments(alloc, words, order)?;
     let made = Order {
         steps: steps.max(1),
         ..*order
     };
     if is_object(gathered.source.as_slice()) {
-        return object_told(alloc, &made, gathered, given.as_slice());
+        return view_object_run(alloc, &made, gathered, given.as_slice());
     }
-    source_told(alloc, &made, gathered, given.as_slice())
+    view_source_run(alloc, &made, gathered, given.as_slice())
 }
 
 /// What is shown of a program that was not run.
-fn untold(alloc: Global, gathered: &Gathered) -> Result<Program, NoMemory> {
+fn view_without_run(alloc: Global, gathered: &Gathered) -> Result<Program, NoMemory> {
     let source = gathered.source.as_slice();
     if is_object(source) {
         return Ok(Program::Nothing);
@@ -120,7 +122,7 @@ fn untold(alloc: Global, gathered: &Gathered) -> Result<Program, NoMemory> {
 
 /// The page around data: no `<` is in it, so nothing there ends its element.
 fn around(alloc: Global, data: &[u8]) -> Result<Bytes, NoMemory> {
-    let mut text = Bytes::copy(alloc, front().as_bytes())?;
+    let mut text = Bytes::copy(alloc, page_head().as_bytes())?;
     for b in data {
         if *b == b'<' {
             text.extend(b"\\u003c")?;
@@ -128,7 +130,7 @@ fn around(alloc: Global, data: &[u8]) -> Result<Bytes, NoMemory> {
             text.push(*b)?;
         }
     }
-    text.extend(end().as_bytes())?;
+    text.extend(page_tail().as_bytes())?;
     Ok(text)
 }
 
@@ -143,7 +145,7 @@ fn text_of(alloc: Global, is_json: bool, data: Bytes) -> Result<Bytes, NoMemory>
 }
 
 /// What there is to show of a run, or of a program that is refused.
-fn shown(
+fn make_page(
     alloc: Global,
     version: &str,
     ordered: &Ordered,
@@ -156,8 +158,8 @@ fn shown(
 {
     let words = ordered.named.words.as_slice();
     let program = match made.ending {
-        Ending::Refused => untold(alloc, gathered)?,
-        _ => told(alloc, words, &ordered.order, gathered, made.steps)?,
+        Ending::Refused => view_without_run(alloc, gathered)?,
+        _ => view_run(alloc, words, &ordered.order, gathered, made.steps)?,
     };
     let call = Call {
         words,
@@ -187,7 +189,7 @@ fn show<H: Host>(
     requires rest { ordered.now.order.rest ≤ length ordered.now.named.words.items }
     ensures { FaultsOnlyBy H.told H.faults host.old host.new result }
 {
-    match shown(alloc, version, ordered, gathered, made) {
+    match make_page(alloc, version, ordered, gathered, made) {
         Ok(page) => put_page(alloc, host, &page),
         Err(NoMemory) => tell(alloc, host, Outcome::OutOfMemory),
     }
@@ -208,7 +210,7 @@ fn show_gathered<H: Host>(
     let words = ordered.named.words.as_slice();
     match record(alloc, words, &ordered.order, gathered) {
         Ok(made) => show(alloc, host, version, ordered, gathered, &made),
-        Err(outcome) => match refused(alloc, outcome) {
+        Err(outcome) => match make_refused(alloc, outcome) {
             Some(made) => show(alloc, host, version, ordered, gathered, &made),
             None => tell(alloc, host, outcome),
         },
@@ -238,7 +240,7 @@ fn page_ordered<H: Host>(
 pub fn page<H: Host>(alloc: Global, host: &mut H, version: &str, words: &[String]) -> Outcome
     ensures causes { FaultsOnlyBy H.told H.faults host.old host.new result }
 {
-    match order_in(alloc, words) {
+    match read_order(alloc, words) {
         Ok(ordered) => page_ordered(alloc, host, version, words, &ordered),
         Err(Unread::Fault(fault)) => tell(alloc, host, Outcome::Usage(fault)),
         Err(Unread::OutOfMemory) => tell(alloc, host, Outcome::OutOfMemory),

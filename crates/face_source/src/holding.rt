@@ -19,7 +19,7 @@ use mx_json::add_between;
 use mx_object::is_object;
 use mx_outcome::{Outcome, message};
 use mx_text::octa_hex;
-use mx_view::{Listed, ListedLine, Wanted, lines_holding, list_source};
+use mx_view::{Listed, ListedLine, Wanted, list_lines_at, list_source};
 use mx_word::{Bytes, NoMemory};
 use std::alloc::Global;
 
@@ -94,7 +94,7 @@ fn find(alloc: Global, is_json: bool, address: u64, source: &[u8]) -> Result<Fou
     if is_json {
         return find_as_json(alloc, address, source);
     }
-    let sheet = lines_holding(alloc, address, source)?;
+    let sheet = list_lines_at(alloc, address, source)?;
     Ok(Found {
         found: has_byte(sheet.text.as_slice()),
         text: sheet.text,

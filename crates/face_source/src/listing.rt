@@ -22,7 +22,7 @@ use std::alloc::Global;
 
 /// The name of what says whether a source is accepted.
 #[tactic(auto, unfolding(crate::specs::SourceJson::accepted_name))]
-fn accepted_name() -> &'static [u8]
+fn accepted_key() -> &'static [u8]
     ensures { result.now ≡ accepted_name }
 {
     b"{\"accepted\":"
@@ -33,7 +33,7 @@ fn accepted_name() -> &'static [u8]
 fn add_listing(alloc: Global, text: &mut Bytes, listed: &Listed) -> Result<(), NoMemory>
     ensures { OnOk result (text.new ≡ text.old ++ listing_json listed.now) }
 {
-    add_flag(text, accepted_name(), listed.refused.is_none())?;
+    add_flag(text, accepted_key(), listed.refused.is_none())?;
     text.extend(b",\"lines\":")?;
     add_lines(alloc, text, listed.lines.as_slice())?;
     add_refusal(text, b",\"refused\":", listed.refused)?;

@@ -8,7 +8,7 @@ ghost use Rattle.face_source.specs.ViewPages as spec;
 use mx_face::Page;
 use mx_json::add_between;
 use mx_load::ObjectFault;
-use mx_object::{FoundTetra, ListedObject, find_tetra, found_text, list_object, listing_text};
+use mx_object::{FoundTetra, ListedObject, find_tetra, format_found, format_listing, list_object};
 use mx_outcome::{Outcome, message};
 use mx_text::octa_hex;
 use mx_word::{Bytes, NoMemory};
@@ -17,7 +17,7 @@ use std::alloc::Global;
 
 /// The remark on `--json`.
 #[tactic(auto, unfolding(crate::specs::ViewPages::json_refused))]
-fn json_refused() -> &'static [u8]
+fn json_remark() -> &'static [u8]
     ensures { result.now ≡ spec.json_refused }
 {
     b"error: --json is for sources\n"
@@ -29,7 +29,7 @@ fn json_page(alloc: Global) -> Result<Page, NoMemory>
     ensures page { IfOk result (λ page. page ≡ spec.json_page) }
     ensures view { IfOk result (λ page. IsOfView page.outcome) }
 {
-    let remark = Bytes::copy(alloc, json_refused())?;
+    let remark = Bytes::copy(alloc, json_remark())?;
     Ok(Page {
         text: Bytes::new(alloc),
         remark,
@@ -39,7 +39,7 @@ fn json_page(alloc: Global) -> Result<Page, NoMemory>
 
 /// That an object is refused so.
 #[tactic(auto, unfolding(crate::specs::ViewPages::told_page))]
-fn refused_page(alloc: Global, place: u64, fault: u16) -> Result<Page, NoMemory>
+fn refusal_page(alloc: Global, place: u64, fault: u16) -> Result<Page, NoMemory>
     ensures page { IfOk result (λ page. page ≡ spec.told_page (Outcome.BadObject place fault)) }
     ensures view { IfOk result (λ page. IsOfView page.outcome) }
 {
@@ -65,23 +65,23 @@ fn done_page(text: Bytes, remark: Bytes) -> Page
 }
 
 /// The listing of an object.
-fn accepted_page(alloc: Global, listed: &ListedObject) -> Result<Page, NoMemory>
+fn listing_page(alloc: Global, listed: &ListedObject) -> Result<Page, NoMemory>
     ensures page { IfOk result (λ page. page ≡ spec.accepted_page listed.now) }
     ensures view { IfOk result (λ page. IsOfView page.outcome) }
 {
-    let text = listing_text(alloc, listed)?;
+    let text = format_listing(alloc, listed)?;
     Ok(done_page(text, Bytes::new(alloc)))
 }
 
 /// The listing of an object, or why it is refused.
 #[tactic(auto, unfolding(crate::specs::ViewPages::listed_page))]
-fn listed_page(alloc: Global, bytes: &[u8]) -> Result<Page, NoMemory>
+fn listing_or_refusal_page(alloc: Global, bytes: &[u8]) -> Result<Page, NoMemory>
     ensures page { IfOk result (λ page. page ≡ spec.listed_page (object_listed bytes.now)) }
     ensures view { IfOk result (λ page. IsOfView page.outcome) }
 {
     match list_object(alloc, bytes) {
-        Ok(listed) => accepted_page(alloc, &listed),
-        Err(ObjectFault::Bad { place, fault }) => refused_page(alloc, place, fault),
+        Ok(listed) => listing_page(alloc, &listed),
+        Err(ObjectFault::Bad { place, fault }) => refusal_page(alloc, place, fault),
         Err(ObjectFault::OutOfMemory) => Err(NoMemory),
     }
 }
@@ -94,7 +94,7 @@ pub(crate) fn list_page_of(alloc: Global, is_json: bool, bytes: &[u8]) -> Result
     if is_json {
         return json_page(alloc);
     }
-    listed_page(alloc, bytes)
+    listing_or_refusal_page(alloc, bytes)
 }
 
 /// What is said of an address that no tetra has.
@@ -130,20 +130,20 @@ fn tetra_page(alloc: Global, address: u64, found: &Option<FoundTetra>) -> Result
     ensures page { IfOk result (λ page. page ≡ spec.tetra_page address found.now) }
     ensures view { IfOk result (λ page. IsOfView page.outcome) }
 {
-    let text = found_text(alloc, found)?;
+    let text = format_found(alloc, found)?;
     let remark = remark(alloc, address, found)?;
     Ok(done_page(text, remark))
 }
 
 /// The tetra that holds an address, or why the object is refused.
 #[tactic(auto, unfolding(crate::specs::ViewPages::found_page))]
-fn found_page(alloc: Global, address: u64, bytes: &[u8]) -> Result<Page, NoMemory>
+fn tetra_or_refusal_page(alloc: Global, address: u64, bytes: &[u8]) -> Result<Page, NoMemory>
     ensures page { IfOk result (λ page. page ≡ spec.found_page address (object_found bytes.now address)) }
     ensures view { IfOk result (λ page. IsOfView page.outcome) }
 {
     match find_tetra(alloc, bytes, address) {
         Ok(found) => tetra_page(alloc, address, &found),
-        Err(ObjectFault::Bad { place, fault }) => refused_page(alloc, place, fault),
+        Err(ObjectFault::Bad { place, fault }) => refusal_page(alloc, place, fault),
         Err(ObjectFault::OutOfMemory) => Err(NoMemory),
     }
 }
@@ -161,5 +161,5 @@ pub(crate) fn where_page_of(
     if is_json {
         return json_page(alloc);
     }
-    found_page(alloc, address, bytes)
+    tetra_or_refusal_page(alloc, address, bytes)
 }

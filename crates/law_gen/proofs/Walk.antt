@@ -90,8 +90,8 @@ module _ (b c : ℕ) (is : c ≡ b + 1) (few : c ≤ 10001) (symbols : List Symb
 -- ---- the end
 
 -- the procedure's statements after the first one
-abbrev procedure_behind : ℕ → List StatementTree
-procedure_behind line =
+abbrev procedure_after : ℕ → List StatementTree
+procedure_after line =
     stated (line + 1) None (Code 0xfe) (reg 1 ∷ name (codes "rJ") ∷ [])
     ∷ stated (line + 2) None (Code 0x26) (reg 3 ∷ reg 0 ∷ number 1 ∷ [])
     ∷ stated (line + 3) None (Code 0xf2) (reg 2 ∷ name procedure_name ∷ [])
@@ -177,7 +177,7 @@ module _ (b c : ℕ) (is : c ≡ b + 1) (few : c ≤ 10001) (symbols : List Symb
       (ends-then _ _ _ _ _ _ end5 (ends-then _ _ _ _ _ _ end6 (ends-then _ _ _ _ _ _ end7 (ends-then _ _ _ _ _ _ end8 (ends-then _ _ _ _ [] _ end9 (ends-none (known all end_backs (to 10))))))))))))
 
   -- the label 1H is after the procedure's first line
-  local-there : is_some (next_local 1 (sights_from (known all no_backs (to 3)) (procedure_behind (line + 2)))) ≡ true
+  local-there : is_some (next_local 1 (sights_from (known all no_backs (to 3)) (procedure_after (line + 2)))) ≡ true
   local-there =
       local-later _ _ _ _ _ end3 refl (local-later _ _ _ _ _ end4 refl (local-later _ _ _ _ _ end5 refl (local-later _ _ _ _ _ end6 refl
       (local-later _ _ _ _ _ end7 refl (local-later _ _ _ _ _ end8 refl (local-here _ _ _ _ [] end9 refl refl))))))

@@ -1,10 +1,16 @@
 -- A run of the program whose calls are answered, whose source means something and whose machine halts is done.
-use Rattle.std.proofs.Common.{◌≡◌, ℕ, List, [], ◌∷◌, Bool, true, false, cond, length, ◌≤◌, refl, sym, ◌∙◌, ap, Ok, Err, Some, None}
-use Rattle.std.specs.Prelude.{Option}
+use Rattle.std.proofs.Common.{◌≡◌, ℕ, List, [], ◌∷◌, Bool, true, false, cond, length, ◌≤◌, refl, sym, ◌∙◌, ap, Ok, Err, Some, None, codes, ◌&&◌}
+use Rattle.std.specs.Prelude.{Option, Result}
 use Rattle.mx_host.specs.HostModel.{HostModel}
+use Rattle.mx_plan.specs.Calls.{host, HostPlan}
+use Rattle.mx_plan.specs.Plan.{end_of}
+use Rattle.mx_plan.specs.Wild.{ends, course}
 use Rattle.mx_mmo.specs.Image.{Image}
 use Rattle.mx_core.specs.State.{State}
-use Rattle.mx_run.specs.WildRuns.{MachineKind}
+use Rattle.mx_ring.specs.Stack.{register}
+use Rattle.mx_run.specs.Runs.{no_flags}
+use Rattle.mx_run.specs.WildRuns.{MachineKind, run_course}
+use Rattle.mx_run.specs.declared.end.End.TheVariants.{Halted}
 use Rattle.mx_words.specs.declared.order.Command.{Command}
 use Rattle.mx_words.specs.declared.order.Command.TheVariants.{Run, Asm, Sim, Gen}
 use Rattle.mx_words.specs.declared.order.Order.{Order}
@@ -15,84 +21,99 @@ use Rattle.mx_asm.specs.Image as imaging
 use Rattle.mx_asm.specs.Refusal.{refusal}
 use Rattle.mx_asm.specs.declared.refused.Refused.{Refused}
 use Rattle.mx_asm.proofs.InTurn.{source-accepted}
-use Rattle.mx_files.specs.Answers.{answered, plainly, after_lines}
+use Rattle.mx_files.specs.Answers.{Answer, answered, plainly, after_lines}
 use Rattle.mx_begin.specs.Arguments.{Word, word_at, arguments}
-use Rattle.mx_begin.specs.Begun.{assembled, loaded}
-use Rattle.mx_begin.proofs.Beginnings.{begins}
+use Rattle.mx_begin.specs.Begun.{assembled, loaded, started}
 use Rattle.mx_begin.specs.declared.images.Form.TheVariants.{Source, Object}
-use Rattle.law_runs.specs.Complete.{IsOrdered, HasSource, HasObject, IsStarted, IsHalted, IsPlayed, IsWritten, IsGenerated}
 use Rattle.mx_dump.specs.Dump.{dump_lines}
-use Rattle.law_gen.specs.Generator.{generated}
+use Rattle.law_gen.specs.Generator.{generated, summary}
 use Rattle.law_gen.specs.Program.{generated_image}
 use Rattle.law_gen.proofs.Meaning.{not-refused-run, statements-of}
 use Rattle.mx_words.proofs.OrderedBlocks.{order-few}
 use Rattle.mx_files.specs.Writing.{lines_put}
 use Rattle.mx_files.specs.Objects.{source_object}
 use Rattle.mx_files.specs.Objects as assembling
+use Rattle.mx_files.specs.ObjectPlans.{assemble_plan}
 use Rattle.mx_files.specs.Assembling.{refused_with, assembled_outcome}
 use Rattle.mx_files.proofs.FileEnds.{assembled-by}
-use Rattle.mx_top.specs.Commands.{begun_run, summed, summed_from, generated_run, ordered, carried_out, with_message}
-use Rattle.mx_top.specs.Product.{product}
-use Rattle.mx_top.proofs.ProductCourses.{product-is-course}
-use Rattle.mx_top.specs.Runs.{ran, machine_ran, session_ran, states_back, taken_back, run_back, order_ran, dumped, run_from, image_run}
 use Rattle.mx_files.specs.Sources.{source_meaning, meaning_unless}
 use Rattle.mx_files.specs.declared.refusal.Refusal.{Refusal}
+use Rattle.mx_outcome.specs.Kinds.{leaves_machine}
 use Rattle.mx_outcome.specs.declared.outcome.Outcome.{Outcome}
 use Rattle.mx_outcome.specs.declared.outcome.Outcome.TheVariants.{Done}
+use Rattle.mx_top.specs.Endings.{dumped_plan, summed_plan}
+use Rattle.mx_top.specs.MachineWork as work
+use Rattle.mx_top.specs.MachineWork.{machine_plan, generated_work}
+use Rattle.mx_top.specs.Product.{on_host, run_on, run_source, run_text, taking, ordered_plan, work_plan, work_on, at_start, answer_of, product}
+use Rattle.mx_top.specs.Runs.{generator_steps}
+use Rattle.mx_top.specs.Telling.{telling, with_message}
+use Rattle.mx_top.specs.WorkClauses.{answer_by, work_by}
+use Rattle.mx_top.proofs.Followed.{to-summed}
+use Rattle.mx_top.proofs.Spoken.{plain-so, product-is-said}
+use Rattle.mx_top.proofs.Told.{done-said}
+use Rattle.mx_top.proofs.WorkParts.{run-on}
+use Rattle.mx_top.proofs.WorkPlans.{host-course, taking-course}
+use Rattle.law_runs.specs.Complete.{IsOrdered, HasSource, HasObject, IsStarted, IsHalted, IsPlayed, IsWritten, IsGenerated, image_answer, session_answer}
+use Rattle.law_runs.proofs.MachineAnswers.{run_answer, run-answers, session_told, machine_by, machine-answer, sitting-answer, halted-answer, telling-end, dumped-end}
+use Rattle.law_runs.proofs.ReadRuns.{image_ran, file_ran, file-read, image-course}
 
 -- ---- the words, and what they name
 
-pub order-is : (kind : MachineKind) (words : List Word) (o : Order) (c : Command) (m : HostModel) → IsOrdered words o c → product kind words m ≡ with_message (ordered kind words o c m)
+pub order-is : (kind : MachineKind) (words : List Word) (o : Order) (c : Command) (m : HostModel) → IsOrdered words o c → product kind words m ≡ with_message (answer_by kind (ordered_plan words o c) m)
 order-is kind words o c m h =
-    product-is-course kind words m
-    ∙ ap (λ r. with_message (carried_out kind words r m)) h.order
-    ∙ ap (λ d. with_message (ordered kind words o d m)) h.command
+    product-is-said kind words m
+    ∙ ap (λ r. with_message (answer_by kind (work_plan words r) m)) h.order
+    ∙ ap (λ d. with_message (answer_by kind (ordered_plan words o d) m)) h.command
+
+-- a plan of the host alone
+pub host-answer : (kind : MachineKind) (p : HostPlan Outcome) (m : HostModel) → answer_by kind (on_host p) m ≡ plainly (end_of host p m)
+host-answer kind p m = ap answer_of (host-course kind p (m, [])) ∙ plain-so (end_of host p m)
 
 pub source-run : (kind : MachineKind) (words : List Word) (o : Order) (image : Image) (m begun : HostModel) → HasSource words o image m begun →
-    product kind words m ≡ with_message (image_run kind o (arguments words o) image begun)
+    product kind words m ≡ with_message (image_answer kind o (arguments words o) image begun)
+unfolding ordered_plan
 source-run kind words o image m begun h =
     order-is kind words o Run m h.ordered
-    ∙ ap (λ t. with_message (begun_run kind o t)) (begins kind words o Source h.text image m begun h.read (ap assembled h.means))
+    ∙ ap with_message (file-read kind words o Source m ∙ ap (file_ran kind o (arguments words o) Source) h.read ∙ ap (λ r. image_ran kind o (arguments words o) r begun) (ap assembled h.means))
 
 pub object-run : (kind : MachineKind) (words : List Word) (o : Order) (image : Image) (m begun : HostModel) → HasObject words o image m begun →
-    product kind words m ≡ with_message (image_run kind o (arguments words o) image begun)
+    product kind words m ≡ with_message (image_answer kind o (arguments words o) image begun)
+unfolding ordered_plan
 object-run kind words o image m begun h =
     order-is kind words o Sim m h.ordered
-    ∙ ap (λ t. with_message (begun_run kind o t)) (begins kind words o Object h.object image m begun h.read (ap loaded h.loads))
+    ∙ ap with_message (file-read kind words o Object m ∙ ap (file_ran kind o (arguments words o) Object) h.read ∙ ap (λ r. image_ran kind o (arguments words o) r begun) (ap loaded h.loads))
 
 -- ---- the machine
 
+-- the host's plan after a machine that ended
+abbrev pub dump_answer : Bool → Outcome → State → HostModel → Answer
+dump_answer dump outcome ended after = plainly (end_of host (dumped_plan dump outcome ended) after)
+
 started-run : (kind : MachineKind) (words : List Word) (o : Order) (image : Image) (s : State) (begun : HostModel) → IsStarted kind words o image s →
-    image_run kind o (arguments words o) image begun ≡ dumped o.dump (order_ran kind o s begun)
-started-run kind words o image s begun h = ap (λ r. run_from kind o r begun) h
-
--- where the program halts, no step is taken back
-plain-run : (kind : MachineKind) (o : Order) (s ended : State) (m after : HostModel) (status : ℕ) → o.interactive ≡ false → machine_ran kind o.steps s m ≡ ran (Done status) ended after → order_ran kind o s m ≡ ran (Done status) ended after
-plain-run kind o s ended m after status h e =
-    ap (λ b. cond b (session_ran kind o.steps s m) (run_back kind o.last o.steps s m)) h ∙ ap (taken_back (states_back o.last o.steps s m)) e
-
-sat-run : (kind : MachineKind) (o : Order) (s : State) (m : HostModel) → o.interactive ≡ true → order_ran kind o s m ≡ session_ran kind o.steps s m
-sat-run kind o s m h = ap (λ b. cond b (session_ran kind o.steps s m) (run_back kind o.last o.steps s m)) h
+    image_answer kind o (arguments words o) image begun ≡ answer_of (work_by kind (machine_plan o) s begun)
+started-run kind words o image s begun h = image-course kind o (arguments words o) image begun ∙ ap (λ r. answer_of (work_on kind (machine_plan o) r (begun, []))) h
 
 pub halted-run : (kind : MachineKind) (words : List Word) (o : Order) (image : Image) (begun : HostModel) (status : ℕ) (ended : State) (after : HostModel) →
-    IsHalted kind words o image begun status ended after → image_run kind o (arguments words o) image begun ≡ dumped o.dump (ran (Done status) ended after)
+    IsHalted kind words o image begun status ended after → image_answer kind o (arguments words o) image begun ≡ dump_answer o.dump (Done status) ended after
 halted-run kind words o image begun status ended after h =
-    started-run kind words o image h.machine begun h.starts ∙ ap (dumped o.dump) (plain-run kind o h.machine ended begun after status h.plain h.halts)
+    started-run kind words o image h.machine begun h.starts ∙ halted-answer kind o h.machine ended begun after status h.plain h.halts
 
 pub plain-told : (wanted : Bool) (status : ℕ) (ended : State) (after : HostModel) → wanted ≡ false →
-    with_message (dumped wanted (ran (Done status) ended after)) ≡ answered (Done status) after
-plain-told wanted status ended after h = ap (λ b. with_message (dumped b (ran (Done status) ended after))) h
+    with_message (dump_answer wanted (Done status) ended after) ≡ answered (Done status) after
+plain-told wanted status ended after h =
+    ap with_message (dumped-end wanted (Done status) ended after ∙ ap (λ b. cond (b && leaves_machine (Done status)) (after_lines (Done status) (lines_put (dump_lines ended) after)) (answered (Done status) after)) h)
+    ∙ done-said status after
 
 pub dump-told : (wanted : Bool) (status : ℕ) (ended : State) (after last : HostModel) → wanted ≡ true → lines_put (dump_lines ended) after ≡ (true, last) →
-    with_message (dumped wanted (ran (Done status) ended after)) ≡ answered (Done status) last
+    with_message (dump_answer wanted (Done status) ended after) ≡ answered (Done status) last
 dump-told wanted status ended after last h e =
-    ap (λ b. with_message (dumped b (ran (Done status) ended after))) h
-    ∙ ap (λ t. with_message (after_lines (Done status) t)) e
+    ap with_message (dumped-end wanted (Done status) ended after ∙ ap (λ b. cond (b && leaves_machine (Done status)) (after_lines (Done status) (lines_put (dump_lines ended) after)) (answered (Done status) after)) h
+    ∙ ap (after_lines (Done status)) e) ∙ done-said status last
 
 -- ---- `run` and `sim`: what runs this image, by the words and the host after the file was read
 
 abbrev pub Runs : MachineKind → List Word → Order → Image → HostModel → HostModel → Type 0
-Runs kind words o image m begun = product kind words m ≡ with_message (image_run kind o (arguments words o) image begun)
+Runs kind words o image m begun = product kind words m ≡ with_message (image_answer kind o (arguments words o) image begun)
 
 pub runs-plain : (kind : MachineKind) (words : List Word) (o : Order) (image : Image) (status : ℕ) (ended : State) (m begun after : HostModel) → Runs kind words o image m begun →
     IsHalted kind words o image begun status ended after → o.dump ≡ false → product kind words m ≡ answered (Done status) after
@@ -107,16 +128,22 @@ runs-dumped kind words o image status ended m begun after last h k d e =
 -- ---- sessions of the console
 
 pub sat-image : (kind : MachineKind) (words : List Word) (o : Order) (image : Image) (s : State) (begun : HostModel) → o.interactive ≡ true → IsStarted kind words o image s →
-    with_message (image_run kind o (arguments words o) image begun) ≡ with_message (dumped o.dump (session_ran kind o.steps s begun))
+    with_message (image_answer kind o (arguments words o) image begun) ≡ with_message (session_answer kind o s begun)
 sat-image kind words o image s begun h k =
-    ap with_message (started-run kind words o image s begun k ∙ ap (dumped o.dump) (sat-run kind o s begun h))
+    ap with_message (started-run kind words o image s begun k ∙ machine-answer kind o s begun ∙ ap (machine_by kind o.steps o.last o.dump s begun) h ∙ sym (sitting-answer kind o s begun))
+
+-- what a session comes to that is played to this end
+pub played-answer : (kind : MachineKind) (words : List Word) (o : Order) (image : Image) (begun : HostModel) (outcome : Outcome) (ended : State) (after : HostModel) → (h : IsPlayed kind words o image begun outcome ended after) →
+    session_answer kind o h.machine begun ≡ dump_answer o.dump outcome ended after
+played-answer kind words o image begun outcome ended after h =
+    sitting-answer kind o h.machine begun ∙ ap (session_told o.steps (dumped_plan o.dump)) h.plays ∙ ap (λ r. dump_answer o.dump r ended after) (sym h.comes)
 
 pub played-image : (kind : MachineKind) (words : List Word) (o : Order) (image : Image) (begun : HostModel) (outcome : Outcome) (ended : State) (after : HostModel) → IsPlayed kind words o image begun outcome ended after →
-    o.dump ≡ false → with_message (image_run kind o (arguments words o) image begun) ≡ with_message (answered outcome after)
+    o.dump ≡ false → with_message (image_answer kind o (arguments words o) image begun) ≡ with_message (answered outcome after)
 played-image kind words o image begun outcome ended after h d =
     sat-image kind words o image h.machine begun h.console h.starts
-    ∙ ap (λ r. with_message (dumped o.dump r)) h.plays
-    ∙ ap (λ b. with_message (dumped b (ran outcome ended after))) d
+    ∙ ap with_message (played-answer kind words o image begun outcome ended after h ∙ dumped-end o.dump outcome ended after
+    ∙ ap (λ b. cond (b && leaves_machine outcome) (after_lines outcome (lines_put (dump_lines ended) after)) (answered outcome after)) d)
 
 -- ---- `asm`
 
@@ -144,20 +171,22 @@ unrefused-means text e = ap (λ r. meaning_unless r (imaging.image (statements_i
 
 object-written : (kind : MachineKind) (words : List Word) (text : List ℕ) (m after : HostModel) → IsWritten words text m after →
     product kind words m ≡ with_message (answered (assembled_outcome (source_object text).1) after)
+unfolding ordered_plan
 object-written kind words text m after h =
     order-is kind words h.order Asm m h.ordered
+    ∙ ap with_message (host-answer kind (assemble_plan (word_at words h.order.file) (word_at words h.order.rest)) m)
     ∙ ap (λ t. with_message (plainly t))
     (assembled-by (word_at words h.order.file) (word_at words h.order.rest) text m h.begun h.opened h.written after h.read h.opens h.writes h.closes)
 
 pub source-written : (kind : MachineKind) (words : List Word) (text : List ℕ) (image : Image) (m after : HostModel) → IsWritten words text m after → source_meaning text ≡ Ok image →
     product kind words m ≡ answered (Done 0) after
 source-written kind words text image m after h e =
-    object-written kind words text m after h ∙ ap (λ r. with_message (answered (assembled_outcome r) after)) (meant-object text image e)
+    object-written kind words text m after h ∙ ap (λ r. with_message (answered (assembled_outcome r) after)) (meant-object text image e) ∙ done-said 0 after
 
 pub accepted-written : (kind : MachineKind) (words : List Word) (text : List ℕ) (m after : HostModel) → IsWritten words text m after → (source_object text).1 ≡ Ok tt →
     product kind words m ≡ answered (Done 0) after
 accepted-written kind words text m after h e =
-    object-written kind words text m after h ∙ ap (λ r. with_message (answered (assembled_outcome r) after)) e
+    object-written kind words text m after h ∙ ap (λ r. with_message (answered (assembled_outcome r) after)) e ∙ done-said 0 after
 
 pub refused-written : (kind : MachineKind) (words : List Word) (text : List ℕ) (r : Refusal) (m after : HostModel) → IsWritten words text m after → (source_object text).1 ≡ Err r →
     product kind words m ≡ with_message (answered (refused_with r) after)
@@ -173,20 +202,35 @@ generated-means n few =
     ap (λ r. meaning_unless r (imaging.image (statements_in (source_entries (generated n))))) (not-refused-run n few)
     ∙ ap (λ ss. Ok (imaging.image ss)) (statements-of n few)
 
--- a run that is summed up
+-- its machine, and the line that sums it up
+summed-answer : (kind : MachineKind) (blocks size : ℕ) (s ended : State) (m left : HostModel) (status : ℕ) → run_course kind generator_steps no_flags false s m ≡ ends (Halted status) (ended, left) →
+    answer_of (work_by kind (generated_work blocks size) s m) ≡ plainly (end_of host (telling (Done 0) (summary blocks size ended.steps (register ended.stack 255) ∷ [])) left)
+unfolding course
+summed-answer kind blocks size s ended m left status h =
+    run-answers kind generator_steps (work.summed_plan blocks size) (λ outcome t kept. summed_plan blocks size outcome t) (at_start s (m, [])) (run_course kind generator_steps no_flags false s m) (to-summed blocks size)
+    ∙ ap (run_answer generator_steps (λ outcome t. summed_plan blocks size outcome t)) h
+
+generated-answer : (kind : MachineKind) (o : Order) (size : ℕ) (image : Image) (m : HostModel) (r : Result Image Refusal) → r ≡ Ok image → answer_by kind (taking (run_source o size r)) m
+    ≡ answer_of (work_on kind (generated_work o.number size) (started kind o.ring image (codes "gen" ∷ [])) (m, []))
+generated-answer kind o size image m r e =
+    ap (λ x. answer_by kind (taking (run_source o size x)) m) e
+    ∙ ap answer_of (taking-course kind (run_on o.ring (codes "gen" ∷ []) (generated_work o.number size) image) (m, []) ∙ run-on kind o.ring (codes "gen" ∷ []) (generated_work o.number size) image (m, []))
+
 pub generated-told : (kind : MachineKind) (words : List Word) (m left : HostModel) (line : List ℕ) → IsGenerated kind words m left line →
     product kind words m ≡ with_message (after_lines (Done 0) (lines_put (line ∷ []) left))
+unfolding ordered_plan
 generated-told kind words m left line h =
     let o : Order = h.order in
     let size : ℕ = length (generated o.number) in
     order-is kind words o Gen m h.ordered
-    ∙ ap (λ r. with_message (generated_run kind o size r m)) (generated-means o.number (order-few words o h.ordered.order))
-    ∙ ap (λ r. with_message (summed_from kind o.number size r m)) h.starts
-    ∙ ap (λ r. with_message (summed o.number size r)) h.halts
-    ∙ ap (λ text. with_message (after_lines (Done 0) (lines_put (text ∷ []) left))) (sym h.told)
+    ∙ ap with_message (ap answer_of (taking-course kind (run_text o (generated o.number)) (m, []))
+    ∙ generated-answer kind o size (generated_image o.number) m (source_meaning (generated o.number)) (generated-means o.number (order-few words o h.ordered.order))
+    ∙ ap (λ r. answer_of (work_on kind (generated_work o.number size) r (m, []))) h.starts
+    ∙ summed-answer kind o.number size h.machine h.ended m left h.status h.halts
+    ∙ ap (λ text. plainly (end_of host (telling (Done 0) (text ∷ [])) left)) (sym h.told) ∙ telling-end (Done 0) (line ∷ []) left)
 
 pub generated-done : (kind : MachineKind) (words : List Word) (m left after : HostModel) (line : List ℕ) → IsGenerated kind words m left line → lines_put (line ∷ []) left ≡ (true, after) →
     product kind words m ≡ answered (Done 0) after
-generated-done kind words m left after line h e = generated-told kind words m left line h ∙ ap (λ t. with_message (after_lines (Done 0) t)) e
+generated-done kind words m left after line h e = generated-told kind words m left line h ∙ ap (λ t. with_message (after_lines (Done 0) t)) e ∙ done-said 0 after
 
 pub ruleset completed = (meant-object, accepted-object, unrefused-means, generated-means, generated-done)

@@ -21,10 +21,12 @@ use Rattle.mx_plan.proofs.Spared.{plan-spared, steady-of, uncounted-of}
 use Rattle.mx_plan.proofs.Streams.{streams-held}
 use Rattle.mx_run.specs.Counts.{end_host}
 use Rattle.mx_run.specs.Runs.{no_flags}
-use Rattle.mx_run.specs.WildRuns.{MachineKind, RunEnd, run_ended, run_wild, run_by}
+use Rattle.mx_run.specs.RunPlans.{RunWorld}
+use Rattle.mx_run.specs.WildRuns.{MachineKind, of_course as run_of, run_course, run_by}
+use Rattle.mx_run.specs.declared.end.End.{End}
 use Rattle.mx_run.proofs.HeldRuns.{streams-left}
 use Rattle.mx_run.proofs.SteadyRuns.{run-steady}
-use Rattle.mx_con.specs.Session.{SessionRun, session_ended, session_wild, session_goes, of_course, session_course, session}
+use Rattle.mx_con.specs.Session.{session_goes, of_course, session_course, session}
 use Rattle.mx_con.specs.SessionPlans.{SessionWorld, session_plan}
 use Rattle.mx_con.specs.declared.end.SessionEnd.{SessionEnd}
 use Rattle.mx_con.proofs.HeldSessions.{course-keeps}
@@ -34,6 +36,7 @@ use Rattle.mx_words.specs.declared.order.Order.{Order}
 use Rattle.mx_files.specs.Answers.{answered, plainly, after_lines}
 use Rattle.mx_files.specs.Assembling.{assembled_outcome}
 use Rattle.mx_files.specs.FilePlans.{on_ok, file_plan, lines_plan}
+use Rattle.mx_files.specs.ObjectPlans.{assemble_plan}
 use Rattle.mx_files.specs.Objects.{source_object}
 use Rattle.mx_files.specs.Source.{file_bytes}
 use Rattle.mx_files.specs.Writing.{was_put, lines_put}
@@ -41,12 +44,12 @@ use Rattle.mx_files.proofs.FileEnds.{then_carried, no-lines, line-by}
 use Rattle.mx_begin.specs.Arguments.{Word, word_at, arguments}
 use Rattle.mx_outcome.specs.declared.outcome.Outcome.{Outcome}
 use Rattle.mx_outcome.specs.declared.outcome.Outcome.TheVariants.{Done}
-use Rattle.mx_top.specs.Commands.{with_message}
-use Rattle.mx_top.specs.Product.{product}
-use Rattle.mx_top.specs.Runs.{ran, ran_to, machine_ran, played, session_ran, image_run}
-use Rattle.law_runs.specs.Complete.{IsOrdered, IsThere, SourceIsThere, ObjectIsThere, with_output}
+use Rattle.mx_top.specs.Product.{ordered_plan, product}
+use Rattle.mx_top.specs.Telling.{with_message}
+use Rattle.mx_top.proofs.Told.{done-said}
+use Rattle.law_runs.specs.Complete.{IsOrdered, IsThere, SourceIsThere, ObjectIsThere, image_answer, with_output}
 use Rattle.law_runs.specs.Detour.{answer_unscheduled}
-use Rattle.law_runs.proofs.Completed.{order-is, source-run, object-run}
+use Rattle.law_runs.proofs.Completed.{order-is, host-answer, source-run, object-run}
 use Rattle.law_runs.proofs.IdleFiles.{idle, file-idle, assembled-idle}
 use Rattle.law_runs.proofs.SteadyFiles.{lines-steady}
 
@@ -115,7 +118,7 @@ lines-written lines m h =
 
 told-done : (lines : List (List ℕ)) (status : ℕ) (m : HostModel) (t : Then Bool) → LinesWritten lines m t →
     answer_unscheduled (with_message (after_lines (Done status) t)) ≡ answered (Done status) (unscheduled (with_output m (concat lines)))
-told-done lines status m (true, n) h = ap (answered (Done status)) h.1
+told-done lines status m (true, n) h = ap answer_unscheduled (done-said status n) ∙ ap (answered (Done status)) h.1
 told-done lines status m (false, n) h = absurd (cc (h.0))
 
 pub lines-done : (lines : List (List ℕ)) (status : ℕ) (m : HostModel) → IsReady m →
@@ -124,19 +127,11 @@ lines-done lines status m h = told-done lines status m (lines_put lines m) (line
 
 -- ---- what a run and a session leave
 
-ran-left : (steps : ℕ) (outcome : Outcome) (ended : State) (after : HostModel) (r : RunEnd) → ran_to steps r ≡ ran outcome ended after → IsReady (end_host r) → IsReady after
-ran-left steps outcome ended after (run_ended e) h ready = let left : e.host ≡ after = cc in subst IsReady left ready
-ran-left steps outcome ended after (run_wild m) h ready = absurd (cc)
-
-pub halted-left : (kind : MachineKind) (steps : ℕ) (s : State) (m : HostModel) (outcome : Outcome) (ended : State) (after : HostModel) → m.failing ≡ [] → HasStartSlots m →
-    machine_ran kind steps s m ≡ ran outcome ended after → IsReady after
-halted-left kind steps s m outcome ended after well slots h =
-    ran-left steps outcome ended after (run_by kind steps no_flags false s m) h
+pub run-left : (kind : MachineKind) (steps : ℕ) (s : State) (m : HostModel) (e : End) (w : RunWorld) → m.failing ≡ [] → HasStartSlots m → run_course kind steps no_flags false s m ≡ ends e w → IsReady w.1
+unfolding run_by
+run-left kind steps s m e w well slots h =
+    subst (λ (c : Course End RunWorld). IsReady (end_host (run_of c))) h
     ((steady-of (run-steady kind steps no_flags false s m) well).1, (streams-left kind steps no_flags false s m).output (slot_at-start_output m slots))
-
-sat-left : (steps : ℕ) (outcome : Outcome) (ended : State) (after : HostModel) (r : SessionRun) → played steps r ≡ ran outcome ended after → IsReady (session_host r) → IsReady after
-sat-left steps outcome ended after (session_ended e) h ready = let left : e.host ≡ after = cc in subst IsReady left ready
-sat-left steps outcome ended after (session_wild m) h ready = absurd (cc)
 
 host-left : (c : Course SessionEnd SessionWorld) → (world_of c).0.1 ≡ session_host (of_course c)
 host-left (ends end w) = refl
@@ -148,20 +143,21 @@ session-shows kind steps s m h =
     let c : Course SessionEnd SessionWorld = course (session_goes kind) (session_plan steps) ((s, m), no_flags) in
     subst Shows (host-left c) ((course-keeps KeepsStreams streams-held kind (session_plan steps) ((s, m), no_flags)).output h)
 
-pub played-left : (kind : MachineKind) (steps : ℕ) (s : State) (m : HostModel) (outcome : Outcome) (ended : State) (after : HostModel) → m.failing ≡ [] → HasStartSlots m →
-    session_ran kind steps s m ≡ ran outcome ended after → IsReady after
-played-left kind steps s m outcome ended after well slots h =
-    sat-left steps outcome ended after (session kind steps s no_flags m) h ((steady-of (session-steady kind steps s no_flags m) well).1, session-shows kind steps s m (slot_at-start_output m slots))
+pub session-left : (kind : MachineKind) (steps : ℕ) (s : State) (m : HostModel) (e : SessionEnd) (w : SessionWorld) → m.failing ≡ [] → HasStartSlots m → session_course kind steps s no_flags m ≡ ends e w → IsReady w.0.1
+unfolding session
+session-left kind steps s m e w well slots h =
+    subst (λ (c : Course SessionEnd SessionWorld). IsReady (session_host (of_course c))) h
+    ((steady-of (session-steady kind steps s no_flags m) well).1, session-shows kind steps s m (slot_at-start_output m slots))
 
 -- ---- running
 
 pub source-still : (kind : MachineKind) (words : List Word) (o : Order) (image : Image) (m : HostModel) → SourceIsThere words o image m →
-    product kind words (still m) ≡ with_message (image_run kind o (arguments words o) image (still m))
+    product kind words (still m) ≡ with_message (image_answer kind o (arguments words o) image (still m))
 source-still kind words o image m h =
     source-run kind words o image (still m) (still m) (record { ordered = h.ordered; text = h.text; read = there-read (word_at words o.file) 1025 h.text m h.there; means = h.means })
 
 pub object-still : (kind : MachineKind) (words : List Word) (o : Order) (image : Image) (m : HostModel) → ObjectIsThere words o image m →
-    product kind words (still m) ≡ with_message (image_run kind o (arguments words o) image (still m))
+    product kind words (still m) ≡ with_message (image_answer kind o (arguments words o) image (still m))
 object-still kind words o image m h =
     object-run kind words o image (still m) (still m)
     (record { ordered = h.ordered; object = h.object; symbols = h.symbols; read = there-read (word_at words o.file) 16385 h.object m h.there; loads = h.loads })
@@ -174,10 +170,12 @@ with_object words o text m = with_file m (word_at words o.rest) (source_object t
 
 pub assembled-still : (kind : MachineKind) (words : List Word) (o : Order) (text : List ℕ) (m : HostModel) → IsOrdered words o Asm → IsThere (word_at words o.file) 1025 text m →
     product kind words (still m) ≡ with_message (answered (assembled_outcome (source_object text).1) (still (with_object words o text m)))
+unfolding ordered_plan
 assembled-still kind words o text m h there =
     let object : Word = word_at words o.rest in
     let many : length m.slots ≡ 261 = ap length there.slots ∙ start_slots-length in
     let long : 257 < length m.slots = omega arith in
     order-is kind words o Asm (still m) h
+    ∙ ap with_message (host-answer kind (assemble_plan (word_at words o.file) object) (still m))
     ∙ ap (λ t. with_message (plainly t)) (assembled-idle m.files m.slots m (still m) (word_at words o.file) object text long (there-read (word_at words o.file) 1025 text m there))
     ∙ ap (λ ss. with_message (answered (assembled_outcome (source_object text).1) (idle (put_at m.files object (source_object text).0 (place_of m.files object)) ss m))) (shut-object m.slots there.slots)

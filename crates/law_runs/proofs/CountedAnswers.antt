@@ -1,19 +1,23 @@
 -- A run that is counted, and the run of the program.
 use Rattle.std.proofs.Common.{◌≡◌, ℕ, true, false, List, [], Result, Ok, Err, Some, ◌++◌, refl, sym, ap, ◌∙◌}
+use Rattle.std.specs.Prelude.{◌==◌}
 use Rattle.mx_word.specs.declared.symbols.Symbol.{Symbol}
 use Rattle.mx_host.specs.HostModel.{HostModel}
 use Rattle.mx_host.specs.HostAnswer.{Then}
+use Rattle.mx_plan.specs.Calls.{host}
+use Rattle.mx_plan.specs.Plan.{end_of}
+use Rattle.mx_plan.specs.Wild.{Course, ends, meets_wild}
 use Rattle.mx_mmo.specs.Image.{Image}
 use Rattle.mx_load.specs.Objects.{object_loaded}
 use Rattle.mx_core.specs.State.{State}
 use Rattle.mx_code.specs.declared.trace.Trace.{Trace}
-use Rattle.mx_run.specs.Runs.{Ended, no_flags}
-use Rattle.mx_run.specs.WildRuns.{MachineKind, window_machine, list_machine, RunEnd, run_ended, run_wild, run_by}
+use Rattle.mx_run.specs.RunPlans.{RunWorld}
+use Rattle.mx_run.specs.Runs.{Ended, ended, no_flags}
+use Rattle.mx_run.specs.WildRuns.{MachineKind, window_machine, list_machine, RunEnd, run_ended, of_course, run_course, run_by}
 use Rattle.mx_run.specs.declared.end.End.{End}
 use Rattle.mx_run.specs.declared.end.End.TheVariants as ending
 use Rattle.mx_run.proofs.BothMachines.{window-ends}
 use Rattle.mx_watch.specs.Traces.{traces}
-use Rattle.mx_words.specs.Orders.{order_of}
 use Rattle.mx_words.specs.declared.order.Command.{Command}
 use Rattle.mx_words.specs.declared.order.Command.TheVariants.{Run, Sim}
 use Rattle.mx_words.specs.declared.order.Order.{Order}
@@ -24,17 +28,19 @@ use Rattle.mx_files.specs.Sources.{source_meaning}
 use Rattle.mx_files.specs.declared.refusal.Refusal.{Refusal}
 use Rattle.mx_outcome.specs.declared.outcome.Outcome.{Outcome}
 use Rattle.mx_begin.specs.Arguments.{Word, word_at, arguments}
+use Rattle.mx_begin.specs.BeginPlans.{begin_plan}
 use Rattle.mx_begin.specs.Begun.{assembled, loaded, started}
 use Rattle.mx_begin.proofs.Beginnings.{begins}
 use Rattle.mx_begin.specs.declared.images.Form.TheVariants.{Object, Source}
-use Rattle.mx_top.proofs.BegunRuns.{image_ran, file_ran, begun-ran}
-use Rattle.mx_top.specs.Commands.{carried_out, ordered, with_message, begun_traces, carried_traces, order_traces, ordered_traces, traces_from}
-use Rattle.mx_top.specs.Product.{product, product_traces}
-use Rattle.mx_top.proofs.ProductCourses.{product-is-course, traces-are-told}
-use Rattle.mx_top.specs.Runs.{dumped, machine_ran, ran_to, run_from}
+use Rattle.mx_top.specs.Endings.{dumped_plan}
+use Rattle.mx_top.specs.MachineWork.{machine_plan}
+use Rattle.mx_top.specs.Product.{ordered_plan, work_plan, work_on, answer_of, told_of, product, product_traces}
 use Rattle.mx_top.specs.Runs as top
-use Rattle.mx_top.proofs.TakenBack.{forward-run}
-use Rattle.mx_count.specs.Runs.{CountAnswer, Making, by_lines, came_to, counted_to, halting_after, image_counted, in_form, machine_counted, mapped, meaning_counted, outcome_of, ran, reporting, start_counted, went_wild}
+use Rattle.mx_top.specs.Telling.{with_message}
+use Rattle.mx_top.specs.WorkClauses.{answer_by as answer_by_kind, told_by, work_by}
+use Rattle.mx_top.proofs.Spoken.{traces-of}
+use Rattle.mx_top.proofs.WorkParts.{begun_by, file-course}
+use Rattle.mx_count.specs.Runs.{CountAnswer, AnswerForms, by_lines, came_to, counted_to, halting_after, image_counted, in_form, counted_run_from, mapped, meaning_counted, outcome_of, ran, reporting, start_counted, went_wild}
 use Rattle.mx_count.specs.Sheets.{sheet_of}
 use Rattle.mx_count.specs.declared.count.Counted.{Counted}
 use Rattle.mx_count.specs.declared.counts.Form.TheVariants.{Text}
@@ -45,6 +51,9 @@ use Rattle.mx_object.specs.Runs.{by_report, loaded_with, object_in, report_on}
 use Rattle.mx_object.specs.declared.counted.CountedObject.{CountedObject}
 use Rattle.mx_object.specs.declared.tetras.ListedTetra.{ListedTetra}
 use Rattle.law_runs.specs.Counted.{RunsPlainly, StartsWith, answer_by, object_file, object_read, source_file, source_read}
+use Rattle.law_runs.proofs.Completed.{order-is}
+use Rattle.law_runs.proofs.MachineAnswers.{run_answer, forward-answer, heard_of, machine-heard}
+use Rattle.law_runs.proofs.ReadRuns.{image_ran, file_ran, file-read, image-course}
 
 -- ---- a run
 
@@ -57,36 +66,38 @@ outcome-same steps (ending.Traced trace) = refl
 outcome-same steps ending.Spent = refl
 outcome-same steps ending.OutOfMemory = refl
 
-ran-same : (kind : MachineKind) (n : ℕ) (s : State) (m : HostModel) → run_by kind n no_flags false s m ≡ ran kind n s m
+ran-same : (kind : MachineKind) (n : ℕ) (s : State) (m : HostModel) → of_course (run_course kind n no_flags false s m) ≡ ran kind n s m
+unfolding run_by
 ran-same window_machine n s m = window-ends n no_flags false s m
 ran-same list_machine n s m = refl
 
 -- what is made of an outcome has it
-record HasOutcome {A : Type 0} (outcome_in : A → Outcome) (making : Making A) : Type 0 where
+record HasOutcome {A : Type 0} (outcome_in : A → Outcome) (making : AnswerForms A) : Type 0 where
   without : (outcome : Outcome) → outcome_in (making.without outcome) ≡ outcome
   with_steps : (outcome : Outcome) (h : List Trace) → outcome_in (making.with_steps outcome h) ≡ outcome
 
-module _ {A : Type 0} (outcome_in : A → Outcome) (making : Making A) (has : HasOutcome outcome_in making) where
-  ended-same : (steps : ℕ) (h : List Trace) (r : RunEnd) → dumped false (ran_to steps r) ≡ answer_by outcome_in (counted_to steps making h r)
-  ended-same steps h (run_ended e) =
-      ap (λ outcome. answered outcome e.host) (outcome-same steps e.end ∙ sym (has.with_steps (outcome_of steps e.end) (h ++ halting_after e)))
-  ended-same steps h (run_wild m) = refl
+module _ {A : Type 0} (outcome_in : A → Outcome) (making : AnswerForms A) (has : HasOutcome outcome_in making) where
+  -- what follows a run where there is no dump
+  ended-same : (steps : ℕ) (h : List Trace) (c : Course End RunWorld) → run_answer steps (dumped_plan false) c ≡ answer_by outcome_in (counted_to steps making h (of_course c))
+  unfolding dumped_plan end_of
+  ended-same steps h (ends e w) = ap (λ outcome. answered outcome w.1) (outcome-same steps e ∙ sym (has.with_steps (outcome_of steps e) (h ++ halting_after (ended e w.0 w.1))))
+  ended-same steps h (meets_wild w) = refl
 
   module _ (kind : MachineKind) (words : List Word) (o : Order) (command : Command) (plain : RunsPlainly words o command) where
-    machine-same : (s : State) (m : HostModel) → run_from kind o (Ok s) m ≡ answer_by outcome_in (machine_counted kind o.steps making s m)
+    machine-same : (s : State) (m : HostModel) → answer_of (work_by kind (machine_plan o) s m) ≡ answer_by outcome_in (counted_run_from kind o.steps making s m)
     machine-same s m =
-        forward-run kind o s m plain.interactive plain.last
-        ∙ ap (λ b. dumped b (machine_ran kind o.steps s m)) plain.dump
-        ∙ ap (λ (x : RunEnd). dumped false (ran_to o.steps x)) (ran-same kind o.steps s m)
-        ∙ ended-same o.steps (traces kind o.steps s m) (ran kind o.steps s m)
+        forward-answer kind o s m plain.interactive plain.last
+        ∙ ap (λ b. run_answer o.steps (dumped_plan b) (run_course kind o.steps no_flags false s m)) plain.dump
+        ∙ ended-same o.steps (traces kind o.steps s m) (run_course kind o.steps no_flags false s m)
+        ∙ ap (λ (x : RunEnd). answer_by outcome_in (counted_to o.steps making (traces kind o.steps s m) x)) (ran-same kind o.steps s m)
 
-    start-same : (r : Result State Outcome) (m : HostModel) → run_from kind o r m ≡ answer_by outcome_in (start_counted kind o.steps making r m)
+    start-same : (r : Result State Outcome) (m : HostModel) → answer_of (work_on kind (machine_plan o) r (m, [])) ≡ answer_by outcome_in (start_counted kind o.steps making r m)
     start-same (Err outcome) m = ap (λ x. answered x m) (sym (has.without outcome))
     start-same (Ok s) m = machine-same s m
 
     image-same : (image : Image) (m : HostModel) →
         image_ran kind o (arguments words o) (Ok image) m ≡ answer_by outcome_in (image_counted kind o (arguments words o) making image m)
-    image-same image m = start-same (started kind o.ring image (arguments words o)) m
+    image-same image m = image-course kind o (arguments words o) image m ∙ start-same (started kind o.ring image (arguments words o)) m
 
     meaning-same : (r : Result Image Refusal) (m : HostModel) →
         image_ran kind o (arguments words o) (assembled r) m ≡ answer_by outcome_in (meaning_counted kind o (arguments words o) making r m)
@@ -96,13 +107,10 @@ module _ {A : Type 0} (outcome_in : A → Outcome) (making : Making A) (has : Ha
 -- ---- what begins it
 
 order-run : (kind : MachineKind) (words : List Word) (o : Order) (command : Command) (m : HostModel) → RunsPlainly words o command →
-    product kind words m ≡ with_message (ordered kind words o command m)
-order-run kind words o command m h =
-    product-is-course kind words m
-    ∙ ap (λ r. with_message (carried_out kind words r m)) h.order
-    ∙ ap (λ (c : Command). with_message (ordered kind words o c m)) h.command_is
+    product kind words m ≡ with_message (answer_by_kind kind (ordered_plan words o command) m)
+order-run kind words o command m h = order-is kind words o command m (record { order = h.order; command = h.command_is })
 
-source-same : {A : Type 0} (outcome_in : A → Outcome) (making : List ℕ → Making A) → ((source : List ℕ) → HasOutcome outcome_in (making source)) →
+source-same : {A : Type 0} (outcome_in : A → Outcome) (making : List ℕ → AnswerForms A) → ((source : List ℕ) → HasOutcome outcome_in (making source)) →
     (kind : MachineKind) (words : List Word) (o : Order) (t : Then (Result (List ℕ) Outcome)) → RunsPlainly words o Run →
     file_ran kind o (arguments words o) Source t ≡ answer_by outcome_in (source_read kind o (arguments words o) making t)
 source-same outcome_in making has kind words o (Err outcome, m) h = ap (λ x. answered x m) (sym ((has []).without outcome))
@@ -116,15 +124,17 @@ lines-have source = record { without = λ outcome. refl; with_steps = λ outcome
 
 pub answers-text : (kind : MachineKind) (words : List Word) (o : Order) (m : HostModel) → RunsPlainly words o Run →
     product kind words m ≡ with_message (answer_by (λ (c : Counted). c.outcome) (source_file kind words o (in_form Text) m))
+unfolding ordered_plan
 answers-text kind words o m h =
     order-run kind words o Run m h
-    ∙ ap with_message (begun-ran kind words o Source m ∙ source-same (λ (c : Counted). c.outcome) (in_form Text) text-has kind words o (file_bytes source_pieces (word_at words o.file) m) h)
+    ∙ ap with_message (file-read kind words o Source m ∙ source-same (λ (c : Counted). c.outcome) (in_form Text) text-has kind words o (file_bytes source_pieces (word_at words o.file) m) h)
 
 pub answers-data : (kind : MachineKind) (words : List Word) (o : Order) (m : HostModel) → RunsPlainly words o Run →
     product kind words m ≡ with_message (answer_by (λ (c : CountedLines). c.outcome) (source_file kind words o by_lines m))
+unfolding ordered_plan
 answers-data kind words o m h =
     order-run kind words o Run m h
-    ∙ ap with_message (begun-ran kind words o Source m ∙ source-same (λ (c : CountedLines). c.outcome) by_lines lines-have kind words o (file_bytes source_pieces (word_at words o.file) m) h)
+    ∙ ap with_message (file-read kind words o Source m ∙ source-same (λ (c : CountedLines). c.outcome) by_lines lines-have kind words o (file_bytes source_pieces (word_at words o.file) m) h)
 
 -- ---- an object
 
@@ -150,7 +160,8 @@ object-same kind words o (Ok bytes, m) h = loaded-same kind words o bytes (objec
 
 pub answers-object : (kind : MachineKind) (words : List Word) (o : Order) (m : HostModel) → RunsPlainly words o Sim →
     product kind words m ≡ with_message (answer_by (λ (c : CountedObject). c.outcome) (object_file kind words o m))
-answers-object kind words o m h = order-run kind words o Sim m h ∙ ap with_message (begun-ran kind words o Object m ∙ object-same kind words o (file_bytes object_pieces (word_at words o.file) m) h)
+unfolding ordered_plan
+answers-object kind words o m h = order-run kind words o Sim m h ∙ ap with_message (file-read kind words o Object m ∙ object-same kind words o (file_bytes object_pieces (word_at words o.file) m) h)
 
 pub ruleset answers = (answers-text, answers-data, answers-object)
 
@@ -158,35 +169,39 @@ pub ruleset answers = (answers-text, answers-data, answers-object)
 
 module _ (kind : MachineKind) (words : List Word) (o : Order) (source : List ℕ) (s : State) (m begun : HostModel) (starts : StartsWith kind words o source s m begun) where
   -- what a machine of this source comes to
-  counted-is : source_file kind words o (in_form Text) m ≡ machine_counted kind o.steps (in_form Text source) s begun
+  counted-is : source_file kind words o (in_form Text) m ≡ counted_run_from kind o.steps (in_form Text source) s begun
   counted-is =
       ap (source_read kind o (arguments words o) (in_form Text)) starts.read
       ∙ ap (λ r. meaning_counted kind o (arguments words o) (in_form Text source) r begun) starts.means
       ∙ ap (λ r. start_counted kind o.steps (in_form Text source) r begun) starts.starts
 
   -- the traces that watchers are told
-  begun-traces-are : ordered_traces kind words o Run m ≡ order_traces kind o s begun
-  begun-traces-are =
-      ap (begun_traces kind o) (begins kind words o Source source starts.image m begun starts.read (ap assembled starts.means))
-      ∙ ap (λ r. traces_from kind o r begun) starts.starts
+  begun-is : end_of host (begin_plan kind words o Source) m ≡ (Ok s, begun)
+  begun-is = begins kind words o Source source starts.image m begun starts.read (ap assembled starts.means) ∙ ap (λ (r : Result State Outcome). (r, begun)) starts.starts
 
   module _ (plain : RunsPlainly words o Run) (reports : o.report ≡ true) where
-    plain-traces : order_traces kind o s begun ≡ traces kind o.steps s begun
-    plain-traces = rw (plain.interactive, plain.last, reports) refl
+    run-heard : told_by kind (ordered_plan words o Run) m ≡ traces kind o.steps s begun
+    unfolding ordered_plan
+    run-heard =
+        ap told_of (file-course kind words o Source m ∙ ap (begun_by kind (machine_plan o)) begun-is)
+        ∙ machine-heard kind o s begun
+        ∙ ap (λ b. heard_of kind o.steps s begun b (o.last == 0) o.report) plain.interactive
+        ∙ ap (λ n. heard_of kind o.steps s begun false (n == 0) o.report) plain.last
+        ∙ ap (heard_of kind o.steps s begun false true) reports
 
-    traces-are : carried_traces kind words (order_of words) m ≡ traces kind o.steps s begun
+    traces-are : product_traces kind words m ≡ traces kind o.steps s begun
     traces-are =
-        ap (λ r. carried_traces kind words r m) plain.order
-        ∙ ap (λ (c : Command). ordered_traces kind words o c m) plain.command_is
-        ∙ begun-traces-are
-        ∙ plain-traces
+        traces-of kind words m
+        ∙ ap (λ r. told_by kind (work_plan words r) m) plain.order
+        ∙ ap (λ (c : Command). told_by kind (ordered_plan words o c) m) plain.command_is
+        ∙ run-heard
 
     sheet-with : (e : Ended) → ran kind o.steps s begun ≡ run_ended e → source_file kind words o (in_form Text) m
         ≡ came_to (record { outcome = outcome_of o.steps e.end; sheet = Some (sheet_of source (product_traces kind words m ++ halting_after e)) }) e.host
     sheet-with e ended =
         counted-is
         ∙ ap (λ r. counted_to o.steps (in_form Text source) (traces kind o.steps s begun) r) ended
-        ∙ ap (λ h. came_to (record { outcome = outcome_of o.steps e.end; sheet = Some (sheet_of source (h ++ halting_after e)) }) e.host) (sym (traces-are-told kind words m ∙ traces-are))
+        ∙ ap (λ h. came_to (record { outcome = outcome_of o.steps e.end; sheet = Some (sheet_of source (h ++ halting_after e)) }) e.host) (sym traces-are)
 
 pub sheet-is : (kind : MachineKind) (words : List Word) (o : Order) (source : List ℕ) (s : State) (m begun : HostModel) (e : Ended) → RunsPlainly words o Run → o.report ≡ true →
     StartsWith kind words o source s m begun → ran kind o.steps s begun ≡ run_ended e → source_file kind words o (in_form Text) m

@@ -5,7 +5,7 @@ use Rattle.mx_word.specs.Ranges.{AreBytes}
 use Rattle.mx_mmo.specs.Image.{Image}
 use Rattle.mx_mmo.specs.Meaning.{Loading, Meaningless, PagesFull, nothing, take_items, image_in, meaning}
 use Rattle.mx_mmo.specs.Spelling.{written, ending}
-use Rattle.mx_mmo.specs.Whole.{Left, items_of, object_of, object_behind, with_tail}
+use Rattle.mx_mmo.specs.Whole.{Left, items_of, object_of, object_after, with_tail}
 use Rattle.mx_mmo.specs.declared.due.Phase.TheVariants.{Start}
 use Rattle.mx_mmo.specs.declared.faults.MmoFault.{MmoFault}
 use Rattle.mx_mmo.specs.declared.items.Item.{Item}
@@ -60,7 +60,7 @@ tail-items items (Ok tail) object h =
     ap (λ (o : Object). o.items) same
 tail-items items (Err fault) object h = absurd (cc)
 
-left-items : (items : List Item) (end : Result Left MmoFault) (object : Object) → object_behind items end ≡ Ok object → items ≡ object.items
+left-items : (items : List Item) (end : Result Left MmoFault) (object : Object) → object_after items end ≡ Ok object → items ≡ object.items
 left-items items (Ok left) object h = tail-items items _ object h
 left-items items (Err fault) object h = absurd (cc)
 

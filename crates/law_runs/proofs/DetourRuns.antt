@@ -1,9 +1,8 @@
 -- An object runs as the source that it was assembled from.
 use Rattle.std.proofs.Common.{◌≡◌, ℕ, ◌+◌, ◌*◌, ◌^◌, ◌<◌, ◌≤◌, Bool, true, false, cond, List, [], ◌∷◌, ◌++◌, length, length-append, append_assoc, take, drop, Some, None, Ok, Err, refl, sym, ◌∙◌, ap, subst, arith}
-use Rattle.std.specs.Prelude.{◌&&◌, Option, Result, slice_set, codes}
+use Rattle.std.specs.Prelude.{Option, Result, slice_set, codes}
 use Rattle.std.specs.Str.{bytes_eq}
 use Rattle.std.proofs.Math.Seq.{get_or-append_seam}
-use Rattle.std.proofs.lemmas.Bool.{cond_both}
 use Rattle.std.proofs.lemmas.Cmp.{nat_list_eq_equiv}
 use Rattle.std.proofs.lemmas.List.{length-set, take_all, drop_at}
 use Rattle.std.proofs.lemmas.Option.{unwrap_or-slice_get}
@@ -16,23 +15,32 @@ use Rattle.mx_host.proofs.Still.{still}
 use Rattle.mx_host.proofs.NamedFiles.{home, lies, at-home, place-home, place-other, bytes-other}
 use Rattle.mx_mmo.specs.Image.{Image}
 use Rattle.mx_load.specs.Objects.{object_loaded}
-use Rattle.mx_plan.specs.Calls.{host}
+use Rattle.mx_plan.specs.Calls.{HostCall, HostSays, host}
 use Rattle.mx_plan.specs.Counts.{NoneFailed}
 use Rattle.mx_plan.specs.Plan.{end_of}
+use Rattle.mx_plan.specs.Wild.{Course, ends, meets_wild, course}
 use Rattle.mx_plan.proofs.Spared.{plan-spared, sooner}
+use Rattle.mx_plan.proofs.WildLaws.{Answers, course_gives}
 use Rattle.mx_start.specs.Start.{start}
 use Rattle.mx_core.specs.State.{State}
+use Rattle.mx_run.specs.RunPlans.{RunWorld}
 use Rattle.mx_run.specs.Runs.{no_flags}
-use Rattle.mx_run.specs.WildRuns.{MachineKind, RunEnd, run_by}
-use Rattle.mx_con.specs.Session.{SessionRun}
+use Rattle.mx_run.specs.WildRuns.{MachineKind, run_course}
+use Rattle.mx_run.specs.declared.end.End.{End}
+use Rattle.mx_run.specs.declared.end.End.TheVariants as ending
+use Rattle.mx_back.specs.History.{states_kept}
+use Rattle.mx_back.specs.KeptRuns.{turns_of}
+use Rattle.mx_con.specs.Session.{session_course}
+use Rattle.mx_con.specs.SessionPlans.{SessionWorld}
+use Rattle.mx_con.specs.declared.end.SessionEnd.{SessionEnd}
+use Rattle.mx_con.specs.declared.end.SessionEnd.TheVariants as sitting
+use Rattle.mx_watch.specs.Traces.{traces}
 use Rattle.mx_words.specs.Orders.{order_of, options_from, asm_order, defaults}
 use Rattle.mx_words.specs.Values.{is_option}
 use Rattle.mx_words.specs.declared.order.Command.TheVariants.{Run, Sim}
 use Rattle.mx_words.specs.declared.order.Order.{Order}
 use Rattle.mx_words.specs.declared.order.WordsFault.{WordsFault}
-use Rattle.mx_files.specs.Answers.{Answer, answered, wild, plainly, after_lines}
-use Rattle.mx_outcome.specs.Kinds.{leaves_machine}
-use Rattle.mx_files.specs.Writing.{lines_put}
+use Rattle.mx_files.specs.Answers.{Answer, answered, wild, plainly}
 use Rattle.mx_begin.specs.Arguments.{Word, word_at, arguments, program_name}
 use Rattle.law_runs.specs.Detour.{host_of, answer_uncounted, HasOutcome, asm_words, run_words, sim_words, AreOrdered, IsAssembled}
 use Rattle.law_runs.proofs.DetourImages.{source-loads, source-short, accepted-run, assembled-none, pages-refused}
@@ -42,18 +50,19 @@ use Rattle.mx_asm.specs.Image.{image as image_of}
 use Rattle.mx_asm.specs.Pages.{RunRefusal, run_refusal}
 use Rattle.mx_asm.specs.Refusal.{refusal}
 use Rattle.mx_files.specs.Sources.{meaning_unless, source_meaning}
-use Rattle.mx_outcome.specs.Messages.{message_of}
 use Rattle.mx_files.specs.FilePlans.{file_plan}
 use Rattle.mx_files.specs.ObjectPlans.{assemble_plan}
 use Rattle.mx_files.specs.Objects.{source_object}
 use Rattle.mx_files.specs.Assembling.{assembled_outcome}
 use Rattle.mx_files.proofs.FileEnds.{assembled-later}
-use Rattle.mx_top.proofs.BegunRuns.{image_ran, file_ran, begun-ran}
-use Rattle.mx_top.specs.Commands.{carried_out, message_told, with_message}
-use Rattle.mx_top.specs.Product.{product}
-use Rattle.mx_top.proofs.ProductCourses.{product-is-course}
-use Rattle.mx_dump.specs.Dump.{dump_lines}
-use Rattle.mx_top.specs.Runs.{Ran, ran, ran_wild, ran_to, machine_ran, takes_back, states_back, state_lines, reached, lines_told, taken_back, played, order_ran, dumped, run_from, image_run}
+use Rattle.mx_top.specs.MachineWork.{Work, WorkCall, of_host, stepping, reporting, keeping, sitting as sitting_call, work_goes, machine_plan, back_plan}
+use Rattle.mx_top.specs.Product.{ordered_plan, work_plan, work_on, worked, at_start, answer_of, product}
+use Rattle.mx_top.specs.Runs as runs
+use Rattle.mx_top.specs.Telling.{message_plan, with_message}
+use Rattle.mx_top.specs.WorkClauses.{answer_by}
+use Rattle.mx_top.proofs.Spoken.{product-is-said}
+use Rattle.mx_top.proofs.Told.{message-said, done-said}
+use Rattle.mx_top.proofs.WorkPlans.{returns-course}
 use Rattle.mx_begin.specs.Begun.{assembled, loaded, main_address, begun_at, stack_at_start}
 use Rattle.mx_begin.specs.declared.images.Form.TheVariants.{Source, Object}
 use Rattle.mx_files.specs.Source.{file_bytes}
@@ -61,6 +70,10 @@ use Rattle.mx_outcome.specs.declared.outcome.Outcome.{Outcome}
 use Rattle.mx_outcome.specs.declared.outcome.Outcome.TheVariants.{Done, Usage, NoFile, Refused, BadObject}
 use Rattle.law_runs.proofs.IdleFiles.{idle, file-idle, file-absent, assembled-idle}
 use Rattle.law_runs.proofs.SteadyProduct.{answer_still, product-steady, answers-same}
+use Rattle.law_runs.specs.Complete.{image_answer}
+use Rattle.law_runs.proofs.Completed.{host-answer}
+use Rattle.law_runs.proofs.GivenOutcomes.{WorkMay, machine-gives, ran-gives, sat-gives}
+use Rattle.law_runs.proofs.ReadRuns.{image_ran, file_ran, file-read, image-course}
 
 -- ---- words
 
@@ -82,55 +95,58 @@ rest-behind command options file rest place e =
 run-is : (kind : MachineKind) (options : List Word) (source : Word) (rest : List Word) (o : Order) (m : HostModel) → order_of (run_words options source rest) ≡ Ok (record o { command = Run }) →
     o.file ≡ length options + 1 → o.rest ≡ length options + 2 →
     product kind (run_words options source rest) m ≡ with_message (file_ran kind (record o { command = Run }) (program_name source ∷ rest) Source (file_bytes 1025 source m))
+unfolding ordered_plan
 run-is kind options source rest o m e f r =
     let words : List Word = run_words options source rest in
     let order : Order = record o { command = Run } in
-    product-is-course kind words m
-    ∙ ap (λ t. with_message (carried_out kind words t m)) e
-    ∙ ap with_message (begun-ran kind words order Source m)
+    product-is-said kind words m
+    ∙ ap (λ t. with_message (answer_by kind (work_plan words t) m)) e
+    ∙ ap with_message (file-read kind words order Source m)
     ∙ ap (λ (w : Word). with_message (file_ran kind order (program_name w ∷ drop o.rest words) Source (file_bytes 1025 w m))) (file-behind (codes "run") options source rest o.file f)
     ∙ ap (λ (ws : List Word). with_message (file_ran kind order (program_name source ∷ ws) Source (file_bytes 1025 source m))) (rest-behind (codes "run") options source rest o.rest r)
 
 sim-is : (kind : MachineKind) (options : List Word) (object : Word) (rest : List Word) (o : Order) (m : HostModel) → order_of (sim_words options object rest) ≡ Ok (record o { command = Sim }) →
     o.file ≡ length options + 1 → o.rest ≡ length options + 2 →
     product kind (sim_words options object rest) m ≡ with_message (file_ran kind (record o { command = Sim }) (program_name object ∷ rest) Object (file_bytes 16385 object m))
+unfolding ordered_plan
 sim-is kind options object rest o m e f r =
     let words : List Word = sim_words options object rest in
     let order : Order = record o { command = Sim } in
-    product-is-course kind words m
-    ∙ ap (λ t. with_message (carried_out kind words t m)) e
-    ∙ ap with_message (begun-ran kind words order Object m)
+    product-is-said kind words m
+    ∙ ap (λ t. with_message (answer_by kind (work_plan words t) m)) e
+    ∙ ap with_message (file-read kind words order Object m)
     ∙ ap (λ (w : Word). with_message (file_ran kind order (program_name w ∷ drop o.rest words) Object (file_bytes 16385 w m))) (file-behind (codes "sim") options object rest o.file f)
     ∙ ap (λ (ws : List Word). with_message (file_ran kind order (program_name object ∷ ws) Object (file_bytes 16385 object m))) (rest-behind (codes "sim") options object rest o.rest r)
 
 -- ---- messages
 
-done-told : (outcome : Outcome) (text : List ℕ) (n a : HostModel) → message_told outcome text n ≡ answered (Done 0) a → outcome ≡ Done 0
-done-told outcome [] n a e = cc
-done-told outcome (b ∷ bs) n a e = cc
+done-told : (outcome : Outcome) (n a : HostModel) → with_message (answered outcome n) ≡ answered (Done 0) a → outcome ≡ Done 0
+done-told outcome n a e = let said : answered outcome (end_of host (message_plan outcome) n).1 ≡ answered (Done 0) a = sym (message-said outcome n) ∙ e in cc
 
 done-model : (outcome : Outcome) (n a : HostModel) → outcome ≡ Done 0 → with_message (answered outcome n) ≡ answered (Done 0) a → n ≡ a
 done-model outcome n a is e =
-    let told : answered (Done 0) n ≡ answered (Done 0) a = subst (λ o. with_message (answered o n) ≡ answered (Done 0) a) is e in
+    let told : answered (Done 0) n ≡ answered (Done 0) a = sym (done-said 0 n) ∙ subst (λ o. with_message (answered o n) ≡ answered (Done 0) a) is e in
     cc
 
 -- an order that is done tells nothing
 done-plain : (t : Then Outcome) (a : HostModel) → with_message (plainly t) ≡ answered (Done 0) a → t ≡ (Done 0, a)
 done-plain (outcome, n) a e =
-    let done : outcome ≡ Done 0 = done-told outcome (message_of outcome) n a e in
+    let done : outcome ≡ Done 0 = done-told outcome n a e in
     let model : n ≡ a = done-model outcome n a done e in
     ap (λ o. (o, n)) done ∙ ap (λ m. (Done 0, m)) model
 
 -- an order to assemble that is done names two files
 asm-with : (kind : MachineKind) (source object : Word) (fault : WordsFault) (n a : HostModel) (b : Bool) →
-    with_message (carried_out kind (asm_words source object) (cond b (Err fault) (Ok (asm_order defaults 1))) n) ≡ answered (Done 0) a →
+    with_message (answer_by kind (work_plan (asm_words source object) (cond b (Err fault) (Ok (asm_order defaults 1)))) n) ≡ answered (Done 0) a →
     end_of host (assemble_plan source object) n ≡ (Done 0, a)
-asm-with kind source object fault n a true e = absurd (let no : Usage fault ≡ Done 0 = done-told (Usage fault) (message_of (Usage fault)) n a e in cc)
-asm-with kind source object fault n a false e = done-plain (end_of host (assemble_plan source object) n) a e
+unfolding ordered_plan
+asm-with kind source object fault n a true e =
+    absurd (let no : Usage fault ≡ Done 0 = done-told (Usage fault) n a (ap (λ c. with_message (answer_of c)) (sym (returns-course kind (Usage fault) (n, []))) ∙ e) in cc)
+asm-with kind source object fault n a false e = done-plain (end_of host (assemble_plan source object) n) a (ap with_message (sym (host-answer kind (assemble_plan source object) n)) ∙ e)
 
 asm-done : (kind : MachineKind) (source object : Word) (n a : HostModel) → product kind (asm_words source object) n ≡ answered (Done 0) a → end_of host (assemble_plan source object) n ≡ (Done 0, a)
 unfolding options_from
-asm-done kind source object n a e = asm-with kind source object (record { kind = 3; word = 1 }) n a (is_option source) (sym (product-is-course kind (asm_words source object) n) ∙ e)
+asm-done kind source object n a e = asm-with kind source object (record { kind = 3; word = 1 }) n a (is_option source) (sym (product-is-said kind (asm_words source object) n) ∙ e)
 
 -- ---- assembling
 
@@ -163,6 +179,12 @@ reading-left files slots m source object text a (Some at) h e read done =
     record { at = at; there = e; read = is; accepted = ap (λ (t : Then Outcome). t.0) (sym put ∙ done); left = ap (λ (t : Then Outcome). t.1) (sym done ∙ put) }
 
 -- ---- running
+
+-- which of the two commands runs an image shows in nothing
+same-order : (kind : MachineKind) (o : Order) (args : List Word) (image : Image) (m : HostModel) →
+    image_answer kind (record o { command = Run }) args image m ≡ image_answer kind (record o { command = Sim }) args image m
+unfolding machine_plan back_plan
+same-order kind o args image m = refl
 
 module _ (files : List StoredFile) (slots : List Slot) (m : HostModel) (source object : Word) (text : List ℕ) (a : HostModel) (h : 256 < length slots) (known : Accepted files slots m source object text a) where
   abbrev bytes : List ℕ
@@ -210,7 +232,8 @@ module _ (files : List StoredFile) (slots : List Slot) (m : HostModel) (source o
   runs-left kind o rest apart alike image each means =
       source-left kind (record o { command = Run }) (program_name source ∷ rest) apart
       ∙ ap (λ r. image_ran kind (record o { command = Run }) (program_name source ∷ rest) (assembled r) behind) means
-      ∙ ap (λ (w : Word). image_run kind (record o { command = Run }) (w ∷ rest) image behind) alike
+      ∙ ap (λ (w : Word). image_answer kind (record o { command = Run }) (w ∷ rest) image behind) alike
+      ∙ same-order kind o (program_name object ∷ rest) image behind
       ∙ ap (λ r. image_ran kind (record o { command = Sim }) (program_name object ∷ rest) (loaded r) behind) (sym (source-loads text image each means))
       ∙ sym (object-left kind (record o { command = Sim }) (program_name object ∷ rest) (source-short text each (accepted-run text image means)))
 
@@ -257,55 +280,66 @@ abbrev IsUnrefused : Answer → Type 0
 IsUnrefused (answered outcome m) = is_refusal outcome ≡ false
 IsUnrefused (wild m) = Unit {0}
 
-abbrev IsRanUnrefused : Ran → Type 0
-IsRanUnrefused (ran outcome s m) = is_refusal outcome ≡ false
-IsRanUnrefused (ran_wild m) = Unit {0}
+-- no run does, and no session
+run-unrefused : (steps : ℕ) (e : End) → is_refusal (runs.outcome_of steps e) ≡ false
+run-unrefused steps (ending.Halted status) = refl
+run-unrefused steps (ending.Stopped pc reason) = refl
+run-unrefused steps (ending.Broke kind at traced) = refl
+run-unrefused steps (ending.Traced trace) = refl
+run-unrefused steps ending.Spent = refl
+run-unrefused steps ending.OutOfMemory = refl
 
-run-unrefused : (steps : ℕ) (e : RunEnd) → IsRanUnrefused (ran_to steps e)
-run-unrefused steps e = grind arith
+session-unrefused : (steps : ℕ) (e : SessionEnd) → is_refusal (runs.session_outcome steps e) ≡ false
+session-unrefused steps (sitting.Halted status) = refl
+session-unrefused steps (sitting.Stopped pc reason) = refl
+session-unrefused steps sitting.Spent = refl
+session-unrefused steps sitting.Quit = refl
+session-unrefused steps sitting.Limit = refl
+session-unrefused steps sitting.HostFault = refl
+session-unrefused steps sitting.OutOfMemory = refl
 
-session-unrefused : (steps : ℕ) (e : SessionRun) → IsRanUnrefused (played steps e)
-session-unrefused steps e = grind arith
+abbrev Unrefused : Outcome → Type 0
+Unrefused outcome = is_refusal outcome ≡ false
 
-lines-unrefused : (outcome : Outcome) (t : Then Bool) → is_refusal outcome ≡ false → IsUnrefused (after_lines outcome t)
-lines-unrefused outcome (true, m) h = h
-lines-unrefused outcome (false, m) h = refl
+-- whatever the host answers
+abbrev Any : (o : HostCall) → HostSays o → Type 0
+Any o r = Unit {0}
 
-dump-unrefused : (dump : Bool) (r : Ran) → IsRanUnrefused r → IsUnrefused (dumped dump r)
-dump-unrefused dump (ran_wild m) h = tt
-dump-unrefused dump (ran outcome s m) h =
-    cond_both (dump && leaves_machine outcome) _ _ IsUnrefused (λ _. lines-unrefused outcome (lines_put (dump_lines s) m) h) (λ _. h)
+ends-unrefused : (n : ℕ) (c : Course End RunWorld) → Answers (λ e. Unrefused (runs.outcome_of n e)) c
+ends-unrefused n (ends e w) = run-unrefused n e
+ends-unrefused n (meets_wild w) = tt
 
--- the lines of states that come back refuse nothing
-told-unrefused : (outcome : Outcome) (s : State) (t : Then Bool) → is_refusal outcome ≡ false → IsRanUnrefused (lines_told outcome s t)
-told-unrefused outcome s (true, m) h = h
-told-unrefused outcome s (false, m) h = refl
+sat-unrefused : (n : ℕ) (c : Course SessionEnd SessionWorld) → Answers (λ e. Unrefused (runs.session_outcome n e)) c
+sat-unrefused n (ends e w) = session-unrefused n e
+sat-unrefused n (meets_wild w) = tt
 
-back-unrefused : (states : List State) (r : Ran) → IsRanUnrefused r → IsRanUnrefused (taken_back states r)
-back-unrefused states (ran_wild m) h = tt
-back-unrefused states (ran outcome s m) h =
-    cond_both (takes_back outcome) _ _ IsRanUnrefused (λ _. told-unrefused outcome (reached s states) (lines_put (state_lines states) m) h) (λ _. h)
+work-unrefused : (kind : MachineKind) (o : WorkCall) (w : Work) → Answers (WorkMay Any Unrefused o) (work_goes kind o w)
+work-unrefused kind (of_host o) w = tt
+work-unrefused kind (stepping n) w = ran-gives Unrefused n w _ (ends-unrefused n (run_course kind n no_flags false w.machine w.host))
+work-unrefused kind (reporting n) w = ran-gives Unrefused n (record w { told = traces kind n w.machine w.host }) _ (ends-unrefused n (run_course kind n no_flags false w.machine w.host))
+work-unrefused kind (keeping n) w = ran-gives Unrefused n (record w { kept = states_kept (turns_of n w.machine w.host) [] }) _ (ends-unrefused n (run_course kind n no_flags false w.machine w.host))
+work-unrefused kind (sitting_call n) w = sat-gives Unrefused n w _ (sat-unrefused n (session_course kind n w.machine no_flags w.host))
+work-unrefused kind other w = tt
 
-image-unrefused : (kind : MachineKind) (o : Order) (args : List Word) (image : Image) (m : HostModel) → IsUnrefused (image_run kind o args image m)
-image-unrefused kind o args image m = by (start image args (stack_at_start kind o.ring))
+worked-unrefused : (c : Course Outcome Work) → Answers Unrefused c → IsUnrefused (answer_of (worked c))
+worked-unrefused (ends outcome w) h = h
+worked-unrefused (meets_wild w) h = tt
+
+image-unrefused : (kind : MachineKind) (o : Order) (args : List Word) (image : Image) (m : HostModel) → IsUnrefused (image_answer kind o args image m)
+image-unrefused kind o args image m = subst IsUnrefused (sym (image-course kind o args image m)) (by (start image args (stack_at_start kind o.ring)))
   where
-    by : (s : Option State) → IsUnrefused (run_from kind o (begun_at (main_address image) s) m)
+    by : (s : Option State) → IsUnrefused (answer_of (work_on kind (machine_plan o) (begun_at (main_address image) s) (m, [])))
     by None = refl
-    by (Some s) = dump-unrefused o.dump (order_ran kind o s m)
-        (cond_both o.interactive _ _ IsRanUnrefused (λ _. session-unrefused o.steps _)
-        (λ _. back-unrefused (states_back o.last o.steps s m) (machine_ran kind o.steps s m) (run-unrefused o.steps (run_by kind o.steps no_flags false s m))))
+    by (Some s) =
+        worked-unrefused (course (work_goes kind) (machine_plan o) (at_start s (m, [])))
+        (course_gives (work_goes kind) (WorkMay Any Unrefused) Unrefused (work-unrefused kind) (machine_plan o) (at_start s (m, [])) (machine-gives Any Unrefused refl o))
 
 -- the message changes no outcome
-message-comes : (outcome : Outcome) (text : List ℕ) (m : HostModel) → HasOutcome (message_told outcome text m) outcome
-message-comes outcome [] m = refl
-message-comes outcome (b ∷ bs) m = refl
+message-comes : (outcome : Outcome) (m : HostModel) → HasOutcome (with_message (answered outcome m)) outcome
+message-comes outcome m = subst (λ (a : Answer). HasOutcome a outcome) (sym (message-said outcome m)) refl
 
 message-came : (a : Answer) (o : Outcome) → HasOutcome (with_message a) o → HasOutcome a o
-message-came (answered outcome m) o h = by (message_of outcome) h
-  where
-    by : (text : List ℕ) → HasOutcome (message_told outcome text m) o → outcome ≡ o
-    by [] h = h
-    by (b ∷ bs) h = h
+message-came (answered outcome m) o h = subst (λ (a : Answer). HasOutcome a o) (message-said outcome m) h
 message-came (wild m) o h = h
 
 never-refused : (a : Answer) (line fault from : ℕ) → IsUnrefused a → HasOutcome a (Refused line fault from) → ⊥
@@ -328,7 +362,7 @@ refused-run kind o args text m line fault from = by (run_refusal text) refl
   where
     by : (r : Option RunRefusal) → run_refusal text ≡ r → HasOutcome (image_ran kind o args (assembled (meaning_unless r (image_of (statements_in (source_entries text))))) m) (Refused line fault from) →
         (r : RunRefusal) × (run_refusal text ≡ Some r) × (r.number ≡ fault)
-    by None is h = absurd (never-refused (image_run kind o args (image_of (statements_in (source_entries text))) m) line fault from (image-unrefused kind o args _ m) h)
+    by None is h = absurd (never-refused (image_answer kind o args (image_of (statements_in (source_entries text))) m) line fault from (image-unrefused kind o args _ m) h)
     by (Some r) is h = (r, is, (cc))
 
 pub refused-detour : (kind : MachineKind) (options : List Word) (source object : Word) (arguments : List Word) (text : List ℕ) (m after : HostModel) (line fault from : ℕ) →
@@ -358,5 +392,5 @@ refused-detour kind options source object arguments text m after line fault from
       sym found.2 ∙ pages.0,
       pages.1,
       comes-still (product kind (sim_words options object arguments) after) (BadObject pages.1 90)
-          (subst (λ t. HasOutcome t (BadObject pages.1 90)) (sym (sim.same simulated ∙ simmed)) (message-comes (BadObject pages.1 90) (message_of (BadObject pages.1 90)) back)),
+          (subst (λ t. HasOutcome t (BadObject pages.1 90)) (sym (sim.same simulated ∙ simmed)) (message-comes (BadObject pages.1 90) back)),
     )

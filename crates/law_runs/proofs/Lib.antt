@@ -1,3 +1,6 @@
+pub mod MachineAnswers
+pub mod GivenOutcomes
+pub mod ReadRuns
 pub mod Completed
 pub mod CompletedFiles
 pub mod DetourImages

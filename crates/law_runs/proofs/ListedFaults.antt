@@ -6,7 +6,7 @@ use Rattle.mx_word.specs.declared.symbols.Symbol.{Symbol}
 use Rattle.mx_mmo.specs.Image.{Image}
 use Rattle.mx_mmo.specs.Meaning.{Loading, Meaningless, PagesFull, BadPlace, NoFile, image_in, meaning, nothing, take_items}
 use Rattle.mx_mmo.specs.Replies.{limit, tail_of}
-use Rattle.mx_mmo.specs.Whole.{Walk, items_of, object_of, object_behind, with_tail}
+use Rattle.mx_mmo.specs.Whole.{Walk, items_of, object_of, object_after, with_tail}
 use Rattle.mx_mmo.specs.declared.due.Phase.TheVariants.{Start}
 use Rattle.mx_mmo.specs.declared.faults.MmoFault.{MmoFault}
 use Rattle.mx_mmo.specs.declared.faults.MmoFault.TheVariants.{TooLong}
@@ -49,11 +49,11 @@ tail-items items (Ok tail) object e =
     ap (λ (o : Object). o.items) is
 tail-items items (Err fault) object e = absurd (cc)
 
-walk-items : (w : Walk) (object : Object) → object_behind w.0 w.1 ≡ Ok object → w.0 ≡ object.items
+walk-items : (w : Walk) (object : Object) → object_after w.0 w.1 ≡ Ok object → w.0 ≡ object.items
 walk-items (items, Ok left) object e = tail-items items (tail_of left.phase left.at left.rest) object e
 walk-items (items, Err fault) object e = absurd (cc)
 
-either-items : (b : Bool) (long : MmoFault) (w : Walk) (object : Object) → cond b (Err long) (object_behind w.0 w.1) ≡ Ok object → w.0 ≡ object.items
+either-items : (b : Bool) (long : MmoFault) (w : Walk) (object : Object) → cond b (Err long) (object_after w.0 w.1) ≡ Ok object → w.0 ≡ object.items
 either-items true long w object e = absurd (cc)
 either-items false long w object e = walk-items w object e
 

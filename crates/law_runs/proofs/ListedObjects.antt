@@ -10,7 +10,7 @@ use Rattle.mx_host.proofs.Start.{slot_at-start_output}
 use Rattle.mx_host.proofs.Still.{still}
 use Rattle.mx_mmo.specs.Replies.{limit, tail_of}
 use Rattle.mx_mmo.specs.Valid.{Valid}
-use Rattle.mx_mmo.specs.Whole.{Walk, items_of, object_of, object_behind, with_tail}
+use Rattle.mx_mmo.specs.Whole.{Walk, items_of, object_of, object_after, with_tail}
 use Rattle.mx_mmo.specs.declared.due.Phase.TheVariants.{Start}
 use Rattle.mx_mmo.specs.declared.faults.MmoFault.{MmoFault}
 use Rattle.mx_mmo.specs.declared.faults.MmoFault.TheVariants.{TooLong}
@@ -39,9 +39,9 @@ use Rattle.mx_words.specs.declared.order.Order.{Order}
 use Rattle.mx_files.specs.Answers.{Answer, answered, plainly}
 use Rattle.mx_files.proofs.FileEnds.{listed-by}
 use Rattle.mx_begin.specs.Arguments.{Word, word_at}
-use Rattle.mx_outcome.specs.Messages.{message_of}
-use Rattle.mx_top.specs.Commands.{message_told, with_message}
-use Rattle.mx_top.specs.Product.{product}
+use Rattle.mx_top.specs.Product.{ordered_plan, product}
+use Rattle.mx_top.specs.Telling.{with_message}
+use Rattle.mx_files.specs.ObjectPlans.{list_plan}
 use Rattle.mx_files.specs.Source.{object_pieces}
 use Rattle.mx_files.specs.Typed.{Typed, shown, item_lines, tail_lines, trie_typed, tail_typed, unread, unread_trie, behind, walk_typed, typed}
 use Rattle.mx_outcome.specs.declared.outcome.Outcome.{Outcome}
@@ -49,7 +49,7 @@ use Rattle.mx_outcome.specs.declared.outcome.Outcome.TheVariants.{Done, OutOfMem
 use Rattle.law_runs.specs.Called.{IsCalled, NoCallFails}
 use Rattle.law_runs.specs.Complete.{IsOrdered, IsThere, with_output}
 use Rattle.law_runs.specs.Detour.{answer_unscheduled}
-use Rattle.law_runs.proofs.Completed.{order-is}
+use Rattle.law_runs.proofs.Completed.{order-is, host-answer}
 use Rattle.law_runs.proofs.CompletedFiles.{there-read, lines-still}
 use Rattle.law_runs.proofs.SparedPrograms.{Answers, carried-as, message-answers, called}
 use Rattle.law_runs.proofs.SteadyProduct.{SparedAnswers, message-steady}
@@ -92,11 +92,11 @@ tail-typed items (Ok tail) object e =
     ap (λ (o : Object). behind (item_lines 0 o.items) (tail_typed (Ok o.tail))) is
 tail-typed items (Err fault) object e = absurd (cc)
 
-walk-typed : (w : Walk) (object : Object) → object_behind w.0 w.1 ≡ Ok object → walk_typed 0 w ≡ behind (item_lines 0 object.items) (tail_typed (Ok object.tail))
+walk-typed : (w : Walk) (object : Object) → object_after w.0 w.1 ≡ Ok object → walk_typed 0 w ≡ behind (item_lines 0 object.items) (tail_typed (Ok object.tail))
 walk-typed (items, Ok left) object e = tail-typed items (tail_of left.phase left.at left.rest) object e
 walk-typed (items, Err fault) object e = absurd (cc)
 
-either-object : (b : Bool) (long : MmoFault) (w : Walk) (object : Object) → cond b (Err long) (object_behind w.0 w.1) ≡ Ok object →
+either-object : (b : Bool) (long : MmoFault) (w : Walk) (object : Object) → cond b (Err long) (object_after w.0 w.1) ≡ Ok object →
     cond b ([], unread long) (walk_typed 0 w) ≡ behind (item_lines 0 object.items) (tail_typed (Ok object.tail))
 either-object true long w object e = absurd (cc)
 either-object false long w object e = walk-typed w object e
@@ -109,11 +109,11 @@ tail-fault : (items : List Item) (r : Result Tail MmoFault) (fault : MmoFault) �
 tail-fault items (Ok tail) fault e = absurd (cc)
 tail-fault items (Err other) fault e = let is : other ≡ fault = cc in ap unread is
 
-walk-fault : (w : Walk) (fault : MmoFault) → object_behind w.0 w.1 ≡ Err fault → (walk_typed 0 w).1 ≡ unread fault
+walk-fault : (w : Walk) (fault : MmoFault) → object_after w.0 w.1 ≡ Err fault → (walk_typed 0 w).1 ≡ unread fault
 walk-fault (items, Ok left) fault e = tail-fault items (tail_of left.phase left.at left.rest) fault e
 walk-fault (items, Err other) fault e = let is : other ≡ fault = cc in ap unread is
 
-either-fault : (b : Bool) (long : MmoFault) (w : Walk) (fault : MmoFault) → ◌≡◌ {A = Result Object MmoFault} (cond b (Err long) (object_behind w.0 w.1)) (Err fault) →
+either-fault : (b : Bool) (long : MmoFault) (w : Walk) (fault : MmoFault) → ◌≡◌ {A = Result Object MmoFault} (cond b (Err long) (object_after w.0 w.1)) (Err fault) →
     ◌≡◌ {A = Outcome} (cond b ([], unread long) (walk_typed 0 w)).1 (unread fault)
 either-fault true long w fault e = let is : long ≡ fault = cc in ap unread is
 either-fault false long w fault e = walk-fault w fault e
@@ -218,8 +218,10 @@ still-told bytes m = answered (typed bytes).1 (still (with_output m (concat (typ
 
 still-listed : (kind : MachineKind) (words : List Word) (o : Order) (bytes : List ℕ) (m : HostModel) → IsOrdered words o Show → IsThere (word_at words o.file) object_pieces bytes m →
     product kind words (still m) ≡ with_message (still-told bytes m)
+unfolding ordered_plan
 still-listed kind words o bytes m h there =
     order-is kind words o Show (still m) h
+    ∙ ap with_message (host-answer kind (list_plan (word_at words o.file)) (still m))
     ∙ ap (λ t. with_message (plainly t))
     (listed-by (word_at words o.file) bytes (still m) (still m) (still (with_output m (concat (typed bytes).0))) (there-read (word_at words o.file) object_pieces bytes m there) (lines-still (typed bytes).0 m (slot_at-start_output m there.slots)))
 
@@ -236,7 +238,7 @@ pub listed-called : (words : List Word) (o : Order) (bytes : List ℕ) (old new 
 listed-called words o bytes old new result call h there none kept =
     let outcome : Outcome = (typed bytes).1 in
     let m : HostModel = with_output (unscheduled (contents old)) (concat (typed bytes).0) in
-    let spoken : Answers outcome (message_told outcome (message_of outcome) m) = message-answers outcome (message_of outcome) m in
+    let spoken : Answers outcome (with_message (answered outcome m)) = message-answers outcome m in
     called words old new result outcome call kept
     (spoken.0, listed-spared window_machine words o bytes (contents old) h there none ∙ spoken.1)
 

@@ -3,6 +3,8 @@ use Rattle.std.proofs.Common.{◌≡◌, ℕ, ◌%◌, ◌^◌, Bool, false, ref
 use Rattle.std.specs.Prelude.{Result}
 use Rattle.mx_host.specs.HostModel.{HostModel}
 use Rattle.mx_ring.specs.Stack.{register}
+use Rattle.mx_plan.specs.Wild.{ends}
+use Rattle.mx_plan.proofs.WildLaws.{EndsSo}
 use Rattle.mx_trap.specs.FileTraps.{trap_answer}
 use Rattle.mx_trap.specs.Moves.{Leaves}
 use Rattle.mx_trap.specs.Touches.{touches}
@@ -14,15 +16,14 @@ use Rattle.mx_core.specs.Step.{Stepped, went, calls, stopped, step}
 use Rattle.mx_run.specs.RunPlans.{RunWorld, end_of_turn}
 use Rattle.mx_run.specs.Runs.{no_flags}
 use Rattle.mx_run.specs.Turns.{Turn, went_on, halts, stops, area_size, status_of, turn_with, trap_turn, turn_of, turn, turn_answer}
-use Rattle.mx_run.specs.WildRuns.{MachineKind, RunEnd, run_ended, run_wild, run_by}
+use Rattle.mx_run.specs.WildRuns.{MachineKind, run_course, run_by}
 use Rattle.mx_run.specs.declared.end.End.{End}
 use Rattle.mx_run.specs.declared.end.End.TheVariants as ending
 use Rattle.mx_run.specs.declared.turn_answer.TurnAnswer.{TurnAnswer}
 use Rattle.mx_run.specs.declared.turn_answer.TurnAnswer.TheVariants as answers
 use Rattle.mx_run.proofs.FreeTurns.{trace-free}
-use Rattle.mx_run.proofs.RunCases.{OnOr, LeadsTo, AnyWay, RunEndsSo, run-ends-so}
-use Rattle.mx_top.specs.Runs.{ran, ran_to, outcome_of, machine_ran}
-use Rattle.mx_outcome.specs.declared.outcome.Outcome.TheVariants.{Done}
+use Rattle.mx_run.proofs.RunCases.{OnOr, LeadsTo, AnyWay, run-ends-so}
+use Rattle.mx_con.proofs.QuietTraces.{run-ends}
 
 -- ---- turns
 
@@ -71,29 +72,12 @@ answer-low s m (stops reason u k) h = λ status e. absurd (cc)
 leads-low : LeadsTo no_flags AnswersLow AnyWay EndsLow
 leads-low = record { spent = λ w g status e. absurd (cc); broken = λ n w x g status e. absurd (cc); turned = λ n a w v g h. turned-low n w.0.pc a w v h }
 
-run-low : (kind : MachineKind) (n : ℕ) (s : State) (m : HostModel) → RunEndsSo EndsLow (run_by kind n no_flags false s m)
-run-low kind n s m = run-ends-so kind no_flags AnswersLow AnyWay EndsLow leads-low (λ t k tame. answer-low t k (turn t k) (turn-low t k)) n false s m tt
+run-low : (kind : MachineKind) (n : ℕ) (s : State) (m : HostModel) → EndsSo EndsLow (run_course kind n no_flags false s m)
+unfolding run_by
+run-low kind n s m =
+    run-ends EndsLow (run_course kind n no_flags false s m) (run-ends-so kind no_flags AnswersLow AnyWay EndsLow leads-low (λ t k tame. answer-low t k (turn t k) (turn-low t k)) n false s m tt)
 
--- ---- outcomes
-
-done-halted : (steps status : ℕ) (end : End) → outcome_of steps end ≡ Done status → end ≡ ending.Halted status
-done-halted steps status (ending.Halted b) e =
-    let same : b ≡ status = cc in
-    ap ending.Halted same
-done-halted steps status (ending.Stopped pc reason) e = absurd (cc)
-done-halted steps status (ending.Broke kind at traced) e = absurd (cc)
-done-halted steps status (ending.Traced trace) e = absurd (cc)
-done-halted steps status ending.Spent e = absurd (cc)
-done-halted steps status ending.OutOfMemory e = absurd (cc)
-
-ran-low : (steps status : ℕ) (left : State) (after : HostModel) (r : RunEnd) → RunEndsSo EndsLow r → ran_to steps r ≡ ran (Done status) left after → status ≡ status_of left
-ran-low steps status left after (run_ended e) h k =
-    let outcome : outcome_of steps e.end ≡ Done status = cc in
-    let state : e.state ≡ left = cc in
-    h status (done-halted steps status e.end outcome) ∙ ap (λ (s : State). status_of s) state
-ran-low steps status left after (run_wild m) h k = absurd (cc)
-
-pub halts-low : (kind : MachineKind) (steps status : ℕ) (s left : State) (m after : HostModel) → machine_ran kind steps s m ≡ ran (Done status) left after → status ≡ register left.stack 255 % 2 ^ 8
-halts-low kind steps status s left m after h = ran-low steps status left after (run_by kind steps no_flags false s m) (run-low kind steps s m) h
+pub halts-low : (kind : MachineKind) (steps status : ℕ) (s left : State) (m after : HostModel) → run_course kind steps no_flags false s m ≡ ends (ending.Halted status) (left, after) → status ≡ register left.stack 255 % 2 ^ 8
+halts-low kind steps status s left m after h = subst (EndsSo EndsLow) h (run-low kind steps s m) status refl
 
 pub ruleset lowered = (halts-low)

@@ -4,38 +4,43 @@ use Rattle.std.proofs.Common.{◌≡◌, ◌≢◌, ℕ, ◌%◌, ◌^◌, List,
 use Rattle.std.specs.Prelude.{◌&&◌}
 use Rattle.std.specs.List.{concat}
 use Rattle.mx_host.specs.HostModel.{HostModel, HasStartSlots, contents}
-use Rattle.mx_host.specs.HostAnswer.{Then, with_file, write_answer}
+use Rattle.mx_host.specs.HostAnswer.{Then, with_file}
 use Rattle.mx_host.proofs.Still.{still}
 use Rattle.mx_mmo.specs.Image.{Image}
 use Rattle.mx_asm.specs.Refusal.{refusal}
 use Rattle.mx_core.specs.State.{State}
 use Rattle.mx_ring.specs.Stack.{register}
+use Rattle.mx_plan.specs.Calls.{host}
 use Rattle.mx_plan.specs.Counts.{unscheduled}
+use Rattle.mx_plan.specs.Plan.{end_of}
 use Rattle.mx_plan.proofs.Spared.{uncalled, steady-of}
 use Rattle.mx_run.specs.WildRuns.{MachineKind, window_machine}
+use Rattle.mx_run.specs.declared.end.End.TheVariants.{Halted}
 use Rattle.mx_words.specs.declared.order.Command.TheVariants.{Asm}
 use Rattle.mx_words.specs.declared.order.Order.{Order}
 use Rattle.mx_files.specs.Answers.{Answer, answered, after_lines}
 use Rattle.mx_outcome.specs.Kinds.{leaves_machine}
 use Rattle.mx_begin.specs.Arguments.{Word, word_at, arguments}
 use Rattle.law_runs.specs.Called.{NoCallFails, IsCalled}
-use Rattle.law_runs.specs.Complete.{IsOrdered, IsStarted, IsThere, SourceIsThere, ObjectIsThere, IsHalted, IsPlayed, IsGenerated, with_output}
+use Rattle.law_runs.specs.Complete.{IsOrdered, IsStarted, IsThere, SourceIsThere, ObjectIsThere, IsHalted, IsPlayed, IsGenerated, image_answer, session_answer, with_output}
 use Rattle.law_runs.specs.Detour.{answer_unscheduled}
 use Rattle.mx_dump.specs.Dump.{dump_lines}
 use Rattle.mx_files.specs.Writing.{lines_put}
-use Rattle.mx_outcome.specs.Messages.{message_of}
 use Rattle.mx_files.specs.Objects.{source_object}
 use Rattle.mx_files.specs.Assembling.{assembled_outcome}
-use Rattle.mx_top.specs.Commands.{message_told, with_message}
-use Rattle.mx_top.specs.Product.{product}
-use Rattle.mx_top.specs.Runs.{Ran, ran, session_ran, dumped, generator_steps, image_run}
+use Rattle.mx_top.specs.MachineWork.{machine_plan}
+use Rattle.mx_top.specs.Product.{run_on, product}
+use Rattle.mx_top.specs.Runs.{generator_steps}
+use Rattle.mx_top.specs.Telling.{message_plan, with_message}
+use Rattle.mx_top.proofs.Told.{message-said, done-said}
 use Rattle.mx_files.specs.Source.{source_pieces}
 use Rattle.mx_outcome.specs.declared.outcome.Outcome.{Outcome}
 use Rattle.mx_outcome.specs.declared.outcome.Outcome.TheVariants.{Done, OutOfMemory}
-use Rattle.law_runs.proofs.Completed.{sat-image, halted-run, plain-told, accepted-object, generated-told}
-use Rattle.law_runs.proofs.CompletedFiles.{LinesWritten, lines-written, lines-done, IsReady, halted-left, played-left, source-still, object-still, with_object, assembled-still, file-left}
+use Rattle.law_runs.proofs.Completed.{sat-image, halted-run, played-answer, plain-told, accepted-object, generated-told}
+use Rattle.law_runs.proofs.CompletedFiles.{LinesWritten, lines-written, lines-done, IsReady, run-left, session-left, source-still, object-still, with_object, assembled-still, file-left}
 use Rattle.law_runs.proofs.LowBytes.{halts-low}
-use Rattle.law_runs.proofs.SteadyProduct.{SparedAnswers, image-steady, message-steady, product-steady, answer-unscheduled, product-same}
+use Rattle.law_runs.proofs.MachineAnswers.{dumped-end}
+use Rattle.law_runs.proofs.SteadyProduct.{SparedAnswers, plan-steady, message-steady, product-steady, answer-unscheduled, product-same}
 
 -- ---- the host with no call counted and none that fails
 
@@ -49,13 +54,13 @@ carried-as kind words m from a b none e h well =
 
 -- the program does what the run of this image does
 abbrev pub RunsAs : MachineKind → List Word → Order → Image → HostModel → Type 0
-RunsAs kind words o image m = answer_unscheduled (product kind words m) ≡ answer_unscheduled (with_message (image_run kind o (arguments words o) image (unscheduled m)))
+RunsAs kind words o image m = answer_unscheduled (product kind words m) ≡ answer_unscheduled (with_message (image_answer kind o (arguments words o) image (unscheduled m)))
 
-runs-as : (kind : MachineKind) (words : List Word) (o : Order) (image : Image) (m : HostModel) → NoCallFails kind words m → product kind words (still m) ≡ with_message (image_run kind o (arguments words o) image (still m)) →
+runs-as : (kind : MachineKind) (words : List Word) (o : Order) (image : Image) (m : HostModel) → NoCallFails kind words m → product kind words (still m) ≡ with_message (image_answer kind o (arguments words o) image (still m)) →
     RunsAs kind words o image m
 runs-as kind words o image m none e =
-    carried-as kind words m (unscheduled m) (with_message (image_run kind o (arguments words o) image (unscheduled m))) (with_message (image_run kind o (arguments words o) image (still m))) none e
-    (message-steady (image_run kind o (arguments words o) image (unscheduled m)) (image_run kind o (arguments words o) image (still m)) (image-steady kind o (arguments words o) image (unscheduled m))) refl
+    carried-as kind words m (unscheduled m) (with_message (image_answer kind o (arguments words o) image (unscheduled m))) (with_message (image_answer kind o (arguments words o) image (still m))) none e
+    (message-steady (image_answer kind o (arguments words o) image (unscheduled m)) (image_answer kind o (arguments words o) image (still m)) (plan-steady kind (run_on o.ring (arguments words o) (machine_plan o) image) (unscheduled m))) refl
 
 pub source-spared : (kind : MachineKind) (words : List Word) (o : Order) (image : Image) (m : HostModel) → SourceIsThere words o image m → NoCallFails kind words m → RunsAs kind words o image m
 source-spared kind words o image m h none = runs-as kind words o image m none (source-still kind words o image m h)
@@ -72,12 +77,13 @@ pub halted-dumped : (kind : MachineKind) (words : List Word) (o : Order) (image 
     IsHalted kind words o image (unscheduled m) status ended after → o.dump ≡ true →
     answer_unscheduled (product kind words m) ≡ answered (Done status) (unscheduled (with_output after (concat (dump_lines ended))))
 halted-dumped kind words o image status ended m after slots h k d =
-    h ∙ ap (λ a. answer_unscheduled (with_message a)) (halted-run kind words o image (unscheduled m) status ended after k) ∙ ap (λ b. answer_unscheduled (with_message (dumped b (ran (Done status) ended after)))) d
-    ∙ lines-done (dump_lines ended) status after (halted-left kind o.steps k.machine (unscheduled m) (Done status) ended after refl slots k.halts)
+    h ∙ ap (λ a. answer_unscheduled (with_message a)) (halted-run kind words o image (unscheduled m) status ended after k) ∙ ap (λ a. answer_unscheduled (with_message a)) (dumped-end o.dump (Done status) ended after)
+    ∙ ap (λ b. answer_unscheduled (with_message (cond (b && leaves_machine (Done status)) (after_lines (Done status) (lines_put (dump_lines ended) after)) (answered (Done status) after)))) d
+    ∙ lines-done (dump_lines ended) status after (run-left kind o.steps k.machine (unscheduled m) (Halted status) (ended, after) refl slots k.halts)
 
 -- a session
 pub sat-spared : (kind : MachineKind) (words : List Word) (o : Order) (image : Image) (s : State) (m : HostModel) → RunsAs kind words o image m → o.interactive ≡ true → IsStarted kind words o image s →
-    answer_unscheduled (product kind words m) ≡ answer_unscheduled (with_message (dumped o.dump (session_ran kind o.steps s (unscheduled m))))
+    answer_unscheduled (product kind words m) ≡ answer_unscheduled (with_message (session_answer kind o s (unscheduled m)))
 sat-spared kind words o image s m h i k = h ∙ ap answer_unscheduled (sat-image kind words o image s (unscheduled m) i k)
 
 -- ---- `asm` and `gen`
@@ -94,12 +100,13 @@ pub assembled-spared : (kind : MachineKind) (words : List Word) (o : Order) (tex
     refusal text ≡ None → answer_unscheduled (product kind words m) ≡ answered (Done 0) (unscheduled (with_file m (word_at words o.rest) (source_object text).0))
 assembled-spared kind words o text m h there none e =
     told-spared kind words o text m h there none ∙ ap (λ r. answer_unscheduled (with_message (answered (assembled_outcome r) (with_object words o text (unscheduled m))))) (accepted-object text e)
+    ∙ ap answer_unscheduled (done-said 0 (with_object words o text (unscheduled m)))
 
 pub generated-spared : (kind : MachineKind) (words : List Word) (m left : HostModel) (line : List ℕ) → HasStartSlots m → NoCallFails kind words m → IsGenerated kind words (unscheduled m) left line →
     answer_unscheduled (product kind words m) ≡ answered (Done 0) (unscheduled (with_output left line))
 generated-spared kind words m left line slots none h =
     product-same kind words m (unscheduled m) refl none (λ call from to. refl) ∙ ap answer_unscheduled (generated-told kind words (unscheduled m) left line h)
-    ∙ lines-done (line ∷ []) 0 left (halted-left kind generator_steps h.machine (unscheduled m) (Done h.status) h.ended left refl slots h.halts)
+    ∙ lines-done (line ∷ []) 0 left (run-left kind generator_steps h.machine (unscheduled m) (Halted h.status) (h.ended, left) refl slots h.halts)
     ∙ ap (λ text. answered (Done 0) (unscheduled (with_output left text))) (append-nil line)
 
 pub ruleset spared = (source-spared, object-spared, told-spared, assembled-spared, generated-spared, file-left)
@@ -118,18 +125,17 @@ halted-answers kind words o image status ended m after slots h k true d =
 halted-answers kind words o image status ended m after slots h k false d = (unscheduled after, halted-plain kind words o image status ended m after h k d)
 
 -- a message changes no outcome, nor do the lines of a dump that are written
-pub message-answers : (outcome : Outcome) (text : List ℕ) (m : HostModel) → Answers outcome (message_told outcome text m)
-message-answers outcome [] m = (unscheduled m, refl)
-message-answers outcome (b ∷ bs) m = (unscheduled (write_answer m 260 (b ∷ bs)).1, refl)
+pub message-answers : (outcome : Outcome) (m : HostModel) → Answers outcome (with_message (answered outcome m))
+message-answers outcome m = (unscheduled (end_of host (message_plan outcome) m).1, ap answer_unscheduled (message-said outcome m))
 
 lines-answer : (lines : List (List ℕ)) (outcome : Outcome) (m : HostModel) (t : Then Bool) → LinesWritten lines m t → Answers outcome (with_message (after_lines outcome t))
-lines-answer lines outcome m (true, n) h = message-answers outcome (message_of outcome) n
+lines-answer lines outcome m (true, n) h = message-answers outcome n
 lines-answer lines outcome m (false, n) h = absurd (cc (h.0))
 
 dumped-by : (b : Bool) (outcome : Outcome) (ended : State) (m : HostModel) → IsReady m →
     Answers outcome (with_message (cond b (after_lines outcome (lines_put (dump_lines ended) m)) (answered outcome m)))
 dumped-by true outcome ended m h = lines-answer (dump_lines ended) outcome m (lines_put (dump_lines ended) m) (lines-written (dump_lines ended) m h)
-dumped-by false outcome ended m h = message-answers outcome (message_of outcome) m
+dumped-by false outcome ended m h = message-answers outcome m
 
 through : (outcome : Outcome) (a b : Answer) → answer_unscheduled a ≡ answer_unscheduled b → Answers outcome b → Answers outcome a
 through outcome a b e h = (h.0, e ∙ h.1)
@@ -137,9 +143,9 @@ through outcome a b e h = (h.0, e ∙ h.1)
 played-answers : (kind : MachineKind) (words : List Word) (o : Order) (image : Image) (outcome : Outcome) (ended : State) (m after : HostModel) → HasStartSlots m → RunsAs kind words o image m →
     IsPlayed kind words o image (unscheduled m) outcome ended after → Answers outcome (product kind words m)
 played-answers kind words o image outcome ended m after slots h k =
-    through outcome (product kind words m) (with_message (dumped o.dump (session_ran kind o.steps k.machine (unscheduled m)))) (sat-spared kind words o image k.machine m h k.console k.starts)
-    (subst (λ (r : Ran). Answers outcome (with_message (dumped o.dump r))) (sym k.plays)
-    (dumped-by (o.dump && leaves_machine outcome) outcome ended after (played-left kind o.steps k.machine (unscheduled m) outcome ended after refl slots k.plays)))
+    through outcome (product kind words m) (with_message (session_answer kind o k.machine (unscheduled m))) (sat-spared kind words o image k.machine m h k.console k.starts)
+    (subst (λ (a : Answer). Answers outcome (with_message a)) (sym (played-answer kind words o image (unscheduled m) outcome ended after k ∙ dumped-end o.dump outcome ended after))
+    (dumped-by (o.dump && leaves_machine outcome) outcome ended after (session-left kind o.steps k.machine (unscheduled m) k.end ((ended, after), k.flags) refl slots k.plays)))
 
 -- ---- what a call answers
 

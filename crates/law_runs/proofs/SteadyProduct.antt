@@ -1,35 +1,31 @@
 -- Where no call that is made fails, the program does and answers the same whatever the count of calls, and whatever the
 -- list of those that fail.
-use Rattle.std.proofs.Common.{◌≡◌, ◌⊎◌, inl, inr, ℕ, List, [], ◌∷◌, Bool, refl, sym, ◌∙◌, ap, subst, Ok, Err}
+use Rattle.std.proofs.Common.{◌≡◌, ◌⊎◌, inl, inr, List, [], Bool, refl, sym, ◌∙◌, ap, Ok, Err}
 use Rattle.std.specs.Prelude.{Result}
 use Rattle.mx_host.specs.HostModel.{HostModel}
 use Rattle.mx_host.specs.HostAnswer.{Then}
 use Rattle.mx_host.proofs.Still.{still}
-use Rattle.mx_mmo.specs.Image.{Image}
 use Rattle.mx_code.specs.declared.trace.Trace.{Trace}
 use Rattle.mx_core.specs.State.{State}
-use Rattle.mx_plan.specs.Calls.{HostSays}
+use Rattle.mx_plan.specs.Calls.{HostSays, host}
 use Rattle.mx_plan.specs.Counts.{NoneFailed, unscheduled, without_count}
 use Rattle.mx_plan.specs.Plan.{returns, calls, end_of}
 use Rattle.mx_plan.specs.Wild.{Course, ends, meets_wild, world_of, course}
-use Rattle.mx_plan.proofs.Spared.{Spares, uncalled, after, write-spared, plan-spared, uncounted-of, still-same}
+use Rattle.mx_plan.proofs.Spared.{Spares, uncalled, after, plan-spared, uncounted-of, still-same}
 use Rattle.mx_plan.proofs.WildLaws.{course_still, SparedCourse, course_spared}
 use Rattle.mx_run.specs.WildRuns.{MachineKind}
 use Rattle.mx_multi.specs.JointTurns.{JointWorld}
 use Rattle.mx_multi.specs.MultiPlans.{turns_plan}
 use Rattle.mx_multi.specs.Turns.{multi_goes, of_course, turns}
 use Rattle.mx_multi.specs.declared.end.MultiEnd.{MultiEnd}
-use Rattle.mx_words.specs.declared.order.Order.{Order}
-use Rattle.mx_files.specs.Answers.{Answer, answered, wild}
+use Rattle.mx_files.specs.Answers.{Answer, answered, wild, plainly}
 use Rattle.mx_begin.specs.Arguments.{Word}
 use Rattle.mx_begin.specs.Begun.{started}
-use Rattle.mx_outcome.specs.Messages.{message_of}
 use Rattle.mx_outcome.specs.declared.outcome.Outcome.{Outcome}
-use Rattle.mx_top.specs.Commands.{message_told, with_message, order_traces}
-use Rattle.mx_top.specs.MachineWork.{Work, WorkPlan, work_goes, machine_plan}
-use Rattle.mx_top.specs.Product.{ProgramCall, of_host, on_machine, taking_turns, ProgramSays, ProgramWorld, program_goes, at_start, joint_at_start, worked, work_on, turned, product_plan, product_course, answer_of, product, told_of, product_traces}
-use Rattle.mx_top.specs.Runs.{run_from, image_run}
-use Rattle.mx_top.proofs.ProductCourses.{told_with, machine-course}
+use Rattle.mx_top.specs.MachineWork.{Work, WorkPlan, work_goes}
+use Rattle.mx_top.specs.Product.{ProgramPlan, ProgramCall, of_host, on_machine, taking_turns, ProgramSays, ProgramWorld, program_goes, at_start, joint_at_start, worked, work_on, turned, product_plan, product_course, answer_of, product, told_of, product_traces}
+use Rattle.mx_top.specs.Telling.{message_plan, with_message}
+use Rattle.mx_top.specs.WorkClauses.{answer_by}
 use Rattle.law_runs.specs.Detour.{host_of, answer_uncounted, answer_unscheduled}
 use Rattle.law_runs.proofs.SteadyTurns.{joint_host, still_joint, turns-spared}
 use Rattle.law_runs.proofs.SteadyWork.{left, left-spared, work_host, work_still, work_seen, work-spared}
@@ -104,31 +100,16 @@ traces-steady : (kind : MachineKind) (words : List Word) (m : HostModel) → Spa
 unfolding product product_traces
 traces-steady kind words m = after told_of (product-spared kind words m) (told-case (product_course kind words m))
 
--- ---- an image that is run, and the message
+-- ---- a plan, and the message
 
-answer-with : (told : List Trace) (a : Answer) → answer_of (told_with told a) ≡ a
-answer-with told (answered outcome m) = refl
-answer-with told (wild m) = refl
+pub plan-steady : (kind : MachineKind) (plan : ProgramPlan Outcome) (m : HostModel) → SparedAnswers m (answer_by kind plan m) (answer_by kind plan (still m))
+plan-steady kind plan m = after answer_of (course_spared program_host program_still (program_goes kind) (call-spared kind) plan (m, [])) (answer-case (course (program_goes kind) plan (m, [])))
 
-run-is : (kind : MachineKind) (o : Order) (r : Result State Outcome) (m : HostModel) → answer_of (work_on kind (machine_plan o) r (m, [])) ≡ run_from kind o r m
-run-is kind o (Err outcome) m = refl
-run-is kind o (Ok s) m = ap answer_of (machine-course kind o s m) ∙ answer-with (order_traces kind o s m) (run_from kind o (Ok s) m)
-
-pub image-steady : (kind : MachineKind) (o : Order) (words : List Word) (image : Image) (m : HostModel) → SparedAnswers m (image_run kind o words image m) (image_run kind o words image (still m))
-image-steady kind o words image m = by (started kind o.ring image words)
-  where
-    by : (r : Result State Outcome) → SparedAnswers m (run_from kind o r m) (run_from kind o r (still m))
-    by r =
-        subst (λ (a : Answer). SparedAnswers m a (run_from kind o r (still m))) (run-is kind o r m)
-        (subst (λ (a : Answer). SparedAnswers m (answer_of (work_on kind (machine_plan o) r (m, []))) a) (run-is kind o r (still m))
-        (after answer_of (machine-spared kind (machine_plan o) r (m, [])) (answer-case (work_on kind (machine_plan o) r (m, [])))))
-
-message-case : (outcome : Outcome) (text : List ℕ) (m : HostModel) → SparedAnswers m (message_told outcome text m) (message_told outcome text (still m))
-message-case outcome [] m = uncalled
-message-case outcome (b ∷ bs) m = after (λ t. answered outcome t.1) (write-spared m 260 (b ∷ bs)) uncalled
+said-case : (t : Then Outcome) → Spares t.1 (host_of (plainly t)) (answer_still (plainly t)) (plainly (t.0, still t.1))
+said-case (outcome, m) = uncalled
 
 with-case : (a : Answer) → SparedAnswers (host_of a) (with_message a) (with_message (answer_still a))
-with-case (answered outcome m) = message-case outcome (message_of outcome) m
+with-case (answered outcome m) = after plainly (plan-spared (message_plan outcome) m) (said-case (end_of host (message_plan outcome) m))
 with-case (wild m) = uncalled
 
 pub message-steady : {m : HostModel} (a b : Answer) → SparedAnswers m a b → SparedAnswers m (with_message a) (with_message b)

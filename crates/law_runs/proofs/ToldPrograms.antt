@@ -1,12 +1,14 @@
 -- By its definition the program does not lack memory: no file that is opened does, no run and no session.
-use Rattle.std.proofs.Common.{◌≡◌, ℕ, zero, suc, ◌-◌, ◌/◌, List, [], ◌∷◌, length, take, drop, Bool, true, false, cond, Option, None, Some, Result, Ok, Err, refl, sym, ◌∙◌, ap, subst}
-use Rattle.std.specs.Prelude.{◌&&◌, codes, nat_lt, nat_le}
+use Rattle.std.proofs.Common.{◌≡◌, ℕ, zero, suc, ◌-◌, ◌/◌, List, [], ◌∷◌, length, take, drop, Bool, true, false, cond, Option, None, Some, Result, Ok, Err, refl}
+use Rattle.std.specs.Prelude.{codes, nat_lt, nat_le}
 use Rattle.mx_word.specs.declared.symbols.Symbol.{Symbol}
 use Rattle.mx_host.specs.HostModel.{HostModel, counted, is_failing, is_read_only, place_of}
 use Rattle.mx_host.specs.HostAnswer.{Then, open_answer, opened}
-use Rattle.mx_plan.specs.Calls.{HostCall, HostSays, opening as opening_call, host, open_plan, close_plan, read_plan, write_plan, need}
-use Rattle.mx_plan.specs.Plan.{returns, bind, end_of}
-use Rattle.mx_plan.proofs.Giving.{Gives, gives-bind, gives-end}
+use Rattle.mx_plan.specs.Calls.{HostCall, HostSays, HostPlan, opening as opening_call, host, open_plan, close_plan, read_plan, write_plan, need}
+use Rattle.mx_plan.specs.Plan.{returns, calls, bind}
+use Rattle.mx_plan.specs.Wild.{Course, ends, meets_wild, course}
+use Rattle.mx_plan.proofs.Giving.{Gives, gives-bind}
+use Rattle.mx_plan.proofs.WildLaws.{Answers, EndsSo, course_gives}
 use Rattle.mx_host.specs.declared.faults.HostFault.{HostFault as SlotFault}
 use Rattle.mx_host.specs.declared.faults.OpenFault.{OpenFault}
 use Rattle.mx_host.specs.declared.faults.OpenFault.TheVariants as opening
@@ -21,57 +23,60 @@ use Rattle.mx_stab.specs.Reading.{trie_answer}
 use Rattle.mx_stab.specs.declared.faults.StabFault.{StabFault}
 use Rattle.mx_load.specs.Objects.{object_loaded}
 use Rattle.mx_start.specs.Start.{start}
+use Rattle.mx_code.specs.declared.trace.Trace.{Trace}
 use Rattle.mx_core.specs.State.{State}
-use Rattle.mx_ring.specs.Stack.{register}
+use Rattle.mx_run.specs.RunPlans.{RunWorld}
 use Rattle.mx_run.specs.Runs.{no_flags}
-use Rattle.mx_run.specs.WildRuns.{MachineKind}
-use Rattle.mx_con.specs.Session.{SessionRun, session_ended, session_wild, session}
+use Rattle.mx_run.specs.WildRuns.{MachineKind, run_course}
+use Rattle.mx_run.specs.declared.end.End.{End}
+use Rattle.mx_back.specs.History.{states_kept}
+use Rattle.mx_back.specs.KeptRuns.{turns_of}
+use Rattle.mx_con.specs.Session.{of_course, session_course, session}
+use Rattle.mx_con.specs.SessionPlans.{SessionWorld}
 use Rattle.mx_con.specs.Told as sessions
 use Rattle.mx_con.specs.declared.end.SessionEnd.{SessionEnd}
-use Rattle.mx_con.specs.declared.end.SessionEnd.TheVariants as sitting
+use Rattle.mx_con.specs.declared.end.SessionEnd.TheVariants as sitting_end
 use Rattle.mx_con.proofs.ToldSessions.{sessions-told}
+use Rattle.mx_watch.specs.Traces.{traces}
 use Rattle.mx_words.specs.Orders.{order_of}
 use Rattle.mx_words.specs.declared.order.Command.{Command}
 use Rattle.mx_words.specs.declared.order.Command.TheVariants.{Run, Asm, Sim, Gen, Show, Multi}
 use Rattle.mx_words.specs.declared.order.Order.{Order}
 use Rattle.mx_words.specs.declared.order.WordsFault.{WordsFault}
-use Rattle.mx_files.specs.Answers.{Answer, answered, wild, plainly, after_lines}
-use Rattle.mx_outcome.specs.Kinds.{leaves_machine}
 use Rattle.mx_begin.specs.Arguments.{Word, word_at, arguments}
-use Rattle.mx_dump.specs.Dump.{dump_lines}
-use Rattle.law_gen.specs.Generator.{generated, summary}
-use Rattle.mx_files.specs.Writing.{lines_put}
+use Rattle.law_gen.specs.Generator.{generated}
 use Rattle.mx_files.specs.Typed.{Typed, trie_typed, tail_typed, end_typed, typed}
 use Rattle.mx_outcome.specs.Messages.{message_of}
 use Rattle.mx_files.specs.Objects.{Assembled, source_object}
-use Rattle.mx_files.specs.FilePlans.{Part, on_ok, carried, close_file, input_opened, open_input, piece_added, read_piece, read_next, read_pieces, then_closed, read_open, file_plan, write_piece, write_pieces, text_plan, made_plan, lines_plan}
-use Rattle.mx_files.specs.ObjectPlans.{outcome_of, object_opened, open_object, assembled as assembled_answer, close_object, put_object, put_source, put_into, assemble_part, assemble_plan, whole_plan, typed_end, typed_plan, list_part, list_plan}
-use Rattle.mx_files.proofs.FileEnds.{whole-by}
-use Rattle.mx_top.specs.Commands.{begun_run, image_turned, after_schedule, summed, summed_from, generated_run, ordered, carried_out, message_told, with_message}
-use Rattle.mx_top.specs.Product.{product}
-use Rattle.mx_top.proofs.ProductCourses.{product-is-course}
-use Rattle.mx_top.specs.Runs.{generator_steps, Ran, ran, ran_wild, machine_ran, session_outcome, played, takes_back, states_back, state_lines, reached, lines_told, taken_back, order_ran, dumped, run_from}
-use Rattle.mx_begin.specs.BeginPlans.{image_plan, image_file_plan, start_plan, begin_plan}
+use Rattle.mx_files.specs.FilePlans.{Part, on_ok, carried, close_file, input_opened, open_input, piece_added, read_piece, read_next, read_pieces, then_closed, read_open, file_plan, write_piece, write_pieces, text_plan, lines_plan}
+use Rattle.mx_files.specs.ObjectPlans as whole
+use Rattle.mx_files.specs.ObjectPlans.{object_opened, open_object, assembled as assembled_answer, close_object, put_object, put_source, put_into, assemble_part, assemble_plan, whole_plan, typed_end, typed_plan, list_part, list_plan}
+use Rattle.mx_top.specs.MachineWork.{Work, WorkCall, of_host, stepping, reporting, keeping, sitting, WorkPlan, work_goes, machine_plan, generated_work}
+use Rattle.mx_top.specs.Processors.{multi_outcome}
+use Rattle.mx_top.specs.Product as page
+use Rattle.mx_top.specs.Product.{ProgramCall, on_machine, taking_turns, ProgramSays, ProgramWorld, ProgramPlan, program_goes, at_start, joint_at_start, worked, work_on, turned, on_part, run_on, run_file, run_source, run_text, turns_from, turns_on, object_file, ordered_plan, work_plan, product_plan, product_course, answer_of, product}
+use Rattle.mx_top.specs.Runs as runs
+use Rattle.mx_top.specs.Runs.{session_outcome}
+use Rattle.mx_top.specs.Telling.{telling, message_if, message_plan}
+use Rattle.mx_begin.specs.BeginPlans.{image_plan, image_file_plan}
 use Rattle.mx_begin.specs.Begun.{assembled, loaded, image_in, most_pieces, main_address, begun_at, stack_at_start, started}
 use Rattle.mx_begin.specs.declared.images.Form.{Form}
 use Rattle.mx_begin.specs.declared.images.Form.TheVariants.{Source, Object}
 use Rattle.mx_files.specs.Sources.{source_meaning}
-use Rattle.mx_top.specs.Processors.{processors_named, multi_lines, multi_outcome, turns_told, image_turns}
-use Rattle.mx_files.specs.Schedules.{judged, schedule_in, schedule_fault, schedule_bytes, schedule_plan}
-use Rattle.mx_multi.specs.Joint as joint
+use Rattle.mx_files.specs.Schedules.{judged, schedule_in, schedule_fault, schedule_plan}
 use Rattle.mx_multi.specs.Turns.{TurnsEnd, turns_ended, turns_wild, turns}
-use Rattle.law_runs.proofs.UnbrokenTurns.{Told, turns-told}
-use Rattle.law_runs.specs.Unbroken.{is_outcome_told, is_told, is_answer_told}
+use Rattle.mx_multi.specs.declared.end.MultiEnd.{MultiEnd}
+use Rattle.mx_dump.specs.Dump.{Line}
+use Rattle.law_runs.proofs.GivenOutcomes.{WorkMay, EndsWith, write-gives, lines-give, telling-gives, machine-gives, generated-gives, ran-gives, sat-gives}
+use Rattle.law_runs.proofs.UnbrokenRuns.{Told, run-course-told}
+use Rattle.law_runs.proofs.UnbrokenTurns.{Told as TurnsTold, turns-told}
+use Rattle.law_runs.specs.Unbroken.{is_outcome_told, is_answer_told}
 use Rattle.mx_outcome.specs.declared.outcome.Outcome.{Outcome}
-use Rattle.mx_outcome.specs.declared.outcome.Outcome.TheVariants.{Done, HostFault}
+use Rattle.mx_outcome.specs.declared.outcome.Outcome.TheVariants.{Done}
 use Rattle.mx_files.specs.declared.refusal.Refusal.{Refusal}
-use Rattle.law_runs.proofs.UnbrokenRuns.{machines-told}
 
 abbrev OutcomeTold : Outcome → Type 0
 OutcomeTold outcome = is_outcome_told outcome ≡ true
-
-abbrev AnswerTold : Answer → Type 0
-AnswerTold a = is_answer_told a ≡ true
 
 -- ---- a file that is opened, and read
 
@@ -99,8 +104,7 @@ open-told m slot name mode = either OpensSo (is_failing m) _ _ refl (by-mode (is
 
 -- an outcome in place of a value
 abbrev ReadTold : {A : Type 0} → Result A Outcome → Type 0
-ReadTold (Ok x) = Unit {0}
-ReadTold (Err outcome) = OutcomeTold outcome
+ReadTold r = EndsWith OutcomeTold r
 
 -- a call that opens a file never lacks memory
 abbrev May : (o : HostCall) → HostSays o → Type 0
@@ -115,9 +119,6 @@ may other m = tt
 -- a part ends the work so, whatever its calls answer of what they may
 abbrev IsTold : {A : Type 0} → Part A → Type 0
 IsTold {A} p = Gives May (ReadTold {A = A}) p
-
-part-end : {A : Type 0} (p : Part A) (m : HostModel) → IsTold p → ReadTold (end_of host p m).0
-part-end {A} p m h = gives-end host May (ReadTold {A = A}) may p m h
 
 on-told : {A B : Type 0} (f : A → Part B) → ((a : A) → IsTold (f a)) → (r : Result A Outcome) → ReadTold r → IsTold (on_ok f r)
 unfolding Gives
@@ -181,54 +182,7 @@ read-told : (most : ℕ) (name : List ℕ) → IsTold (file_plan most name)
 unfolding file_plan
 read-told most name = then-told (λ u. read_open most) (open_input name) (input-told name) (λ u. bytes-told most)
 
--- ---- runs, sessions and dumps
-
-lines-told : (outcome : Outcome) (t : Then Bool) → OutcomeTold outcome → AnswerTold (after_lines outcome t)
-lines-told outcome (written, m) h = either OutcomeTold written outcome HostFault h refl
-
-dump-told : (dump : Bool) (r : Ran) → is_told r ≡ true → AnswerTold (dumped dump r)
-dump-told dump (ran_wild m) h = refl
-dump-told dump (ran outcome s m) h = either AnswerTold (dump && leaves_machine outcome) _ _ (lines-told outcome (lines_put (dump_lines s) m) h) h
-
-end-told : (steps : ℕ) (end : SessionEnd) → sessions.is_end_told end ≡ true → OutcomeTold (session_outcome steps end)
-end-told steps (sitting.Halted status) h = refl
-end-told steps (sitting.Stopped pc reason) h = refl
-end-told steps sitting.Spent h = refl
-end-told steps sitting.Quit h = refl
-end-told steps sitting.Limit h = refl
-end-told steps sitting.HostFault h = refl
-end-told steps sitting.OutOfMemory h = absurd (cc)
-
-played-told : (steps : ℕ) (r : SessionRun) → sessions.is_told r ≡ true → is_told (played steps r) ≡ true
-played-told steps (session_ended e) h = end-told steps e.end h
-played-told steps (session_wild m) h = refl
-
-abbrev RanTold : Ran → Type 0
-RanTold r = is_told r ≡ true
-
-lines-said : (outcome : Outcome) (s : State) (m : HostModel) (t : Then Bool) → is_told (ran outcome s m) ≡ true → is_told (lines_told outcome s t) ≡ true
-lines-said outcome s m (true, n) h = h
-lines-said outcome s m (false, n) h = refl
-
-taken-told : (states : List State) (r : Ran) → is_told r ≡ true → is_told (taken_back states r) ≡ true
-taken-told states (ran_wild m) h = h
-taken-told states (ran outcome s m) h =
-    either RanTold (takes_back outcome) _ _ (lines-said outcome (reached s states) m (lines_put (state_lines states) m) h) h
-
-order-told : (kind : MachineKind) (o : Order) (s : State) (m : HostModel) → is_told (order_ran kind o s m) ≡ true
-order-told kind o s m =
-    either RanTold o.interactive _ _ (played-told o.steps (session kind o.steps s no_flags m) (sessions-told kind o.steps s no_flags m))
-    (taken-told (states_back o.last o.steps s m) (machine_ran kind o.steps s m) (machines-told kind o.steps s m))
-
-begun-told : (pc : ℕ) (s : Option State) → ReadTold (begun_at pc s)
-begun-told pc None = refl
-begun-told pc (Some s) = tt
-
-from-told : (kind : MachineKind) (o : Order) (s : Result State Outcome) (m : HostModel) → ReadTold s → AnswerTold (run_from kind o s m)
-from-told kind o (Ok s) m h = dump-told o.dump (order_ran kind o s m) (order-told kind o s m)
-from-told kind o (Err outcome) m h = h
-
--- ---- the commands
+-- ---- images, and sources that are assembled
 
 assembles-told : (r : Result Image Refusal) → ReadTold (assembled r)
 assembles-told (Ok image) = tt
@@ -250,28 +204,10 @@ image_file-told : (form : Form) (name : Word) → IsTold (image_file_plan form n
 unfolding image_file_plan
 image_file-told form name = then-told (image_plan form) (file_plan (most_pieces form) name) (read-told (most_pieces form) name) (image_plan-told form)
 
-started-told : (kind : MachineKind) (ring : ℕ) (image : Image) (words : List Word) → ReadTold (started kind ring image words)
-started-told kind ring image words = begun-told (main_address image) (start image words (stack_at_start kind ring))
-
-begin-told : (kind : MachineKind) (words : List Word) (o : Order) (form : Form) → IsTold (begin_plan kind words o form)
-unfolding begin_plan start_plan
-begin-told kind words o form =
-    need-told _ (then-told (start_plan kind o.ring (arguments words o)) (image_file_plan form (word_at words o.file)) (image_file-told form (word_at words o.file))
-    (λ image. need-told (returns (started kind o.ring image (arguments words o))) (returns-told (started kind o.ring image (arguments words o)) (started-told kind o.ring image (arguments words o)))))
-
-begun_run-told : (kind : MachineKind) (o : Order) (t : Then (Result State Outcome)) → ReadTold t.0 → AnswerTold (begun_run kind o t)
-begun_run-told kind o (r, m) h = from-told kind o r m h
-
--- ---- a source that is assembled
-
-write-told : (slot : ℕ) (piece : List ℕ) → IsTold (write_piece slot piece)
-unfolding Gives write_piece write_plan bind
-write-told slot piece = λ r t. call-told r
-
 text-told : (more slot : ℕ) (text : List ℕ) → IsTold (write_pieces more slot text)
 unfolding write_pieces
-text-told zero slot text = write-told slot text
-text-told (suc more) slot text = then-told (λ u. write_pieces more slot (drop 4096 text)) (write_piece slot (take 4096 text)) (write-told slot (take 4096 text)) (λ u. text-told more slot (drop 4096 text))
+text-told zero slot text = write-gives May OutcomeTold refl slot text
+text-told (suc more) slot text = then-told (λ u. write_pieces more slot (drop 4096 text)) (write_piece slot (take 4096 text)) (write-gives May OutcomeTold refl slot (take 4096 text)) (λ u. text-told more slot (drop 4096 text))
 
 assembled-told : (r : Result (Unit {0}) Refusal) → ReadTold (assembled_answer r)
 assembled-told (Ok u) = tt
@@ -299,30 +235,7 @@ assemble-told source object =
     then-told (put_into object) (file_plan 1025 source) (read-told 1025 source)
     (λ text. then-told (λ u. put_source text) (open_object object) (object-told object) (λ u. need-told (put_object (source_object text)) (put-told (source_object text))))
 
-whole-told : (r : Result (Unit {0}) Outcome) → ReadTold r → OutcomeTold (outcome_of r)
-whole-told (Ok u) h = refl
-whole-told (Err outcome) h = h
-
-work-told : (p : Part (Unit {0})) (m : HostModel) → IsTold p → OutcomeTold (end_of host (whole_plan p) m).0
-work-told p m h = subst (λ (t : Then Outcome). OutcomeTold t.0) (sym (whole-by p m)) (whole-told (end_of host p m).0 (part-end p m h))
-
-plainly-told : (t : Then Outcome) → OutcomeTold t.0 → AnswerTold (plainly t)
-plainly-told (outcome, m) h = h
-
-summed-told : (blocks size : ℕ) (r : Ran) → is_told r ≡ true → AnswerTold (summed blocks size r)
-summed-told blocks size (ran_wild m) h = refl
-summed-told blocks size (ran (Done status) s m) h = lines-told (Done 0) (lines_put (summary blocks size s.steps (register s.stack 255) ∷ []) m) refl
-summed-told blocks size (ran outcome s m) h = h
-
-summed_from-told : (kind : MachineKind) (blocks size : ℕ) (s : Result State Outcome) (m : HostModel) → ReadTold s → AnswerTold (summed_from kind blocks size s m)
-summed_from-told kind blocks size (Ok s) m h = summed-told blocks size (machine_ran kind generator_steps s m) (machines-told kind generator_steps s m)
-summed_from-told kind blocks size (Err outcome) m h = h
-
-generated-told : (kind : MachineKind) (o : Order) (size : ℕ) (r : Result Image Refusal) (m : HostModel) → AnswerTold (generated_run kind o size r m)
-generated-told kind o size (Ok image) m =
-    summed_from-told kind o.number size (started kind o.ring image (codes "gen" ∷ [])) m
-    (begun-told (main_address image) (start image (codes "gen" ∷ []) (stack_at_start kind o.ring)))
-generated-told kind o size (Err refusal) m = refl
+-- ---- objects that are listed, and schedules
 
 trie_typed-told : (place : ℕ) (trie : List ℕ) (r : Result (List Symbol) StabFault) → OutcomeTold (trie_typed place trie r).1
 trie_typed-told place trie (Ok symbols) = refl
@@ -340,35 +253,17 @@ typed-told : (object : List ℕ) → OutcomeTold (typed object).1
 unfolding typed
 typed-told object = either (λ (t : Typed). OutcomeTold t.1) (nat_lt limit (length object)) _ _ refl (end_typed-told (items_of Start 0 object).1)
 
-lines_plan-told : (lines : List (List ℕ)) → IsTold (lines_plan lines)
-unfolding lines_plan made_plan
-lines_plan-told [] = returns-told (Ok tt) tt
-lines_plan-told (line ∷ lines) = then-told (λ u. lines_plan lines) _ (need-told (write_piece 259 line) (write-told 259 line)) (λ u. lines_plan-told lines)
-
 typed_end-told : (outcome : Outcome) → OutcomeTold outcome → IsTold (typed_end outcome)
 typed_end-told (Done status) h = returns-told (Ok tt) tt
 typed_end-told outcome h = need-told (returns (Err outcome)) (returns-told (Err outcome) h)
 
 typed_plan-told : (t : Typed) → OutcomeTold t.1 → IsTold (typed_plan t)
 unfolding typed_plan
-typed_plan-told t h = then-told (λ u. typed_end t.1) (lines_plan t.0) (lines_plan-told t.0) (λ u. typed_end-told t.1 h)
+typed_plan-told t h = then-told (λ u. typed_end t.1) (lines_plan t.0) (lines-give May OutcomeTold refl t.0) (λ u. typed_end-told t.1 h)
 
 list-told : (name : List ℕ) → IsTold (list_part name)
 unfolding list_part
 list-told name = then-told (λ object. typed_plan (typed object)) (file_plan 16385 name) (read-told 16385 name) (λ object. typed_plan-told (typed object) (typed-told object))
-
-multi-told : (dump : Bool) (steps : ℕ) (t : TurnsEnd) → Told t → AnswerTold (turns_told dump steps t)
-multi-told dump steps (turns_ended end j m) h = lines-told (multi_outcome steps end) (lines_put (multi_lines dump end j) m) (h steps)
-multi-told dump steps (turns_wild m) h = refl
-
-image_turns-told : (kind : MachineKind) (o : Order) (schedule : List ℕ) (image : Image) (m : HostModel) → AnswerTold (image_turns kind o schedule image m)
-image_turns-told kind o schedule image m =
-    let j = joint.started image (processors_named schedule) (stack_at_start kind o.ring) in
-    multi-told o.dump o.steps (turns kind schedule o.steps schedule j m) (turns-told kind schedule o.steps schedule j m)
-
-image_turned-told : (kind : MachineKind) (o : Order) (schedule : List ℕ) (t : Then (Result Image Outcome)) → ReadTold t.0 → AnswerTold (image_turned kind o schedule t)
-image_turned-told kind o schedule (Ok image, m) h = image_turns-told kind o schedule image m
-image_turned-told kind o schedule (Err outcome, m) h = h
 
 judged-told : (fault : Option ℕ) (bytes : List ℕ) → ReadTold (judged fault bytes)
 judged-told None bytes = tt
@@ -379,36 +274,160 @@ unfolding schedule_plan schedule_in
 schedule-told name =
     then-told (λ bytes. returns (schedule_in bytes)) (file_plan 1025 name) (read-told 1025 name) (λ bytes. returns-told (judged (schedule_fault bytes) bytes) (judged-told (schedule_fault bytes) bytes))
 
-after_schedule-told : (kind : MachineKind) (o : Order) (name : Word) (t : Then (Result (List ℕ) Outcome)) → ReadTold t.0 → AnswerTold (after_schedule kind o name t)
-after_schedule-told kind o name (Ok schedule, m) h = image_turned-told kind o schedule (end_of host (image_file_plan Object name) m) (part-end (image_file_plan Object name) m (image_file-told Object name))
-after_schedule-told kind o name (Err outcome, m) h = h
+-- the outcome of a whole
+whole-told : (r : Result (Unit {0}) Outcome) → ReadTold r → Gives May OutcomeTold (returns (whole.outcome_of r))
+unfolding Gives
+whole-told (Ok u) h = refl
+whole-told (Err outcome) h = h
 
-ordered-told : (kind : MachineKind) (words : List Word) (o : Order) (c : Command) (m : HostModel) → AnswerTold (ordered kind words o c m)
-ordered-told kind words o Run m = begun_run-told kind o (end_of host (begin_plan kind words o Source) m) (part-end (begin_plan kind words o Source) m (begin-told kind words o Source))
-ordered-told kind words o Sim m = begun_run-told kind o (end_of host (begin_plan kind words o Object) m) (part-end (begin_plan kind words o Object) m (begin-told kind words o Object))
-ordered-told kind words o Asm m =
-    plainly-told (end_of host (assemble_plan (word_at words o.file) (word_at words o.rest)) m)
-    (work-told (assemble_part (word_at words o.file) (word_at words o.rest)) m (assemble-told (word_at words o.file) (word_at words o.rest)))
-ordered-told kind words o Gen m = generated-told kind o (length (generated o.number)) (source_meaning (generated o.number)) m
-ordered-told kind words o Show m = plainly-told (end_of host (list_plan (word_at words o.file)) m) (work-told (list_part (word_at words o.file)) m (list-told (word_at words o.file)))
-ordered-told kind words o Multi m =
-    after_schedule-told kind o (word_at words o.file) (schedule_bytes (word_at words o.schedule) m) (part-end (schedule_plan (word_at words o.schedule)) m (schedule-told (word_at words o.schedule)))
+whole-gives : (p : Part (Unit {0})) → IsTold p → Gives May OutcomeTold (whole_plan p)
+whole-gives p h = gives-bind May (ReadTold {A = Unit {0}}) OutcomeTold (λ r. returns (whole.outcome_of r)) p h whole-told
 
-carried-told : (kind : MachineKind) (words : List Word) (r : Result Order WordsFault) (m : HostModel) → AnswerTold (carried_out kind words r m)
-carried-told kind words (Ok o) m = ordered-told kind words o o.command m
-carried-told kind words (Err fault) m = refl
+-- ---- the work on a machine
+
+end-told : (steps : ℕ) (end : SessionEnd) → sessions.is_end_told end ≡ true → OutcomeTold (session_outcome steps end)
+end-told steps (sitting_end.Halted status) h = refl
+end-told steps (sitting_end.Stopped pc reason) h = refl
+end-told steps sitting_end.Spent h = refl
+end-told steps sitting_end.Quit h = refl
+end-told steps sitting_end.Limit h = refl
+end-told steps sitting_end.HostFault h = refl
+end-told steps sitting_end.OutOfMemory h = absurd (cc)
+
+run-told : (n : ℕ) (c : Course End RunWorld) → EndsSo Told c → Answers (λ e. OutcomeTold (runs.outcome_of n e)) c
+run-told n (ends e w) h = h n
+run-told n (meets_wild w) h = tt
+
+session-told : (n : ℕ) (c : Course SessionEnd SessionWorld) → sessions.is_told (of_course c) ≡ true → Answers (λ e. OutcomeTold (session_outcome n e)) c
+session-told n (ends e w) h = end-told n e h
+session-told n (meets_wild w) h = tt
+
+runs-told : (kind : MachineKind) (n : ℕ) (w : Work) → Answers (λ e. OutcomeTold (runs.outcome_of n e)) (run_course kind n no_flags false w.machine w.host)
+runs-told kind n w = run-told n (run_course kind n no_flags false w.machine w.host) (run-course-told kind n w.machine w.host)
+
+work-told : (kind : MachineKind) (o : WorkCall) (w : Work) → Answers (WorkMay May OutcomeTold o) (work_goes kind o w)
+unfolding session
+work-told kind (of_host o) w = may o w.host
+work-told kind (stepping n) w = ran-gives OutcomeTold n w (run_course kind n no_flags false w.machine w.host) (runs-told kind n w)
+work-told kind (reporting n) w = ran-gives OutcomeTold n (record w { told = traces kind n w.machine w.host }) (run_course kind n no_flags false w.machine w.host) (runs-told kind n w)
+work-told kind (keeping n) w = ran-gives OutcomeTold n (record w { kept = states_kept (turns_of n w.machine w.host) [] }) (run_course kind n no_flags false w.machine w.host) (runs-told kind n w)
+work-told kind (sitting n) w = sat-gives OutcomeTold n w (session_course kind n w.machine no_flags w.host) (session-told n (session_course kind n w.machine no_flags w.host) (sessions-told kind n w.machine no_flags w.host))
+work-told kind other w = tt
+
+-- ---- the calls of the program
+
+-- work that answers so answers so on each machine
+abbrev ProgramMay : (o : ProgramCall) → ProgramSays o → Type 0
+ProgramMay (page.of_host o) r = May o r
+ProgramMay (on_machine ring image args plan) r = Gives (WorkMay May OutcomeTold) OutcomeTold plan → OutcomeTold r
+ProgramMay (taking_turns ring image schedule steps dump) r = OutcomeTold (multi_outcome steps r.0)
+
+begun-told : (pc : ℕ) (s : Option State) → ReadTold (begun_at pc s)
+begun-told pc None = refl
+begun-told pc (Some s) = tt
+
+started-told : (kind : MachineKind) (ring : ℕ) (image : Image) (words : List Word) → ReadTold (started kind ring image words)
+started-told kind ring image words = begun-told (main_address image) (start image words (stack_at_start kind ring))
+
+worked-told : (P : Type 0) (c : Course Outcome Work) → (P → Answers OutcomeTold c) → Answers (λ o. P → OutcomeTold o) (worked c)
+worked-told P (ends o w) h = h
+worked-told P (meets_wild w) h = tt
+
+machine-told : (kind : MachineKind) (plan : WorkPlan Outcome) (r : Result State Outcome) (w : ProgramWorld) → ReadTold r → Answers (λ o. Gives (WorkMay May OutcomeTold) OutcomeTold plan → OutcomeTold o) (work_on kind plan r w)
+machine-told kind plan (Err outcome) w h = λ g. h
+machine-told kind plan (Ok s) w h =
+    worked-told (Gives (WorkMay May OutcomeTold) OutcomeTold plan) (course (work_goes kind) plan (at_start s w)) (λ g. course_gives (work_goes kind) (WorkMay May OutcomeTold) OutcomeTold (work-told kind) plan (at_start s w) g)
+
+turned-told : (dump : Bool) (steps : ℕ) (told : List Trace) (x : TurnsEnd) → TurnsTold x → Answers (λ (r : MultiEnd × List Line). OutcomeTold (multi_outcome steps r.0)) (turned dump told x)
+turned-told dump steps told (turns_ended end j m) h = h steps
+turned-told dump steps told (turns_wild m) h = tt
+
+calls-told : (kind : MachineKind) (o : ProgramCall) (w : ProgramWorld) → Answers (ProgramMay o) (program_goes kind o w)
+calls-told kind (page.of_host o) w = may o w.0
+calls-told kind (on_machine ring image args plan) w = machine-told kind plan (started kind ring image args) w (started-told kind ring image args)
+calls-told kind (taking_turns ring image schedule steps dump) w =
+    turned-told dump steps w.1 (turns kind schedule steps schedule (joint_at_start kind ring image schedule) w.0) (turns-told kind schedule steps schedule (joint_at_start kind ring image schedule) w.0)
+
+-- ---- the page
+
+abbrev ProgramTold : ProgramPlan Outcome → Type 0
+ProgramTold p = Gives ProgramMay OutcomeTold p
+
+host-gives : {A : Type 0} (First : A → Type 0) (p : HostPlan A) → Gives May First p → Gives ProgramMay First (page.on_host p)
+unfolding Gives page.on_host
+host-gives First (returns a) h = h
+host-gives First (calls o k) h = λ r m. host-gives First (k r) (h r m)
+
+taking-told : (p : ProgramPlan Outcome) → ProgramTold p → ProgramTold (page.taking p)
+unfolding Gives bind page.on_host need
+taking-told p h = λ u t. h
+
+on-part-told : {A : Type 0} (f : A → ProgramPlan Outcome) → ((x : A) → ProgramTold (f x)) → (r : Result A Outcome) → ReadTold r → ProgramTold (on_part f r)
+unfolding Gives
+on-part-told f h (Ok x) t = h x
+on-part-told f h (Err outcome) t = t
+
+part-told : {A : Type 0} (f : A → ProgramPlan Outcome) (p : Part A) → IsTold p → ((x : A) → ProgramTold (f x)) → ProgramTold (bind (on_part f) (page.on_host p))
+part-told {A} f p t h = gives-bind ProgramMay (ReadTold {A = A}) OutcomeTold (on_part f) (page.on_host p) (host-gives (ReadTold {A = A}) p t) (on-part-told f h)
+
+run-on-told : (ring : ℕ) (args : List Word) (plan : WorkPlan Outcome) (image : Image) → Gives (WorkMay May OutcomeTold) OutcomeTold plan → ProgramTold (run_on ring args plan image)
+unfolding Gives bind page.on_host need
+run-on-told ring args plan image h = λ u t. λ r m. m h
+
+file-told : (words : List Word) (o : Order) (form : Form) → ProgramTold (run_file words o form)
+unfolding run_file
+file-told words o form =
+    taking-told (bind (on_part (run_on o.ring (arguments words o) (machine_plan o))) (page.on_host (image_file_plan form (word_at words o.file)))) (part-told (run_on o.ring (arguments words o) (machine_plan o)) (image_file_plan form (word_at words o.file)) (image_file-told form (word_at words o.file))
+    (λ image. run-on-told o.ring (arguments words o) (machine_plan o) image (machine-gives May OutcomeTold refl o)))
+
+source-told : (o : Order) (size : ℕ) (r : Result Image Refusal) → ProgramTold (run_source o size r)
+unfolding Gives
+source-told o size (Err refusal) = refl
+source-told o size (Ok image) = run-on-told o.ring (codes "gen" ∷ []) (generated_work o.number size) image (generated-gives May OutcomeTold refl o.number size refl)
+
+multi-told : (o : Order) (schedule : List ℕ) (image : Image) → ProgramTold (turns_from o schedule image)
+unfolding Gives
+multi-told o schedule image = λ r h. host-gives OutcomeTold (telling (multi_outcome o.steps r.0) r.1) (telling-gives May OutcomeTold refl (multi_outcome o.steps r.0) r.1 h)
+
+ordered-told : (words : List Word) (o : Order) (c : Command) → ProgramTold (ordered_plan words o c)
+unfolding ordered_plan
+ordered-told words o Run = file-told words o Source
+ordered-told words o Sim = file-told words o Object
+ordered-told words o Asm =
+    host-gives OutcomeTold (assemble_plan (word_at words o.file) (word_at words o.rest)) (whole-gives (assemble_part (word_at words o.file) (word_at words o.rest)) (assemble-told (word_at words o.file) (word_at words o.rest)))
+ordered-told words o Gen =
+    taking-told (run_text o (generated o.number)) (taking-told (run_source o (length (generated o.number)) (source_meaning (generated o.number))) (source-told o (length (generated o.number)) (source_meaning (generated o.number))))
+ordered-told words o Show = host-gives OutcomeTold (list_plan (word_at words o.file)) (whole-gives (list_part (word_at words o.file)) (list-told (word_at words o.file)))
+ordered-told words o Multi =
+    part-told (object_file o (word_at words o.file)) (schedule_plan (word_at words o.schedule)) (schedule-told (word_at words o.schedule))
+    (λ bytes. part-told (turns_on o bytes) (image_file_plan Object (word_at words o.file)) (image_file-told Object (word_at words o.file)) (λ image. taking-told (turns_from o bytes image) (multi-told o bytes image)))
+
+work-plan-told : (words : List Word) (r : Result Order WordsFault) → ProgramTold (work_plan words r)
+unfolding Gives
+work-plan-told words (Err fault) = refl
+work-plan-told words (Ok o) = ordered-told words o o.command
 
 -- ---- the message
 
-told-told : (outcome : Outcome) (text : List ℕ) (m : HostModel) → OutcomeTold outcome → AnswerTold (message_told outcome text m)
-told-told outcome [] m h = h
-told-told outcome (b ∷ bs) m h = h
+message-if-told : (outcome : Outcome) (text : List ℕ) → OutcomeTold outcome → Gives May OutcomeTold (message_if outcome text)
+unfolding Gives bind need write_plan
+message-if-told outcome [] h = h
+message-if-told outcome (b ∷ bs) h = λ u t. λ r k. h
 
-message-told : (a : Answer) → AnswerTold a → AnswerTold (with_message a)
-message-told (answered outcome m) h = told-told outcome (message_of outcome) m h
-message-told (wild m) h = refl
+message-told : (outcome : Outcome) → OutcomeTold outcome → Gives ProgramMay OutcomeTold (page.on_host (message_plan outcome))
+unfolding message_plan
+message-told outcome h = host-gives OutcomeTold (message_if outcome (message_of outcome)) (message-if-told outcome (message_of outcome) h)
+
+product-told : (words : List Word) → ProgramTold (product_plan words)
+unfolding product_plan
+product-told words = gives-bind ProgramMay OutcomeTold OutcomeTold (λ outcome. page.on_host (message_plan outcome)) (work_plan words (order_of words)) (work-plan-told words (order_of words)) message-told
+
+answer-told : (c : Course Outcome ProgramWorld) → Answers OutcomeTold c → is_answer_told (answer_of c) ≡ true
+answer-told (ends outcome w) h = h
+answer-told (meets_wild w) h = refl
 
 pub programs-told : (kind : MachineKind) (words : List Word) (m : HostModel) → is_answer_told (product kind words m) ≡ true
-programs-told kind words m = ap is_answer_told (product-is-course kind words m) ∙ message-told (carried_out kind words (order_of words) m) (carried-told kind words (order_of words) m)
+unfolding product product_course
+programs-told kind words m = answer-told (course (program_goes kind) (product_plan words) (m, [])) (course_gives (program_goes kind) ProgramMay OutcomeTold (calls-told kind) (product_plan words) (m, []) (product-told words))
 
 pub ruleset unbroken_programs = (programs-told)

@@ -9,7 +9,12 @@ use Rattle.mx_mmo.specs.Image.{Image}
 use Rattle.mx_load.specs.Objects.{object_loaded}
 use Rattle.mx_core.specs.State.{State}
 use Rattle.mx_ring.specs.Stack.{register}
-use Rattle.mx_run.specs.WildRuns.{MachineKind}
+use Rattle.mx_plan.specs.Wild.{ends}
+use Rattle.mx_run.specs.Runs.{FlagsOf, no_flags}
+use Rattle.mx_run.specs.WildRuns.{MachineKind, run_course}
+use Rattle.mx_run.specs.declared.end.End.TheVariants.{Halted}
+use Rattle.mx_con.specs.Session.{session_course}
+use Rattle.mx_con.specs.declared.end.SessionEnd.{SessionEnd}
 use Rattle.mx_words.specs.Orders.{order_of}
 use Rattle.mx_words.specs.declared.order.Command.{Command}
 use Rattle.mx_words.specs.declared.order.Command.TheVariants.{Run, Asm, Sim, Gen}
@@ -17,15 +22,25 @@ use Rattle.mx_words.specs.declared.order.Order.{Order}
 use Rattle.mx_begin.specs.Arguments.{Word, word_at, arguments}
 use Rattle.law_gen.specs.Generator.{generated, summary}
 use Rattle.law_gen.specs.Program.{generated_image}
+use Rattle.mx_files.specs.Answers.{Answer}
 use Rattle.mx_files.specs.Objects.{source_object}
 use Rattle.mx_files.specs.Writing.{put_text}
 use Rattle.mx_files.specs.Assembling.{object_slot}
-use Rattle.mx_top.specs.Runs.{generator_steps, ran, machine_ran, session_ran}
+use Rattle.mx_top.specs.MachineWork.{machine_plan, sitting_plan}
+use Rattle.mx_top.specs.Product.{run_on, answer_of}
+use Rattle.mx_top.specs.Runs.{generator_steps, session_outcome}
+use Rattle.mx_top.specs.WorkClauses.{answer_by, work_by}
 use Rattle.mx_begin.specs.Begun.{started}
 use Rattle.mx_files.specs.Source.{file_bytes, source_pieces, object_pieces}
 use Rattle.mx_files.specs.Sources.{source_meaning}
 use Rattle.mx_outcome.specs.declared.outcome.Outcome.{Outcome}
-use Rattle.mx_outcome.specs.declared.outcome.Outcome.TheVariants.{Done}
+
+-- What an image comes to that is run as an order says, with these arguments; and a session of the console on a machine that started.
+abbrev pub image_answer : MachineKind → Order → List Word → Image → HostModel → Answer
+image_answer kind o arguments image m = answer_by kind (run_on o.ring arguments (machine_plan o) image) m
+
+abbrev pub session_answer : MachineKind → Order → State → HostModel → Answer
+session_answer kind o s m = answer_of (work_by kind (sitting_plan o) s m)
 
 -- The words order this, with this command.
 pub record IsOrdered (words : List Word) (o : Order) (wanted : Command) : Type 0 where
@@ -57,7 +72,7 @@ pub record IsHalted (kind : MachineKind) (words : List Word) (o : Order) (image 
   pub plain : o.interactive ≡ false
   pub machine : State
   pub starts : IsStarted kind words o image machine
-  pub halts : machine_ran kind o.steps machine begun ≡ ran (Done status) ended after
+  pub halts : run_course kind o.steps no_flags false machine begun ≡ ends (Halted status) (ended, after)
 
 -- The machine of this image starts, and in a session of the console it comes to this.
 pub record IsPlayed (kind : MachineKind) (words : List Word) (o : Order) (image : Image) (begun : HostModel)
@@ -65,7 +80,10 @@ pub record IsPlayed (kind : MachineKind) (words : List Word) (o : Order) (image 
   pub console : o.interactive ≡ true
   pub machine : State
   pub starts : IsStarted kind words o image machine
-  pub plays : session_ran kind o.steps machine begun ≡ ran outcome ended after
+  pub end : SessionEnd
+  pub flags : FlagsOf
+  pub plays : session_course kind o.steps machine no_flags begun ≡ ends end ((ended, after), flags)
+  pub comes : outcome ≡ session_outcome o.steps end
 
 -- The words order to assemble a source from which this text is read; the object file opens, the bytes of the object are
 -- written, and it is closed.
@@ -89,7 +107,7 @@ pub record IsGenerated (kind : MachineKind) (words : List Word) (m left : HostMo
   pub starts : started kind order.ring (generated_image order.number) (codes "gen" ∷ []) ≡ Ok machine
   pub status : ℕ
   pub ended : State
-  pub halts : machine_ran kind generator_steps machine m ≡ ran (Done status) ended left
+  pub halts : run_course kind generator_steps no_flags false machine m ≡ ends (Halted status) (ended, left)
   pub told : line ≡ summary order.number (length (generated order.number)) ended.steps (register ended.stack 255)
 
 -- ---- files that are there

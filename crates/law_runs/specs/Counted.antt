@@ -15,7 +15,7 @@ use Rattle.mx_files.specs.Sources.{source_meaning}
 use Rattle.mx_outcome.specs.declared.outcome.Outcome.{Outcome}
 use Rattle.mx_begin.specs.Arguments.{Word, word_at, arguments}
 use Rattle.mx_begin.specs.Begun.{started}
-use Rattle.mx_count.specs.Runs.{CountAnswer, Making, came_to, source_counted, went_wild}
+use Rattle.mx_count.specs.Runs.{CountAnswer, AnswerForms, came_to, source_counted, went_wild}
 use Rattle.mx_object.specs.Runs.{object_counted, uncounted}
 use Rattle.mx_object.specs.declared.counted.CountedObject.{CountedObject}
 
@@ -36,11 +36,11 @@ pub record StartsWith (kind : MachineKind) (words : List Word) (o : Order) (sour
 
 -- ---- what is counted of the source in the file that an order names, which is read as `mmixware run` reads it
 
-abbrev pub source_read : {A : Type 0} → MachineKind → Order → List (List ℕ) → (List ℕ → Making A) → Then (Result (List ℕ) Outcome) → CountAnswer A
+abbrev pub source_read : {A : Type 0} → MachineKind → Order → List (List ℕ) → (List ℕ → AnswerForms A) → Then (Result (List ℕ) Outcome) → CountAnswer A
 source_read kind o given making (Err outcome, m) = came_to ((making []).without outcome) m
 source_read kind o given making (Ok source, m) = source_counted kind o given (making source) source m
 
-abbrev pub source_file : {A : Type 0} → MachineKind → List Word → Order → (List ℕ → Making A) → HostModel → CountAnswer A
+abbrev pub source_file : {A : Type 0} → MachineKind → List Word → Order → (List ℕ → AnswerForms A) → HostModel → CountAnswer A
 source_file kind words o making m = source_read kind o (arguments words o) making (file_bytes source_pieces (word_at words o.file) m)
 
 -- ---- and of the object there, which is read as `mmixware sim` reads it

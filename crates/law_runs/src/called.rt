@@ -1,20 +1,22 @@
 //! What a call of the program answers where no call of the host that it makes fails.
 
-ghost use Rattle.std.specs.Prelude.{◌≡◌, ◌≢◌, ◌%◌, ◌^◌, List, Option, None, ℕ};
+ghost use Rattle.std.specs.Prelude.{◌≡◌, ◌≢◌, ◌%◌, ◌^◌, List, Option, None, false, ℕ};
 ghost use Rattle.mx_host.specs.HostModel.{HostModel, HasStartSlots, contents};
 ghost use Rattle.mx_mmo.specs.Image.{Image};
 ghost use Rattle.mx_asm.specs.Refusal.{refusal};
 ghost use Rattle.mx_core.specs.State.{State};
 ghost use Rattle.mx_ring.specs.Stack.{register};
 ghost use Rattle.mx_plan.specs.Counts.{unscheduled};
-ghost use Rattle.mx_run.specs.WildRuns.{MachineKind, window_machine};
+ghost use Rattle.mx_plan.specs.Wild.{ends};
+ghost use Rattle.mx_run.specs.Runs.{no_flags};
+ghost use Rattle.mx_run.specs.WildRuns.{MachineKind, run_course, window_machine};
+ghost use Rattle.mx_run.specs.declared.end.End.TheVariants.{Halted};
 ghost use Rattle.mx_words.specs.declared.order.Command.{Command};
 ghost use Rattle.mx_words.specs.declared.order.Order.{Order};
 ghost use Rattle.mx_begin.specs.Arguments.{Word, word_at};
 ghost use Rattle.law_runs.specs.Called.{IsCalled, NoCallFails};
 ghost use Rattle.law_runs.specs.Complete.{IsGenerated, IsHalted, IsOrdered, IsPlayed, IsThere, ObjectIsThere};
 ghost use Rattle.law_runs.specs.Complete.{SourceIsThere};
-ghost use Rattle.mx_top.specs.Runs.{machine_ran, ran};
 ghost use Rattle.mx_files.specs.Source.{source_pieces};
 ghost use Rattle.mx_outcome.specs.declared.outcome.Outcome.{Outcome};
 
@@ -22,7 +24,7 @@ ghost use Rattle.mx_outcome.specs.declared.outcome.Outcome.{Outcome};
 #[tactic(auto, using(crate::proofs::LowBytes::lowered))]
 pub fn statuses_are_low_bytes()
     ensures { (kind : MachineKind) (steps status : ℕ) (s ended : State) (m after : HostModel) →
-        machine_ran kind steps s m ≡ ran (Outcome.Done status) ended after →
+        run_course kind steps no_flags false s m ≡ ends (Halted status) (ended, after) →
         status ≡ register ended.stack 255 % 2 ^ 8 }
 {}
 

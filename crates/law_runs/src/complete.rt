@@ -20,7 +20,8 @@ ghost use Rattle.mx_words.specs.declared.order.Order.{Order};
 ghost use Rattle.mx_files.specs.Answers.{answered};
 ghost use Rattle.mx_begin.specs.Arguments.{Word, word_at, arguments};
 ghost use Rattle.law_runs.specs.Complete.{HasObject, HasSource, IsGenerated, IsHalted, IsOrdered, IsPlayed, IsStarted};
-ghost use Rattle.law_runs.specs.Complete.{IsThere, IsWritten, ObjectIsThere, SourceIsThere, with_output};
+ghost use Rattle.law_runs.specs.Complete.{IsThere, IsWritten, ObjectIsThere, SourceIsThere, image_answer};
+ghost use Rattle.law_runs.specs.Complete.{session_answer, with_output};
 ghost use Rattle.law_runs.specs.Called.{NoCallFails};
 ghost use Rattle.law_runs.specs.Detour.{answer_unscheduled};
 ghost use Rattle.mx_dump.specs.Dump.{dump_lines};
@@ -28,8 +29,7 @@ ghost use Rattle.mx_files.specs.Writing.{lines_put};
 ghost use Rattle.mx_files.specs.Objects.{source_object};
 ghost use Rattle.mx_files.specs.Assembling.{assembled_outcome, refused_with};
 ghost use Rattle.mx_top.specs.Product.{product};
-ghost use Rattle.mx_top.specs.Commands.{with_message};
-ghost use Rattle.mx_top.specs.Runs.{dumped, image_run, session_ran};
+ghost use Rattle.mx_top.specs.Telling.{with_message};
 ghost use Rattle.mx_files.specs.Source.{file_bytes, source_pieces};
 ghost use Rattle.mx_files.specs.Sources.{source_meaning};
 ghost use Rattle.mx_outcome.specs.declared.outcome.Outcome.{Outcome};
@@ -72,11 +72,11 @@ pub fn consoles_answer_as_sessions()
     ensures source { (kind : MachineKind) (words : List Word) (o : Order) (image : Image) (s : State)
         (m begun : HostModel) → HasSource words o image m begun → o.interactive ≡ true →
         IsStarted kind words o image s →
-        product kind words m ≡ with_message (dumped o.dump (session_ran kind o.steps s begun)) }
+        product kind words m ≡ with_message (session_answer kind o s begun) }
     ensures object { (kind : MachineKind) (words : List Word) (o : Order) (image : Image) (s : State)
         (m begun : HostModel) → HasObject words o image m begun → o.interactive ≡ true →
         IsStarted kind words o image s →
-        product kind words m ≡ with_message (dumped o.dump (session_ran kind o.steps s begun)) }
+        product kind words m ≡ with_message (session_answer kind o s begun) }
     ensures plain_source { (kind : MachineKind) (words : List Word) (o : Order) (image : Image) (outcome : Outcome)
         (ended : State) (m begun after : HostModel) → HasSource words o image m begun →
         IsPlayed kind words o image begun outcome ended after → o.dump ≡ false →
@@ -137,7 +137,7 @@ pub fn sources_that_are_there_are_run()
         without_count (file_bytes most name m).1 ≡ without_count m }
     ensures run { (kind : MachineKind) (words : List Word) (o : Order) (image : Image) (m : HostModel) →
         SourceIsThere words o image m → NoCallFails kind words m → answer_unscheduled (product kind words m) ≡
-        answer_unscheduled (with_message (image_run kind o (arguments words o) image (unscheduled m))) }
+        answer_unscheduled (with_message (image_answer kind o (arguments words o) image (unscheduled m))) }
     ensures plain { (kind : MachineKind) (words : List Word) (o : Order) (image : Image) (status : ℕ) (ended : State)
         (m after : HostModel) → SourceIsThere words o image m → NoCallFails kind words m →
         IsHalted kind words o image (unscheduled m) status ended after → o.dump ≡ false →
@@ -157,7 +157,7 @@ pub fn sources_that_are_there_are_run()
 pub fn objects_that_are_there_are_run()
     ensures run { (kind : MachineKind) (words : List Word) (o : Order) (image : Image) (m : HostModel) →
         ObjectIsThere words o image m → NoCallFails kind words m → answer_unscheduled (product kind words m) ≡
-        answer_unscheduled (with_message (image_run kind o (arguments words o) image (unscheduled m))) }
+        answer_unscheduled (with_message (image_answer kind o (arguments words o) image (unscheduled m))) }
     ensures plain { (kind : MachineKind) (words : List Word) (o : Order) (image : Image) (status : ℕ) (ended : State)
         (m after : HostModel) → ObjectIsThere words o image m → NoCallFails kind words m →
         IsHalted kind words o image (unscheduled m) status ended after → o.dump ≡ false →
@@ -177,11 +177,11 @@ pub fn consoles_of_what_is_there_answer_as_sessions()
     ensures source { (kind : MachineKind) (words : List Word) (o : Order) (image : Image) (s : State) (m : HostModel) →
         SourceIsThere words o image m → NoCallFails kind words m → o.interactive ≡ true →
         IsStarted kind words o image s → answer_unscheduled (product kind words m) ≡
-        answer_unscheduled (with_message (dumped o.dump (session_ran kind o.steps s (unscheduled m)))) }
+        answer_unscheduled (with_message (session_answer kind o s (unscheduled m))) }
     ensures object { (kind : MachineKind) (words : List Word) (o : Order) (image : Image) (s : State) (m : HostModel) →
         ObjectIsThere words o image m → NoCallFails kind words m → o.interactive ≡ true →
         IsStarted kind words o image s → answer_unscheduled (product kind words m) ≡
-        answer_unscheduled (with_message (dumped o.dump (session_ran kind o.steps s (unscheduled m)))) }
+        answer_unscheduled (with_message (session_answer kind o s (unscheduled m))) }
 {}
 
 /// Where no call that the program makes fails and the slots are as at the start, a source that is there

@@ -16,7 +16,7 @@ ghost use Rattle.mx_words.specs.declared.order.Command.TheVariants.{Run, Sim};
 ghost use Rattle.mx_words.specs.declared.order.Order.{Order};
 ghost use Rattle.mx_begin.specs.Arguments.{Word};
 ghost use Rattle.mx_top.specs.Product.{product, product_traces};
-ghost use Rattle.mx_top.specs.Commands.{with_message};
+ghost use Rattle.mx_top.specs.Telling.{with_message};
 ghost use Rattle.law_runs.specs.Counted.{RunsPlainly, StartsWith, answer_by, object_file, source_file};
 
 /// A source that is counted is run as the program runs it, and an object, too: the outcome, and all that the host then

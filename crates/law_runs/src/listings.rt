@@ -23,7 +23,7 @@ ghost use Rattle.mx_words.specs.declared.order.Order.{Order};
 ghost use Rattle.mx_files.specs.Answers.{answered};
 ghost use Rattle.mx_begin.specs.Arguments.{Word, word_at};
 ghost use Rattle.mx_top.specs.Product.{product};
-ghost use Rattle.mx_top.specs.Commands.{with_message};
+ghost use Rattle.mx_top.specs.Telling.{with_message};
 ghost use Rattle.mx_files.specs.Source.{object_pieces};
 ghost use Rattle.mx_files.specs.Typed.{typed, unread, unread_trie};
 ghost use Rattle.mx_outcome.specs.declared.outcome.Outcome.{Outcome};

@@ -1,9 +1,12 @@
 //! What holds of runs of the program, whatever the ring.
 
-ghost use Rattle.std.specs.Prelude.{◌≡◌, ℕ, List, Option, Some, Ok, true};
+ghost use Rattle.std.specs.Prelude.{◌≡◌, ℕ, List, Option, Some, Ok, true, false};
 ghost use Rattle.mx_core.specs.State.{State};
 ghost use Rattle.mx_host.specs.HostModel.{HostModel, contents};
-ghost use Rattle.mx_run.specs.WildRuns.{MachineKind, window_machine, list_machine};
+ghost use Rattle.mx_plan.specs.Calls.{host};
+ghost use Rattle.mx_plan.specs.Plan.{end_of};
+ghost use Rattle.mx_run.specs.Runs.{no_flags};
+ghost use Rattle.mx_run.specs.WildRuns.{MachineKind, window_machine, list_machine, run_course};
 ghost use Rattle.mx_watch.specs.Watching.{Watching};
 ghost use Rattle.mx_files.specs.Answers.{answered};
 ghost use Rattle.mx_outcome.specs.declared.outcome.Outcome.{Outcome};
@@ -12,12 +15,12 @@ ghost use Rattle.mx_words.specs.Values.{blocks_value, ring_value};
 ghost use Rattle.mx_words.specs.declared.order.Order.{Order};
 ghost use Rattle.mx_begin.specs.Arguments.{Word};
 ghost use Rattle.mx_top.specs.Product.{product, product_traces};
-ghost use Rattle.mx_top.specs.Reports.{due_reports, reports_put, watched_product};
+ghost use Rattle.mx_top.specs.Reports.{due_reports, watched_product};
+ghost use Rattle.mx_top.specs.Telling.{reports_plan};
 ghost use Rattle.law_runs.specs.Called.{IsCalled, IsWatched};
 ghost use Rattle.law_runs.specs.Detour.{host_of};
 ghost use Rattle.law_runs.specs.Rings.{DifferInRing, gen_ring_words, gen_words};
-ghost use Rattle.mx_top.specs.Runs.{machine_ran};
-ghost use Rattle.law_runs.specs.Unbroken.{is_answer_told, is_told};
+ghost use Rattle.law_runs.specs.Unbroken.{is_answer_told, is_run_told};
 
 /// Orders that differ in the size of the ring alone come to the same over the list machine. So, by the
 /// clause `headline` of the top call, two rings give the same outcome and the same host, where the
@@ -46,7 +49,8 @@ pub fn reports_change_nothing_else()
         product kind words m ≡ product kind others m }
     ensures outcome { (kind : MachineKind) (words : List Word) (watchers : List Watching) (outcome : Outcome)
         (m n : HostModel) → product kind words m ≡ answered outcome n → watched_product kind words watchers m ≡
-        answered outcome (reports_put (due_reports (order_of words) watchers (product_traces kind words m)) n) }
+        answered outcome (end_of host (reports_plan outcome
+        (due_reports (order_of words) watchers (product_traces kind words m))) n).1 }
     ensures calls { (words : List Word) (watchers : List Watching) (old new : Option HostModel) (result : Outcome) →
         IsWatched words watchers old new result →
         IsCalled words old (Some (host_of (product window_machine words (contents old)))) result }
@@ -57,7 +61,7 @@ pub fn reports_change_nothing_else()
 #[tactic(auto, using(crate::proofs::UnbrokenRuns::unbroken))]
 pub fn runs_end_by_themselves()
     ensures { (kind : MachineKind) (steps : ℕ) (s : State) (m : HostModel) →
-        is_told (machine_ran kind steps s m) ≡ true }
+        is_run_told steps (run_course kind steps no_flags false s m) ≡ true }
 {}
 
 /// By its definition the program is never out of memory, with whatever words, files and failing calls. So

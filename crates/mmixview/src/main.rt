@@ -6,6 +6,7 @@ use clap::Error;
 use clap::error::ErrorKind;
 use face_check::{Form, check};
 use face_count::count;
+use face_dap::serve as serve_debugger;
 use face_debug::debug;
 use face_explain::{show_list, show_word};
 use face_lsp::serve;
@@ -38,7 +39,7 @@ fn form(choice: &Choice) -> Form {
 }
 
 /// Does what is chosen.
-fn carry_out(alloc: Global, host: &mut RealHost, choice: &Choice) -> Outcome {
+fn do_choice(alloc: Global, host: &mut RealHost, choice: &Choice) -> Outcome {
     let name = choice.source.as_bytes();
     match choice.face {
         Face::List => list(alloc, host, choice.is_json, name),
@@ -50,6 +51,7 @@ fn carry_out(alloc: Global, host: &mut RealHost, choice: &Choice) -> Outcome {
         Face::Count => count(alloc, host, &[]),
         Face::Debug => debug(alloc, host, &[], false),
         Face::Lsp => serve(alloc, host),
+        Face::Dap => serve_debugger(alloc, host),
         Face::Page => page(alloc, host, VERSION, &[]),
         Face::Explain => match choice.word {
             Some(word) => show_word(alloc, host, word),
@@ -60,7 +62,7 @@ fn carry_out(alloc: Global, host: &mut RealHost, choice: &Choice) -> Outcome {
 
 /// The status of words that are no order, or that ask for help or the version. Where there is no word, help is printed as if it was
 /// asked for.
-fn answered(rt: &HostRuntime, error: &Error) -> u8 {
+fn answer_error(rt: &HostRuntime, error: &Error) -> u8 {
     let kind = error.kind();
     let printed = match kind {
         ErrorKind::DisplayHelpOnMissingArgumentOrSubcommand => rt.print(error),
@@ -77,7 +79,7 @@ fn answered(rt: &HostRuntime, error: &Error) -> u8 {
 }
 
 /// Does what the words after `debug` order, and gives the status. A person at a terminal is asked for each line.
-fn debugged(rt: HostRuntime, alloc: Global, words: &[String]) -> u8 {
+fn run_debug(rt: HostRuntime, alloc: Global, words: &[String]) -> u8 {
     let has_prompt = rt.stdin().is_terminal();
     match RealHost::new(rt) {
         Some(mut host) => debug(alloc, &mut host, words, has_prompt).status(),
@@ -86,7 +88,7 @@ fn debugged(rt: HostRuntime, alloc: Global, words: &[String]) -> u8 {
 }
 
 /// Does what the words after `count` order, and gives the status.
-fn counted(rt: HostRuntime, alloc: Global, words: &[String]) -> u8 {
+fn run_count(rt: HostRuntime, alloc: Global, words: &[String]) -> u8 {
     match RealHost::new(rt) {
         Some(mut host) => count(alloc, &mut host, words).status(),
         None => OUT_OF_MEMORY,
@@ -94,7 +96,7 @@ fn counted(rt: HostRuntime, alloc: Global, words: &[String]) -> u8 {
 }
 
 /// Does what the words after `page` order, and gives the status.
-fn paged(rt: HostRuntime, alloc: Global, words: &[String]) -> u8 {
+fn run_page(rt: HostRuntime, alloc: Global, words: &[String]) -> u8 {
     match RealHost::new(rt) {
         Some(mut host) => page(alloc, &mut host, VERSION, words).status(),
         None => OUT_OF_MEMORY,
@@ -104,19 +106,19 @@ fn paged(rt: HostRuntime, alloc: Global, words: &[String]) -> u8 {
 /// Does what the words of the command line order, and gives the status.
 fn obey(rt: HostRuntime, alloc: Global, all: &[String]) -> u8 {
     if let Some(words) = count_words(all) {
-        return counted(rt, alloc, words);
+        return run_count(rt, alloc, words);
     }
     if let Some(words) = debug_words(all) {
-        return debugged(rt, alloc, words);
+        return run_debug(rt, alloc, words);
     }
     if let Some(words) = page_words(all) {
-        return paged(rt, alloc, words);
+        return run_page(rt, alloc, words);
     }
     match choose(alloc, all) {
-        Err(error) => answered(&rt, &error),
+        Err(error) => answer_error(&rt, &error),
         Ok(None) => FAULTY_WORDS,
         Ok(Some(choice)) => match RealHost::new(rt) {
-            Some(mut host) => carry_out(alloc, &mut host, &choice).status(),
+            Some(mut host) => do_choice(alloc, &mut host, &choice).status(),
             None => OUT_OF_MEMORY,
         },
     }

@@ -57,7 +57,7 @@ exit status: that of the program (the low byte of $255 at Halt), and
 const VERSION: &str = "mmixware 0.4.0\n";
 
 /// The text that the program answers by itself, if these are words for one: no words ask for help, too.
-pub fn own_text(words: &[String]) -> Option<&'static str> {
+pub fn find_own_text(words: &[String]) -> Option<&'static str> {
     match words {
         [] => Some(HELP),
         [word] => match word.as_str() {
@@ -73,7 +73,7 @@ pub fn own_text(words: &[String]) -> Option<&'static str> {
 const WRITE_FAULT: u8 = 74;
 
 /// Prints a text to standard output.
-pub fn answered(rt: &impl Print, text: &str) -> ExitCode {
+pub fn print_text(rt: &impl Print, text: &str) -> ExitCode {
     match rt.print(text) {
         Ok(()) => ExitCode::from(0),
         Err(_) => ExitCode::from(WRITE_FAULT),

@@ -3,7 +3,7 @@
 
 mod help;
 
-use crate::help::{answered, own_text};
+use crate::help::{find_own_text, print_text};
 use mx_real::{RealHost, StandIns};
 use mx_top::{Outcome, mmixware_watched};
 use mx_watch::{Cover, Profile, Watcher, Writes};
@@ -27,7 +27,7 @@ const MOST_WRITES: u32 = 100;
 
 /// Does what the words order, with a profile, the number of the addresses, and the first writes to the data segment
 /// as the watchers of a run.
-fn carry_out(alloc: Global, words: &[String], host: &mut RealHost) -> Result<Outcome, NoMemory> {
+fn run_watched(alloc: Global, words: &[String], host: &mut RealHost) -> Result<Outcome, NoMemory> {
     let profile: Box<dyn Watcher> = Box::new(alloc, Profile::new(alloc)?)?;
     let cover: Box<dyn Watcher> = Box::new(alloc, Cover::new(alloc)?)?;
     let writes = Writes::new(alloc, DATA_SEGMENT, POOL_SEGMENT, MOST_WRITES)?;
@@ -56,13 +56,13 @@ fn main(rt: HostRuntime) -> ExitCode {
         [] => &[],
         [_program, words @ ..] => words,
     };
-    if let Some(text) = own_text(words) {
-        return answered(&rt, text);
+    if let Some(text) = find_own_text(words) {
+        return print_text(&rt, text);
     }
     let Some(mut host) = RealHost::new(rt) else {
         return ExitCode::from(OUT_OF_MEMORY);
     };
-    match carry_out(alloc, words, &mut host) {
+    match run_watched(alloc, words, &mut host) {
         Ok(outcome) => ExitCode::from(outcome.status()),
         Err(_) => ExitCode::from(OUT_OF_MEMORY),
     }

@@ -45,11 +45,11 @@ impl Answer {
 
     /// A result modulo 2^64, with overflow where it does not lie from -2^63 to 2^63 - 1.
     #[inline(always)]
-    pub(crate) fn checked(v: i128) -> Answer
+    pub(crate) fn from_signed(v: i128) -> Answer
         ensures { result ≡ spec.checked_answer v }
     {
         Answer {
-            x: low(v),
+            x: wrap(v),
             h: None,
             r: None,
             event: overflow(v),
@@ -59,7 +59,7 @@ impl Answer {
 
 /// What is left of a number modulo 2^64.
 #[inline(always)]
-pub(crate) fn low(v: i128) -> u64
+pub(crate) fn wrap(v: i128) -> u64
     ensures { result ≡ octa v }
 {
     (v.cast_unsigned() & 0xffff_ffff_ffff_ffff) as u64
@@ -78,11 +78,11 @@ pub(crate) fn overflow(v: i128) -> Option<Event>
 
 /// A result modulo 2^64, where it lies from -2^63 to 2^63 - 1.
 #[inline(always)]
-pub(crate) fn fitting(v: i128) -> Option<u64>
+pub(crate) fn fit_signed(v: i128) -> Option<u64>
     ensures { result ≡ spec.lone_value (spec.checked_answer v) }
 {
     match i64::try_from(v) {
-        Ok(_) => Some(low(v)),
+        Ok(_) => Some(wrap(v)),
         Err(_) => None,
     }
 }

@@ -7,7 +7,7 @@ ghost use Rattle.mx_alu.specs.Arithmetic as spec;
 ghost use Rattle.mx_alu.specs.Answers.{checked_answer, lone_value};
 ghost use Rattle.mx_alu.specs.Numbers.{octa, floor_by, floor_quotient};
 
-use crate::answer::{fitting, lone, low, overflow};
+use crate::answer::{fit_signed, lone, overflow, wrap};
 use crate::names::Arithmetic;
 use crate::{Answer, Event};
 use mx_word::{product, quotient, signed};
@@ -19,13 +19,13 @@ pub(crate) fn perform(name: Arithmetic, y: u64, z: u64, d: u64) -> Answer
     ensures { result ≡ spec.arithmetic name y z d }
 {
     match name {
-        Arithmetic::Mul => Answer::checked(signed_product(y, z)),
+        Arithmetic::Mul => Answer::from_signed(signed_product(y, z)),
         Arithmetic::Mulu => multiply(y, z),
         Arithmetic::Div => divide(y, z),
         Arithmetic::Divu => divide_long(d, y, z),
-        Arithmetic::Add => Answer::checked(signed_sum(y, z)),
+        Arithmetic::Add => Answer::from_signed(signed_sum(y, z)),
         Arithmetic::Addu => Answer::alone(y.wrapping_add(z)),
-        Arithmetic::Sub => Answer::checked(signed_difference(y, z)),
+        Arithmetic::Sub => Answer::from_signed(signed_difference(y, z)),
         Arithmetic::Subu => Answer::alone(subtract(y, z)),
         Arithmetic::TwoAddu => Answer::alone((y << 1).wrapping_add(z)),
         Arithmetic::FourAddu => Answer::alone((y << 2).wrapping_add(z)),
@@ -33,7 +33,7 @@ pub(crate) fn perform(name: Arithmetic, y: u64, z: u64, d: u64) -> Answer
         Arithmetic::SixteenAddu => Answer::alone((y << 4).wrapping_add(z)),
         Arithmetic::Cmp => Answer::alone(sign(signed(y).cmp(&signed(z)))),
         Arithmetic::Cmpu => Answer::alone(sign(y.cmp(&z))),
-        Arithmetic::Neg => Answer::checked(less_signed(y, z)),
+        Arithmetic::Neg => Answer::from_signed(less_signed(y, z)),
         Arithmetic::Negu => Answer::alone(subtract(y, z)),
         Arithmetic::Sl => shift_left_signed(y, z),
         Arithmetic::Slu => Answer::alone(shift_left(y, z)),
@@ -60,10 +60,10 @@ pub(crate) fn perform_alone(name: Arithmetic, y: u64, z: u64) -> Option<u64>
         Arithmetic::Slu => Some(shift_left(y, z)),
         Arithmetic::Sr => Some(shift_right_signed(y, z)),
         Arithmetic::Sru => Some(shift_right(y, z)),
-        Arithmetic::Add => fitting_sum(y, z),
-        Arithmetic::Sub => fitting_difference(y, z),
+        Arithmetic::Add => checked_sum(y, z),
+        Arithmetic::Sub => checked_difference(y, z),
         Arithmetic::Mul => lone(&perform(Arithmetic::Mul, y, z, 0)),
-        Arithmetic::Neg => fitting(less_signed(y, z)),
+        Arithmetic::Neg => fit_signed(less_signed(y, z)),
         Arithmetic::Sl => lone(&shift_left_signed(y, z)),
         Arithmetic::Mulu => None,
         Arithmetic::Div => None,
@@ -89,7 +89,7 @@ fn signed_sum(y: u64, z: u64) -> i128
 
 /// The sum of two signed octas, where it is one.
 #[inline(always)]
-fn fitting_sum(y: u64, z: u64) -> Option<u64>
+fn checked_sum(y: u64, z: u64) -> Option<u64>
     ensures { result ≡ lone_value (checked_answer (signed_value y +ℤ signed_value z)) }
 {
     match signed(y).checked_add(signed(z)) {
@@ -100,7 +100,7 @@ fn fitting_sum(y: u64, z: u64) -> Option<u64>
 
 /// The difference of two signed octas, where it is one.
 #[inline(always)]
-fn fitting_difference(y: u64, z: u64) -> Option<u64>
+fn checked_difference(y: u64, z: u64) -> Option<u64>
     ensures { result ≡ lone_value (checked_answer (signed_value y -ℤ signed_value z)) }
 {
     match signed(y).checked_sub(signed(z)) {
@@ -160,9 +160,9 @@ fn divide(y: u64, z: u64) -> Answer
     }
     let q = floor(y, z);
     Answer {
-        x: low(q),
+        x: wrap(q),
         h: None,
-        r: Some(low(remainder(y, z, q))),
+        r: Some(wrap(remainder(y, z, q))),
         event: overflow(q),
     }
 }
@@ -228,7 +228,7 @@ fn sign(order: Ordering) -> u64
 
 /// A signed octa times 2^z, whole.
 #[inline(always)]
-fn scaled(y: u64, z: u64) -> i128
+fn shift_signed(y: u64, z: u64) -> i128
     requires { z < 64 }
     ensures { result ≡ signed_value y *ℤ pos (2 ^ z) }
 {
@@ -242,7 +242,7 @@ fn shift_left_signed(y: u64, z: u64) -> Answer
     ensures { result ≡ checked_answer (signed_value y *ℤ pos (2 ^ z)) }
 {
     if z < 64 {
-        return Answer::checked(scaled(y, z));
+        return Answer::from_signed(shift_signed(y, z));
     }
     Answer {
         x: 0,

@@ -50,7 +50,7 @@ fn differences(width: u32, y: u64, z: u64) -> u64
 /// The field of this many bits that begins at a place.
 #[tactic(auto, using(crate::proofs::Places::differ_steps))]
 fn field(width: u32, place: u32, x: u64) -> u64
-    requires some { 0 < width }
+    requires positive { 0 < width }
     requires within { width ≤ 64 }
     requires start { place < 64 }
     ensures { result ≡ x / 2 ^ place % 2 ^ width }
@@ -65,7 +65,7 @@ fn matrix_or(y: u64, z: u64) -> u64
 {
     let mut x = 0;
     for k in 0..8 {
-        x |= chosen_bytes(y, z, k);
+        x |= select_bytes(y, z, k);
     }
     x
 }
@@ -77,14 +77,14 @@ fn matrix_xor(y: u64, z: u64) -> u64
 {
     let mut x = 0;
     for k in 0..8 {
-        x ^= chosen_bytes(y, z, k);
+        x ^= select_bytes(y, z, k);
     }
     x
 }
 
 /// Byte k of y in each byte for which bit k of that byte of z is 1.
 #[tactic(auto, using(crate::proofs::Places::matrix_steps))]
-fn chosen_bytes(y: u64, z: u64, k: u32) -> u64
+fn select_bytes(y: u64, z: u64, k: u32) -> u64
     requires { k < 8 }
     ensures { result ≡ fields 8 8 (λ i. if bit z (8 * i + k) then field 8 y k else 0) }
 {

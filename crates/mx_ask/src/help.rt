@@ -1,7 +1,7 @@
 //! How words are found by what is written of them, and explained.
 
 use crate::table::ROWS;
-use crate::words::{Row, row_of};
+use crate::words::{Row, find_row};
 use mx_word::{Bytes, NoMemory};
 
 /// How far the names of words reach in the list of all.
@@ -22,15 +22,15 @@ fn add_said(out: &mut Bytes, said: &[u8]) -> Result<(), NoMemory> {
 }
 
 /// Whether a row's name begins so.
-fn begins(row: &Row, name: &[u8]) -> bool {
+fn has_beginning(row: &Row, name: &[u8]) -> bool {
     row.name.as_bytes().starts_with(name)
 }
 
 /// The word that begins so, if it is the only one.
-fn beginning(name: &[u8]) -> Asked {
+fn find_by_beginning(name: &[u8]) -> Asked {
     let mut found = Asked::Unknown;
     for row in &ROWS {
-        if begins(row, name) {
+        if has_beginning(row, name) {
             found = match found {
                 Asked::Unknown => Asked::Word(row),
                 Asked::Word(_) | Asked::Ambiguous => Asked::Ambiguous,
@@ -41,10 +41,10 @@ fn beginning(name: &[u8]) -> Asked {
 }
 
 /// The word that is written so: by its name, its short form, or the beginning of its name.
-pub fn word_asked(name: &[u8]) -> Asked {
-    match row_of(&ROWS, name) {
+pub fn find_word(name: &[u8]) -> Asked {
+    match find_row(&ROWS, name) {
         Some(row) => Asked::Word(row),
-        None => beginning(name),
+        None => find_by_beginning(name),
     }
 }
 
@@ -52,7 +52,7 @@ pub fn word_asked(name: &[u8]) -> Asked {
 fn add_ambiguous(out: &mut Bytes, name: &[u8]) -> Result<(), NoMemory> {
     out.extend(b"? several words begin like this:")?;
     for row in &ROWS {
-        if begins(row, name) {
+        if has_beginning(row, name) {
             out.extend(b" ")?;
             out.extend(row.name.as_bytes())?;
         }
@@ -109,7 +109,7 @@ pub fn add_help(out: &mut Bytes, rest: &[u8]) -> Result<(), NoMemory> {
     if rest.is_empty() {
         return add_all(out);
     }
-    match word_asked(rest) {
+    match find_word(rest) {
         Asked::Word(row) => add_one(out, row),
         Asked::Unknown => add_unasked(out, rest, false),
         Asked::Ambiguous => add_unasked(out, rest, true),

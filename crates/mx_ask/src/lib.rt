@@ -8,9 +8,9 @@ mod table;
 mod units;
 mod words;
 
-pub use cutting::{code_of, cut_form, cut_word, without_end};
-pub use help::{Asked, add_help, add_unasked, word_asked};
-pub use numbers::{address_in, count_in, number_in, octa_in, subject_in};
+pub use cutting::{cut_form, cut_word, skip_label, trim_end};
+pub use help::{Asked, add_help, add_unasked, find_word};
+pub use numbers::{parse_address, parse_count, parse_number, parse_octa, parse_subject};
 pub use table::ROWS;
-pub use units::{Unit, units_in};
-pub use words::{Row, Word, row_of};
+pub use units::{Unit, parse_units};
+pub use words::{Row, Word, find_row};

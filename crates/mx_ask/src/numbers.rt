@@ -6,7 +6,7 @@ ghost use Rattle.mx_word.specs.Kinds as kinds;
 ghost use Rattle.mx_cmd.specs.Numerals as numerals;
 ghost use Rattle.mx_ask.specs.Places as spec;
 
-use mx_cmd::{Command, Subject, command_of};
+use mx_cmd::{Command, Subject, parse_command};
 use mx_word::{is_digit, is_hexadecimal};
 
 /// What a digit counts.
@@ -35,7 +35,7 @@ fn with_digit(base: u64, n: Option<u64>, b: u8) -> Option<u64>
 
 /// The octa that digits write in a base; nothing where the number is 2^64 or more.
 #[tactic(auto, unfolding(mx_cmd::specs::Numerals::octa_written))]
-fn octa_written(base: u64, digits: &[u8]) -> Option<u64>
+fn parse_octa_digits(base: u64, digits: &[u8]) -> Option<u64>
     requires { 1 ≤ base }
     ensures { result ≡ numerals.octa_written base digits.now }
 {
@@ -62,24 +62,24 @@ fn are_hexadecimal(text: &[u8]) -> bool
 
 /// The number that decimal digits write, one digit or more; nothing where it is 2^64 or more.
 #[tactic(auto, unfolding(crate::specs::Places::number_in))]
-pub fn number_in(text: &[u8]) -> Option<u64>
+pub fn parse_number(text: &[u8]) -> Option<u64>
     ensures { result ≡ spec.number_in text.now }
 {
     if text.is_empty() || !are_digits(text) {
         return None;
     }
-    octa_written(10, text)
+    parse_octa_digits(10, text)
 }
 
 /// How often something is done: once where nothing is written.
 #[tactic(auto, unfolding(crate::specs::Places::count_in))]
-pub fn count_in(text: &[u8]) -> Option<u64>
+pub fn parse_count(text: &[u8]) -> Option<u64>
     ensures { result ≡ spec.count_in text.now }
 {
     if text.is_empty() {
         return Some(1);
     }
-    number_in(text)
+    parse_number(text)
 }
 
 /// The number that hexadecimal digits write, one digit or more; nothing where it is 2^64 or more.
@@ -89,12 +89,12 @@ fn hexadecimal_in(text: &[u8]) -> Option<u64>
     if text.is_empty() || !are_hexadecimal(text) {
         return None;
     }
-    octa_written(16, text)
+    parse_octa_digits(16, text)
 }
 
 /// The address that `#` and hexadecimal digits write.
 #[tactic(auto, unfolding(crate::specs::Places::address_in))]
-pub fn address_in(text: &[u8]) -> Option<u64>
+pub fn parse_address(text: &[u8]) -> Option<u64>
     ensures { result ≡ spec.address_in text.now }
 {
     let [first, digits @ ..] = text else {
@@ -109,25 +109,25 @@ pub fn address_in(text: &[u8]) -> Option<u64>
 
 /// The octa that decimal digits write, digits after a minus sign, or `#` and hexadecimal digits.
 #[tactic(auto, unfolding(crate::specs::Places::octa_in))]
-pub fn octa_in(text: &[u8]) -> Option<u64>
+pub fn parse_octa(text: &[u8]) -> Option<u64>
     ensures { result ≡ spec.octa_in text.now }
 {
     let [first, digits @ ..] = text else {
         return None;
     };
     match *first {
-        b'-' => Some(0u64.wrapping_sub(number_in(digits)?)),
+        b'-' => Some(0u64.wrapping_sub(parse_number(digits)?)),
         b'#' => hexadecimal_in(digits),
-        _ => number_in(text),
+        _ => parse_number(text),
     }
 }
 
 /// The place that `$K`, `gK`, `rX` and `M#ADDRESS` write.
 #[tactic(auto, unfolding(crate::specs::Places::subject_in))]
-pub fn subject_in(text: &[u8]) -> Option<Subject>
+pub fn parse_subject(text: &[u8]) -> Option<Subject>
     ensures { result ≡ spec.subject_in text.now }
 {
-    match command_of(text) {
+    match parse_command(text) {
         Some(Command::Show(subject, _)) => Some(subject),
         _ => None,
     }

@@ -5,7 +5,7 @@ ghost use Rattle.mx_cmd.specs.Numerals.{front, past};
 ghost use Rattle.mx_word.specs.Kinds.{is_digit};
 ghost use Rattle.mx_ask.specs.Units as spec;
 
-use crate::numbers::count_in;
+use crate::numbers::parse_count;
 use mx_word::is_digit;
 
 /// A unit of memory.
@@ -61,9 +61,9 @@ fn digits(text: &[u8]) -> (&[u8], &[u8])
 
 /// How many units are asked for, and of what: one where no number is written.
 #[tactic(auto, unfolding(crate::specs::Units::units_in))]
-pub fn units_in(text: &[u8]) -> Option<(u64, Unit)>
+pub fn parse_units(text: &[u8]) -> Option<(u64, Unit)>
     ensures { result ≡ spec.units_in text.now }
 {
     let (number, rest) = digits(text);
-    Some((count_in(number)?, rest_unit(rest)?))
+    Some((parse_count(number)?, rest_unit(rest)?))
 }

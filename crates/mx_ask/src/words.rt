@@ -60,15 +60,15 @@ pub struct Row {
 }
 
 /// Whether a row has this name or short form.
-fn fits(row: &Row, name: &[u8]) -> bool
+fn has_name(row: &Row, name: &[u8]) -> bool
     ensures { result ≡ spec.fits name.now row.now.name.now row.now.short.now }
 {
     row.name.as_bytes() == name || row.short.as_bytes() == name
 }
 
 /// The first of rows that has this name or short form.
-pub fn row_of<'a>(rows: &'a [Row], name: &[u8]) -> Option<&'a Row>
+pub fn find_row<'a>(rows: &'a [Row], name: &[u8]) -> Option<&'a Row>
     ensures { option_map (λ row. row.now) result ≡ spec.row_of name.now rows.now }
 {
-    rows.iter().find(|row| fits(row, name))
+    rows.iter().find(|row| has_name(row, name))
 }

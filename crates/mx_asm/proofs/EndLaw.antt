@@ -8,7 +8,7 @@ use Rattle.mx_asm.proofs.StatementForms.{HasLabel, encoding-label}
 use Rattle.mx_asm.proofs.OpenWaits.{any_settles, is_settled, unsettled, open_waits, local-is, or-false}
 use Rattle.mx_asm.proofs.OneStatement.{AreLabels, labels-kept, standing_at, sight_local, locals_from, outcome}
 use Rattle.mx_line.specs.Source.{items_from as line_items}
-use Rattle.mx_asm.proofs.OnePassLaw.{counting, counted_progress, lines_behind, size_behind, no-labels, some-lines}
+use Rattle.mx_asm.proofs.OnePassLaw.{counting, counted_progress, lines_after, size_after, no-labels, some-lines}
 
 -- ---- the first reference that still waits after all statements is the first one that is never defined
 
@@ -154,12 +154,12 @@ all-locals n sights = locals-from n sights 0 ∙ ap (λ b. b || list_any (λ reg
 
 -- ---- the number of the last line
 
-behind-more : (lines : List Line) (n : ℕ) → lines_behind n lines ≡ n + length lines
-unfolding lines_behind
+behind-more : (lines : List Line) (n : ℕ) → lines_after n lines ≡ n + length lines
+unfolding lines_after
 behind-more [] n = omega arith
 behind-more (line ∷ lines) n = behind-more lines (n + 1) ∙ omega arith
 
-last-is : (line : Line) (lines : List Line) → last_number (lines_behind 0 (line ∷ lines)) ≡ last_line (line ∷ lines)
+last-is : (line : Line) (lines : List Line) → last_number (lines_after 0 (line ∷ lines)) ≡ last_line (line ∷ lines)
 last-is line lines = search (rules, behind-more)
 
 -- ---- the end
@@ -197,7 +197,7 @@ module _ (out : List Item) (statements : List StatementTree) (last n m : ℕ) (h
 -- ---- the law
 
 outcome-ends : (line : Line) (lines : List Line) (statements : List StatementTree) (h : Head) (items : List Item) (r : Option Refused) → (r ≡ None → first_fault [] (sights_of statements) ≡ None) →
-    let p = counted_progress (lines_behind 0 (line ∷ lines)) (size_behind 0 (line ∷ lines)) (outcome (opening ++ items) r (standing_at (final_known statements) h (sights_of statements) (locals_from 0 (sights_of statements)))) in
+    let p = counted_progress (lines_after 0 (line ∷ lines)) (size_after 0 (line ∷ lines)) (outcome (opening ++ items) r (standing_at (final_known statements) h (sights_of statements) (locals_from 0 (sights_of statements)))) in
     end_behind p.0 p.1 ≡ assembled_with statements items (first_of r (end_refusal (last_line (line ∷ lines)) statements))
 outcome-ends line lines statements h items r none = grind (arith, ended-alike, last-is)
 

@@ -1,6 +1,6 @@
 -- What is added so far is a front of what is due, entry by entry.
 use Rattle.std.proofs.Common.{◌≡◌, ℕ, ◌+◌, Bool, true, false, cond, List, [], ◌∷◌, ◌++◌, Option, None, Some, Result, Ok, Err, refl, ap, sym, ◌∙◌, append_assoc, append-nil, ◌<◌, ◌≤◌, map, arith, IfSome, subst, rules}
-use Rattle.mx_asm.proofs.Words.{Wait, Item, AsmFault, Refused, Entry, line_entries, IsFront, Assembly, Taken, Progress, behind_entry, and_entries, entry_taken, entries_taken, count_fault, counted, line_unless, line_taken, ended_main, ended_waits, ended, Span, LineFault, Cut, cuts_from, list_with, LabelBefore, InOrder, item_of, CutWithin, refused, entry_of, entries_of}
+use Rattle.mx_asm.proofs.Words.{Wait, Item, AsmFault, Refused, Entry, line_entries, IsFront, Assembly, Taken, Progress, after_entry, and_entries, entry_taken, entries_taken, count_fault, counted, line_unless, line_taken, ended_main, ended_waits, ended, Span, LineFault, Cut, cuts_from, list_with, LabelBefore, InOrder, item_of, CutWithin, refused, entry_of, entries_of}
 use Rattle.mx_asm.specs.declared.faults.AsmFault.TheVariants.{Line}
 
 -- ---- what is added so far is a front of what is due
@@ -17,7 +17,7 @@ front-append xs ys = (ys, refl)
 pub front-trans : (xs ys zs : List Item) → IsFront xs ys → IsFront ys zs → IsFront xs zs
 front-trans xs ys zs h g = (h.0 ++ g.0, g.1 ∙ ap (λ l. l ++ g.0) h.1 ∙ append_assoc xs h.0 g.0)
 
-pub behind-front : (out : List Item) (t : Taken) → IsFront out (behind_entry out t).0
+pub behind-front : (out : List Item) (t : Taken) → IsFront out (after_entry out t).0
 behind-front out (Err refused) = front-refl out
 behind-front out (Ok (items, a)) = front-append out items
 
@@ -29,8 +29,8 @@ pub entries-front : (entries : List Entry) (out : List Item) (a : Assembly) → 
 unfolding entries_taken
 entries-front [] out a = front-refl out
 entries-front (e ∷ entries) out a =
-    front-trans out (behind_entry out (entry_taken a e)).0 (and_entries (entries_taken entries) (behind_entry out (entry_taken a e))).0
-    (behind-front out (entry_taken a e)) (and-front (entries_taken entries) (entries-front entries) (behind_entry out (entry_taken a e)))
+    front-trans out (after_entry out (entry_taken a e)).0 (and_entries (entries_taken entries) (after_entry out (entry_taken a e))).0
+    (behind-front out (entry_taken a e)) (and-front (entries_taken entries) (entries-front entries) (after_entry out (entry_taken a e)))
 
 pub rest-front : (entries : List Entry) (p : Progress) → IsFront p.0 (and_entries (entries_taken entries) p).0
 rest-front entries p = and-front (entries_taken entries) (entries-front entries) p
@@ -78,23 +78,23 @@ module _ (line : ℕ) (text : List ℕ) where
   taken-fault at out a fault h = ap (λ cuts. entries_taken (entries_of (map (item_of line text) cuts)) out a) h
 
   taken-more : (at : ℕ) (out : List Item) (a : Assembly) (cut : Cut) → cuts_from text at ≡ list_with (cuts_from text) (Ok (Some cut)) →
-      taken_from line text at out a ≡ and_entries (taken_from line text cut.next) (behind_entry out (entry_taken a (entry_of (item_of line text (Ok cut)))))
+      taken_from line text at out a ≡ and_entries (taken_from line text cut.next) (after_entry out (entry_taken a (entry_of (item_of line text (Ok cut)))))
   unfolding entries_taken
   taken-more at out a cut h = ap (λ cuts. entries_taken (entries_of (map (item_of line text) cuts)) out a) h
 
   pub taken-failed : (at : ℕ) (out next : List Item) (a : Assembly) (cut : Cut) (r : Refused) (found : Option Cut) → found ≡ Some cut → cuts_from text at ≡ list_with (cuts_from text) (Ok found) →
-      (next, Err r) ≡ behind_entry out (entry_taken a (entry_of (item_of line text (Ok cut)))) → taken_from line text at out a ≡ (next, Err r)
+      (next, Err r) ≡ after_entry out (entry_taken a (entry_of (item_of line text (Ok cut)))) → taken_from line text at out a ≡ (next, Err r)
   taken-failed at out next a cut r found e h is = taken-more at out a cut (h ∙ ap (λ f. list_with (cuts_from text) (Ok f)) e) ∙ ap (and_entries (taken_from line text cut.next)) (sym is)
 
   pub taken-next : (at : ℕ) (out next : List Item) (a b : Assembly) (cut : Cut) (found : Option Cut) → found ≡ Some cut → cuts_from text at ≡ list_with (cuts_from text) (Ok found) →
-      (next, Ok b) ≡ behind_entry out (entry_taken a (entry_of (item_of line text (Ok cut)))) → taken_from line text cut.next next b ≡ taken_from line text at out a
+      (next, Ok b) ≡ after_entry out (entry_taken a (entry_of (item_of line text (Ok cut)))) → taken_from line text cut.next next b ≡ taken_from line text at out a
   taken-next at out next a b cut found e h is = sym (taken-more at out a cut (h ∙ ap (λ f. list_with (cuts_from text) (Ok f)) e) ∙ ap (and_entries (taken_from line text cut.next)) (sym is))
 
   pub taken-front : (at : ℕ) (out : List Item) (a : Assembly) (cut : Cut) (found : Option Cut) → found ≡ Some cut → cuts_from text at ≡ list_with (cuts_from text) (Ok found) →
-      IsFront (behind_entry out (entry_taken a (entry_of (item_of line text (Ok cut))))).0 (taken_from line text at out a).0
+      IsFront (after_entry out (entry_taken a (entry_of (item_of line text (Ok cut))))).0 (taken_from line text at out a).0
   taken-front at out a cut found e h =
-      subst (λ p. IsFront (behind_entry out (entry_taken a (entry_of (item_of line text (Ok cut))))).0 p.0) (sym (taken-more at out a cut (h ∙ ap (λ f. list_with (cuts_from text) (Ok f)) e)))
-      (rest-front (entries_of (map (item_of line text) (cuts_from text cut.next))) (behind_entry out (entry_taken a (entry_of (item_of line text (Ok cut))))))
+      subst (λ p. IsFront (after_entry out (entry_taken a (entry_of (item_of line text (Ok cut))))).0 p.0) (sym (taken-more at out a cut (h ∙ ap (λ f. list_with (cuts_from text) (Ok f)) e)))
+      (rest-front (entries_of (map (item_of line text) (cuts_from text cut.next))) (after_entry out (entry_taken a (entry_of (item_of line text (Ok cut))))))
 
 pub cut-within : (place end : ℕ) (cut : Cut) → InOrder place end cut → CutWithin end cut
 cut-within place end cut h = search rules

@@ -1,6 +1,6 @@
 -- Lines that an assembler has taken, one line more, and the items of all of them.
 use Rattle.std.proofs.Common.{◌≡◌, ℕ, Bool, cond, List, [], ◌∷◌, ◌++◌, fold, Option, None, Some, Ok, Err, refl, ap, sym, ◌∙◌, append_assoc, append-nil, rules, map, arith}
-use Rattle.mx_asm.proofs.Words.{result_err, fold-append, Item, Refused, Wait, AsmFault, Entry, statements_in, source_entries, Sight, final_known, opening, emission, padded_trie, first_fault, refusal, Assembly, Standing, Taken, Progress, Ended, beginning, behind_entry, and_entries, entries_taken, line_unless, with_opening, line_behind, ended_main, ended_waits, ended, end_behind, GrowsAlike, Line, accepted, accepted_with, entries_items, assembled_with, assembled_lines, assembled_source, line_after, lines_items, lines_taken, HasTaken, Known, StatementTree, refusal_in, nothing_known, known_after, sights_from, sights_of, first_head, items_from, front, lines_entries, lines_refusal}
+use Rattle.mx_asm.proofs.Words.{result_err, fold-append, Item, Refused, Wait, AsmFault, Entry, statements_in, source_entries, Sight, final_known, opening, emission, padded_trie, first_fault, refusal, Assembly, Standing, Taken, Progress, Ended, beginning, after_entry, and_entries, entries_taken, line_unless, with_opening, line_behind, ended_main, ended_waits, ended, end_behind, GrowsAlike, Line, accepted, accepted_with, entries_items, assembled_with, assembled_lines, assembled_source, line_after, lines_items, lines_taken, HasTaken, Known, StatementTree, refusal_in, nothing_known, known_after, sights_from, sights_of, first_head, items_from, front, lines_entries, lines_refusal}
 use Rattle.mx_asm.proofs.OnePassLaw.{items-are, refusal-is}
 use Rattle.mx_asm.proofs.EndLaw.{both-none, whole-is}
 use Rattle.mx_asm.specs.Whole.{accepted_in}
@@ -9,41 +9,41 @@ use Rattle.mx_asm.specs.Whole.{accepted_in}
 
 -- ---- what was added before makes no difference
 
-abbrev pub behind_items : {X : Type 0} → List Item → List Item × X → List Item × X
-behind_items out p = (out ++ p.0, p.1)
+abbrev pub after_items : {X : Type 0} → List Item → List Item × X → List Item × X
+after_items out p = (out ++ p.0, p.1)
 
-entry-behind : (out front : List Item) (t : Taken) → behind_entry (out ++ front) t ≡ behind_items out (behind_entry front t)
+entry-behind : (out front : List Item) (t : Taken) → after_entry (out ++ front) t ≡ after_items out (after_entry front t)
 entry-behind out front t = grind (arith, append_assoc)
 
-and-behind : (more : List Item → Assembly → Progress) (out : List Item) → ((front : List Item) (a : Assembly) → more (out ++ front) a ≡ behind_items out (more front a)) →
-    (p : Progress) → and_entries more (behind_items out p) ≡ behind_items out (and_entries more p)
+and-behind : (more : List Item → Assembly → Progress) (out : List Item) → ((front : List Item) (a : Assembly) → more (out ++ front) a ≡ after_items out (more front a)) →
+    (p : Progress) → and_entries more (after_items out p) ≡ after_items out (and_entries more p)
 and-behind more out h p = search rules
 
-entries-behind : (entries : List Entry) (out front : List Item) (a : Assembly) → entries_taken entries (out ++ front) a ≡ behind_items out (entries_taken entries front a)
+entries-behind : (entries : List Entry) (out front : List Item) (a : Assembly) → entries_taken entries (out ++ front) a ≡ after_items out (entries_taken entries front a)
 unfolding entries_taken
 entries-behind [] out front a = refl
 entries-behind (e ∷ entries) out front a = search (rules, entry-behind, and-behind, entries-behind entries out)
 
-unless-behind : (f : Option Refused) (out front : List Item) (a : Assembly) (text : List ℕ) → line_unless f (out ++ front) a text ≡ behind_items out (line_unless f front a text)
+unless-behind : (f : Option Refused) (out front : List Item) (a : Assembly) (text : List ℕ) → line_unless f (out ++ front) a text ≡ after_items out (line_unless f front a text)
 unless-behind f out front a text = search (rules, entries-behind)
 
 opening-behind : (b : Bool) (out : List Item) → with_opening b out ≡ out ++ with_opening b []
 opening-behind b out = search (rules, append-nil)
 
-pub line-behind : (out : List Item) (a : Standing) (text : List ℕ) → line_behind out a text ≡ behind_items out (line_behind [] a text)
+pub line-behind : (out : List Item) (a : Standing) (text : List ℕ) → line_behind out a text ≡ after_items out (line_behind [] a text)
 line-behind out a text = search (rules, append-nil, opening-behind, unless-behind)
 
 trie-behind : (long : Bool) (out front more : List Item) (r : Refused) (trie : List ℕ) →
-    cond {A = Ended} long (out ++ front, Err r) (out ++ front ++ more, Ok trie) ≡ behind_items out (cond {A = Ended} long (front, Err r) (front ++ more, Ok trie))
+    cond {A = Ended} long (out ++ front, Err r) (out ++ front ++ more, Ok trie) ≡ after_items out (cond {A = Ended} long (front, Err r) (front ++ more, Ok trie))
 trie-behind long out front more r trie = grind (arith, append_assoc)
 
-main-behind : (f : Option AsmFault) (out front : List Item) (a : Assembly) → ended_main (out ++ front) a f ≡ behind_items out (ended_main front a f)
+main-behind : (f : Option AsmFault) (out front : List Item) (a : Assembly) → ended_main (out ++ front) a f ≡ after_items out (ended_main front a f)
 main-behind f out front a = search (rules, trie-behind)
 
-waits-behind : (w : Option Wait) (out front : List Item) (a : Assembly) → ended_waits (out ++ front) a w ≡ behind_items out (ended_waits front a w)
+waits-behind : (w : Option Wait) (out front : List Item) (a : Assembly) → ended_waits (out ++ front) a w ≡ after_items out (ended_waits front a w)
 waits-behind w out front a = search (rules, main-behind)
 
-end-behind : (out : List Item) (a : Standing) → end_behind out a ≡ behind_items out (end_behind [] a)
+end-behind : (out : List Item) (a : Standing) → end_behind out a ≡ after_items out (end_behind [] a)
 end-behind out a = search (rules, append-nil, opening-behind, waits-behind)
 
 -- ---- lines that were taken
@@ -58,7 +58,7 @@ pub none-taken : HasTaken [] (Ok beginning)
 none-taken = stands-at [] (Ok beginning) refl
 
 -- one line more
-more-taken : (lines : List Line) (text : Line) (a : Standing) → HasTaken lines a → lines_taken (lines ++ text ∷ []) ≡ behind_items (lines_items lines) (line_behind [] a text)
+more-taken : (lines : List Line) (text : Line) (a : Standing) → HasTaken lines a → lines_taken (lines ++ text ∷ []) ≡ after_items (lines_items lines) (line_behind [] a text)
 more-taken lines text a h = search (rules, fold-append, taken-so, line-behind)
 
 pub line-taken : (lines : List Line) (text : Line) (out next : List Item) (a b : Standing) → (next, b) ≡ line_behind out a text → HasTaken lines a → HasTaken (lines ++ text ∷ []) b
@@ -78,7 +78,7 @@ pub refusal-lasts : (lines later : List Line) (refused : Refused) → HasTaken l
 refusal-lasts lines later refused h = search (rules, fold-append, taken-so, refusal-stays)
 
 -- the end
-whole-taken : (lines : List Line) (a : Standing) → HasTaken lines a → assembled_lines lines ≡ behind_items (lines_items lines) (end_behind [] a)
+whole-taken : (lines : List Line) (a : Standing) → HasTaken lines a → assembled_lines lines ≡ after_items (lines_items lines) (end_behind [] a)
 whole-taken lines a h = sym (whole-is lines) ∙ ap (λ (p : Progress). end_behind p.0 p.1) (sym (taken-so lines a h)) ∙ end-behind (lines_items lines) a
 
 pub end-taken : (lines : List Line) (out : List Item) (a : Standing) (ended : Ended) → ended ≡ end_behind out a → HasTaken lines a → ended.1 ≡ (assembled_lines lines).1

@@ -4,7 +4,7 @@ use Rattle.mx_asm.proofs.Words.{xor_zero_r, xor_zero_l, length-replicate, cond_b
 use Rattle.mx_mmo.specs.Meaning.{lined as lined_with}
 use Rattle.mx_asm.specs.Emission.{line_behind}
 use Rattle.mx_asm.proofs.MeaningMemory.{pages-alike, HaveBytes, append-pages, pages-run, tetras-run, many-pages, same-numbers}
-use Rattle.mx_asm.proofs.MeaningStates.{State, stands, count_of, limited, Takes, lines_with, line_after, takes-both, takes-none, behind_tetras, takes-tetras}
+use Rattle.mx_asm.proofs.MeaningStates.{State, stands, count_of, limited, Takes, lines_with, line_after, takes-both, takes-none, after_tetras, takes-tetras}
 
 -- ---- the items of bytes that a statement places, and what follows them
 
@@ -114,9 +114,9 @@ abbrev pub head_of : State → Head
 head_of s = record { lambda = s.lambda; line = s.line }
 
 -- what follows bytes of a line that are placed from an address on
-abbrev pub behind_bytes : State → ℕ → ℕ → List ℕ → State
-behind_bytes s line start [] = s
-behind_bytes s line start (b ∷ bytes) = record {
+abbrev pub after_bytes : State → ℕ → ℕ → List ℕ → State
+after_bytes s line start [] = s
+after_bytes s line start (b ∷ bytes) = record {
   placements = s.placements ++ from_place start (b ∷ bytes);
   lines = with_lines s.lines (piece_at line start (b ∷ bytes));
   lambda = raised (start + length (b ∷ bytes));
@@ -172,12 +172,12 @@ told_at s line start = record s { lambda = lowered start; line = told_line line 
 
 module _ (n : ℕ) (big : 2 ^ 51 ≤ n) where
   covering-taken : (s : State) (line start b : ℕ) (bytes : List ℕ) → start + length (b ∷ bytes) ≤ 0x6000_0000_0000_0000 → AreBytes (b ∷ bytes) → HaveBytes (placed s.placements) → 0 < line →
-      Takes n (map Load (covering start (b ∷ bytes))) (told_at s line start) (behind_bytes s line start (b ∷ bytes))
+      Takes n (map Load (covering start (b ∷ bytes))) (told_at s line start) (after_bytes s line start (b ∷ bytes))
   covering-taken s line start b bytes low are have some =
       let u : State = told_at s line start in
       let whole = covered-length start (b ∷ bytes) in
-      takes-same n _ u (behind_tetras u (covered start (b ∷ bytes))) (behind_bytes s line start (b ∷ bytes))
-      (same-limited n (behind_tetras u (covered start (b ∷ bytes))) (behind_bytes s line start (b ∷ bytes))
+      takes-same n _ u (after_tetras u (covered start (b ∷ bytes))) (after_bytes s line start (b ∷ bytes))
+      (same-limited n (after_tetras u (covered start (b ∷ bytes))) (after_bytes s line start (b ∷ bytes))
       (λ q. placed-append s.placements (from_place (lowered start) (covered start (b ∷ bytes))) q ∙ ap (bit_xor (placed s.placements q)) (covered-placed start (b ∷ bytes) q) ∙ sym (placed-append s.placements (from_place start (b ∷ bytes)) q))
       (λ p. append-pages s.placements (from_place (lowered start) (covered start (b ∷ bytes))) p ∙ ap (λ t. pages_of s.placements p || t) (covered-pages start (b ∷ bytes) p (omega arith)) ∙ sym (append-pages s.placements (from_place start (b ∷ bytes)) p))
       whole
@@ -187,7 +187,7 @@ module _ (n : ℕ) (big : 2 ^ 51 ≤ n) where
 
   -- bytes of a line, placed from an address on
   pub takes-bytes : (s : State) (line start : ℕ) (bytes : List ℕ) → (0 < length bytes → start + length bytes ≤ 0x6000_0000_0000_0000) → AreBytes bytes → HaveBytes (placed s.placements) → 0 < line →
-      Takes n (byte_items (head_of s) line start bytes) s (behind_bytes s line start bytes)
+      Takes n (byte_items (head_of s) line start bytes) s (after_bytes s line start bytes)
   takes-bytes s line start [] low are have some = takes-none n s
   takes-bytes s line start (b ∷ bytes) low are have some =
       let a : ℕ = cond (lowered s.lambda == lowered start) s.lambda (lowered start) in
@@ -195,6 +195,6 @@ module _ (n : ℕ) (big : 2 ^ 51 ≤ n) where
       let place = takes-located n s start in
       let told = takes-lined n (at_lambda s a) line in
       let loads = covering-taken s line start b bytes (low (omega arith)) are have some in
-      takes-both n (located s.lambda start ++ lined s.line line) (map Load (covering start (b ∷ bytes))) s v (behind_bytes s line start (b ∷ bytes))
+      takes-both n (located s.lambda start ++ lined s.line line) (map Load (covering start (b ∷ bytes))) s v (after_bytes s line start (b ∷ bytes))
       (takes-both n (located s.lambda start) (lined s.line line) s (at_lambda s a) v place told)
       (record { taken = loads-same n v (lowered start) (covering start (b ∷ bytes)) (located-at s start) (some-tetras start b bytes) ∙ loads.taken })

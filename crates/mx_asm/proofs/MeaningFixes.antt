@@ -99,8 +99,8 @@ module _ (n : ℕ) (big : 2 ^ 51 ≤ n) (s : State) (have : HaveBytes (placed s.
 
 -- ---- one record
 
-abbrev pub behind_fix : State → Wait → ℕ → State
-behind_fix s w value = record s { placements = s.placements ++ from_place w.at (fix_bytes w.kind w.at (Some value)) }
+abbrev pub after_fix : State → Wait → ℕ → State
+after_fix s w value = record s { placements = s.placements ++ from_place w.at (fix_bytes w.kind w.at (Some value)) }
 
 fix-taken : (n : ℕ) (kind : WaitKind) (place value : ℕ) (item : Item) (s : State) → 2 ^ 51 ≤ n → HaveBytes (placed s.placements) → s.lambda ≡ value → value < 2 ^ 64 → place % 4 ≡ 0 → place + kind_size kind ≤ 0x6000_0000_0000_0000 →
     pure_fix place kind value ≡ Ok item → count_of n s ≤ 65536 →
@@ -121,5 +121,5 @@ fix-taken n Far place value item s big have at fits m l h few =
     ∙ ap (λ v. limited n (record s { placements = s.placements ++ from_place place (tetra_to_bytes (future_word 0 far_reach place (Some v))) })) at
 
 pub takes-fix : (n : ℕ) (w : Wait) (value : ℕ) (item : Item) (s : State) → 2 ^ 51 ≤ n → HaveBytes (placed s.placements) → s.lambda ≡ value → value < 2 ^ 64 → w.at % 4 ≡ 0 → w.at + kind_size w.kind ≤ 0x6000_0000_0000_0000 →
-    fix_of (Pure value) w ≡ Ok item → Takes n (item ∷ []) s (behind_fix s w value)
+    fix_of (Pure value) w ≡ Ok item → Takes n (item ∷ []) s (after_fix s w value)
 takes-fix n w value item s big have at fits m l h = search (rules, takes-few, append-more, fix-taken)

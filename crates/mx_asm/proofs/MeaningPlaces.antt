@@ -7,8 +7,8 @@ use Rattle.mx_asm.proofs.OpenWaits.{references-append, references-one as one-ref
 use Rattle.mx_asm.proofs.EndLaw.{both-none}
 use Rattle.mx_asm.proofs.MeaningMemory.{AreMore, append-pages, append-more, pages-run, same-numbers}
 use Rattle.mx_asm.proofs.MeaningStates.{State}
-use Rattle.mx_asm.proofs.MeaningBytes.{piece_at, behind_bytes}
-use Rattle.mx_asm.proofs.MeaningStatements.{all-filter, behind_fixes, behind_placed, IsSteady, faultless, laid, behind_sight, after_sights}
+use Rattle.mx_asm.proofs.MeaningBytes.{piece_at, after_bytes}
+use Rattle.mx_asm.proofs.MeaningStatements.{all-filter, after_fixes, after_placed, IsSteady, faultless, laid, after_sight, after_sights}
 use Rattle.std.proofs.lemmas.Bool.{or_right as or-right}
 
 -- ---- a statement with its targets known
@@ -47,7 +47,7 @@ fixed-lines t p q line lines is = same-numbers _ _ (λ a.
 
 -- ---- lines
 
-placed-lines : (s : State) (line : ℕ) (p : Placed) (waits : List Wait) → (behind_placed s line p waits).lines ≡ with_lines s.lines (piece_at line p.start p.bytes)
+placed-lines : (s : State) (line : ℕ) (p : Placed) (waits : List Wait) → (after_placed s line p waits).lines ≡ with_lines s.lines (piece_at line p.start p.bytes)
 placed-lines s line p waits = grind (arith, nat_tests)
 
 pub lines-of-sights : (final : NameTable) (later earlier : List Sight) (s : State) → first_fault earlier later ≡ None → AllByRecursion IsSteady later →
@@ -60,8 +60,8 @@ lines-of-sights final (t ∷ later) earlier s none steady =
     let p : Placed = is.placed_as in
     let line : ℕ = t.statement.line in
     let to = fixed-to (targets final later) t p steady.0 is.outlined in
-    ap (λ r. (after_sights (behind_sight s earlier t r) (earlier ++ t ∷ []) later).lines) is.outlined
-    ∙ lines-of-sights final later (earlier ++ t ∷ []) (behind_placed s line p (waiting_at earlier t)) parts.1 steady.1
+    ap (λ r. (after_sights (after_sight s earlier t r) (earlier ++ t ∷ []) later).lines) is.outlined
+    ∙ lines-of-sights final later (earlier ++ t ∷ []) (after_placed s line p (waiting_at earlier t)) parts.1 steady.1
     ∙ ap (λ (lines : ℕ → ℕ). fold with_lines lines (pieces_of final later)) (placed-lines s line p (waiting_at earlier t) ∙ sym (fixed-lines (targets final later) p to.after line s.lines to.fixed))
     ∙ ap (λ r. fold with_lines s.lines (piece_with line r ++ pieces_of final later)) (sym to.encoded)
 
@@ -101,14 +101,14 @@ between : (a f b : Bool) → (f ≡ true → (a || b) ≡ true) → ((a || f) ||
 between a f b h = grind (arith, nat_tests)
 
 fixes-pages : (s : State) (value : Value) (waits : List Wait) (qs : List (ℕ × ℕ)) (p : ℕ) → AllByRecursion (IsOn (s.placements ++ qs)) waits →
-    pages_of ((behind_fixes s value waits).placements ++ qs) p ≡ pages_of (s.placements ++ qs) p
+    pages_of ((after_fixes s value waits).placements ++ qs) p ≡ pages_of (s.placements ++ qs) p
 fixes-pages s value waits qs p h = search (rules, append-pages, between, fixes-on)
 
-bytes-pages : (s : State) (line start : ℕ) (bytes : List ℕ) (p : ℕ) → pages_of (behind_bytes s line start bytes).placements p ≡ pages_of (s.placements ++ from_place start bytes) p
+bytes-pages : (s : State) (line start : ℕ) (bytes : List ℕ) (p : ℕ) → pages_of (after_bytes s line start bytes).placements p ≡ pages_of (s.placements ++ from_place start bytes) p
 bytes-pages s line start bytes p = search (rules, append-nil)
 
 placed-pages : (s : State) (line : ℕ) (q : Placed) (waits : List Wait) (p : ℕ) → AllByRecursion (IsOn (s.placements ++ from_place q.start q.bytes)) waits →
-    pages_of (behind_placed s line q waits).placements p ≡ pages_of (s.placements ++ from_place q.start q.bytes) p
+    pages_of (after_placed s line q waits).placements p ≡ pages_of (s.placements ++ from_place q.start q.bytes) p
 placed-pages s line q waits p on = search (rules, bytes-pages, fixes-pages)
 
 -- the references that wait are among those of the statements
@@ -161,12 +161,12 @@ pages-of-sights final (t ∷ later) earlier s page none steady on =
     let p : Placed = is.placed_as in
     let line : ℕ = t.statement.line in
     let to = fixed-to (targets final later) t p steady.0 is.outlined in
-    let u : State = behind_placed s line p (waiting_at earlier t) in
+    let u : State = after_placed s line p (waiting_at earlier t) in
     let whole : List (ℕ × ℕ) = s.placements ++ from_place p.start p.bytes in
     let all = references-on s.placements earlier t p is.outlined on in
     let same : (q : ℕ) → pages_of u.placements q ≡ pages_of whole q = λ q. placed-pages s line p (waiting_at earlier t) q (waiting-on (IsOn whole) earlier t t.statement.label all) in
     let next = all-on-same whole u.placements (references (earlier ++ t ∷ [])) (λ q h. same q ∙ h) all in
-    ap (λ r. pages_of (after_sights (behind_sight s earlier t r) (earlier ++ t ∷ []) later).placements page) is.outlined
+    ap (λ r. pages_of (after_sights (after_sight s earlier t r) (earlier ++ t ∷ []) later).placements page) is.outlined
     ∙ pages-of-sights final later (earlier ++ t ∷ []) u page parts.1 steady.1 next
     ∙ ap (λ b. b || pages_of (placements (pieces_of final later)) page) (same page ∙ append-pages s.placements (from_place p.start p.bytes) page)
     ∙ or-assoc (pages_of s.placements page) (pages_of (from_place p.start p.bytes) page) (pages_of (placements (pieces_of final later)) page)

@@ -1,10 +1,10 @@
 -- The items of statements one after another, and the states that they lead to.
 use Rattle.std.proofs.Common.{◌≡◌, ℕ, ◌+◌, ◌%◌, ◌^◌, ◌<◌, ◌≤◌, List, [], ◌∷◌, ◌++◌, length, Bool, arith, refl, sym, ◌∙◌, ap, subst, Option, Some, Result, Ok, Err, append_assoc, append-nil, rules, zero, suc, false, None}
-use Rattle.mx_asm.proofs.Words.{AllByRecursion, filter, cond_both, AreBytes, Value, Pure, Reg, Wait, WaitKind, take_items, Item, Label, Placed, Answer, Targets, no_targets, encoding, fix_bytes, fix_placements, kind_size, IsInside, IsLaid, from_place, placed, encoding-laid, all-into, all-append, Refused, Sight, outline, waits_in, references, fix_of, fixes, awaited_value, waiting_for, waiting_at, moved, onto, fix_items, head_at_fixes, byte_items, head_at_bytes, with_bytes, statement_items, statement_head, nat_tests, result_unwrap_or, nothing, IsOperation, IsSound, AsmFault, Head, pages_below, opening, sight_items, sight_head, items_from, refusal_of, label_fault, fault_behind, fault_with, statement_fault, first_fault}
+use Rattle.mx_asm.proofs.Words.{AllByRecursion, filter, cond_both, AreBytes, Value, Pure, Reg, Wait, WaitKind, take_items, Item, Label, Placed, Answer, Targets, no_targets, encoding, fix_bytes, fix_placements, kind_size, IsInside, IsLaid, from_place, placed, encoding-laid, all-into, all-append, Refused, Sight, outline, waits_in, references, fix_of, fixes, awaited_value, waiting_for, waiting_at, moved, onto, fix_items, head_at_fixes, byte_items, head_at_bytes, with_bytes, statement_items, statement_head, nat_tests, result_unwrap_or, nothing, IsOperation, IsSound, AsmFault, Head, pages_below, opening, sight_items, sight_head, items_from, refusal_of, label_fault, fault_after, fault_with, statement_fault, first_fault}
 use Rattle.mx_asm.proofs.MeaningMemory.{HaveBytes}
 use Rattle.mx_asm.proofs.MeaningStates.{State, limited, Takes, take-none, takes-both, more-bytes, takes-none}
-use Rattle.mx_asm.proofs.MeaningBytes.{at_lambda, head_of, behind_bytes, takes-bytes}
-use Rattle.mx_asm.proofs.MeaningFixes.{behind_fix, takes-fix}
+use Rattle.mx_asm.proofs.MeaningBytes.{at_lambda, head_of, after_bytes, takes-bytes}
+use Rattle.mx_asm.proofs.MeaningFixes.{after_fix, takes-fix}
 use Rattle.mx_asm.proofs.EndLaw.{both-none}
 
 -- ---- the items of one statement, and those of statements one after another
@@ -64,10 +64,10 @@ fixes-have t (w ∷ waits) ps have =
 abbrev pub with_fixes : State → ℕ → List Wait → State
 with_fixes s value waits = record s { placements = s.placements ++ fix_placements (at_value value) waits }
 
-abbrev pub behind_fixes : State → Value → List Wait → State
-behind_fixes s value [] = s
-behind_fixes s (Pure v) (w ∷ waits) = with_fixes (at_lambda s v) v (w ∷ waits)
-behind_fixes s (Reg r) (w ∷ waits) = s
+abbrev pub after_fixes : State → Value → List Wait → State
+after_fixes s value [] = s
+after_fixes s (Pure v) (w ∷ waits) = with_fixes (at_lambda s v) v (w ∷ waits)
+after_fixes s (Reg r) (w ∷ waits) = s
 
 -- the first record and those of later references
 record AreFixes (value : Value) (line : ℕ) (w : Wait) (waits : List Wait) (items : List Item) : Type 0 where
@@ -91,7 +91,7 @@ module _ (n : ℕ) (big : 2 ^ 51 ≤ n) where
   takes-fixes line value [] items s have at fits low h = grind (arith, fixes-nil, take-none, append-nil)
   takes-fixes line value (w ∷ waits) items s have at fits low h =
       let is = fixes-split (Pure value) line w waits items h in
-      let t : State = behind_fix s w value in
+      let t : State = after_fix s w value in
       let first = takes-fix n w value is.fix s big have at fits low.0.fours low.0.low is.first_is in
       let rest = takes-fixes line value waits is.later t (more-bytes s.placements w.at (fix_bytes w.kind w.at (Some value)) have (fix-are w.kind w.at (Some value))) at fits low.1 is.later_are in
       let both = takes-both n (is.fix ∷ []) is.later s t (with_fixes t value waits) first rest in
@@ -114,7 +114,7 @@ module _ (n : ℕ) (big : 2 ^ 51 ≤ n) where
   reg-refused r line w waits items h = absurd (cc)
 
   takes-onto : (line : ℕ) (value : Value) (w : Wait) (waits : List Wait) (items : List Item) (s : State) (r : Result (List Item) Refused) → HaveBytes (placed s.placements) → IsWord value → AllByRecursion IsLow (w ∷ waits) →
-      fixes line value (w ∷ waits) ≡ r → onto (moved s.lambda value) r ≡ Ok items → Takes n items s (behind_fixes s value (w ∷ waits))
+      fixes line value (w ∷ waits) ≡ r → onto (moved s.lambda value) r ≡ Ok items → Takes n items s (after_fixes s value (w ∷ waits))
   takes-onto line value w waits items s (Err refused) have word low e h = absurd (cc)
   takes-onto line (Reg r) w waits items s (Ok fixed) have word low e h = absurd (reg-refused r line w waits fixed e)
   takes-onto line (Pure v) w waits items s (Ok fixed) have word low e h =
@@ -123,46 +123,46 @@ module _ (n : ℕ) (big : 2 ^ 51 ≤ n) where
       record { taken = ap (λ is. take_items is (limited n s)) (sym whole) ∙ both.taken }
 
   takes-fix-items : (line : ℕ) (value : Value) (waits : List Wait) (items : List Item) (s : State) → HaveBytes (placed s.placements) → IsWord value → AllByRecursion IsLow waits →
-      fix_items s.lambda line value waits ≡ Ok items → Takes n items s (behind_fixes s value waits)
+      fix_items s.lambda line value waits ≡ Ok items → Takes n items s (after_fixes s value waits)
   takes-fix-items line value waits items s have word low h = grind (arith, take-none, takes-onto)
 
-pub fixed-have : (s : State) (value : Value) (waits : List Wait) → HaveBytes (placed s.placements) → HaveBytes (placed (behind_fixes s value waits).placements)
+pub fixed-have : (s : State) (value : Value) (waits : List Wait) → HaveBytes (placed s.placements) → HaveBytes (placed (after_fixes s value waits).placements)
 fixed-have s value [] have = have
 fixed-have s (Pure v) (w ∷ waits) have = fixes-have (at_value v) (w ∷ waits) s.placements have
 fixed-have s (Reg r) (w ∷ waits) have = have
 
-fixed-head : (s : State) (value : Value) (waits : List Wait) → head_of (behind_fixes s value waits) ≡ head_at_fixes (head_of s) value waits
+fixed-head : (s : State) (value : Value) (waits : List Wait) → head_of (after_fixes s value waits) ≡ head_at_fixes (head_of s) value waits
 fixed-head s value waits = grind (arith, nat_tests)
 
-bytes-head : (s : State) (line start : ℕ) (bytes : List ℕ) → head_of (behind_bytes s line start bytes) ≡ head_at_bytes (head_of s) line start bytes
+bytes-head : (s : State) (line start : ℕ) (bytes : List ℕ) → head_of (after_bytes s line start bytes) ≡ head_at_bytes (head_of s) line start bytes
 bytes-head s line start bytes = grind (arith, nat_tests)
 
-pub bytes-have : (s : State) (line start : ℕ) (bytes : List ℕ) → HaveBytes (placed s.placements) → AreBytes bytes → HaveBytes (placed (behind_bytes s line start bytes).placements)
+pub bytes-have : (s : State) (line start : ℕ) (bytes : List ℕ) → HaveBytes (placed s.placements) → AreBytes bytes → HaveBytes (placed (after_bytes s line start bytes).placements)
 bytes-have s line start [] have are = have
 bytes-have s line start (b ∷ bytes) have are = more-bytes s.placements start (b ∷ bytes) have are
 
 -- what follows a statement
-abbrev pub behind_placed : State → ℕ → Placed → List Wait → State
-behind_placed s line p waits = behind_bytes (behind_fixes s (awaited_value p.label) waits) line p.start p.bytes
+abbrev pub after_placed : State → ℕ → Placed → List Wait → State
+after_placed s line p waits = after_bytes (after_fixes s (awaited_value p.label) waits) line p.start p.bytes
 
-pub placed-head : (s : State) (line : ℕ) (p : Placed) (waits : List Wait) → head_of (behind_placed s line p waits) ≡ statement_head (head_of s) line p waits
-placed-head s line p waits = bytes-head (behind_fixes s (awaited_value p.label) waits) line p.start p.bytes ∙ ap (λ h. head_at_bytes h line p.start p.bytes) (fixed-head s (awaited_value p.label) waits)
+pub placed-head : (s : State) (line : ℕ) (p : Placed) (waits : List Wait) → head_of (after_placed s line p waits) ≡ statement_head (head_of s) line p waits
+placed-head s line p waits = bytes-head (after_fixes s (awaited_value p.label) waits) line p.start p.bytes ∙ ap (λ h. head_at_bytes h line p.start p.bytes) (fixed-head s (awaited_value p.label) waits)
 
 pub takes-placed : (n : ℕ) (line : ℕ) (p : Placed) (waits : List Wait) (items : List Item) (s : State) → 2 ^ 51 ≤ n → HaveBytes (placed s.placements) → IsWord (awaited_value p.label) → AllByRecursion IsLow waits → IsLaid p → 0 < line →
-    statement_items (head_of s) line p waits ≡ Ok items → Takes n items s (behind_placed s line p waits)
+    statement_items (head_of s) line p waits ≡ Ok items → Takes n items s (after_placed s line p waits)
 takes-placed n line p waits items s big have word low laid some h = on (fix_items s.lambda line (awaited_value p.label) waits) refl h
   where
     value : Value
     value = awaited_value p.label
 
-    on : (r : Result (List Item) Refused) → fix_items s.lambda line (awaited_value p.label) waits ≡ r → with_bytes r (byte_items (head_at_fixes (head_of s) (awaited_value p.label) waits) line p.start p.bytes) ≡ Ok items → Takes n items s (behind_placed s line p waits)
+    on : (r : Result (List Item) Refused) → fix_items s.lambda line (awaited_value p.label) waits ≡ r → with_bytes r (byte_items (head_at_fixes (head_of s) (awaited_value p.label) waits) line p.start p.bytes) ≡ Ok items → Takes n items s (after_placed s line p waits)
     on (Err refused) e h = absurd (cc)
     on (Ok fixed) e h =
-        let t : State = behind_fixes s (awaited_value p.label) waits in
+        let t : State = after_fixes s (awaited_value p.label) waits in
         let first = takes-fix-items n big line (awaited_value p.label) waits fixed s have word low e in
         let second = takes-bytes n big t line p.start p.bytes laid.low laid.bytes (fixed-have s (awaited_value p.label) waits have) some in
         let whole : fixed ++ byte_items (head_at_fixes (head_of s) (awaited_value p.label) waits) line p.start p.bytes ≡ items = cc in
-        let both = takes-both n fixed (byte_items (head_of t) line p.start p.bytes) s t (behind_bytes t line p.start p.bytes) first second in
+        let both = takes-both n fixed (byte_items (head_of t) line p.start p.bytes) s t (after_bytes t line p.start p.bytes) first second in
         record {
           taken =
               ap (λ is. take_items is (limited n s)) (sym whole)
@@ -182,9 +182,9 @@ pub record IsSteady (s : Sight) : Type 0 where
 -- ---- one statement
 
 -- what follows a statement that comes to this
-abbrev pub behind_sight : State → List Sight → Sight → Answer Placed → State
-behind_sight s earlier t (Err fault) = s
-behind_sight s earlier t (Ok p) = behind_placed s t.statement.line p (waiting_at earlier t)
+abbrev pub after_sight : State → List Sight → Sight → Answer Placed → State
+after_sight s earlier t (Err fault) = s
+after_sight s earlier t (Ok p) = after_placed s t.statement.line p (waiting_at earlier t)
 
 -- what a statement without a fault comes to
 pub record IsFaultless (earlier : List Sight) (t : Sight) : Type 0 where
@@ -196,7 +196,7 @@ pub record IsFaultless (earlier : List Sight) (t : Sight) : Type 0 where
 pub faultless : (earlier : List Sight) (t : Sight) → statement_fault earlier t ≡ None → IsFaultless earlier t
 faultless earlier t h = on (outline t) refl h
   where
-    behind : (p : Placed) (f : Option AsmFault) → outline t ≡ Ok p → label_fault t.known.names t.statement.label ≡ f → fault_behind earlier t p f ≡ None → IsFaultless earlier t
+    behind : (p : Placed) (f : Option AsmFault) → outline t ≡ Ok p → label_fault t.known.names t.statement.label ≡ f → fault_after earlier t p f ≡ None → IsFaultless earlier t
     behind p (Some fault) e f h = absurd (cc)
     behind p None e f h = record { placed_as = p; outlined = e; label = f; fixed = h }
 
@@ -211,16 +211,16 @@ items-given h line p waits h1 = grind (arith, nat_tests)
 pub laid : (t : Sight) (p : Placed) → outline t ≡ Ok p → IsLaid p
 laid t p e = encoding-laid no_targets t.known t.statement p e
 
-sight-have : (s : State) (earlier : List Sight) (t : Sight) (p : Placed) → outline t ≡ Ok p → HaveBytes (placed s.placements) → HaveBytes (placed (behind_placed s t.statement.line p (waiting_at earlier t)).placements)
+sight-have : (s : State) (earlier : List Sight) (t : Sight) (p : Placed) → outline t ≡ Ok p → HaveBytes (placed s.placements) → HaveBytes (placed (after_placed s t.statement.line p (waiting_at earlier t)).placements)
 sight-have s earlier t p e have =
     let lay = laid t p e in
-    bytes-have (behind_fixes s (awaited_value p.label) (waiting_at earlier t)) t.statement.line p.start p.bytes (fixed-have s (awaited_value p.label) (waiting_at earlier t) have) lay.bytes
+    bytes-have (after_fixes s (awaited_value p.label) (waiting_at earlier t)) t.statement.line p.start p.bytes (fixed-have s (awaited_value p.label) (waiting_at earlier t) have) lay.bytes
 
 -- ---- statements one after another
 
 unfoldable pub after_sights : State → List Sight → List Sight → State
 after_sights s earlier [] = s
-after_sights s earlier (t ∷ later) = after_sights (behind_sight s earlier t (outline t)) (earlier ++ t ∷ []) later
+after_sights s earlier (t ∷ later) = after_sights (after_sight s earlier t (outline t)) (earlier ++ t ∷ []) later
 
 pub takes-sights : (n : ℕ) (later earlier : List Sight) (s : State) → 2 ^ 51 ≤ n → first_fault earlier later ≡ None → AllByRecursion IsSteady later → HaveBytes (placed s.placements) →
     Takes n (items_from (head_of s) earlier later) s (after_sights s earlier later)
@@ -234,7 +234,7 @@ takes-sights n (t ∷ later) earlier s big none steady have =
     let waits : List Wait = waiting_at earlier t in
     let given = items-given (head_of s) line p waits is.fixed in
     let first = takes-placed n line p waits (result_unwrap_or (statement_items (head_of s) line p waits) []) s big have (steady.0.word p is.outlined) (waiting-low earlier t) (laid t p is.outlined) steady.0.line given in
-    let u : State = behind_placed s line p waits in
+    let u : State = after_placed s line p waits in
     let rest = takes-sights n later (earlier ++ t ∷ []) u big parts.1 steady.1 (sight-have s earlier t p is.outlined have) in
     let both = takes-both n (result_unwrap_or (statement_items (head_of s) line p waits) []) (items_from (head_of u) (earlier ++ t ∷ []) later) s u (after_sights u (earlier ++ t ∷ []) later) first rest in
     record {
@@ -242,7 +242,7 @@ takes-sights n (t ∷ later) earlier s big none steady have =
           ap (λ r. take_items (sight_items (head_of s) earlier t r ++ items_from (sight_head (head_of s) earlier t r) (earlier ++ t ∷ []) later) (limited n s)) is.outlined
           ∙ ap (λ h. take_items (result_unwrap_or (statement_items (head_of s) line p waits) [] ++ items_from h (earlier ++ t ∷ []) later) (limited n s)) (sym (placed-head s line p waits))
           ∙ both.taken
-          ∙ ap (λ r. limited n (after_sights (behind_sight s earlier t r) (earlier ++ t ∷ []) later)) (sym is.outlined);
+          ∙ ap (λ r. limited n (after_sights (after_sight s earlier t r) (earlier ++ t ∷ []) later)) (sym is.outlined);
     }
 
 -- ---- the opening

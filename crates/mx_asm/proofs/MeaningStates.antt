@@ -91,8 +91,8 @@ tetra-joined n a b c d e ps lines big m l are have few =
 abbrev pub noted_lines : (ℕ → ℕ) → ℕ → ℕ → ℕ → ℕ
 noted_lines lines a line = cond (line == 0) lines (lined lines a line)
 
-abbrev pub behind_tetra : State → ℕ → ℕ → ℕ → ℕ → State
-behind_tetra s b c d e = record {
+abbrev pub after_tetra : State → ℕ → ℕ → ℕ → ℕ → State
+after_tetra s b c d e = record {
   placements = s.placements ++ four s.lambda b c d e;
   lines = noted_lines s.lines s.lambda s.line;
   lambda = s.lambda + 4;
@@ -104,12 +104,12 @@ after-unless : (n : ℕ) (s t : State) → t.lambda ≡ (4 * (s.lambda / 4) + 4)
 after-unless n s t lambda line lines = grind (arith, nat_tests)
 
 pub takes-tetra : (n b c d e : ℕ) (s : State) → 2 ^ 51 ≤ n → s.lambda % 4 ≡ 0 → s.lambda < 0x6000_0000_0000_0000 → AreBytes (b ∷ c ∷ d ∷ e ∷ []) → HaveBytes (placed s.placements) →
-    Takes n (Load (tetra_from_bytes (b ∷ c ∷ d ∷ e ∷ [])) ∷ []) s (behind_tetra s b c d e)
+    Takes n (Load (tetra_from_bytes (b ∷ c ∷ d ∷ e ∷ [])) ∷ []) s (after_tetra s b c d e)
 takes-tetra n b c d e s big m l are have =
-    takes-few n _ s (behind_tetra s b c d e) (append-more s.placements (four s.lambda b c d e)) (λ few.
+    takes-few n _ s (after_tetra s b c d e) (append-more s.placements (four s.lambda b c d e)) (λ few.
     take-none _
     ∙ ap (after_load (stands n s)) (tetra-joined n s.lambda b c d e s.placements s.lines big m l are have few)
-    ∙ after-unless n s (behind_tetra s b c d e) (omega (arith, m, l)) refl refl)
+    ∙ after-unless n s (after_tetra s b c d e) (omega (arith, m, l)) refl refl)
 
 -- ---- bytes are bytes
 
@@ -130,8 +130,8 @@ abbrev pub line_after : ℕ → ℕ → ℕ
 line_after line zero = line
 line_after line (suc k) = line_after (next_line line) k
 
-abbrev pub behind_tetras : State → List ℕ → State
-behind_tetras s bytes = record {
+abbrev pub after_tetras : State → List ℕ → State
+after_tetras s bytes = record {
   placements = s.placements ++ from_place s.lambda bytes;
   lines = lines_with s.lines s.lambda s.line (length (tetras_of bytes));
   lambda = s.lambda + length bytes;
@@ -145,16 +145,16 @@ pub takes-equal : (n : ℕ) (items : List Item) (s t u : State) → t ≡ u → 
 takes-equal n items s t u e h = record { taken = h.taken ∙ ap (limited n) e }
 
 pub takes-tetras : (n : ℕ) (bytes : List ℕ) (s : State) → 2 ^ 51 ≤ n → s.lambda % 4 ≡ 0 → length bytes % 4 ≡ 0 → s.lambda + length bytes ≤ 0x6000_0000_0000_0000 → AreBytes bytes → HaveBytes (placed s.placements) →
-    Takes n (map Load (tetras_of bytes)) s (behind_tetras s bytes)
+    Takes n (map Load (tetras_of bytes)) s (after_tetras s bytes)
 takes-tetras n [] s big m l low are have = grind (arith, common_steps, nat_tests)
 takes-tetras n (b ∷ c ∷ d ∷ e ∷ more) s big m l low are have =
-    let t : State = behind_tetra s b c d e in
+    let t : State = after_tetra s b c d e in
     let four_are : AreBytes (b ∷ c ∷ d ∷ e ∷ []) = (are.0, (are.1.0, (are.1.1.0, (are.1.1.1.0, tt)))) in
-    takes-equal n _ s (behind_tetras t more) (behind_tetras s (b ∷ c ∷ d ∷ e ∷ more))
-    (same-state (behind_tetras t more) (behind_tetras s (b ∷ c ∷ d ∷ e ∷ more))
+    takes-equal n _ s (after_tetras t more) (after_tetras s (b ∷ c ∷ d ∷ e ∷ more))
+    (same-state (after_tetras t more) (after_tetras s (b ∷ c ∷ d ∷ e ∷ more))
     (append_assoc s.placements (four s.lambda b c d e) (from_place (s.lambda + 4) more) ∙ ap (λ ps. s.placements ++ ps) (sym (from-append s.lambda (b ∷ c ∷ d ∷ e ∷ []) more)))
     refl (omega arith) refl)
-    (takes-both n (Load (tetra_from_bytes (b ∷ c ∷ d ∷ e ∷ [])) ∷ []) (map Load (tetras_of more)) s t (behind_tetras t more)
+    (takes-both n (Load (tetra_from_bytes (b ∷ c ∷ d ∷ e ∷ [])) ∷ []) (map Load (tetras_of more)) s t (after_tetras t more)
     (takes-tetra n b c d e s big m (omega (arith, low)) four_are have)
     (takes-tetras n more t big (omega (arith, m)) (omega (arith, l)) (omega (arith, low)) are.1.1.1.1 (more-bytes s.placements s.lambda (b ∷ c ∷ d ∷ e ∷ []) have four_are)))
 takes-tetras n bytes s big m l low are have = absurd (omega (arith, l))

@@ -8,8 +8,8 @@ use Rattle.mx_asm.proofs.OpenWaits.{any_settles, open_waits, open-unlabelled, op
 use Rattle.mx_asm.proofs.OneStatement.{name-new, effect-symbols}
 use Rattle.mx_asm.proofs.EndLaw.{both-none}
 use Rattle.mx_asm.proofs.MeaningStates.{State}
-use Rattle.mx_asm.proofs.MeaningBytes.{behind_bytes}
-use Rattle.mx_asm.proofs.MeaningStatements.{behind_fixes, faultless}
+use Rattle.mx_asm.proofs.MeaningBytes.{after_bytes}
+use Rattle.mx_asm.proofs.MeaningStatements.{after_fixes, faultless}
 
 -- ---- what references add
 
@@ -83,13 +83,13 @@ symbol-at-end (st ∷ statements) k earlier full v none h =
 
 -- what follows records, where these are the targets
 pub fixes-placed : (s : State) (line : ℕ) (value : Value) (waits : List Wait) (t : Targets) (q : ℕ) → refusal_of (fixes line value waits) ≡ None → AllByRecursion (λ (w : Wait). t w.who ≡ pure_number (Some value)) waits →
-    placed (behind_fixes s value waits).placements q ≡ bit_xor (placed s.placements q) (added t waits q)
+    placed (after_fixes s value waits).placements q ≡ bit_xor (placed s.placements q) (added t waits q)
 unfolding fixes
 fixes-placed s line value [] t q none h = sym (xor_zero_r (placed s.placements q))
 fixes-placed s line (Reg r) (w ∷ waits) t q none h = absurd (cc)
 fixes-placed s line (Pure v) (w ∷ waits) t q none h = search (rules, placed-append, added-same)
 
-pub bytes-placed : (s : State) (line start : ℕ) (bytes : List ℕ) (q : ℕ) → placed (behind_bytes s line start bytes).placements q ≡ bit_xor (placed s.placements q) (placed (from_place start bytes) q)
+pub bytes-placed : (s : State) (line start : ℕ) (bytes : List ℕ) (q : ℕ) → placed (after_bytes s line start bytes).placements q ≡ bit_xor (placed s.placements q) (placed (from_place start bytes) q)
 bytes-placed s line start bytes q = grind (arith, xor_zero_r, placed-append)
 
 -- what a statement settles, by the kind of its label: the references that waited for it had its value, and all others keep

@@ -10,7 +10,7 @@ use Rattle.mx_asm.proofs.OnePassLaw.{no-labels}
 use Rattle.mx_asm.proofs.EndLaw.{wait_refusal, both-none, labels-at-end, first-open}
 use Rattle.mx_asm.proofs.MeaningMemory.{same-pages, unless_full, same-numbers}
 use Rattle.mx_asm.proofs.MeaningStates.{State, image_at, count_of, limited, take-append}
-use Rattle.mx_asm.proofs.MeaningStatements.{behind_fixes, behind_placed, IsSteady, faultless, behind_sight, after_sights, takes-sights, first_state, first-have, opened}
+use Rattle.mx_asm.proofs.MeaningStatements.{after_fixes, after_placed, IsSteady, faultless, after_sight, after_sights, takes-sights, first_state, first-have, opened}
 use Rattle.mx_asm.proofs.MeaningPlaces.{fixed-to, lines-of-sights, pages-of-sights}
 use Rattle.mx_asm.proofs.MeaningSums.{added, sight_at, symbol-at-end, after-is, fixes-placed, bytes-placed, Settles, unlabelled-settles, named-settles, local-settles}
 
@@ -68,15 +68,15 @@ bytes-of-sights final (st ∷ statements) k earlier s q labels none steady open_
     let line : ℕ = st.line in
     let waits : List Wait = waiting_at earlier t in
     let to = fixed-to (targets final later) t p steady.0 is.outlined in
-    let u : State = behind_placed s line p waits in
+    let u : State = after_placed s line p waits in
     let settles = settles-by final k st statements earlier q p st.label p.label is.outlined (encoding-label no_targets k st p is.outlined) refl refl is.label labels parts.1 ends in
     let others = bytes-of-sights final statements (known_after k st) (earlier ++ t ∷ []) u q (labels-kept k earlier st parts.0 labels) parts.1 steady.1 (ap open_waits (append_assoc earlier (t ∷ []) later) ∙ open_none) ends in
     let bytes : ℕ = placed (from_place p.start p.bytes) q in
     let left : ℕ = placed (placements (pieces_of final later)) q in
-    ap (λ r. placed (after_sights (behind_sight s earlier t r) (earlier ++ t ∷ []) later).placements q) is.outlined
+    ap (λ r. placed (after_sights (after_sight s earlier t r) (earlier ++ t ∷ []) later).placements q) is.outlined
     ∙ others
     ∙ ap (λ n. bit_xor (bit_xor n (added (targets final later) (open_waits (earlier ++ t ∷ [])) q)) left)
-    (bytes-placed (behind_fixes s (awaited_value p.label) waits) line p.start p.bytes q ∙ ap (λ n. bit_xor n bytes) (fixes-placed s line (awaited_value p.label) waits settles.by q is.fixed settles.fixed))
+    (bytes-placed (after_fixes s (awaited_value p.label) waits) line p.start p.bytes q ∙ ap (λ n. bit_xor n bytes) (fixes-placed s line (awaited_value p.label) waits settles.by q is.fixed settles.fixed))
     ∙ four-places (placed s.placements q) (added settles.by waits q) bytes (added (targets final later) (open_waits (earlier ++ t ∷ [])) q)
     (added (targets final (t ∷ later)) (open_waits earlier) q) (added (targets final later) p.waits q) left settles.sums
     ∙ ap (bit_xor (bit_xor (placed s.placements q) (added (targets final (t ∷ later)) (open_waits earlier) q)))

@@ -11,7 +11,7 @@ use Rattle.mx_asm.proofs.ReadEntries.{Says, said}
 use Rattle.mx_asm.proofs.InTurn.{source-refused}
 use Rattle.mx_asm.proofs.EndLaw.{whole-is}
 use Rattle.mx_asm.proofs.OnePassLaw.{refusal-is}
-use Rattle.mx_asm.proofs.Words.{result_err, Value, Wait, Item, Naming, Label, Placed, Answer, StatementTree, encoding, no_targets, AsmFault, Refused, Head, statement_items, fixes, Entry, Fields, statement_in, entry_with, entry_of, entries_of, line_entries, Assembly, Standing, Progress, Ended, Labelled, Taken, beginning, labelled, taken_label, taken_with, statement_taken, entry_taken, behind_entry, and_entries, entries_taken, count_fault, counted, line_unless, line_behind, end_behind, refusal, Line, lines_refusal, line_after, lines_taken, one_pass, nat_tests}
+use Rattle.mx_asm.proofs.Words.{result_err, Value, Wait, Item, Naming, Label, Placed, Answer, StatementTree, encoding, no_targets, AsmFault, Refused, Head, statement_items, fixes, Entry, Fields, statement_in, entry_with, entry_of, entries_of, line_entries, Assembly, Standing, Progress, Ended, Labelled, Taken, beginning, labelled, taken_label, taken_with, statement_taken, entry_taken, after_entry, and_entries, entries_taken, count_fault, counted, line_unless, line_behind, end_behind, refusal, Line, lines_refusal, line_after, lines_taken, one_pass, nat_tests}
 
 -- a refusal has a number above 0
 unfoldable HasNumber : {A : Type 0} → Result A Refused → Type 0
@@ -69,7 +69,7 @@ taken-number a s = placed-number a s.line s.label (encoding no_targets a.known s
 
 -- ---- lines
 
-after-number : (more : List Item → Assembly → Progress) → ((out : List Item) (a : Assembly) → HasNumber (more out a).1) → (out : List Item) (t : Taken) → HasNumber t → HasNumber (and_entries more (behind_entry out t)).1
+after-number : (more : List Item → Assembly → Progress) → ((out : List Item) (a : Assembly) → HasNumber (more out a).1) → (out : List Item) (t : Taken) → HasNumber t → HasNumber (and_entries more (after_entry out t)).1
 unfolding HasNumber
 after-number more f out t h = search rules
 

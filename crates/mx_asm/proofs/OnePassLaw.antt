@@ -1,6 +1,6 @@
 -- The lines of a source in one pass come to what the two passes say.
 use Rattle.std.proofs.Common.{◌≡◌, ℕ, ◌+◌, ◌^◌, Bool, true, false, cond, nat_lt, List, [], ◌∷◌, ◌++◌, fold, length, Option, None, Some, Result, Ok, Err, refl, rules, ◌-◌, take, ap, sym, ◌∙◌, subst, arith, append_assoc, length-append, sum_by, ◌≢◌, OnOk, OnErr, IfErr}
-use Rattle.mx_asm.proofs.Words.{Item, Placed, Label, Answer, SourceTooLong, Refused, refused, Entry, line_entries, Assembly, Taken, Progress, Labelled, taken_items, taken_label, taken_with, entry_taken, behind_entry, and_entries, entries_taken, line_unless, Line, line_after, result_err, sum_by-append, take-append_seam, is_too_far, size_up_to, statement, too_far, items_of, StatementTree, entries_of, statements_in, refusal_in, nothing_known, sights_from, opening, first_head, first_fault, entries_refusal, beginning, lines_entries, lines_items, lines_taken, nat_tests, Cut, cuts_from, list_with, holds_statement, Standing, is_open, line_behind, opened}
+use Rattle.mx_asm.proofs.Words.{Item, Placed, Label, Answer, SourceTooLong, Refused, refused, Entry, line_entries, Assembly, Taken, Progress, Labelled, taken_items, taken_label, taken_with, entry_taken, after_entry, and_entries, entries_taken, line_unless, Line, line_after, result_err, sum_by-append, take-append_seam, is_too_far, size_up_to, statement, too_far, items_of, StatementTree, entries_of, statements_in, refusal_in, nothing_known, sights_from, opening, first_head, first_fault, entries_refusal, beginning, lines_entries, lines_items, lines_taken, nat_tests, Cut, cuts_from, list_with, holds_statement, Standing, is_open, line_behind, opened}
 use Rattle.mx_line.specs.Source.{Item as Listed, before as listed_before, items_from as line_items}
 use Rattle.mx_asm.specs.Faults.{no_memory}
 use Rattle.mx_asm.specs.OnePass.{Tried, standing, standing_after}
@@ -35,7 +35,7 @@ with-counted n m a line label r = search (rules, label-counted)
 entry-counted : (n m : ℕ) (a : Assembly) (e : Entry) → entry_taken (counting n m a) e ≡ counted_taken n m (entry_taken a e)
 entry-counted n m a e = search (rules, with-counted)
 
-behind-counted : (n m : ℕ) (out : List Item) (t : Taken) → behind_entry out (counted_taken n m t) ≡ counted_progress n m (behind_entry out t)
+behind-counted : (n m : ℕ) (out : List Item) (t : Taken) → after_entry out (counted_taken n m t) ≡ counted_progress n m (after_entry out t)
 behind-counted n m out t = search rules
 
 and-counted : (n m : ℕ) (more : List Item → Assembly → Progress) → ((out : List Item) (a : Assembly) → more out (counting n m a) ≡ counted_progress n m (more out a)) →
@@ -66,17 +66,17 @@ abbrev pub unless_far : Bool → ℕ → List Entry → List Entry
 unless_far true number entries = Err (refused number SourceTooLong) ∷ []
 unless_far false number entries = entries
 
-unfoldable pub entries_behind : ℕ → ℕ → List Line → List Entry
-entries_behind n m [] = []
-entries_behind n m (line ∷ lines) = unless_far (nat_lt (2 ^ 22) (m + length line)) (n + 1) (line_entries (n + 1) line ++ entries_behind (n + 1) (m + length line + 1) lines)
+unfoldable pub entries_after : ℕ → ℕ → List Line → List Entry
+entries_after n m [] = []
+entries_after n m (line ∷ lines) = unless_far (nat_lt (2 ^ 22) (m + length line)) (n + 1) (line_entries (n + 1) line ++ entries_after (n + 1) (m + length line + 1) lines)
 
-unfoldable pub lines_behind : ℕ → List Line → ℕ
-lines_behind n [] = n
-lines_behind n (line ∷ lines) = lines_behind (n + 1) lines
+unfoldable pub lines_after : ℕ → List Line → ℕ
+lines_after n [] = n
+lines_after n (line ∷ lines) = lines_after (n + 1) lines
 
-unfoldable pub size_behind : ℕ → List Line → ℕ
-size_behind m [] = m
-size_behind m (line ∷ lines) = size_behind (m + length line + 1) lines
+unfoldable pub size_after : ℕ → List Line → ℕ
+size_after m [] = m
+size_after m (line ∷ lines) = size_after (m + length line + 1) lines
 
 -- after a refusal nothing changes
 refused-stays : (lines : List Line) (out : List Item) (r : Refused) → fold line_after (out, Err r) lines ≡ (out, Err r)
@@ -84,20 +84,20 @@ refused-stays [] out r = refl
 refused-stays (line ∷ lines) out r = refused-stays lines out r
 
 -- one line, and those after it
-line-then : (n m : ℕ) (lines : List Line) (fs : List Entry) (more : (out : List Item) (a : Assembly) → fold line_after (out, Ok (counting n m a)) lines ≡ counted_progress (lines_behind n lines) (size_behind m lines) (entries_taken fs out a)) (p : Progress) →
-    fold line_after (counted_progress n m p) lines ≡ counted_progress (lines_behind n lines) (size_behind m lines) (and_entries (entries_taken fs) p)
+line-then : (n m : ℕ) (lines : List Line) (fs : List Entry) (more : (out : List Item) (a : Assembly) → fold line_after (out, Ok (counting n m a)) lines ≡ counted_progress (lines_after n lines) (size_after m lines) (entries_taken fs out a)) (p : Progress) →
+    fold line_after (counted_progress n m p) lines ≡ counted_progress (lines_after n lines) (size_after m lines) (and_entries (entries_taken fs) p)
 line-then n m lines fs more p = search (rules, refused-stays)
 
 line-by : (far : Bool) (n m : ℕ) (line : Line) (lines : List Line) (out : List Item) (a : Assembly) →
-    ((out : List Item) (a : Assembly) → fold line_after (out, Ok (counting (n + 1) (m + length line + 1) a)) lines ≡ counted_progress (lines_behind (n + 1) lines) (size_behind (m + length line + 1) lines) (entries_taken (entries_behind (n + 1) (m + length line + 1) lines) out a)) →
+    ((out : List Item) (a : Assembly) → fold line_after (out, Ok (counting (n + 1) (m + length line + 1) a)) lines ≡ counted_progress (lines_after (n + 1) lines) (size_after (m + length line + 1) lines) (entries_taken (entries_after (n + 1) (m + length line + 1) lines) out a)) →
     fold line_after (line_unless (cond far (Some (refused (n + 1) SourceTooLong)) None) out (counting n m a) line) lines
-    ≡ counted_progress (lines_behind (n + 1) lines) (size_behind (m + length line + 1) lines) (entries_taken (unless_far far (n + 1) (line_entries (n + 1) line ++ entries_behind (n + 1) (m + length line + 1) lines)) out a)
+    ≡ counted_progress (lines_after (n + 1) lines) (size_after (m + length line + 1) lines) (entries_taken (unless_far far (n + 1) (line_entries (n + 1) line ++ entries_after (n + 1) (m + length line + 1) lines)) out a)
 unfolding entries_taken
 line-by far n m line lines out a h = search (rules, refused-stays, entries-counted, line-then, entries-append)
 
 pub lines-are : (lines : List Line) (n m : ℕ) (out : List Item) (a : Assembly) →
-    fold line_after (out, Ok (counting n m a)) lines ≡ counted_progress (lines_behind n lines) (size_behind m lines) (entries_taken (entries_behind n m lines) out a)
-unfolding entries_behind lines_behind size_behind entries_taken
+    fold line_after (out, Ok (counting n m a)) lines ≡ counted_progress (lines_after n lines) (size_after m lines) (entries_taken (entries_after n m lines) out a)
+unfolding entries_after lines_after size_after entries_taken
 lines-are [] n m out a = refl
 lines-are (line ∷ lines) n m out a = line-by (nat_lt (2 ^ 22) (m + length line)) n m line lines out a (lines-are lines (n + 1) (m + length line + 1))
 
@@ -131,18 +131,18 @@ one-listed : (far : Bool) (n : ℕ) (xs ys : List Listed) (fs : List Entry) → 
 one-listed true n xs ys fs h = (refl, refl)
 one-listed false n xs ys fs h = same-before xs ys fs h
 
-are-listed : (lines prev all : List Line) → all ≡ prev ++ lines → Same (entries_of (line_items all (length prev + 1) lines)) (entries_behind (length prev) (size_of prev) lines)
-unfolding line_items entries_behind
+are-listed : (lines prev all : List Line) → all ≡ prev ++ lines → Same (entries_of (line_items all (length prev + 1) lines)) (entries_after (length prev) (size_of prev) lines)
+unfolding line_items entries_after
 are-listed [] prev all e = (refl, refl)
 are-listed (line ∷ lines) prev all e =
     let far : is_too_far all (length prev + 1) ≡ nat_lt (2 ^ 22) (size_of prev + length line) =
     ap (λ ls. is_too_far ls (length prev + 1)) e ∙ ap (nat_lt (2 ^ 22)) (far-size prev line lines) in
-    let later : Same (entries_of (line_items all (length prev + 1 + 1) lines)) (entries_behind (length prev + 1) (size_of prev + length line + 1) lines) =
-    subst (λ n. Same (entries_of (line_items all (n + 1) lines)) (entries_behind n (size_of prev + length line + 1) lines)) (length-append prev (line ∷ []))
-    (subst (λ m. Same (entries_of (line_items all (length (prev ++ line ∷ []) + 1) lines)) (entries_behind (length (prev ++ line ∷ [])) m lines)) (simp (sum_by-append, length-append) (omega arith))
+    let later : Same (entries_of (line_items all (length prev + 1 + 1) lines)) (entries_after (length prev + 1) (size_of prev + length line + 1) lines) =
+    subst (λ n. Same (entries_of (line_items all (n + 1) lines)) (entries_after n (size_of prev + length line + 1) lines)) (length-append prev (line ∷ []))
+    (subst (λ m. Same (entries_of (line_items all (length (prev ++ line ∷ []) + 1) lines)) (entries_after (length (prev ++ line ∷ [])) m lines)) (simp (sum_by-append, length-append) (omega arith))
     (are-listed lines (prev ++ line ∷ []) all (e ∙ sym (append_assoc prev (line ∷ []) lines)))) in
     subst (λ b. Same (entries_of (cond b (too_far (length prev + 1) ∷ []) (listed_before (items_of (length prev + 1) line) (line_items all (length prev + 1 + 1) lines))))
-    (unless_far (nat_lt (2 ^ 22) (size_of prev + length line)) (length prev + 1) (line_entries (length prev + 1) line ++ entries_behind (length prev + 1) (size_of prev + length line + 1) lines))) (sym far)
+    (unless_far (nat_lt (2 ^ 22) (size_of prev + length line)) (length prev + 1) (line_entries (length prev + 1) line ++ entries_after (length prev + 1) (size_of prev + length line + 1) lines))) (sym far)
     (one-listed (nat_lt (2 ^ 22) (size_of prev + length line)) (length prev + 1) (items_of (length prev + 1) line) (line_items all (length prev + 1 + 1) lines) _ later)
 
 -- ---- the law
@@ -159,13 +159,13 @@ unfolding open_waits
 begun line lines = refl
 
 pub some-lines : (line : Line) (lines : List Line) →
-    lines_taken (line ∷ lines) ≡ counted_progress (lines_behind 0 (line ∷ lines)) (size_behind 0 (line ∷ lines)) (lines_outcome (statements_in (lines_entries (line ∷ lines))) (refusal_in (lines_entries (line ∷ lines))))
+    lines_taken (line ∷ lines) ≡ counted_progress (lines_after 0 (line ∷ lines)) (size_after 0 (line ∷ lines)) (lines_outcome (statements_in (lines_entries (line ∷ lines))) (refusal_in (lines_entries (line ∷ lines))))
 some-lines line lines =
-    let listed : Same (lines_entries (line ∷ lines)) (entries_behind 0 0 (line ∷ lines)) = are-listed (line ∷ lines) [] (line ∷ lines) refl in
+    let listed : Same (lines_entries (line ∷ lines)) (entries_after 0 0 (line ∷ lines)) = are-listed (line ∷ lines) [] (line ∷ lines) refl in
     begun line lines
     ∙ lines-are (line ∷ lines) 0 0 opening (standing_at nothing_known first_head [] 0)
-    ∙ ap (counted_progress (lines_behind 0 (line ∷ lines)) (size_behind 0 (line ∷ lines)))
-    (entries-are (entries_behind 0 0 (line ∷ lines)) nothing_known first_head [] 0 opening no-labels
+    ∙ ap (counted_progress (lines_after 0 (line ∷ lines)) (size_after 0 (line ∷ lines)))
+    (entries-are (entries_after 0 0 (line ∷ lines)) nothing_known first_head [] 0 opening no-labels
     ∙ (λ i. lines_outcome (sym listed.0 i) (sym listed.1 i)))
 
 progress-items : (n m : ℕ) (out : List Item) (r : Option Refused) (a : Assembly) → (counted_progress n m (outcome out r a)).0 ≡ out

@@ -1,6 +1,6 @@
 -- One statement in one pass, and entries one after another, as the two passes have them.
 use Rattle.std.proofs.Common.{◌≡◌, ℕ, Bool, true, false, cond, nat_lt, List, [], ◌∷◌, ◌++◌, length, Option, None, Some, is_some, Result, Ok, Err, refl, ap, sym, ◌∙◌, slice_set, ◌||◌, bytes_eq, rules, fold, append_assoc, append-nil, arith}
-use Rattle.mx_asm.proofs.Words.{result_unwrap_or, list_any-append, Value, Wait, Item, predefined_value, NameFault, Twice, Predefined, NameTooLong, NameTable, Naming, complete_form, value_in, define_answer, with_symbol, waits_for, waits_for_others, value-inserted, not-some, Label, Name, Local, Effect, Placed, Answer, Known, no_targets, symbol_form, StatementTree, encoding, AsmFault, Refused, Head, Sight, outline, waits_in, with_label, with_effect, known_behind, known_with, known_after, fixes, awaited_value, waiting_for, waiting_at, statement_items, statement_head, sight_items, sight_head, refusal_of, name_refusal, name_fault, label_fault, fault_behind, fault_with, statement_fault, Assembly, Taken, naming_of, labelled, symbol_label, symbol_defined, with_local, taken_items, taken_label, taken_with, statement_taken, Entry, statements_in, refusal_in, sights_from, items_from, first_fault, first_of, Progress, behind_entry, and_entries, entries_taken, accepted}
+use Rattle.mx_asm.proofs.Words.{result_unwrap_or, list_any-append, Value, Wait, Item, predefined_value, NameFault, Twice, Predefined, NameTooLong, NameTable, Naming, complete_form, value_in, define_answer, with_symbol, waits_for, waits_for_others, value-inserted, not-some, Label, Name, Local, Effect, Placed, Answer, Known, no_targets, symbol_form, StatementTree, encoding, AsmFault, Refused, Head, Sight, outline, waits_in, with_label, with_effect, known_behind, known_with, known_after, fixes, awaited_value, waiting_for, waiting_at, statement_items, statement_head, sight_items, sight_head, refusal_of, name_refusal, name_fault, label_fault, fault_after, fault_with, statement_fault, Assembly, Taken, naming_of, labelled, with_symbol_label, symbol_defined, with_local, taken_items, taken_label, taken_with, statement_taken, Entry, statements_in, refusal_in, sights_from, items_from, first_fault, first_of, Progress, after_entry, and_entries, entries_taken, accepted}
 use Rattle.mx_word.specs.declared.waits.Awaited.TheVariants as awaited
 use Rattle.mx_asm.proofs.OpenWaits.{or-false, settled_by, any_settles, open_waits, open-unlabelled, open-named, open-local, named-waits, local-waits}
 use Rattle.mx_asm.proofs.StatementForms.{HasLabel, encoding-label}
@@ -57,7 +57,7 @@ module _ (k : Known) (h : Head) (before : List Sight) (l : ℕ) (st : StatementT
   -- the references that wait, and the names, are those of the two passes
   settled : (p : Placed) (n : Naming) (waits : List Wait) → waits ≡ waiting_at before here →
       n ≡ record { names = with_label k.names st.label p.label; waiting = open_waits after } →
-      taken_label (standing_at k h before l) st.line p (Ok (n, waits)) ≡ stepped (fault_behind before here p None)
+      taken_label (standing_at k h before l) st.line p (Ok (n, waits)) ≡ stepped (fault_after before here p None)
       (result_unwrap_or (statement_items h st.line p (waiting_at before here)) [])
       (standing_at (known_behind k st p) (statement_head h st.line p (waiting_at before here)) after (with_local l p.effect))
   settled p n waits ws ns = grind (arith, items-by)
@@ -66,7 +66,7 @@ module _ (k : Known) (h : Head) (before : List Sight) (l : ℕ) (st : StatementT
   abbrev Comes : Placed → Option Label → Option Value → List Wait → Type 0
   Comes p label value waits =
       taken_label (standing_at k h before l) st.line p (labelled (naming_of (standing_at k h before l)) label value waits)
-      ≡ stepped (fault_behind before here p (label_fault k.names label))
+      ≡ stepped (fault_after before here p (label_fault k.names label))
       (result_unwrap_or (statement_items h st.line p (waiting_at before here)) [])
       (standing_at (known_behind k st p) (statement_head h st.line p (waiting_at before here)) after (with_local l p.effect))
 
@@ -87,7 +87,7 @@ module _ (k : Known) (h : Head) (before : List Sight) (l : ℕ) (st : StatementT
 
     defined-comes : (u : Unit {0}) → is_some (value_in form k.names.symbols) ≡ false →
         taken_label (standing_at k h before l) st.line p (symbol_defined (naming_of (standing_at k h before l)) form value p.waits (Ok u))
-        ≡ stepped (fault_behind before here p None)
+        ≡ stepped (fault_after before here p None)
         (result_unwrap_or (statement_items h st.line p (waiting_at before here)) [])
         (standing_at (known_behind k st p) (statement_head h st.line p (waiting_at before here)) after (with_local l p.effect))
     defined-comes u new =
@@ -97,7 +97,7 @@ module _ (k : Known) (h : Head) (before : List Sight) (l : ℕ) (st : StatementT
 
     answered-comes : (full : List ℕ) (answer : Result (Unit {0}) NameFault) → symbol_form k.names text ≡ Ok full → define_answer k.names full ≡ answer →
         taken_label (standing_at k h before l) st.line p (symbol_defined (naming_of (standing_at k h before l)) full value p.waits answer)
-        ≡ stepped (fault_behind before here p (name_refusal answer))
+        ≡ stepped (fault_after before here p (name_refusal answer))
         (result_unwrap_or (statement_items h st.line p (waiting_at before here)) [])
         (standing_at (known_behind k st p) (statement_head h st.line p (waiting_at before here)) after (with_local l p.effect))
     answered-comes full (Err fault) form_is told = refl
@@ -107,8 +107,8 @@ module _ (k : Known) (h : Head) (before : List Sight) (l : ℕ) (st : StatementT
         ∙ defined-comes u (ap (λ f. is_some (value_in f k.names.symbols)) (sym same) ∙ absent k.names full u told)
 
     formed-comes : (r : Result (List ℕ) NameFault) → symbol_form k.names text ≡ r →
-        taken_label (standing_at k h before l) st.line p (symbol_label (naming_of (standing_at k h before l)) value p.waits r)
-        ≡ stepped (fault_behind before here p (name_fault k.names r))
+        taken_label (standing_at k h before l) st.line p (with_symbol_label (naming_of (standing_at k h before l)) value p.waits r)
+        ≡ stepped (fault_after before here p (name_fault k.names r))
         (result_unwrap_or (statement_items h st.line p (waiting_at before here)) [])
         (standing_at (known_behind k st p) (statement_head h st.line p (waiting_at before here)) after (with_local l p.effect))
     formed-comes (Err fault) is = refl
@@ -157,7 +157,7 @@ label-more names label value full h1 h2 = search (rules, symbol-more, name-new, 
 pub effect-symbols : (k : Known) (e : Effect) → (with_effect k e).names.symbols ≡ k.names.symbols
 effect-symbols k e = search rules
 
-pub no-label-fault : (before : List Sight) (s : Sight) (p : Placed) (f : Option AsmFault) → fault_behind before s p f ≡ None → f ≡ None
+pub no-label-fault : (before : List Sight) (s : Sight) (p : Placed) (f : Option AsmFault) → fault_after before s p f ≡ None → f ≡ None
 no-label-fault before s p f h = search rules
 
 module _ (k : Known) (before : List Sight) (st : StatementTree) where
@@ -221,7 +221,7 @@ step-outcome : (k : Known) (h : Head) (before : List Sight) (l : ℕ) (out : Lis
     (statement_fault before (record { known = k; statement = st }) ≡ None →
     entries_taken entries (out ++ sight_items h before (s k h before l out st [] None) (outline (s k h before l out st [] None))) (standing_at (known_after k st) (sight_head h before (s k h before l out st [] None) (outline (s k h before l out st [] None))) (before ++ s k h before l out st [] None ∷ []) (sight_local l (outline (s k h before l out st [] None))))
     ≡ rest k h before l out st (statements_in entries) (refusal_in entries)) →
-    and_entries (entries_taken entries) (behind_entry out (stepped fault (sight_items h before (s k h before l out st [] None) (outline (s k h before l out st [] None))) (standing_at (known_after k st) (sight_head h before (s k h before l out st [] None) (outline (s k h before l out st [] None))) (before ++ s k h before l out st [] None ∷ []) (sight_local l (outline (s k h before l out st [] None))))))
+    and_entries (entries_taken entries) (after_entry out (stepped fault (sight_items h before (s k h before l out st [] None) (outline (s k h before l out st [] None))) (standing_at (known_after k st) (sight_head h before (s k h before l out st [] None) (outline (s k h before l out st [] None))) (before ++ s k h before l out st [] None ∷ []) (sight_local l (outline (s k h before l out st [] None))))))
     ≡ entries_outcome k h before l out (st ∷ statements_in entries) (refusal_in entries)
 step-outcome k h before l out st entries fault is more = grind (arith, refused-first, more-first)
 
@@ -231,7 +231,7 @@ unfolding entries_taken
 entries-are [] k h before l out labels = nothing-more k h before l out
 entries-are (Err r ∷ entries) k h before l out labels = refused-here k h before l out r
 entries-are (Ok st ∷ entries) k h before l out labels =
-    ap (λ taken. and_entries (entries_taken entries) (behind_entry out taken)) (one-statement k h before l st labels)
+    ap (λ taken. and_entries (entries_taken entries) (after_entry out taken)) (one-statement k h before l st labels)
     ∙ step-outcome k h before l out st entries (statement_fault before (record { known = k; statement = st })) refl
     (λ none. entries-are entries (known_after k st) (sight_head h before (record { known = k; statement = st }) (outline (record { known = k; statement = st }))) (before ++ record { known = k; statement = st } ∷ [])
     (sight_local l (outline (record { known = k; statement = st }))) (out ++ sight_items h before (record { known = k; statement = st }) (outline (record { known = k; statement = st })))

@@ -78,9 +78,9 @@ symbol_defined n full value waits (Ok u) =
     let waiting = n.waiting ++ waits in
     Ok (record { names = with_symbol n.names full value; waiting = waits_for_others (awaited.Name full) waiting }, waits_for (awaited.Name full) waiting)
 
-abbrev pub symbol_label : Naming → Value → List Wait → Result (List ℕ) NameFault → Labelled
-symbol_label n value waits (Err fault) = Err (BadName fault)
-symbol_label n value waits (Ok full) = symbol_defined n full value waits (define_answer n.names full)
+abbrev pub with_symbol_label : Naming → Value → List Wait → Result (List ℕ) NameFault → Labelled
+with_symbol_label n value waits (Err fault) = Err (BadName fault)
+with_symbol_label n value waits (Ok full) = symbol_defined n full value waits (define_answer n.names full)
 
 -- a label dH: its own references to dF wait for a later one
 abbrev pub local_label : Naming → ℕ → Value → List Wait → Labelled
@@ -94,7 +94,7 @@ local_label n d value waits =
     )
 
 abbrev pub labelled : Naming → Option Label → Option Value → List Wait → Labelled
-labelled n (Some (Name text)) (Some value) waits = symbol_label n value waits (symbol_form n.names text)
+labelled n (Some (Name text)) (Some value) waits = with_symbol_label n value waits (symbol_form n.names text)
 labelled n (Some (Local d)) (Some value) waits = local_label n d value waits
 labelled n label value waits = Ok (with_waits n waits, [])
 
@@ -145,9 +145,9 @@ entry_taken a (Ok s) = statement_taken a s
 abbrev pub Progress : Type 0
 Progress = List Item × Standing
 
-abbrev pub behind_entry : List Item → Taken → Progress
-behind_entry out (Err refused) = (out, Err refused)
-behind_entry out (Ok (items, a)) = (out ++ items, Ok a)
+abbrev pub after_entry : List Item → Taken → Progress
+after_entry out (Err refused) = (out, Err refused)
+after_entry out (Ok (items, a)) = (out ++ items, Ok a)
 
 abbrev pub and_entries : (List Item → Assembly → Progress) → Progress → Progress
 and_entries more (out, Err refused) = (out, Err refused)
@@ -156,11 +156,11 @@ and_entries more (out, Ok a) = more out a
 -- the entries of a line in turn; the first refusal ends them
 unfoldable pub entries_taken : List Entry → List Item → Assembly → Progress
 entries_taken [] out a = (out, Ok a)
-entries_taken (e ∷ entries) out a = and_entries (entries_taken entries) (behind_entry out (entry_taken a e))
+entries_taken (e ∷ entries) out a = and_entries (entries_taken entries) (after_entry out (entry_taken a e))
 
 -- a statement that was cut from a line with this number
 abbrev pub cut_taken : ℕ → List ℕ → Cut → List Item → Assembly → Progress
-cut_taken line text cut out a = behind_entry out (entry_taken a (entry_of (item_of line text (Ok cut))))
+cut_taken line text cut out a = after_entry out (entry_taken a (entry_of (item_of line text (Ok cut))))
 
 -- a line is counted
 abbrev pub counted : Assembly → List ℕ → Assembly

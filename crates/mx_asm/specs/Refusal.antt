@@ -50,14 +50,14 @@ abbrev pub refusal_of : Result (List Item) Refused → Option Refused
 refusal_of (Err refused) = Some refused
 refusal_of (Ok items) = None
 
-abbrev pub fault_behind : List Sight → Sight → Placed → Option AsmFault → Option Refused
-fault_behind earlier s p (Some fault) = Some (refused s.statement.line fault)
-fault_behind earlier s p None = refusal_of (fixes s.statement.line (awaited_value p.label) (waiting_at earlier s))
+abbrev pub fault_after : List Sight → Sight → Placed → Option AsmFault → Option Refused
+fault_after earlier s p (Some fault) = Some (refused s.statement.line fault)
+fault_after earlier s p None = refusal_of (fixes s.statement.line (awaited_value p.label) (waiting_at earlier s))
 
 -- the operands, then the label, then the references that wait for it
 abbrev pub fault_with : List Sight → Sight → Answer Placed → Option Refused
 fault_with earlier s (Err fault) = Some (refused s.statement.line (Stmt fault))
-fault_with earlier s (Ok p) = fault_behind earlier s p (label_fault s.known.names s.statement.label)
+fault_with earlier s (Ok p) = fault_after earlier s p (label_fault s.known.names s.statement.label)
 
 abbrev pub statement_fault : List Sight → Sight → Option Refused
 statement_fault earlier s = fault_with earlier s (outline s)

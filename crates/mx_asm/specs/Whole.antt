@@ -37,13 +37,13 @@ abbrev pub entries_items : List Entry → List Item
 entries_items entries = items_from first_head [] (accepted [] (sights_of (statements_in entries)))
 
 -- the opening is before the items of a first line
-abbrev pub behind_opening : List Line → List Item → List Item
-behind_opening [] items = []
-behind_opening (line ∷ lines) items = opening ++ items
+abbrev pub after_opening : List Line → List Item → List Item
+after_opening [] items = []
+after_opening (line ∷ lines) items = opening ++ items
 
 -- the items that lines give
 abbrev pub lines_items : List Line → List Item
-lines_items lines = behind_opening lines (entries_items (lines_entries lines))
+lines_items lines = after_opening lines (entries_items (lines_entries lines))
 
 -- the refusal of lines, as long as more lines may follow
 abbrev pub lines_refusal : List Line → Option Refused

@@ -74,7 +74,7 @@ impl Assembler {
         ensures sparing { spec.is_open self.old ≡ true → holds_statement text.now ≡ false → result ≢ Err no_memory }
         ensures front { IsFront out.old out.new × IsFront out.new (spec.line_behind out.old self.old text.now).0 }
         ensures fits { AreFit out.old → AreFit out.new }
-        ensures again { OnErr self.old ((out.new ≡ out.old) × (self.new ≡ self.old)) }
+        ensures refusal_again { OnErr self.old ((out.new ≡ out.old) × (self.new ≡ self.old)) }
     {
         match self.try_line(text, out) {
             Ok(Ok(())) => Ok(()),
@@ -100,7 +100,7 @@ impl Assembler {
         ensures sparing { spec.is_open self.old ≡ true → holds_statement text.now ≡ false → spec.line_answer result ≢ Err no_memory }
         ensures front { IsFront out.old out.new × IsFront out.new (spec.line_behind out.old self.old text.now).0 }
         ensures fits { AreFit out.old → AreFit out.new }
-        ensures again { OnErr self.old ((out.new ≡ out.old) × (self.new ≡ self.old)) }
+        ensures refusal_again { OnErr self.old ((out.new ≡ out.old) × (self.new ≡ self.old)) }
         ensures closed { IfErr self.old (λ refused. result ≡ Err refused) }
     {
         if let Some(refused) = self.refused {
@@ -132,7 +132,7 @@ impl Assembler {
         ensures fits { AreFit out.old → AreFit out.new }
         ensures object { (lines : List (List ℕ)) → HasTaken lines self.old → AreFit (lines_items lines) →
             IfOk result (λ trie. AreWritable (assembled_lines lines).0 trie) }
-        ensures again { OnErr self.old ((out.new ≡ out.old) × (self.new ≡ self.old)) }
+        ensures refusal_again { OnErr self.old ((out.new ≡ out.old) × (self.new ≡ self.old)) }
     {
         if let Some(refused) = self.refused {
             return Err(refused);

@@ -15,7 +15,7 @@ ghost use Rattle.mx_asm.specs.Fixes.{awaited_value};
 ghost use Rattle.mx_asm.specs.TwoPass.{with_effect};
 ghost use Rattle.mx_asm.specs.OnePass as spec;
 
-use crate::ending::{close, main_fault, padded_trie, undefined};
+use crate::ending::{close, main_fault, make_padded_trie, undefined_fault};
 use crate::fixes::fix_items;
 use crate::head::Head;
 use crate::{AsmFault, Refused, labels};
@@ -146,13 +146,13 @@ impl Assembly {
         ensures trie { IfOk result IsPadded }
     {
         if let Some(wait) = self.names.first_waiting() {
-            return Err(Refused::at(wait.line, undefined(&wait.who)));
+            return Err(Refused::at(wait.line, undefined_fault(&wait.who)));
         }
         let last = self.lines.max(1);
         if let Some(fault) = main_fault(&self.names, self.gregs.lowest(), self.locals) {
             return Err(Refused::at(last, fault));
         }
-        let trie = padded_trie(self.alloc, &self.names)?;
+        let trie = make_padded_trie(self.alloc, &self.names)?;
         if trie.as_slice().len() / 4 > MOST_TETRAS {
             return Err(Refused::at(last, AsmFault::SymbolsTooMany));
         }

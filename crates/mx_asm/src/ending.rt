@@ -18,7 +18,7 @@ use mx_word::{Awaited, Bytes, NoMemory, Value};
 use std::alloc::Global;
 
 /// The fault of a reference to what is never defined.
-pub(crate) fn undefined(who: &Awaited) -> AsmFault
+pub(crate) fn undefined_fault(who: &Awaited) -> AsmFault
     ensures { result ≡ undefined who.now }
 {
     match who {
@@ -51,7 +51,7 @@ fn main_address(names: &Names) -> u64
 }
 
 /// The symbol trie, with the zeros that complete its last tetra.
-pub(crate) fn padded_trie(alloc: Global, names: &Names) -> Result<Bytes, NoMemory>
+pub(crate) fn make_padded_trie(alloc: Global, names: &Names) -> Result<Bytes, NoMemory>
     ensures trie { IfOk result (λ trie. trie ≡ emission.padded_trie names.now.names) }
     ensures whole { IfOk result (λ trie. length trie % 4 ≡ 0) }
 {
@@ -61,11 +61,11 @@ pub(crate) fn padded_trie(alloc: Global, names: &Names) -> Result<Bytes, NoMemor
     let Ok(trie) = write(alloc, &symbols) else {
         return Err(NoMemory);
     };
-    padded(trie)
+    pad_to_tetra(trie)
 }
 
 /// Bytes with the zeros that complete their last tetra.
-fn padded(bytes: Bytes) -> Result<Bytes, NoMemory>
+fn pad_to_tetra(bytes: Bytes) -> Result<Bytes, NoMemory>
     ensures trie { IfOk result (λ trie. trie ≡ bytes ++ emission.zeros_after (length bytes)) }
     ensures whole { IfOk result (λ trie. length trie % 4 ≡ 0) }
 {

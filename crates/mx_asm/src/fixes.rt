@@ -115,7 +115,7 @@ fn with_fixes(items: Items, line: u32, value: Value, waits: &[Wait]) -> Result<I
 
 /// The address of a label, where lambda is another.
 #[tactic(auto, using(crate::proofs::Fitting::fitting))]
-fn moved(alloc: Global, lambda: u64, value: Value) -> Result<Items, NoMemory>
+fn lambda_items(alloc: Global, lambda: u64, value: Value) -> Result<Items, NoMemory>
     ensures items { IfOk result (λ items. items ≡ moved lambda value) }
     ensures fits { IfOk result AreFit }
 {
@@ -144,6 +144,6 @@ pub(crate) fn fix_items(
     if waits.is_empty() {
         return Ok(Items::new(alloc));
     }
-    let items = moved(alloc, lambda, value)?;
+    let items = lambda_items(alloc, lambda, value)?;
     with_fixes(items, line, value, waits)
 }

@@ -41,8 +41,8 @@ impl Head {
         }
         let end = start + bytes.len() as u64;
         Head {
-            lambda: raised(end),
-            line: line_behind(told_line(line), raised(end) / 4 - start / 4),
+            lambda: round_up(end),
+            line: line_behind(short_line(line), round_up(end) / 4 - start / 4),
         }
     }
 
@@ -70,14 +70,14 @@ impl Head {
 }
 
 /// The multiple of 4 that is not above.
-fn lowered(a: u64) -> u64
+fn round_down(a: u64) -> u64
     ensures { result ≡ spec.lowered a }
 {
     a / 4 * 4
 }
 
 /// The multiple of 4 that is not below.
-fn raised(a: u64) -> u64
+fn round_up(a: u64) -> u64
     requires { a ≤ 2 ^ 63 }
     ensures { result ≡ spec.raised a }
 {
@@ -85,7 +85,7 @@ fn raised(a: u64) -> u64
 }
 
 /// The number that tells a line, or 0 where the line has no such number.
-fn told_line(line: u32) -> u16
+fn short_line(line: u32) -> u16
     ensures { result ≡ spec.told_line line }
 {
     if line > 65535 { 0 } else { line as u16 }
@@ -108,10 +108,10 @@ fn locate(items: &mut Items, lambda: u64, start: u64) -> Result<(), NoMemory>
     ensures items { OnOk result (items.new ≡ items.old ++ spec.located lambda start) }
     ensures fits { OnOk result (AreFit items.old → AreFit items.new) }
 {
-    if lowered(lambda) == lowered(start) {
+    if round_down(lambda) == round_down(start) {
         return Ok(());
     }
-    items.push(Item::Loc(lowered(start)))
+    items.push(Item::Loc(round_down(start)))
 }
 
 /// Adds the line of tetras, if another one is in force.
@@ -120,7 +120,7 @@ fn set_line(items: &mut Items, in_force: u32, line: u32) -> Result<(), NoMemory>
     ensures items { OnOk result (items.new ≡ items.old ++ spec.lined in_force line) }
     ensures fits { OnOk result (AreFit items.old → AreFit items.new) }
 {
-    let told = told_line(line);
+    let told = short_line(line);
     if in_force == u32::from(told) {
         return Ok(());
     }

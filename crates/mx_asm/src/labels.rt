@@ -82,7 +82,7 @@ fn define_name(
     requires room { length names.old.names.symbols < 0xffff_ffff }
     ensures labelled { result ≢ Err AsmFault.OutOfMemory →
         spec.labelled_after result names.new ≡
-        spec.symbol_label names.old value waits (symbol_form names.old.names text.now) }
+        spec.with_symbol_label names.old value waits (symbol_form names.old.names text.now) }
     ensures kept { AreNames names.old.names → AreNames names.new.names }
     ensures few { length names.new.names.symbols ≤ length names.old.names.symbols + 1 }
     ensures early { IfErr result (λ fault. is_early fault ≡ true → names.new ≡ names.old) }

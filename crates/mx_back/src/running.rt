@@ -93,7 +93,7 @@ fn keep_any_step<H: Host>(
     let pc = machine.pc();
     match back.step(machine) {
         Step::Went(_) => Ok(()),
-        Step::Trap(call) => ended_at(pc, trap_kept(alloc, machine, host, &call, back)),
+        Step::Trap(call) => check_turn_end(pc, trap_kept(alloc, machine, host, &call, back)),
         Step::Stopped(reason) => Err(End::Stopped {
             pc,
             reason: reason.number(),
@@ -103,7 +103,7 @@ fn keep_any_step<H: Host>(
 }
 
 /// Whether the run goes on after a turn from an address, or its end.
-fn ended_at(pc: u64, answer: TurnAnswer) -> Result<(), End>
+fn check_turn_end(pc: u64, answer: TurnAnswer) -> Result<(), End>
     ensures { result ≡ spec.ended_at pc answer }
 {
     match answer {

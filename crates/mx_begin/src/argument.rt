@@ -32,7 +32,7 @@ fn program_name(word: &[u8]) -> &[u8]
 }
 
 /// The bytes of the word at a place.
-pub fn word(words: &[String], place: usize) -> &[u8]
+pub fn word_bytes(words: &[String], place: usize) -> &[u8]
     requires { place < length words.now }
     ensures { result.now ≡ spec.word_at (map string_bytes words.now) place }
 {
@@ -40,7 +40,7 @@ pub fn word(words: &[String], place: usize) -> &[u8]
 }
 
 /// The words after the file as arguments.
-fn copied(alloc: Global, words: &[String], first: Bytes) -> Result<Vec<Bytes>, NoMemory>
+fn copy_words(alloc: Global, words: &[String], first: Bytes) -> Result<Vec<Bytes>, NoMemory>
     ensures { IfOk result (λ arguments. arguments.items ≡ first ∷ map string_bytes words.now) }
 {
     let mut arguments = Vec::new(alloc);
@@ -53,15 +53,19 @@ fn copied(alloc: Global, words: &[String], first: Bytes) -> Result<Vec<Bytes>, N
 
 /// The arguments of a program that the words order to run: argument 0, and the words after the file.
 /// They fit the pool segment.
-pub fn arguments(alloc: Global, words: &[String], order: &Order) -> Result<Vec<Bytes>, NoMemory>
+pub fn collect_arguments(
+    alloc: Global,
+    words: &[String],
+    order: &Order,
+) -> Result<Vec<Bytes>, NoMemory>
     requires file { order.now.file < length words.now }
     requires rest { order.now.rest ≤ length words.now }
     ensures value { IfOk result (λ arguments. arguments.items ≡ spec.arguments (map string_bytes words.now) order.now) }
     ensures fits { IfOk result (λ arguments. pool + 8 * length (pool_octas arguments.items) ≤ stack_address 0) }
 {
     let name = Bytes::copy(alloc, program_name(words[order.file].as_bytes()))?;
-    let arguments = copied(alloc, &words[order.rest..], name)?;
-    if !fit_pool(arguments.as_slice()) {
+    let arguments = copy_words(alloc, &words[order.rest..], name)?;
+    if !is_within_pool(arguments.as_slice()) {
         return Err(NoMemory);
     }
     Ok(arguments)
@@ -69,7 +73,7 @@ pub fn arguments(alloc: Global, words: &[String], order: &Order) -> Result<Vec<B
 
 /// Whether arguments take less than the limit of the pool. No memory holds others.
 #[tactic(auto, using(crate::proofs::Pools::pooling))]
-fn fit_pool(arguments: &[Bytes]) -> bool
+fn is_within_pool(arguments: &[Bytes]) -> bool
     ensures { result ≡ true → pool + 8 * length (pool_octas arguments.now) ≤ stack_address 0 }
 {
     let mut size = 16u64;

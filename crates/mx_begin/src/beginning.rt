@@ -14,7 +14,7 @@ ghost use Rattle.mx_run.specs.WildRuns.{window_machine, list_machine};
 ghost use Rattle.mx_start.specs.Start.{pool, pool_octas};
 ghost use Rattle.mx_word.specs.Results.{map_ok};
 
-use crate::argument::{arguments, word};
+use crate::argument::{collect_arguments, word_bytes};
 use crate::images::{Form, read_image};
 use mx_core::Machine;
 use mx_host::Host;
@@ -28,22 +28,22 @@ use std::alloc::Global;
 
 /// The machine of an image with these arguments at its start, or the outcome where the pages are full.
 #[tactic(auto, using(crate::proofs::StartedMachines::starting))]
-pub fn start(
+pub fn start_machine(
     alloc: Global,
     image: Image,
     arguments: &[Bytes],
     ring: RingSize,
 ) -> Result<Machine, Outcome>
-    requires some { 1 ≤ length arguments.now }
+    requires not_empty { 1 ≤ length arguments.now }
     requires fits { pool + 8 * length (pool_octas arguments.now) ≤ stack_address 0 }
     ensures window { result ≢ Err Outcome.OutOfMemory → map_ok state_of result
         ≡ spec.started window_machine ring (image_of image) arguments.now }
     ensures list { result ≢ Err Outcome.OutOfMemory → map_ok (λ m. as_list_state (state_of m)) result
         ≡ spec.started list_machine ring (image_of image) arguments.now }
     ensures untouched { IfOk result (λ m. (state_of m).touched ≡ false) }
-    ensures well { result ≢ Err Outcome.HostFault }
-    ensures present { result ≢ Err Outcome.NoFile }
-    ensures words { IfErr result (λ outcome. is_usage outcome ≡ false) }
+    ensures no_host_fault { result ≢ Err Outcome.HostFault }
+    ensures no_missing_file { result ≢ Err Outcome.NoFile }
+    ensures no_usage { IfErr result (λ outcome. is_usage outcome ≡ false) }
 {
     let pc = image.global(255) / 4 * 4;
     match mx_start::start(alloc, image, arguments, ring) {
@@ -75,12 +75,12 @@ pub fn begin<H: Host>(
     ensures untouched { IfOk result (λ machine. (state_of machine).touched ≡ false) }
     ensures causes { PartFailsOnlyBy H.told H.faults host.old host.new result }
 {
-    let arguments = match arguments(alloc, words, order) {
+    let arguments = match collect_arguments(alloc, words, order) {
         Ok(arguments) => arguments,
         Err(_) => return Err(Outcome::OutOfMemory),
     };
-    match read_image(alloc, host, form, word(words, order.file)) {
-        Ok(image) => start(alloc, image, arguments.as_slice(), order.ring),
+    match read_image(alloc, host, form, word_bytes(words, order.file)) {
+        Ok(image) => start_machine(alloc, image, arguments.as_slice(), order.ring),
         Err(outcome) => Err(outcome),
     }
 }

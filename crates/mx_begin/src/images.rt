@@ -35,11 +35,11 @@ fn most_pieces(form: Form) -> u32
 }
 
 /// The image that a source means, or the outcome where it is refused.
-fn assembled(alloc: Global, text: &[u8]) -> Result<Image, Outcome>
+fn assemble_image(alloc: Global, text: &[u8]) -> Result<Image, Outcome>
     ensures image { result ≢ Err Outcome.OutOfMemory → map_ok image_of result ≡ spec.image_in Form.Source text.now }
-    ensures well { result ≢ Err Outcome.HostFault }
-    ensures present { result ≢ Err Outcome.NoFile }
-    ensures words { IfErr result (λ outcome. is_usage outcome ≡ false) }
+    ensures no_host_fault { result ≢ Err Outcome.HostFault }
+    ensures no_missing_file { result ≢ Err Outcome.NoFile }
+    ensures no_usage { IfErr result (λ outcome. is_usage outcome ≡ false) }
 {
     match load_source(alloc, text) {
         Ok(image) => Ok(image),
@@ -49,11 +49,11 @@ fn assembled(alloc: Global, text: &[u8]) -> Result<Image, Outcome>
 }
 
 /// The image that an object sets up, or the outcome where it is refused.
-fn loaded(alloc: Global, bytes: &[u8]) -> Result<Image, Outcome>
+fn load_image(alloc: Global, bytes: &[u8]) -> Result<Image, Outcome>
     ensures image { result ≢ Err Outcome.OutOfMemory → map_ok image_of result ≡ spec.image_in Form.Object bytes.now }
-    ensures well { result ≢ Err Outcome.HostFault }
-    ensures present { result ≢ Err Outcome.NoFile }
-    ensures words { IfErr result (λ outcome. is_usage outcome ≡ false) }
+    ensures no_host_fault { result ≢ Err Outcome.HostFault }
+    ensures no_missing_file { result ≢ Err Outcome.NoFile }
+    ensures no_usage { IfErr result (λ outcome. is_usage outcome ≡ false) }
 {
     match load_object(alloc, bytes) {
         Ok(image) => Ok(image),
@@ -65,13 +65,13 @@ fn loaded(alloc: Global, bytes: &[u8]) -> Result<Image, Outcome>
 /// The image that the bytes of a file give, or the outcome where they are refused.
 fn image_in(alloc: Global, form: Form, bytes: &[u8]) -> Result<Image, Outcome>
     ensures image { result ≢ Err Outcome.OutOfMemory → map_ok image_of result ≡ spec.image_in form bytes.now }
-    ensures well { result ≢ Err Outcome.HostFault }
-    ensures present { result ≢ Err Outcome.NoFile }
-    ensures words { IfErr result (λ outcome. is_usage outcome ≡ false) }
+    ensures no_host_fault { result ≢ Err Outcome.HostFault }
+    ensures no_missing_file { result ≢ Err Outcome.NoFile }
+    ensures no_usage { IfErr result (λ outcome. is_usage outcome ≡ false) }
 {
     match form {
-        Form::Source => assembled(alloc, bytes),
-        Form::Object => loaded(alloc, bytes),
+        Form::Source => assemble_image(alloc, bytes),
+        Form::Object => load_image(alloc, bytes),
     }
 }
 

@@ -6,6 +6,6 @@ mod argument;
 mod beginning;
 mod images;
 
-pub use argument::{arguments, word};
-pub use beginning::{begin, start};
+pub use argument::{collect_arguments, word_bytes};
+pub use beginning::{begin, start_machine};
 pub use images::{Form, read_image};

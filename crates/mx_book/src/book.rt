@@ -9,7 +9,7 @@ use crate::labels::{constants_in, object_labels, source_labels};
 use crate::loads::{Loads, object_loads, source_loads, texts_of};
 use mx_load::ObjectFault;
 use mx_object::{Labels, ListedObject, list_object};
-use mx_slips::{SourceLine, source_lines};
+use mx_slips::{SourceLine, collect_lines};
 use mx_view::{Wanted, list_source};
 use mx_word::{Bytes, NoMemory, Sequence, Symbols};
 use std::alloc::Global;
@@ -71,7 +71,7 @@ impl Book {
     pub fn of_source(alloc: Global, name: &[u8], source: &[u8]) -> Result<Book, NoMemory>
         ensures { IfOk result (λ book. book ≡ spec.source_book name.now source.now) }
     {
-        let lines = source_lines(alloc, source)?;
+        let lines = collect_lines(alloc, source)?;
         let listed = list_source(alloc, Wanted::All, source)?;
         with_lines(alloc, name, lines.as_slice(), listed.symbols)
     }

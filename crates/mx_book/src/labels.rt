@@ -17,7 +17,7 @@ type Names = Sequence<Bytes>;
 const DATA_SEGMENT: u64 = 1 << 61;
 
 /// Whether operands begin with the place where the line is.
-fn begin_with_place(tokens: &[Token]) -> bool
+fn starts_with_place(tokens: &[Token]) -> bool
     ensures { result ≡ spec.begin_with_place tokens.now }
 {
     match tokens {
@@ -31,7 +31,7 @@ fn is_constant(statement: &Statement) -> bool
     ensures { result ≡ spec.is_constant statement.now }
 {
     statement.op.text.as_slice() == b"IS".as_slice()
-        && !begin_with_place(statement.tokens.as_slice())
+        && !starts_with_place(statement.tokens.as_slice())
 }
 
 /// Adds a name after a colon.

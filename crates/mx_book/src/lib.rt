@@ -11,4 +11,4 @@ mod things;
 pub use book::Book;
 pub use laws::{no_label_is_nearer, no_line_is_earlier};
 pub use loads::{Load, Loads};
-pub use things::{Thing, thing_of};
+pub use things::{Thing, thing_of_subject};

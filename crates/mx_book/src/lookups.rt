@@ -31,14 +31,14 @@ fn is_named(name: &[u8], symbol: &Symbol) -> bool
 }
 
 /// The first symbol with this name.
-fn symbol_named<'a>(symbols: &'a [Symbol], name: &[u8]) -> Option<&'a Symbol>
+fn find_symbol<'a>(symbols: &'a [Symbol], name: &[u8]) -> Option<&'a Symbol>
     ensures { option_map (λ s. s.now) result ≡ spec.symbol_named symbols.now name.now }
 {
     symbols.iter().find(|symbol| is_named(name, symbol))
 }
 
 /// Whether an address is at or before another in its segment.
-fn precedes(a: u64, b: u64) -> bool
+fn is_at_or_before(a: u64, b: u64) -> bool
     ensures { result ≡ places.precedes a b }
 {
     a <= b && a >> 61 == b >> 61
@@ -48,7 +48,7 @@ fn precedes(a: u64, b: u64) -> bool
 fn address_before(address: u64, label: &Label) -> Option<u64>
     ensures { result ≡ spec.address_before address label.now }
 {
-    if precedes(label.address, address) {
+    if is_at_or_before(label.address, address) {
         Some(label.address)
     } else {
         None
@@ -92,17 +92,17 @@ fn tetra_address(a: u64) -> u64
 }
 
 /// Whether a tetra holds an address, and its line is known.
-fn tells_line(address: u64, load: &Load) -> bool
+fn has_known_line(address: u64, load: &Load) -> bool
     ensures { result ≡ spec.tells_line address load.now }
 {
     load.address == tetra_address(address) && load.line != 0
 }
 
 /// The first of tetras that holds an address and whose line is known.
-fn telling(loads: &[Load], address: u64) -> Option<&Load>
+fn find_load(loads: &[Load], address: u64) -> Option<&Load>
     ensures { option_map (λ l. l.now) result ≡ spec.telling loads.now address }
 {
-    loads.iter().find(|load| tells_line(address, load))
+    loads.iter().find(|load| has_known_line(address, load))
 }
 
 /// An instruction, if its line is this one or a later one.
@@ -148,27 +148,27 @@ fn earliest(loads: &[Load], line: u32) -> Option<Load>
 #[tactic(auto, unfolding(crate::specs::Lookups::nearest))]
 impl Book {
     /// What a name stands for. It may have or lack the colon that complete names begin with.
-    pub fn symbol(&self, name: &[u8]) -> Option<Value>
+    pub fn look_up_symbol(&self, name: &[u8]) -> Option<Value>
         ensures { result ≡ spec.symbol self.now name.now }
     {
-        match symbol_named(self.symbols.as_slice(), name) {
+        match find_symbol(self.symbols.as_slice(), name) {
             Some(symbol) => Some(symbol.value),
             None => None,
         }
     }
 
     /// What is shown where this name is written: a register, or a number, which may be an address.
-    pub fn thing(&self, name: &[u8]) -> Option<Thing>
+    pub fn look_up_thing(&self, name: &[u8]) -> Option<Thing>
         ensures { result ≡ spec.thing self.now name.now }
     {
-        match self.symbol(name) {
+        match self.look_up_symbol(name) {
             Some(value) => Some(thing_with(value)),
             None => None,
         }
     }
 
     /// The label nearest to an address, at or before it in its segment. Of labels with one address it is the first.
-    pub fn nearest(&self, address: u64) -> Option<&Label>
+    pub fn nearest_label(&self, address: u64) -> Option<&Label>
         ensures { option_map (λ l. l.now) result ≡ spec.nearest self.now address }
     {
         match nearest_address(self.labels.as_slice(), address) {
@@ -181,7 +181,7 @@ impl Book {
     pub fn line_at(&self, address: u64) -> Option<u32>
         ensures { result ≡ spec.line_at self.now address }
     {
-        match telling(self.loads.as_slice(), address) {
+        match find_load(self.loads.as_slice(), address) {
             Some(load) => Some(load.line),
             None => None,
         }

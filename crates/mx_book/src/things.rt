@@ -36,7 +36,7 @@ fn register(number: Option<u64>) -> Option<Thing>
 }
 
 /// What a written place is; nothing where there is no such register.
-pub fn thing_of(subject: Subject) -> Option<Thing>
+pub fn thing_of_subject(subject: Subject) -> Option<Thing>
     ensures { result ≡ spec.thing_of subject }
 {
     match subject {

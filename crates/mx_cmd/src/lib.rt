@@ -10,5 +10,5 @@ mod parsing;
 mod specials;
 
 pub use command::{Breaks, Command, Subject};
-pub use parsing::command_of;
+pub use parsing::parse_command;
 pub use specials::special_name;

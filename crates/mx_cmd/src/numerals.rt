@@ -9,7 +9,7 @@ use mx_word::{is_digit, is_hexadecimal};
 
 /// The decimal digits at the front of a text, and what follows them.
 #[tactic(auto, using(crate::proofs::Fronts::fronts))]
-pub(crate) fn digits(text: &[u8]) -> (&[u8], &[u8])
+pub(crate) fn split_digits(text: &[u8]) -> (&[u8], &[u8])
     ensures front { result.0.now ≡ spec.front kinds.is_digit text.now }
     ensures rest { result.1.now ≡ spec.past kinds.is_digit text.now }
 {
@@ -62,7 +62,7 @@ fn with_digit(base: u64, n: Option<u64>, b: u8) -> Option<u64>
 
 #[tactic(auto, unfolding(crate::specs::Numerals::octa_written))]
 /// The octa that digits write in a base; nothing where the number is 2^64 or more.
-pub(crate) fn octa_written(base: u64, digits: &[u8]) -> Option<u64>
+pub(crate) fn parse_octa_digits(base: u64, digits: &[u8]) -> Option<u64>
     requires { 1 ≤ base }
     ensures { result ≡ spec.octa_written base digits.now }
 {
@@ -93,7 +93,7 @@ fn decimal_value(text: &[u8]) -> Option<Option<u64>>
         return None;
     }
     if are_digits(text) {
-        Some(octa_written(10, text))
+        Some(parse_octa_digits(10, text))
     } else {
         None
     }
@@ -106,7 +106,7 @@ fn hexadecimal_value(text: &[u8]) -> Option<Option<u64>>
         return None;
     }
     if are_hexadecimal(text) {
-        Some(octa_written(16, text))
+        Some(parse_octa_digits(16, text))
     } else {
         None
     }
@@ -149,13 +149,13 @@ pub(crate) fn without_hash(text: &[u8]) -> &[u8]
 }
 
 /// The address that 1 to 16 hexadecimal digits are; None where they are none or more.
-pub(crate) fn address_written(digits: &[u8]) -> Option<u64>
+pub(crate) fn parse_address_digits(digits: &[u8]) -> Option<u64>
     ensures { result ≡ spec.address_written digits.now }
 {
     if digits.is_empty() || digits.len() > 16 {
         return None;
     }
-    octa_written(16, digits)
+    parse_octa_digits(16, digits)
 }
 
 /// The address that a text is.
@@ -165,7 +165,7 @@ pub(crate) fn address_of(text: &[u8]) -> Option<u64>
 {
     let (digits, rest) = hexadecimal_digits(without_hash(text));
     if rest.is_empty() {
-        address_written(digits)
+        parse_address_digits(digits)
     } else {
         None
     }

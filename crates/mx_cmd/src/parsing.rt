@@ -8,7 +8,8 @@ ghost use Rattle.mx_cmd.specs.Numerals as numerals;
 
 use crate::command::{Breaks, Command, Subject};
 use crate::numerals::{
-    address_of, address_written, digits, hexadecimal_digits, octa_written, value_of, without_hash,
+    address_of, hexadecimal_digits, parse_address_digits, parse_octa_digits, split_digits,
+    value_of, without_hash,
 };
 use crate::specials::special_code;
 use mx_text::Form;
@@ -20,7 +21,7 @@ const LONGEST_LINE: usize = 4096;
 /// The command of a line of the console without its newline; nothing where the line has none of the forms, or more
 /// than 4,096 bytes.
 #[tactic(auto, unfolding(crate::specs::Commands::command_of))]
-pub fn command_of(line: &[u8]) -> Option<Command>
+pub fn parse_command(line: &[u8]) -> Option<Command>
     ensures { result ≡ spec.command_of line.now }
 {
     if line.len() > LONGEST_LINE {
@@ -85,11 +86,11 @@ fn register_command(text: &[u8]) -> Option<Command>
     ensures { result ≡ spec.register_command (numerals.front kinds.is_digit text.now)
         (numerals.past kinds.is_digit text.now) }
 {
-    let (digits, rest) = digits(text);
+    let (digits, rest) = split_digits(text);
     if digits.is_empty() {
         return None;
     }
-    on_subject(Subject::Register(octa_written(10, digits)), rest)
+    on_subject(Subject::Register(parse_octa_digits(10, digits)), rest)
 }
 
 /// `gn`.
@@ -97,11 +98,11 @@ fn global_command(text: &[u8]) -> Option<Command>
     ensures { result ≡ spec.global_command (numerals.front kinds.is_digit text.now)
         (numerals.past kinds.is_digit text.now) }
 {
-    let (digits, rest) = digits(text);
+    let (digits, rest) = split_digits(text);
     if digits.is_empty() {
         return None;
     }
-    on_subject(Subject::Global(octa_written(10, digits)), rest)
+    on_subject(Subject::Global(parse_octa_digits(10, digits)), rest)
 }
 
 /// `rNAME`.
@@ -121,7 +122,7 @@ fn memory_command(text: &[u8]) -> Option<Command>
     ensures { result ≡ spec.memory_command (numerals.address_in text.now) (numerals.past_address text.now) }
 {
     let (digits, rest) = hexadecimal_digits(without_hash(text));
-    on_subject(Subject::Memory(address_written(digits)?), rest)
+    on_subject(Subject::Memory(parse_address_digits(digits)?), rest)
 }
 
 /// `+n`.
@@ -129,11 +130,11 @@ fn more_command(text: &[u8]) -> Option<Command>
     ensures { result ≡ spec.more_command (numerals.front kinds.is_digit text.now)
         (numerals.past kinds.is_digit text.now) }
 {
-    let (digits, rest) = digits(text);
+    let (digits, rest) = split_digits(text);
     if digits.is_empty() {
         return None;
     }
-    Some(Command::ShowMore(octa_written(10, digits), form_of(rest)?))
+    Some(Command::ShowMore(parse_octa_digits(10, digits), form_of(rest)?))
 }
 
 /// `b` with its letters.

@@ -11,7 +11,7 @@ use mx_alu::truth;
 /// Whether the condition of an instruction that tests one (BN to PBEV, CSN to CSEV, ZSN to ZSEV) holds of an octa.
 #[tactic(auto, using(crate::proofs::Tables::condition_low, crate::proofs::Tables::condition_high))]
 #[inline(always)]
-pub fn holds(i: &Instruction, x: u64) -> bool
+pub fn is_condition_met(i: &Instruction, x: u64) -> bool
     requires { has_condition (operation_in i.now) ≡ true }
     ensures { result ≡ conditions.truth (code_of i.now) x }
 {

@@ -37,7 +37,7 @@ impl Instruction {
     /// An instruction of a program, once its code is known: where that is a literal, what is done at it is settled
     /// when the program is compiled.
     #[inline(always)]
-    pub fn coded(at: u64, code: u8, word: u32) -> Instruction
+    pub fn with_code(at: u64, code: u8, word: u32) -> Instruction
         requires { code ≡ spec.code_of (spec.instruction at word) }
         ensures { result ≡ spec.instruction at word }
     {

@@ -20,7 +20,7 @@ mod stop;
 mod trace;
 
 pub use codes::operation_of;
-pub use condition::holds;
+pub use condition::is_condition_met;
 pub use destinations::destination;
 pub use groups::{Group, group_of};
 pub use immediate::wyde_value;
@@ -28,7 +28,8 @@ pub use instruction::Instruction;
 pub use laws::stored_values_are_in_bounds;
 pub use operation::{Loading, Operation, Storing};
 pub use part::{
-    loaded_part, loaded_value, loaded_within, overflows, stored_part, stored_value, touch,
+    convert_stored, extract_loaded, extract_loaded_tetra, is_store_overflow, part_of_load,
+    part_of_store, touch_of,
 };
 pub use put::{Put, may_put};
 pub use reason::Reason;

@@ -28,7 +28,7 @@ fn size(part: Part) -> u64
 
 /// The touch of the part that holds an address: its own address, a multiple of its size, and its size, from 1 to 8.
 #[inline(always)]
-pub fn touch(a: u64, part: Part) -> Touch
+pub fn touch_of(a: u64, part: Part) -> Touch
     ensures { result ≡ spec.touch a part }
 {
     Touch {
@@ -61,7 +61,7 @@ fn half(part: Part) -> u64
 
 /// A part as a signed number, in an octa.
 #[inline(always)]
-fn sign_extended(part: Part, v: u64) -> u64
+fn sign_extend(part: Part, v: u64) -> u64
     requires { v < 2 ^ (8 * size_of part) }
     ensures { result ≡ spec.sign_extended part v }
 {
@@ -75,7 +75,7 @@ fn sign_extended(part: Part, v: u64) -> u64
 
 /// The part that is loaded.
 #[inline(always)]
-pub fn loaded_part(how: Loading) -> Part
+pub fn part_of_load(how: Loading) -> Part
     ensures { result ≡ spec.loaded_part how }
 {
     match how {
@@ -86,11 +86,11 @@ pub fn loaded_part(how: Loading) -> Part
 
 /// The value that is loaded of the octa that holds an address.
 #[inline(always)]
-pub fn loaded_value(how: Loading, octa: u64, a: u64) -> u64
+pub fn extract_loaded(how: Loading, octa: u64, a: u64) -> u64
     ensures { result ≡ spec.loaded_value how octa a }
 {
     match how {
-        Loading::Signed(part) => sign_extended(part, part_of(part, octa, a)),
+        Loading::Signed(part) => sign_extend(part, part_of(part, octa, a)),
         Loading::Unsigned(part) => part_of(part, octa, a),
         Loading::HighTetra => part_of(Part::Tetra, octa, a) << 32,
     }
@@ -99,16 +99,16 @@ pub fn loaded_value(how: Loading, octa: u64, a: u64) -> u64
 /// The value that a load of a byte, a wyde or a tetra takes of the tetra that holds the address.
 #[tactic(auto, using(crate::proofs::Tetras::tetras))]
 #[inline(always)]
-pub fn loaded_within(how: Loading, t: u32, a: u64) -> u64
+pub fn extract_loaded_tetra(how: Loading, t: u32, a: u64) -> u64
     requires { spec.loaded_part how ≢ Part.Octa }
     ensures { (x : ℕ) → t ≡ tetra_of x a → result ≡ spec.loaded_value how x a }
 {
-    loaded_value(how, u64::from(t), 4 + a % 4)
+    extract_loaded(how, u64::from(t), 4 + a % 4)
 }
 
 /// The part that is stored into.
 #[inline(always)]
-pub fn stored_part(how: Storing) -> Part
+pub fn part_of_store(how: Storing) -> Part
     ensures { result ≡ spec.stored_part how }
 {
     match how {
@@ -120,7 +120,7 @@ pub fn stored_part(how: Storing) -> Part
 
 /// The value whose low bytes are stored, of $X and the byte X.
 #[inline(always)]
-pub fn stored_value(how: Storing, x: u64, byte: u8) -> u64
+pub fn convert_stored(how: Storing, x: u64, byte: u8) -> u64
     ensures { result ≡ spec.stored_value how x byte }
 {
     match how {
@@ -132,7 +132,7 @@ pub fn stored_value(how: Storing, x: u64, byte: u8) -> u64
 
 /// Whether a store loses a sign, which is an overflow.
 #[inline(always)]
-pub fn overflows(how: Storing, x: u64) -> bool
+pub fn is_store_overflow(how: Storing, x: u64) -> bool
     ensures { spec.stored_event how x ≡ (if result then Some Overflow else None) }
 {
     match how {

@@ -29,7 +29,7 @@ pub enum Told {
 impl Told {
     /// An answer as it is told.
     #[inline(always)]
-    pub fn of(answer: Result<(), Stop>) -> Told
+    pub fn from_result(answer: Result<(), Stop>) -> Told
         ensures { answer_in result ≡ answer }
     {
         match answer {
@@ -41,7 +41,7 @@ impl Told {
 
     /// The answer that is told.
     #[inline(always)]
-    pub fn answer(self) -> Result<(), Stop>
+    pub fn into_result(self) -> Result<(), Stop>
         ensures { result ≡ answer_in self }
     {
         match self {

@@ -15,7 +15,7 @@ use Rattle.mx_code.specs.SpecialRegisters.{rL, rG}
 use Rattle.mx_code.specs.declared.put.Put.{Put}
 use Rattle.mx_code.specs.declared.put.Put.TheVariants as put
 use Rattle.mx_core.specs.Bounds.{IsMachine, as_list_state}
-use Rattle.mx_core.specs.Changes.{allowed_unless, put_changed, special_changed, register_changed}
+use Rattle.mx_core.specs.UserChanges.{allowed_unless, put_by_user, special_changed, register_changed}
 use Rattle.mx_word.specs.Segments.{is_in_stack_segment}
 use Rattle.mx_core.specs.State.{State, global_start, locals, with_value_in, with_octa, is_page_refused}
 use Rattle.mx_core.specs.declared.changes.SetFault.{SetFault}
@@ -91,7 +91,7 @@ either-touched : (b : Bool) (s t u : State) → t.touched ≡ s.touched → u.to
 either-touched true s t u e f = e
 either-touched false s t u e f = f
 
-put-touched : (s : State) (code : ℕ) (p : Put) → TouchedAs s (put_changed s code p)
+put-touched : (s : State) (code : ℕ) (p : Put) → TouchedAs s (put_by_user s code p)
 put-touched s code (put.Store value) = either-touched (code == rL) s _ _ refl (either-touched (code == rG) s _ _ refl refl)
 put-touched s code put.Illegal = refl
 put-touched s code put.Privileged = refl

@@ -7,7 +7,7 @@ use Rattle.mx_plan.specs.Calls.{host}
 use Rattle.mx_text.specs.declared.numbers.Form.{Form}
 use Rattle.mx_text.specs.declared.numbers.Form.TheVariants.{Hex}
 use Rattle.mx_core.specs.Way.Changed.{left_changed}
-use Rattle.mx_core.specs.Changes.{at_address}
+use Rattle.mx_core.specs.UserChanges.{at_address}
 use Rattle.mx_word.specs.Segments.{is_in_stack_segment}
 use Rattle.mx_core.specs.State.{State, octa, special_register}
 use Rattle.mx_core.specs.declared.changes.SetFault.{SetFault}

@@ -7,7 +7,7 @@ use Rattle.mx_code.specs.SpecialRegisters.{rG, rL}
 use Rattle.mx_code.specs.declared.put.Put.{Put}
 use Rattle.mx_code.specs.declared.put.Put.TheVariants as put
 use Rattle.mx_core.specs.Way.Changed.{left_changed}
-use Rattle.mx_core.specs.Changes.{allowed_unless, at_address, put_changed}
+use Rattle.mx_core.specs.UserChanges.{allowed_unless, at_address, put_by_user}
 use Rattle.mx_core.specs.State.{State, global_start, is_page_refused, locals, with_octa, with_value_in}
 use Rattle.mx_core.specs.declared.changes.SetFault.{SetFault}
 use Rattle.mx_core.specs.declared.changes.SetFault.TheVariants.{OutOfMemory}
@@ -64,7 +64,7 @@ left-allowed : (b : Bool) (s t : State) → t.steps ≡ s.steps → (left_change
 left-allowed true s t e = refl
 left-allowed false s t e = e
 
-put-still : (s : State) (code : ℕ) (p : Put) → (left_changed s (put_changed s code p)).1.steps ≡ s.steps
+put-still : (s : State) (code : ℕ) (p : Put) → (left_changed s (put_by_user s code p)).1.steps ≡ s.steps
 put-still s code (put.Store value) =
     chosen-still (code == rL) _ _ s.steps refl (chosen-still (code == rG) _ _ s.steps refl refl)
 put-still s code put.Illegal = refl

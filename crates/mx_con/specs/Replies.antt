@@ -4,7 +4,7 @@ use Rattle.std.specs.List.{range_with_len, flat_map}
 use Rattle.std.specs.Result.{result_unwrap_or}
 use Rattle.mx_text.specs.declared.numbers.Form.{Form}
 use Rattle.mx_text.specs.declared.numbers.Form.TheVariants.{Hex}
-use Rattle.mx_core.specs.Changes.{at_address}
+use Rattle.mx_core.specs.UserChanges.{at_address}
 use Rattle.mx_core.specs.State.{State}
 use Rattle.mx_core.specs.Traps.{with_touch}
 use Rattle.mx_run.specs.FlagMaps.{has_flag, with_flags}

@@ -2,7 +2,7 @@
 
 ghost use Rattle.std.specs.Prelude.{◌≡◌, ◌≢◌, ◌/◌, Err, OnErr, OnOk};
 ghost use Rattle.mx_core.specs.Way.Changed.{Changes};
-ghost use Rattle.mx_core.specs.Changes.{at_address};
+ghost use Rattle.mx_core.specs.UserChanges.{at_address};
 ghost use Rattle.mx_core.specs.Kept.{state_of};
 ghost use Rattle.mx_run.specs.FlagMaps.{flags_at, with_flags};
 ghost use Rattle.mx_con.specs.Replies as spec;
@@ -23,7 +23,7 @@ pub(crate) fn change(runner: &mut Runner, subject: Subject, value: u64) -> Resul
     ensures ok { result ≢ Err SetFault.OutOfMemory →
         Changes (λ s. subject_changed s subject value) result runner.old.machine runner.new.machine }
     ensures err { OnErr result (state_of runner.new.machine ≡ state_of runner.old.machine) }
-    ensures still { (state_of runner.new.machine).steps ≡ (state_of runner.old.machine).steps }
+    ensures same_steps { (state_of runner.new.machine).steps ≡ (state_of runner.old.machine).steps }
     ensures flags { runner.new.flags ≡ runner.old.flags }
 {
     set_subject(runner.machine_mut(), subject, value)

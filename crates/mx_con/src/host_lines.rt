@@ -64,7 +64,11 @@ fn read_byte<H: Host>(host: &mut H) -> Result<Option<u8>, SessionEnd>
 
 /// Reads one more byte of a line: whether more of it follows, or the end of the session.
 #[tactic(auto, using(mx_plan::proofs::Plans::plans, mx_plan::proofs::Plans::needs), unfolding(crate::specs::LinePlans::grown_plan))]
-fn grow<H: Host>(host: &mut H, line: &mut Bytes, left: &mut u64) -> Result<bool, SessionEnd>
+fn read_into_line<H: Host>(
+    host: &mut H,
+    line: &mut Bytes,
+    left: &mut u64,
+) -> Result<bool, SessionEnd>
     requires { 0 < left.old }
     ensures part { Talks H.told H.faults host.old host.new (map_ok (λ more. (more, line.new, left.new)) result)
         (spec.grown_plan (left.old - 1) line.old) }
@@ -118,7 +122,7 @@ pub(crate) fn read_line<H: Host>(
 {
     let mut line = Bytes::new(alloc);
     while *left > 0 {
-        match grow(host, &mut line, left) {
+        match read_into_line(host, &mut line, left) {
             Ok(true) => {}
             Ok(false) => return Ok(line),
             Err(end) => return Err(end),

@@ -23,7 +23,7 @@ pub enum Bad {
 
 impl Bad {
     /// The line that tells it.
-    pub(crate) fn text(self) -> &'static str
+    pub(crate) fn message(self) -> &'static str
         ensures { result.now ≡ spec.bad_text self }
     {
         match self {

@@ -16,7 +16,7 @@ use mx_cmd::Subject;
 use mx_core::Machine;
 use mx_host::Host;
 use mx_run::{Flags, Runner};
-use mx_show::shown_line;
+use mx_show::format_subject;
 use mx_text::Form;
 use std::alloc::Global;
 
@@ -55,7 +55,10 @@ fn write_octa<H: Host>(
     ensures { Talks H.told H.faults host.old host.new result
         (line_plan (subjects.shown_line (state_of machine.now) (Subject.Memory a) form)) }
 {
-    write_line(host, shown_line(alloc, machine, Subject::Memory(a), form)?)
+    write_line(
+        host,
+        format_subject(alloc, machine, Subject::Memory(a), form)?,
+    )
 }
 
 /// Writes the lines of all tetras with flags.

@@ -19,7 +19,7 @@ use mx_cmd::{Breaks, Command, Subject};
 use mx_core::{Machine, SetFault};
 use mx_host::Host;
 use mx_run::Runner;
-use mx_show::{shown_line, state_line};
+use mx_show::{format_subject, state_line};
 use mx_text::Form;
 use mx_word::{Bytes, is_in_stack_segment};
 use std::alloc::Global;
@@ -29,7 +29,7 @@ use std::alloc::Global;
 pub(crate) fn refuse<H: Host>(alloc: Global, host: &mut H, bad: Bad) -> Result<(), SessionEnd>
     ensures { Talks H.told H.faults host.old host.new result (line_plan (judgement.bad_text bad)) }
 {
-    write_line(host, Bytes::copy(alloc, bad.text().as_bytes())?)
+    write_line(host, Bytes::copy(alloc, bad.message().as_bytes())?)
 }
 
 /// Writes the line on the state.
@@ -56,7 +56,7 @@ pub(crate) fn show<H: Host>(
 ) -> Result<(), SessionEnd>
     ensures part { Responds H.told H.faults host.old host.new runner.old runner.new shown.old shown.new result
         (Command.Show subject form) }
-    ensures still { (state_of runner.new.machine).steps ≡ (state_of runner.old.machine).steps }
+    ensures same_steps { (state_of runner.new.machine).steps ≡ (state_of runner.old.machine).steps }
 {
     match subject_bad(runner.machine(), subject) {
         Some(bad) => refuse(alloc, host, bad),
@@ -85,7 +85,10 @@ fn show_sound<H: Host>(
 {
     note_if(runner, is_wild(subject));
     note_shown(shown, subject);
-    write_line(host, shown_line(alloc, runner.machine(), subject, form)?)
+    write_line(
+        host,
+        format_subject(alloc, runner.machine(), subject, form)?,
+    )
 }
 
 /// Whether a subject is rS or an octa of Stack_Segment.
@@ -119,7 +122,7 @@ pub(crate) fn change_subject<H: Host>(
 ) -> Result<(), SessionEnd>
     ensures part { Responds H.told H.faults host.old host.new runner.old runner.new shown.old shown.new result
         (Command.Change subject value) }
-    ensures still { (state_of runner.new.machine).steps ≡ (state_of runner.old.machine).steps }
+    ensures same_steps { (state_of runner.new.machine).steps ≡ (state_of runner.old.machine).steps }
 {
     let Some(value) = value else {
         return refuse(alloc, host, Bad::BadNumber);
@@ -144,7 +147,7 @@ fn change_sound<H: Host>(
     requires good { judgement.subject_bad (state_of runner.old.machine) subject ≡ None }
     ensures part { Responds H.told H.faults host.old host.new runner.old runner.new shown.old shown.new result
         (Command.Change subject (Some value)) }
-    ensures still { (state_of runner.new.machine).steps ≡ (state_of runner.old.machine).steps }
+    ensures same_steps { (state_of runner.new.machine).steps ≡ (state_of runner.old.machine).steps }
 {
     match change(runner, subject, value) {
         Ok(()) => show_sound(alloc, runner, host, shown, subject, Form::Hex),
@@ -164,7 +167,7 @@ pub(crate) fn show_more<H: Host>(
 ) -> Result<(), SessionEnd>
     ensures part { Responds H.told H.faults host.old host.new runner.old runner.new shown.old shown.new result
         (Command.ShowMore n form) }
-    ensures still { (state_of runner.new.machine).steps ≡ (state_of runner.old.machine).steps }
+    ensures same_steps { (state_of runner.new.machine).steps ≡ (state_of runner.old.machine).steps }
 {
     let Some(n) = n else {
         return refuse(alloc, host, Bad::BadNumber);
@@ -188,7 +191,7 @@ fn show_octas<H: Host>(
     requires { judgement.more_bad shown.old (Some n) ≡ None }
     ensures part { Responds H.told H.faults host.old host.new runner.old runner.new shown.old shown.new result
         (Command.ShowMore (Some n) form) }
-    ensures still { (state_of runner.new.machine).steps ≡ (state_of runner.old.machine).steps }
+    ensures same_steps { (state_of runner.new.machine).steps ≡ (state_of runner.old.machine).steps }
 {
     let Some(a) = *shown else {
         return Ok(());
@@ -209,7 +212,7 @@ pub(crate) fn go_to<H: Host>(
 ) -> Result<(), SessionEnd>
     ensures part { (shown : Option ℕ) → Responds H.told H.faults host.old host.new runner.old runner.new
         shown shown result (Command.GoTo a) }
-    ensures still { (state_of runner.new.machine).steps ≡ (state_of runner.old.machine).steps }
+    ensures same_steps { (state_of runner.new.machine).steps ≡ (state_of runner.old.machine).steps }
 {
     if let Some(bad) = go_to_bad(a) {
         return refuse(alloc, host, bad);
@@ -230,7 +233,7 @@ pub(crate) fn set_tetra_breaks<H: Host>(
 ) -> Result<(), SessionEnd>
     ensures part { (shown : Option ℕ) → Responds H.told H.faults host.old host.new runner.old runner.new
         shown shown result (Command.Break breaks a) }
-    ensures still { (state_of runner.new.machine).steps ≡ (state_of runner.old.machine).steps }
+    ensures same_steps { (state_of runner.new.machine).steps ≡ (state_of runner.old.machine).steps }
 {
     if let Some(bad) = flag_bad(a) {
         return refuse(alloc, host, bad);
@@ -249,7 +252,7 @@ pub(crate) fn trace_tetra<H: Host>(
 ) -> Result<(), SessionEnd>
     ensures part { (shown : Option ℕ) → Responds H.told H.faults host.old host.new runner.old runner.new
         shown shown result (Command.Trace a) }
-    ensures still { (state_of runner.new.machine).steps ≡ (state_of runner.old.machine).steps }
+    ensures same_steps { (state_of runner.new.machine).steps ≡ (state_of runner.old.machine).steps }
 {
     if let Some(bad) = flag_bad(a) {
         return refuse(alloc, host, bad);
@@ -268,7 +271,7 @@ pub(crate) fn untrace_tetra<H: Host>(
 ) -> Result<(), SessionEnd>
     ensures part { (shown : Option ℕ) → Responds H.told H.faults host.old host.new runner.old runner.new
         shown shown result (Command.Untrace a) }
-    ensures still { (state_of runner.new.machine).steps ≡ (state_of runner.old.machine).steps }
+    ensures same_steps { (state_of runner.new.machine).steps ≡ (state_of runner.old.machine).steps }
 {
     if let Some(bad) = flag_bad(a) {
         return refuse(alloc, host, bad);

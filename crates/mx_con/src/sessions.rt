@@ -22,7 +22,7 @@ use crate::replies::{
 };
 use crate::steps::{go_on, step_once};
 use crate::windows::know_window;
-use mx_cmd::{Command, command_of};
+use mx_cmd::{Command, parse_command};
 use mx_host::Host;
 use mx_run::Runner;
 use mx_word::Bytes;
@@ -99,9 +99,9 @@ fn one_line<H: Host>(
 {
     match ask(alloc, host, &mut dialog.left) {
         Ok(line) => {
-            let command = command_of(without_return(line.as_slice()));
+            let command = parse_command(without_return(line.as_slice()));
             know_window(runner);
-            carry_out(alloc, runner, host, &mut dialog.shown, steps, command)
+            obey_line(alloc, runner, host, &mut dialog.shown, steps, command)
         }
         Err(end) => Err(end),
     }
@@ -121,7 +121,7 @@ fn ask<H: Host>(alloc: Global, host: &mut H, left: &mut u64) -> Result<Bytes, Se
 
 /// Carries a line out.
 #[tactic(auto, using(crate::proofs::StepBounds::staying))]
-fn carry_out<H: Host>(
+fn obey_line<H: Host>(
     alloc: Global,
     runner: &mut Runner,
     host: &mut H,

@@ -4,7 +4,7 @@ pub mod Stops
 pub mod Deeds
 pub mod Step
 pub mod Traps
-pub mod Changes
+pub mod UserChanges
 pub mod Walks
 pub mod Wild
 pub mod Bounds

@@ -11,7 +11,7 @@ ghost use Rattle.mx_core.specs.Way.Noting.{PutsLink, StoresBelow};
 use crate::Machine;
 use crate::plain::plain_answer;
 use crate::trips::RJ;
-use mx_code::{Instruction, Operation, Storing, overflows, stored_part, stored_value};
+use mx_code::{Instruction, Operation, Storing, convert_stored, is_store_overflow, part_of_store};
 use mx_mem::Part;
 
 impl Machine {
@@ -22,7 +22,7 @@ impl Machine {
         ensures made { MakesWhereTold (λ s. outcome s (deed_at s (instruction at word))) result self.old self.new }
         ensures kept { KeepsWhereNot result self.old self.new }
     {
-        let i = Instruction::coded(at, code, word);
+        let i = Instruction::with_code(at, code, word);
         match i.operation() {
             Operation::Compute => match self.compute(&i) {
                 Ok(()) => true,
@@ -39,7 +39,7 @@ impl Machine {
         ensures made { MakesWhereTold (λ s. outcome s (deed_at s (instruction at word))) result self.old self.new }
         ensures kept { KeepsWhereNot result self.old self.new }
     {
-        let i = Instruction::coded(at, code, word);
+        let i = Instruction::with_code(at, code, word);
         match i.operation() {
             Operation::Compute => self.give_if_plain(&i),
             _ => false,
@@ -53,7 +53,7 @@ impl Machine {
         ensures made { MakesWhereTold (λ s. outcome s (deed_at s (instruction at word))) result self.old self.new }
         ensures kept { KeepsWhereNot result self.old self.new }
     {
-        let i = Instruction::coded(at, code, word);
+        let i = Instruction::with_code(at, code, word);
         match i.operation() {
             Operation::Go => match self.go(&i) {
                 Ok(()) => true,
@@ -70,7 +70,7 @@ impl Machine {
         ensures made { MakesWhereTold (λ s. outcome s (deed_at s (instruction at word))) result self.old self.new }
         ensures kept { KeepsWhereNot result self.old self.new }
     {
-        let i = Instruction::coded(at, code, word);
+        let i = Instruction::with_code(at, code, word);
         match i.operation() {
             Operation::Store(how) => self.store_if_usual(how, &i),
             _ => false,
@@ -84,7 +84,7 @@ impl Machine {
         ensures made { MakesWhereTold (λ s. outcome s (deed_at s (instruction at word))) result self.old self.new }
         ensures kept { KeepsWhereNot result self.old self.new }
     {
-        let i = Instruction::coded(at, code, word);
+        let i = Instruction::with_code(at, code, word);
         match i.operation() {
             Operation::PushJump => match self.push_jump(&i) {
                 Ok(()) => true,
@@ -101,7 +101,7 @@ impl Machine {
         ensures made { MakesWhereTold (λ s. outcome s (deed_at s (instruction at word))) result self.old self.new }
         ensures kept { KeepsWhereNot result self.old self.new }
     {
-        let i = Instruction::coded(at, code, word);
+        let i = Instruction::with_code(at, code, word);
         match i.operation() {
             Operation::Pop => match self.pop(&i) {
                 Ok(()) => true,
@@ -118,7 +118,7 @@ impl Machine {
         ensures made { MakesWhereTold (λ s. outcome s (deed_at s (instruction at word))) result self.old self.new }
         ensures kept { KeepsWhereNot result self.old self.new }
     {
-        let i = Instruction::coded(at, code, word);
+        let i = Instruction::with_code(at, code, word);
         match i.operation() {
             Operation::Put => self.put_link_if_usual(&i),
             _ => false,
@@ -154,10 +154,10 @@ impl Machine {
     {
         let a = self.data_address(i);
         let x = self.x_register(i);
-        if overflows(how, x) {
+        if is_store_overflow(how, x) {
             return false;
         }
-        if self.store_if_near(a, stored_part(how), stored_value(how, x, i.x())) {
+        if self.store_if_near(a, part_of_store(how), convert_stored(how, x, i.x())) {
             self.go_to(i.next());
             true
         } else {

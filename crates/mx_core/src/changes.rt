@@ -2,7 +2,7 @@
 
 ghost use Rattle.std.specs.Prelude.{◌≡◌, ◌≢◌, ◌<◌, ◌^◌, Err, OnErr, IsTrue, not};
 ghost use Rattle.mx_core.specs.Way.Changed.{Changes, Stores};
-ghost use Rattle.mx_core.specs.Changes as spec;
+ghost use Rattle.mx_core.specs.UserChanges as spec;
 ghost use Rattle.mx_core.specs.Kept.{state_of};
 ghost use Rattle.mx_core.specs.State.{begins_page, is_page_refused};
 ghost use Rattle.mx_ring.specs.Bounds.{IsRing};
@@ -62,7 +62,7 @@ impl Machine {
         ensures ok { result ≢ Err SetFault.OutOfMemory →
             Changes (λ s. spec.octa_changed s a x) result self.old self.new }
         ensures err { OnErr result (state_of self.new ≡ state_of self.old) }
-        ensures there { IsTrue (not (begins_page (state_of self.old) a)) → result ≢ Err SetFault.OutOfMemory }
+        ensures lacks_memory { IsTrue (not (begins_page (state_of self.old) a)) → result ≢ Err SetFault.OutOfMemory }
     {
         match self.store_octa(a, x) {
             Ok(()) => Ok(()),
@@ -85,7 +85,7 @@ impl Machine {
         requires { a < 2 ^ 63 }
         ensures ok { result ≢ Err MemFault.OutOfMemory → Stores a x result self.old self.new }
         ensures err { OnErr result (state_of self.new ≡ state_of self.old) }
-        ensures there { IsTrue (not (begins_page (state_of self.old) a)) → result ≢ Err MemFault.OutOfMemory }
+        ensures lacks_memory { IsTrue (not (begins_page (state_of self.old) a)) → result ≢ Err MemFault.OutOfMemory }
         ensures room { IsTrue (is_page_refused (state_of self.old) a) → result ≢ Err MemFault.OutOfMemory }
         ensures bounds { IsRing self.old.ring }
     {

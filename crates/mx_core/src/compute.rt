@@ -10,7 +10,7 @@ ghost use Rattle.mx_alu.specs.Alu.{is_alu};
 
 use crate::Machine;
 use mx_alu::{Extra, alu, lone_result, wyde};
-use mx_code::{Instruction, Operation, Stop, Told, holds, wyde_value};
+use mx_code::{Instruction, Operation, Stop, Told, is_condition_met, wyde_value};
 
 impl Machine {
     /// MUL to SRU and OR to MXOR, but for NEG and NEGU. Mostly the result is all that they give.
@@ -23,7 +23,7 @@ impl Machine {
         let (y, z) = (self.y_operand(i), self.z_operand(i));
         match lone_result(i.code(), y, z, self.extra()) {
             Some(x) => self.settle(i, x, i.next()),
-            None => self.compute_wholly(i.at, i.word, y, z).answer(),
+            None => self.compute_wholly(i.at, i.word, y, z).into_result(),
         }
     }
 
@@ -37,7 +37,7 @@ impl Machine {
     {
         let i = Instruction::new(at, word);
         let a = alu(i.code(), y, z, self.extra());
-        Told::of(self.answer(&i, y, z, &a))
+        Told::from_result(self.answer(&i, y, z, &a))
     }
 
     /// NEG and NEGU. Mostly the result is all that they give.
@@ -50,7 +50,7 @@ impl Machine {
         let (y, z) = (u64::from(i.y()), self.z_operand(i));
         match lone_result(i.code(), y, z, self.extra()) {
             Some(x) => self.settle(i, x, i.next()),
-            None => self.compute_wholly(i.at, i.word, y, z).answer(),
+            None => self.compute_wholly(i.at, i.word, y, z).into_result(),
         }
     }
 
@@ -87,7 +87,7 @@ impl Machine {
         requires { operation_in i.now ≡ Operation.ConditionalSet }
         ensures { CarriesOut Operation.ConditionalSet i.now result self.old self.new }
     {
-        let value = if holds(i, self.y_operand(i)) {
+        let value = if is_condition_met(i, self.y_operand(i)) {
             self.z_operand(i)
         } else {
             self.x_register(i)
@@ -102,7 +102,7 @@ impl Machine {
         requires { operation_in i.now ≡ Operation.ZeroOrSet }
         ensures { CarriesOut Operation.ZeroOrSet i.now result self.old self.new }
     {
-        let value = if holds(i, self.y_operand(i)) {
+        let value = if is_condition_met(i, self.y_operand(i)) {
             self.z_operand(i)
         } else {
             0

@@ -9,7 +9,7 @@ ghost use Rattle.mx_core.specs.Kept.{state_of};
 use crate::bounds::know_bounds;
 use crate::trips::RJ;
 use crate::{Machine, Reason};
-use mx_code::{Instruction, Operation, Stop, holds};
+use mx_code::{Instruction, Operation, Stop, is_condition_met};
 
 impl Machine {
     /// BN to PBEV.
@@ -19,7 +19,7 @@ impl Machine {
         requires { operation_in i.now ≡ Operation.Branch }
         ensures { CarriesOut Operation.Branch i.now result self.old self.new }
     {
-        let address = if holds(i, self.x_register(i)) {
+        let address = if is_condition_met(i, self.x_register(i)) {
             i.near_address()
         } else {
             i.next()

@@ -8,7 +8,7 @@ ghost use Rattle.mx_core.specs.Deeds.{applied, with_destination};
 ghost use Rattle.mx_core.specs.Effects.{Effect, moves_frames, specials_saved};
 ghost use Rattle.mx_code.specs.declared.instruction.Instruction.{Instruction};
 ghost use Rattle.mx_core.specs.Machines.{IsOverWindow};
-ghost use Rattle.mx_core.specs.Changes.{register_changed, special_changed, octa_changed, at_address};
+ghost use Rattle.mx_core.specs.UserChanges.{register_changed, special_changed, octa_changed, at_address};
 ghost use Rattle.mx_core.specs.State.{State, global_start, special_register, octa};
 ghost use Rattle.mx_core.specs.Step.{went, calls, step};
 ghost use Rattle.mx_core.specs.Traps.{trapped, halted, with_touch};

@@ -9,7 +9,7 @@ ghost use Rattle.mx_code.specs.Told.{answer_in};
 
 use crate::machine::is_in_stack_area;
 use crate::{Machine, Reason};
-use mx_code::{Instruction, Loading, Operation, Stop, Told, loaded_value};
+use mx_code::{Instruction, Loading, Operation, Stop, Told, extract_loaded};
 use mx_word::STACK_SEGMENT;
 
 impl Machine {
@@ -22,9 +22,9 @@ impl Machine {
         let (y, z) = (self.y_operand(i), self.z_operand(i));
         let a = y.wrapping_add(z);
         if a >= STACK_SEGMENT {
-            return self.load_apart(how, i.at, i.word, y, z).answer();
+            return self.load_apart(how, i.at, i.word, y, z).into_result();
         }
-        self.settle(i, loaded_value(how, self.octa(a), a), i.next())
+        self.settle(i, extract_loaded(how, self.octa(a), a), i.next())
     }
 
     /// A load from Stack_Segment on, for its operands. It is given words and no reference, so that the
@@ -36,7 +36,7 @@ impl Machine {
     {
         let given = Some((y, z));
         let i = Instruction { at, word, given };
-        Told::of(self.load_above(how, &i, y.wrapping_add(z)))
+        Told::from_result(self.load_above(how, &i, y.wrapping_add(z)))
     }
 
     /// A load from Stack_Segment on.
@@ -52,7 +52,7 @@ impl Machine {
         if is_in_stack_area(a) {
             return self.load_spilled(how, i, a);
         }
-        match self.settle(i, loaded_value(how, self.octa(a), a), i.next()) {
+        match self.settle(i, extract_loaded(how, self.octa(a), a), i.next()) {
             Ok(()) => {
                 self.note_touch();
                 Ok(())
@@ -71,7 +71,7 @@ impl Machine {
     {
         match self.set(i.x(), self.x_register(i)) {
             Ok(()) => {
-                let value = loaded_value(how, self.octa(a), a);
+                let value = extract_loaded(how, self.octa(a), a);
                 self.note_touch();
                 self.settle(i, value, i.next())
             }

@@ -202,7 +202,7 @@ impl Machine {
     #[inline(always)]
     pub(crate) fn put(&mut self, code: u8, x: u64)
         requires range { code < 32 }
-        requires other { code ≢ rA }
+        requires not_ra { code ≢ rA }
         ensures { state_of self.new ≡ spec.with_special (state_of self.old) code x }
     {
         self.special[usize::from(code)] = x;
@@ -231,7 +231,7 @@ impl Machine {
         requires { a < 2 ^ 63 }
         ensures answer { MakesWithMemory (λ s. store_outcome s a part x) result self.old self.new }
         ensures err { KeepsOnErr result self.old self.new }
-        ensures there { spec.begins_page (state_of self.old) a ≡ false → result ≢ Err Stop.OutOfMemory }
+        ensures lacks_memory { spec.begins_page (state_of self.old) a ≡ false → result ≢ Err Stop.OutOfMemory }
         ensures room { spec.is_page_refused (state_of self.old) a ≡ true → result ≢ Err Stop.OutOfMemory }
     {
         if a >= STACK_SEGMENT {
@@ -251,7 +251,7 @@ impl Machine {
         requires most { a < 2 ^ 63 }
         ensures answer { MakesWithMemory (λ s. store_outcome s a part x) result self.old self.new }
         ensures err { KeepsOnErr result self.old self.new }
-        ensures there { spec.begins_page (state_of self.old) a ≡ false → result ≢ Err Stop.OutOfMemory }
+        ensures lacks_memory { spec.begins_page (state_of self.old) a ≡ false → result ≢ Err Stop.OutOfMemory }
         ensures room { spec.is_page_refused (state_of self.old) a ≡ true → result ≢ Err Stop.OutOfMemory }
     {
         if is_in_stack_area(a) {

@@ -106,9 +106,9 @@ impl Machine {
         if at >= 1 << 63 {
             return Noted::Stopped(Reason::Negative);
         }
-        let i = self.fetched(at);
+        let i = self.fetch(at);
         match i.operation() {
-            Operation::Trap => Noted::Trap(self.call(&i)),
+            Operation::Trap => Noted::Trap(self.trap_call(&i)),
             _ => self.follow_noted(&i),
         }
     }
@@ -117,7 +117,7 @@ impl Machine {
     fn follow_noted(&mut self, i: &Instruction) -> Noted
         requires fetched { i.now ≡ fetched (state_of self.old) }
         requires range { (state_of self.old).pc < 2 ^ 63 }
-        requires other { operation_in i.now ≢ Operation.Trap }
+        requires no_trap { operation_in i.now ≢ Operation.Trap }
         ensures answer { step_of result ≢ Step.OutOfMemory →
             (step_of result, state_of self.new) ≡ step_answer (state_of self.old) (step (state_of self.old)) }
         ensures memory { step_of result ≡ Step.OutOfMemory → state_of self.new ≡ state_of self.old }
@@ -146,7 +146,7 @@ impl Machine {
         let sight = self.sight_at(i);
         let work = self.work_at(i);
         match self.whole_note(&sight, work) {
-            Some(whole) => boxed(self.alloc, whole),
+            Some(whole) => into_note(self.alloc, whole),
             None => None,
         }
     }
@@ -160,9 +160,9 @@ impl Machine {
         ensures same { self.new ≡ self.old }
     {
         let place = place_of(sight.writes);
-        let memory = self.memory_noted(place);
+        let memory = self.octa_before(place);
         let k = sight.dest.unwrap_or(255);
-        let Ok(ring) = self.ring_noted(work, k, place) else {
+        let Ok(ring) = self.note_ring(work, k, place) else {
             return None;
         };
         Some(WholeNote {
@@ -178,7 +178,7 @@ impl Machine {
 
     /// The octa at a place outside the stack area.
     #[tactic(auto, unfolding(crate::specs::Kept::state_of, crate::specs::Undoing::memory_noted))]
-    fn memory_noted(&self, place: Option<u64>) -> Option<OctaWas>
+    fn octa_before(&self, place: Option<u64>) -> Option<OctaWas>
         requires { IfSome place (λ a. a < 2 ^ 63) }
         ensures { result ≡ undoing.memory_noted (state_of self.now) place }
     {
@@ -198,7 +198,7 @@ impl Machine {
     }
 
     /// What a work of the register stack notes; where there is none, a value for $k and an octa of the stack area.
-    fn ring_noted(
+    fn note_ring(
         &mut self,
         work: Option<RingWork>,
         k: u8,
@@ -235,7 +235,7 @@ impl Machine {
 
 /// The note of a step, or nothing where memory is lacking.
 #[inline(always)]
-fn boxed(alloc: Global, whole: WholeNote) -> Option<Note>
+fn into_note(alloc: Global, whole: WholeNote) -> Option<Note>
     ensures { IfSome result (λ n. n ≡ undoing.whole whole) }
 {
     match Box::new(alloc, whole) {

@@ -18,7 +18,7 @@ impl Machine {
     pub(crate) fn perform(&mut self, i: &Instruction) -> Result<(), Stop>
         ensures answer { CarriesOutWithMemory (operation_in i.now) i.now result self.old self.new }
         ensures err { KeepsOnErr result self.old self.new }
-        ensures there { LacksMemoryOnlyWhere
+        ensures lacks_memory { LacksMemoryOnlyWhere
             (needs_page (state_of self.old) (deed_of (operation_in i.now) (state_of self.old) i.now)) result }
     {
         match i.operation() {

@@ -1,7 +1,7 @@
 //! What PUT stores in special registers.
 
 ghost use Rattle.std.specs.Prelude.{◌≡◌, ◌<◌};
-ghost use Rattle.mx_core.specs.Changes.{with_put, IsPuttable};
+ghost use Rattle.mx_core.specs.UserChanges.{with_put, IsPuttable};
 ghost use Rattle.mx_core.specs.Kept.{state_of};
 
 use crate::Machine;

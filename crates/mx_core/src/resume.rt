@@ -22,7 +22,7 @@ impl Machine {
     pub(crate) fn resume(&mut self, i: &Instruction) -> Result<(), Stop>
         ensures answer { MakesWithMemory (λ s. outcome s (resumed s i.now)) result self.old self.new }
         ensures err { KeepsOnErr result self.old self.new }
-        ensures there { LacksMemoryOnlyWhere
+        ensures lacks_memory { LacksMemoryOnlyWhere
             (needs_page (state_of self.old) (resumed (state_of self.old) i.now)) result }
     {
         if i.xyz() != 0 {
@@ -44,7 +44,7 @@ impl Machine {
         requires { kind ≡ kinds.Set → sets_marginal (state_of self.old) (spec.instruction at word) ≡ false }
         ensures answer { MakesWithMemory (λ s. outcome s (deeds.performed kind s at word)) result self.old self.new }
         ensures err { KeepsOnErr result self.old self.new }
-        ensures there { LacksMemoryOnlyWhere
+        ensures lacks_memory { LacksMemoryOnlyWhere
             (needs_page (state_of self.old) (deeds.performed kind (state_of self.old) at word)) result }
     {
         match kind {

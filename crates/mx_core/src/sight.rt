@@ -12,7 +12,7 @@ ghost use Rattle.mx_core.specs.Deeds as deeds;
 use crate::trips::{RW, RX, RY, RZ};
 use crate::{Machine, Touch};
 use mx_alu::{Insert, Kind, inserted};
-use mx_code::{Instruction, Operation, destination, loaded_part, stored_part, touch};
+use mx_code::{Instruction, Operation, destination, part_of_load, part_of_store, touch_of};
 use mx_mem::Part;
 
 /// The destination, and what is read and written of memory.
@@ -44,13 +44,13 @@ impl Machine {
         match i.operation() {
             Operation::Load(how) => Sight {
                 dest: Some(i.x()),
-                reads: Some(touch(self.data_address(i), loaded_part(how))),
+                reads: Some(touch_of(self.data_address(i), part_of_load(how))),
                 writes: None,
             },
             Operation::Store(how) => Sight {
                 dest: None,
                 reads: None,
-                writes: Some(touch(self.data_address(i), stored_part(how))),
+                writes: Some(touch_of(self.data_address(i), part_of_store(how))),
             },
             Operation::CompareAndSwap => self.exchange_sight(i),
             operation => Sight {
@@ -65,7 +65,7 @@ impl Machine {
     fn exchange_sight(&self, i: &Instruction) -> Sight
         ensures { result ≡ spec.exchange_sight (state_of self.now) i.now }
     {
-        let place = touch(self.data_address(i), Part::Octa);
+        let place = touch_of(self.data_address(i), Part::Octa);
         Sight {
             dest: Some(i.x()),
             reads: Some(place),
@@ -118,7 +118,7 @@ impl Machine {
     }
 
     /// What was written, once the instruction is carried out: $X is 1 after a CSWAP that wrote.
-    pub(crate) fn written(&self, sight: &Sight) -> Option<Touch>
+    pub(crate) fn touch_written(&self, sight: &Sight) -> Option<Touch>
         ensures { result ≡ spec.write_told (state_of self.now) sight.now }
     {
         match (sight.dest, sight.reads, sight.writes) {

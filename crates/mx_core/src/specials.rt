@@ -66,7 +66,7 @@ impl Machine {
     pub(crate) fn put_special(&mut self, i: &Instruction) -> Result<(), Stop>
         ensures { CarriesOut Operation.Put i.now result self.old self.new }
     {
-        if names_no_special(i) {
+        if has_bad_special(i) {
             return Err(Stop::Stopped(Reason::Illegal));
         }
         stored_values_are_in_bounds();
@@ -172,7 +172,7 @@ impl Machine {
             x: self.special(RX),
             y: self.special(RY),
             z: self.special(RZ),
-            a: self.status(),
+            a: self.ra(),
         }
     }
 
@@ -264,7 +264,7 @@ fn has_x_or_y(i: &Instruction) -> bool
 }
 
 /// Whether PUT has a Y, or an X that is no code of a special register.
-fn names_no_special(i: &Instruction) -> bool
+fn has_bad_special(i: &Instruction) -> bool
     ensures { result ≡ (not (y_of i.now == 0) || nat_lt 31 (x_of i.now)) }
 {
     i.y() != 0 || i.x() > 31

@@ -52,21 +52,21 @@ impl Machine {
         ensures answer { result ≢ Step.OutOfMemory →
             (result, state_of self.new) ≡ step_answer (state_of self.old) (spec.step (state_of self.old)) }
         ensures memory { result ≡ Step.OutOfMemory → state_of self.new ≡ state_of self.old }
-        ensures there { result ≡ Step.OutOfMemory → IsTrue (step_needs_page (state_of self.old)) }
+        ensures lacks_memory { result ≡ Step.OutOfMemory → IsTrue (step_needs_page (state_of self.old)) }
     {
         let at = self.pc();
         if at >= 1 << 63 {
             return Step::Stopped(Reason::Negative);
         }
-        let i = self.fetched(at);
+        let i = self.fetch(at);
         match i.operation() {
-            Operation::Trap => Step::Trap(self.call(&i)),
+            Operation::Trap => Step::Trap(self.trap_call(&i)),
             _ => self.follow(&i),
         }
     }
 
     /// The call of the TRAP at the next address.
-    pub(crate) fn call(&self, i: &Instruction) -> TrapCall
+    pub(crate) fn trap_call(&self, i: &Instruction) -> TrapCall
         requires { i.now ≡ spec.fetched (state_of self.now) }
         ensures { result ≡ spec.call_of (state_of self.now) }
     {
@@ -81,11 +81,11 @@ impl Machine {
     pub(crate) fn follow(&mut self, i: &Instruction) -> Step
         requires fetched { i.now ≡ spec.fetched (state_of self.old) }
         requires range { (state_of self.old).pc < 2 ^ 63 }
-        requires other { operation_in i.now ≢ Operation.Trap }
+        requires no_trap { operation_in i.now ≢ Operation.Trap }
         ensures answer { result ≢ Step.OutOfMemory →
             (result, state_of self.new) ≡ step_answer (state_of self.old) (spec.step (state_of self.old)) }
         ensures memory { result ≡ Step.OutOfMemory → state_of self.new ≡ state_of self.old }
-        ensures there { result ≡ Step.OutOfMemory →
+        ensures lacks_memory { result ≡ Step.OutOfMemory →
             IsTrue (needs_page (state_of self.old) (deed_at (state_of self.old) i.now)) }
     {
         let sight = self.sight_at(i);
@@ -97,7 +97,7 @@ impl Machine {
                     word: i.word,
                     dest: sight.dest,
                     reads: sight.reads,
-                    writes: self.written(&sight),
+                    writes: self.touch_written(&sight),
                     next: self.pc(),
                 })
             }
@@ -112,16 +112,16 @@ impl Machine {
         ensures answer { result ≢ Advance.OutOfMemory →
             (result, state_of self.new) ≡ advanced (state_of self.old) (spec.step (state_of self.old)) }
         ensures memory { result ≡ Advance.OutOfMemory → state_of self.new ≡ state_of self.old }
-        ensures there { result ≡ Advance.OutOfMemory → IsTrue (step_needs_page (state_of self.old)) }
+        ensures lacks_memory { result ≡ Advance.OutOfMemory → IsTrue (step_needs_page (state_of self.old)) }
     {
         let at = self.pc();
         if at >= STACK_SEGMENT {
-            return self.advance_anyhow();
+            return self.advance_general();
         }
-        let i = self.fetched(at);
+        let i = self.fetch(at);
         match group_of(i.code()) {
             Group::Trap => Advance::Trap,
-            Group::Other => self.advance_anyhow(),
+            Group::Other => self.advance_general(),
             group => self.make(group, &i),
         }
     }
@@ -135,7 +135,7 @@ impl Machine {
         ensures all { result.last ≡ Advance.Went → result.made ≡ n }
         ensures last { result.last ≢ Advance.Went → result.last ≢ Advance.OutOfMemory →
             (result.last, state_of self.new) ≡ advanced (state_of self.new) (spec.step (state_of self.new)) }
-        ensures there { result.last ≡ Advance.OutOfMemory → IsTrue (step_needs_page (state_of self.new)) }
+        ensures lacks_memory { result.last ≡ Advance.OutOfMemory → IsTrue (step_needs_page (state_of self.new)) }
     {
         let mut left = n;
         while left > 0 {
@@ -182,29 +182,29 @@ impl Machine {
         ensures answer { result ≢ Advance.OutOfMemory →
             (result, state_of self.new) ≡ advanced (state_of self.old) (spec.step (state_of self.old)) }
         ensures memory { result ≡ Advance.OutOfMemory → state_of self.new ≡ state_of self.old }
-        ensures there { result ≡ Advance.OutOfMemory → IsTrue (step_needs_page (state_of self.old)) }
+        ensures lacks_memory { result ≡ Advance.OutOfMemory → IsTrue (step_needs_page (state_of self.old)) }
     {
         if self.advance_if_calling() {
             return Advance::Went;
         }
-        let answer = self.advance_anyhow();
+        let answer = self.advance_general();
         self.keep_code();
         answer
     }
 
     /// One step without its trace, for each address and each instruction.
     #[inline(never)]
-    fn advance_anyhow(&mut self) -> Advance
+    fn advance_general(&mut self) -> Advance
         ensures answer { result ≢ Advance.OutOfMemory →
             (result, state_of self.new) ≡ advanced (state_of self.old) (spec.step (state_of self.old)) }
         ensures memory { result ≡ Advance.OutOfMemory → state_of self.new ≡ state_of self.old }
-        ensures there { result ≡ Advance.OutOfMemory → IsTrue (step_needs_page (state_of self.old)) }
+        ensures lacks_memory { result ≡ Advance.OutOfMemory → IsTrue (step_needs_page (state_of self.old)) }
     {
         let at = self.pc();
         if at >= 1 << 63 {
             return Advance::Stopped(Reason::Negative);
         }
-        let i = self.fetched(at);
+        let i = self.fetch(at);
         match i.operation() {
             Operation::Trap => Advance::Trap,
             _ => self.make(Group::Other, &i),
@@ -216,12 +216,12 @@ impl Machine {
     fn make(&mut self, group: Group, i: &Instruction) -> Advance
         requires fetched { i.now ≡ spec.fetched (state_of self.old) }
         requires range { (state_of self.old).pc < 2 ^ 63 }
-        requires other { operation_in i.now ≢ Operation.Trap }
+        requires no_trap { operation_in i.now ≢ Operation.Trap }
         requires group { operation_in i.now ≡ operation_by group (code_of i.now) }
         ensures answer { result ≢ Advance.OutOfMemory →
             (result, state_of self.new) ≡ advanced (state_of self.old) (spec.step (state_of self.old)) }
         ensures memory { result ≡ Advance.OutOfMemory → state_of self.new ≡ state_of self.old }
-        ensures there { result ≡ Advance.OutOfMemory →
+        ensures lacks_memory { result ≡ Advance.OutOfMemory →
             IsTrue (needs_page (state_of self.old) (deed_at (state_of self.old) i.now)) }
     {
         match self.carry_out_by(group, i) {
@@ -229,14 +229,14 @@ impl Machine {
                 self.note_where(is_in_stack_segment(i.at));
                 Advance::Went
             }
-            Err(Stop::Stopped(reason)) => stopped_for(reason),
+            Err(Stop::Stopped(reason)) => stop_for(reason),
             Err(Stop::OutOfMemory) => Advance::OutOfMemory,
         }
     }
 
     /// The instruction at the next address.
     #[inline(always)]
-    pub(crate) fn fetched(&self, at: u64) -> Instruction
+    pub(crate) fn fetch(&self, at: u64) -> Instruction
         requires next { at ≡ (state_of self.now).pc }
         requires range { at < 2 ^ 63 }
         ensures { result ≡ spec.fetched (state_of self.now) }
@@ -253,13 +253,13 @@ impl Machine {
         requires group { operation_in i.now ≡ operation_by group (code_of i.now) }
         ensures answer { MakesWithMemory (λ s. outcome s (deed_at s i.now)) result self.old self.new }
         ensures err { KeepsOnErr result self.old self.new }
-        ensures there { LacksMemoryOnlyWhere
+        ensures lacks_memory { LacksMemoryOnlyWhere
             (needs_page (state_of self.old) (deed_at (state_of self.old) i.now)) result }
     {
         match group {
             Group::Move => self.carry_out_move(i),
             Group::Put => self.carry_out_put(i),
-            Group::Trap | Group::Other => self.carry_out(i.at, i.word).answer(),
+            Group::Trap | Group::Other => self.carry_out(i.at, i.word).into_result(),
             _ => self.carry_out_quietly(group, i),
         }
     }
@@ -296,13 +296,13 @@ impl Machine {
         requires { i.now ≡ instruction i.now.at i.now.word }
         ensures answer { MakesWithMemory (λ s. outcome s (deed_at s i.now)) result self.old self.new }
         ensures err { KeepsOnErr result self.old self.new }
-        ensures there { LacksMemoryOnlyWhere
+        ensures lacks_memory { LacksMemoryOnlyWhere
             (needs_page (state_of self.old) (deed_at (state_of self.old) i.now)) result }
     {
         match i.operation() {
             Operation::Load(how) => self.load(how, i),
             Operation::Store(how) => self.store_register(how, i),
-            _ => self.carry_out(i.at, i.word).answer(),
+            _ => self.carry_out(i.at, i.word).into_result(),
         }
     }
 
@@ -314,11 +314,11 @@ impl Machine {
         requires put { operation_in i.now ≡ Operation.Put }
         ensures answer { MakesWithMemory (λ s. outcome s (deed_at s i.now)) result self.old self.new }
         ensures err { KeepsOnErr result self.old self.new }
-        ensures there { LacksMemoryOnlyWhere
+        ensures lacks_memory { LacksMemoryOnlyWhere
             (needs_page (state_of self.old) (deed_at (state_of self.old) i.now)) result }
     {
         if i.x() != RJ || i.y() != 0 {
-            return self.carry_out(i.at, i.word).answer();
+            return self.carry_out(i.at, i.word).into_result();
         }
         self.put(RJ, self.z_operand(i));
         self.go_to(i.next());
@@ -333,20 +333,20 @@ impl Machine {
         ensures answer { MakesWithMemory (λ s. outcome s (deed_at s (instruction at word)))
             (answer_in result) self.old self.new }
         ensures err { KeepsOnErr (answer_in result) self.old self.new }
-        ensures there { LacksMemoryOnlyWhere
+        ensures lacks_memory { LacksMemoryOnlyWhere
             (needs_page (state_of self.old) (deed_at (state_of self.old) (instruction at word))) (answer_in result) }
     {
         let i = Instruction::new(at, word);
         match i.operation() {
-            Operation::Resume => Told::of(self.resume(&i)),
-            _ => Told::of(self.perform(&i)),
+            Operation::Resume => Told::from_result(self.resume(&i)),
+            _ => Told::from_result(self.perform(&i)),
         }
     }
 }
 
 /// A step that stopped. It is a call, so that a step that goes on chooses between no answers.
 #[inline(never)]
-fn stopped_for(reason: Reason) -> Advance
+fn stop_for(reason: Reason) -> Advance
     ensures { result ≡ Advance.Stopped reason }
 {
     Advance::Stopped(reason)

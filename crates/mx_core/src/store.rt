@@ -14,7 +14,9 @@ ghost use Rattle.mx_code.specs.Told.{answer_in};
 
 use crate::{Machine, Reason};
 use mx_alu::{Event, Trip, decide, noted_events_stay_in_18_bits};
-use mx_code::{Instruction, Operation, Stop, Storing, Told, overflows, stored_part, stored_value};
+use mx_code::{
+    Instruction, Operation, Stop, Storing, Told, convert_stored, is_store_overflow, part_of_store,
+};
 
 impl Machine {
     /// STB to STCO. It takes memory only where it begins a page.
@@ -25,7 +27,7 @@ impl Machine {
     pub(crate) fn store_register(&mut self, how: Storing, i: &Instruction) -> Result<(), Stop>
         ensures answer { CarriesOutWithMemory (Operation.Store how) i.now result self.old self.new }
         ensures err { KeepsOnErr result self.old self.new }
-        ensures there { LacksMemoryOnlyWhere
+        ensures lacks_memory { LacksMemoryOnlyWhere
             (needs_page (state_of self.old) (deed_of (Operation.Store how) (state_of self.old) i.now)) result }
     {
         let a = self.data_address(i);
@@ -33,10 +35,10 @@ impl Machine {
         if a >= 1 << 63 {
             return Err(Stop::Stopped(Reason::Negative));
         }
-        if overflows(how, x) {
-            return self.store_apart(how, i.at, i.word, a, x).answer();
+        if is_store_overflow(how, x) {
+            return self.store_apart(how, i.at, i.word, a, x).into_result();
         }
-        match self.store(a, stored_part(how), stored_value(how, x, i.x())) {
+        match self.store(a, part_of_store(how), convert_stored(how, x, i.x())) {
             Ok(()) => {
                 self.go_to(i.next());
                 Ok(())
@@ -54,10 +56,10 @@ impl Machine {
         ensures answer { MakesWithMemory (λ s. spec.store_settled s (instruction at word) how a x)
             (answer_in result) self.old self.new }
         ensures err { KeepsOnErr (answer_in result) self.old self.new }
-        ensures there { LacksMemoryOnlyWhere (spec.makes_page (state_of self.old) a
+        ensures lacks_memory { LacksMemoryOnlyWhere (spec.makes_page (state_of self.old) a
             (spec.store_settled (state_of self.old) (instruction at word) how a x)) (answer_in result) }
     {
-        Told::of(self.store_overflowing(how, &Instruction::new(at, word), a, x))
+        Told::from_result(self.store_overflowing(how, &Instruction::new(at, word), a, x))
     }
 
     /// A store that loses the sign.
@@ -72,11 +74,11 @@ impl Machine {
         requires event { stored_event how x ≡ Some event.Overflow }
         ensures answer { MakesWithMemory (λ s. spec.store_settled s i.now how a x) result self.old self.new }
         ensures err { KeepsOnErr result self.old self.new }
-        ensures there { LacksMemoryOnlyWhere (spec.makes_page (state_of self.old) a
+        ensures lacks_memory { LacksMemoryOnlyWhere (spec.makes_page (state_of self.old) a
             (spec.store_settled (state_of self.old) i.now how a x)) result }
     {
         noted_events_stay_in_18_bits();
-        match decide(self.status(), Event::Overflow) {
+        match decide(self.ra(), Event::Overflow) {
             Trip::Noted(status) => self.store_noted(how, i, a, x, status),
             Trip::Taken(handler) => self.store_tripped(how, i, a, x, handler),
         }
@@ -97,10 +99,10 @@ impl Machine {
         ensures answer { MakesWithMemory (λ s. spec.overflow_decided s i.now how a x (trips.Noted status)) result
             self.old self.new }
         ensures err { KeepsOnErr result self.old self.new }
-        ensures there { LacksMemoryOnlyWhere (spec.makes_page (state_of self.old) a
+        ensures lacks_memory { LacksMemoryOnlyWhere (spec.makes_page (state_of self.old) a
             (spec.overflow_decided (state_of self.old) i.now how a x (trips.Noted status))) result }
     {
-        match self.store(a, stored_part(how), stored_value(how, x, i.x())) {
+        match self.store(a, part_of_store(how), convert_stored(how, x, i.x())) {
             Ok(()) => {
                 self.put_status(status);
                 self.go_to(i.next());
@@ -125,13 +127,13 @@ impl Machine {
         ensures answer { MakesWithMemory (λ s. spec.overflow_decided s i.now how a x (trips.Taken handler)) result
             self.old self.new }
         ensures err { KeepsOnErr result self.old self.new }
-        ensures there { LacksMemoryOnlyWhere (spec.makes_page (state_of self.old) a
+        ensures lacks_memory { LacksMemoryOnlyWhere (spec.makes_page (state_of self.old) a
             (spec.overflow_decided (state_of self.old) i.now how a x (trips.Taken handler))) result }
     {
         if self.tetra(handler) == 0 {
             return Err(Stop::Stopped(Reason::UnhandledTrip));
         }
-        match self.store(a, stored_part(how), stored_value(how, x, i.x())) {
+        match self.store(a, part_of_store(how), convert_stored(how, x, i.x())) {
             Ok(()) => {
                 self.trip(i, handler, a, x);
                 Ok(())

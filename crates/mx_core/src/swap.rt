@@ -25,7 +25,7 @@ impl Machine {
     pub(crate) fn swap(&mut self, i: &Instruction) -> Result<(), Stop>
         ensures answer { CarriesOutWithMemory Operation.CompareAndSwap i.now result self.old self.new }
         ensures err { KeepsOnErr result self.old self.new }
-        ensures there { LacksMemoryOnlyWhere
+        ensures lacks_memory { LacksMemoryOnlyWhere
             (needs_page (state_of self.old) (deed_of Operation.CompareAndSwap (state_of self.old) i.now)) result }
     {
         let a = self.data_address(i);
@@ -50,7 +50,7 @@ impl Machine {
         requires outside { in_stack_area a ≡ false }
         ensures answer { MakesWithMemory (λ s. spec.exchanged s i.now a) result self.old self.new }
         ensures err { KeepsOnErr result self.old self.new }
-        ensures there { LacksMemoryOnlyWhere (spec.makes_page (state_of self.old) a
+        ensures lacks_memory { LacksMemoryOnlyWhere (spec.makes_page (state_of self.old) a
             (spec.exchanged (state_of self.old) i.now a)) result }
     {
         if self.overfills(i.x()) {
@@ -86,7 +86,7 @@ impl Machine {
         requires below { a < 2 ^ 63 }
         ensures answer { CarriesOutWithMemory Operation.CompareAndSwap i.now result self.old self.new }
         ensures err { KeepsOnErr result self.old self.new }
-        ensures there { LacksMemoryOnlyWhere false result }
+        ensures lacks_memory { LacksMemoryOnlyWhere false result }
     {
         match self.set(i.x(), self.x_register(i)) {
             Ok(()) => self.swap_local(i, a),

@@ -36,7 +36,7 @@ impl Machine {
     /// rA.
     #[tactic(auto, unfolding(crate::specs::Kept::state_of, crate::specs::State::special_register))]
     #[inline(always)]
-    pub(crate) fn status(&self) -> u64
+    pub(crate) fn ra(&self) -> u64
         ensures value { result ≡ special_register (state_of self.now) rA }
         ensures bits { result < 2 ^ 18 }
     {
@@ -64,7 +64,7 @@ impl Machine {
     #[inline(always)]
     fn put_told(&mut self, code: u8, x: Option<u64>)
         requires range { code < 32 }
-        requires other { code ≢ rA }
+        requires not_ra { code ≢ rA }
         ensures { state_of self.new ≡ with_specials (state_of self.old) (if_told code x) }
     {
         if let Some(x) = x {
@@ -80,7 +80,7 @@ impl Machine {
         let link = self.special(RJ);
         let last = self.register(255);
         self.put(RW, i.next());
-        self.put(RX, marked(i.word));
+        self.put(RX, with_top_bit(i.word));
         self.put(RY, y);
         self.put(RZ, z);
         self.put(RB, last);
@@ -120,7 +120,7 @@ impl Machine {
             self.old self.new }
     {
         noted_events_stay_in_18_bits();
-        match decide(self.status(), event) {
+        match decide(self.ra(), event) {
             Trip::Noted(status) => self.give_noted(i, a, status),
             Trip::Taken(handler) => self.give_tripped(i, a, handler, y, z),
         }
@@ -190,7 +190,7 @@ impl Machine {
 }
 
 /// A tetra with the top bit of an octa set, as rX has it after a trip.
-pub(crate) fn marked(word: u32) -> u64
+pub(crate) fn with_top_bit(word: u32) -> u64
     ensures { result ≡ 2 ^ 63 + word }
 {
     (1 << 63) + u64::from(word)

@@ -105,7 +105,7 @@ impl Machine {
 /// Puts an octa back on a page that is there.
 fn put_octa_back(memory: &mut Memory, at: u64, octa: u64)
     requires low { at < 2 ^ 63 }
-    requires there { has_page memory.old (at / 4096) ≡ true }
+    requires has_page { has_page memory.old (at / 4096) ≡ true }
     ensures octas { octa_at memory.new ≡ stored_at (octa_at memory.old) at octa }
     ensures pages { has_page memory.new ≡ has_page memory.old }
     ensures count { page_count memory.new ≡ page_count memory.old }

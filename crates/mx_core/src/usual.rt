@@ -14,7 +14,7 @@ ghost use Rattle.mx_core.specs.Way.Stepping.{advanced};
 ghost use Rattle.mx_core.specs.declared.step.Advance.TheVariants as advance;
 
 use crate::Machine;
-use mx_code::{Instruction, Loading, loaded_part, loaded_value, loaded_within};
+use mx_code::{Instruction, Loading, extract_loaded, extract_loaded_tetra, part_of_load};
 use mx_mem::Part;
 
 /// What a usual instruction does: $X gets a value, and the machine goes on; the machine goes to an address; what
@@ -89,17 +89,17 @@ impl Machine {
 
     /// The value that is loaded of an address, where it is below Stack_Segment and its page is near.
     #[inline(always)]
-    pub(crate) fn loaded_near(&self, how: Loading, a: u64) -> Option<u64>
+    pub(crate) fn load_if_near(&self, how: Loading, a: u64) -> Option<u64>
         ensures value { IfSome result (λ v. v ≡ loaded_value how (states.octa (state_of self.now) a) a) }
         ensures low { IfSome result (λ _. a < 0x6000_0000_0000_0000) }
     {
-        match loaded_part(how) {
+        match part_of_load(how) {
             Part::Octa => match self.near_octa(a) {
-                Some(octa) => Some(loaded_value(how, octa, a)),
+                Some(octa) => Some(extract_loaded(how, octa, a)),
                 None => None,
             },
             _ => match self.near_data(a) {
-                Some(t) => Some(loaded_within(how, t, a)),
+                Some(t) => Some(extract_loaded_tetra(how, t, a)),
                 None => None,
             },
         }

@@ -41,93 +41,93 @@ impl Machine {
             0x15 => Usual::Other,
             0x16 => Usual::Other,
             0x17 => Usual::Other,
-            0x18 => self.computed_at(at, 0x18, word),
-            0x19 => self.computed_at(at, 0x19, word),
+            0x18 => self.usual_compute_at(at, 0x18, word),
+            0x19 => self.usual_compute_at(at, 0x19, word),
             0x1a => Usual::Apart(0x1a),
             0x1b => Usual::Apart(0x1b),
             0x1c => Usual::Apart(0x1c),
             0x1d => Usual::Apart(0x1d),
             0x1e => Usual::Apart(0x1e),
             0x1f => Usual::Apart(0x1f),
-            0x20 => self.computed_at(at, 0x20, word),
-            0x21 => self.computed_at(at, 0x21, word),
-            0x22 => self.computed_at(at, 0x22, word),
-            0x23 => self.computed_at(at, 0x23, word),
-            0x24 => self.computed_at(at, 0x24, word),
-            0x25 => self.computed_at(at, 0x25, word),
-            0x26 => self.computed_at(at, 0x26, word),
-            0x27 => self.computed_at(at, 0x27, word),
-            0x28 => self.computed_at(at, 0x28, word),
-            0x29 => self.computed_at(at, 0x29, word),
-            0x2a => self.computed_at(at, 0x2a, word),
-            0x2b => self.computed_at(at, 0x2b, word),
-            0x2c => self.computed_at(at, 0x2c, word),
-            0x2d => self.computed_at(at, 0x2d, word),
-            0x2e => self.computed_at(at, 0x2e, word),
-            0x2f => self.computed_at(at, 0x2f, word),
-            0x30 => self.computed_at(at, 0x30, word),
-            0x31 => self.computed_at(at, 0x31, word),
-            0x32 => self.computed_at(at, 0x32, word),
-            0x33 => self.computed_at(at, 0x33, word),
-            0x34 => self.negated_at(at, 0x34, word),
-            0x35 => self.negated_at(at, 0x35, word),
-            0x36 => self.negated_at(at, 0x36, word),
-            0x37 => self.negated_at(at, 0x37, word),
-            0x38 => self.computed_at(at, 0x38, word),
-            0x39 => self.computed_at(at, 0x39, word),
-            0x3a => self.computed_at(at, 0x3a, word),
-            0x3b => self.computed_at(at, 0x3b, word),
-            0x3c => self.computed_at(at, 0x3c, word),
-            0x3d => self.computed_at(at, 0x3d, word),
-            0x3e => self.computed_at(at, 0x3e, word),
-            0x3f => self.computed_at(at, 0x3f, word),
-            0x40 => self.branched_at(at, 0x40, word),
-            0x41 => self.branched_at(at, 0x41, word),
-            0x42 => self.branched_at(at, 0x42, word),
-            0x43 => self.branched_at(at, 0x43, word),
-            0x44 => self.branched_at(at, 0x44, word),
-            0x45 => self.branched_at(at, 0x45, word),
-            0x46 => self.branched_at(at, 0x46, word),
-            0x47 => self.branched_at(at, 0x47, word),
-            0x48 => self.branched_at(at, 0x48, word),
-            0x49 => self.branched_at(at, 0x49, word),
-            0x4a => self.branched_at(at, 0x4a, word),
-            0x4b => self.branched_at(at, 0x4b, word),
-            0x4c => self.branched_at(at, 0x4c, word),
-            0x4d => self.branched_at(at, 0x4d, word),
-            0x4e => self.branched_at(at, 0x4e, word),
-            0x4f => self.branched_at(at, 0x4f, word),
-            0x50 => self.branched_at(at, 0x50, word),
-            0x51 => self.branched_at(at, 0x51, word),
-            0x52 => self.branched_at(at, 0x52, word),
-            0x53 => self.branched_at(at, 0x53, word),
-            0x54 => self.branched_at(at, 0x54, word),
-            0x55 => self.branched_at(at, 0x55, word),
-            0x56 => self.branched_at(at, 0x56, word),
-            0x57 => self.branched_at(at, 0x57, word),
-            0x58 => self.branched_at(at, 0x58, word),
-            0x59 => self.branched_at(at, 0x59, word),
-            0x5a => self.branched_at(at, 0x5a, word),
-            0x5b => self.branched_at(at, 0x5b, word),
-            0x5c => self.branched_at(at, 0x5c, word),
-            0x5d => self.branched_at(at, 0x5d, word),
-            0x5e => self.branched_at(at, 0x5e, word),
-            0x5f => self.branched_at(at, 0x5f, word),
-            0x60 => self.chosen_at(at, 0x60, word),
-            0x61 => self.chosen_at(at, 0x61, word),
-            0x62 => self.chosen_at(at, 0x62, word),
-            0x63 => self.chosen_at(at, 0x63, word),
-            0x64 => self.chosen_at(at, 0x64, word),
-            0x65 => self.chosen_at(at, 0x65, word),
-            0x66 => self.chosen_at(at, 0x66, word),
-            0x67 => self.chosen_at(at, 0x67, word),
-            0x68 => self.chosen_at(at, 0x68, word),
-            0x69 => self.chosen_at(at, 0x69, word),
-            0x6a => self.chosen_at(at, 0x6a, word),
-            0x6b => self.chosen_at(at, 0x6b, word),
-            0x6c => self.chosen_at(at, 0x6c, word),
-            0x6e => self.chosen_at(at, 0x6e, word),
-            0x6f => self.chosen_at(at, 0x6f, word),
+            0x20 => self.usual_compute_at(at, 0x20, word),
+            0x21 => self.usual_compute_at(at, 0x21, word),
+            0x22 => self.usual_compute_at(at, 0x22, word),
+            0x23 => self.usual_compute_at(at, 0x23, word),
+            0x24 => self.usual_compute_at(at, 0x24, word),
+            0x25 => self.usual_compute_at(at, 0x25, word),
+            0x26 => self.usual_compute_at(at, 0x26, word),
+            0x27 => self.usual_compute_at(at, 0x27, word),
+            0x28 => self.usual_compute_at(at, 0x28, word),
+            0x29 => self.usual_compute_at(at, 0x29, word),
+            0x2a => self.usual_compute_at(at, 0x2a, word),
+            0x2b => self.usual_compute_at(at, 0x2b, word),
+            0x2c => self.usual_compute_at(at, 0x2c, word),
+            0x2d => self.usual_compute_at(at, 0x2d, word),
+            0x2e => self.usual_compute_at(at, 0x2e, word),
+            0x2f => self.usual_compute_at(at, 0x2f, word),
+            0x30 => self.usual_compute_at(at, 0x30, word),
+            0x31 => self.usual_compute_at(at, 0x31, word),
+            0x32 => self.usual_compute_at(at, 0x32, word),
+            0x33 => self.usual_compute_at(at, 0x33, word),
+            0x34 => self.usual_negate_at(at, 0x34, word),
+            0x35 => self.usual_negate_at(at, 0x35, word),
+            0x36 => self.usual_negate_at(at, 0x36, word),
+            0x37 => self.usual_negate_at(at, 0x37, word),
+            0x38 => self.usual_compute_at(at, 0x38, word),
+            0x39 => self.usual_compute_at(at, 0x39, word),
+            0x3a => self.usual_compute_at(at, 0x3a, word),
+            0x3b => self.usual_compute_at(at, 0x3b, word),
+            0x3c => self.usual_compute_at(at, 0x3c, word),
+            0x3d => self.usual_compute_at(at, 0x3d, word),
+            0x3e => self.usual_compute_at(at, 0x3e, word),
+            0x3f => self.usual_compute_at(at, 0x3f, word),
+            0x40 => self.usual_branch_at(at, 0x40, word),
+            0x41 => self.usual_branch_at(at, 0x41, word),
+            0x42 => self.usual_branch_at(at, 0x42, word),
+            0x43 => self.usual_branch_at(at, 0x43, word),
+            0x44 => self.usual_branch_at(at, 0x44, word),
+            0x45 => self.usual_branch_at(at, 0x45, word),
+            0x46 => self.usual_branch_at(at, 0x46, word),
+            0x47 => self.usual_branch_at(at, 0x47, word),
+            0x48 => self.usual_branch_at(at, 0x48, word),
+            0x49 => self.usual_branch_at(at, 0x49, word),
+            0x4a => self.usual_branch_at(at, 0x4a, word),
+            0x4b => self.usual_branch_at(at, 0x4b, word),
+            0x4c => self.usual_branch_at(at, 0x4c, word),
+            0x4d => self.usual_branch_at(at, 0x4d, word),
+            0x4e => self.usual_branch_at(at, 0x4e, word),
+            0x4f => self.usual_branch_at(at, 0x4f, word),
+            0x50 => self.usual_branch_at(at, 0x50, word),
+            0x51 => self.usual_branch_at(at, 0x51, word),
+            0x52 => self.usual_branch_at(at, 0x52, word),
+            0x53 => self.usual_branch_at(at, 0x53, word),
+            0x54 => self.usual_branch_at(at, 0x54, word),
+            0x55 => self.usual_branch_at(at, 0x55, word),
+            0x56 => self.usual_branch_at(at, 0x56, word),
+            0x57 => self.usual_branch_at(at, 0x57, word),
+            0x58 => self.usual_branch_at(at, 0x58, word),
+            0x59 => self.usual_branch_at(at, 0x59, word),
+            0x5a => self.usual_branch_at(at, 0x5a, word),
+            0x5b => self.usual_branch_at(at, 0x5b, word),
+            0x5c => self.usual_branch_at(at, 0x5c, word),
+            0x5d => self.usual_branch_at(at, 0x5d, word),
+            0x5e => self.usual_branch_at(at, 0x5e, word),
+            0x5f => self.usual_branch_at(at, 0x5f, word),
+            0x60 => self.usual_choose_at(at, 0x60, word),
+            0x61 => self.usual_choose_at(at, 0x61, word),
+            0x62 => self.usual_choose_at(at, 0x62, word),
+            0x63 => self.usual_choose_at(at, 0x63, word),
+            0x64 => self.usual_choose_at(at, 0x64, word),
+            0x65 => self.usual_choose_at(at, 0x65, word),
+            0x66 => self.usual_choose_at(at, 0x66, word),
+            0x67 => self.usual_choose_at(at, 0x67, word),
+            0x68 => self.usual_choose_at(at, 0x68, word),
+            0x69 => self.usual_choose_at(at, 0x69, word),
+            0x6a => self.usual_choose_at(at, 0x6a, word),
+            0x6b => self.usual_choose_at(at, 0x6b, word),
+            0x6c => self.usual_choose_at(at, 0x6c, word),
+            0x6e => self.usual_choose_at(at, 0x6e, word),
+            0x6f => self.usual_choose_at(at, 0x6f, word),
             0x70 => self.zeroed_at(at, 0x70, word),
             0x71 => self.zeroed_at(at, 0x71, word),
             0x72 => self.zeroed_at(at, 0x72, word),
@@ -144,26 +144,26 @@ impl Machine {
             0x7d => self.zeroed_at(at, 0x7d, word),
             0x7e => self.zeroed_at(at, 0x7e, word),
             0x7f => self.zeroed_at(at, 0x7f, word),
-            0x80 => self.brought_at(at, 0x80, word),
-            0x81 => self.brought_at(at, 0x81, word),
-            0x82 => self.brought_at(at, 0x82, word),
-            0x83 => self.brought_at(at, 0x83, word),
-            0x84 => self.brought_at(at, 0x84, word),
-            0x85 => self.brought_at(at, 0x85, word),
-            0x86 => self.brought_at(at, 0x86, word),
-            0x87 => self.brought_at(at, 0x87, word),
-            0x88 => self.brought_at(at, 0x88, word),
-            0x89 => self.brought_at(at, 0x89, word),
-            0x8a => self.brought_at(at, 0x8a, word),
-            0x8b => self.brought_at(at, 0x8b, word),
-            0x8c => self.brought_at(at, 0x8c, word),
-            0x8d => self.brought_at(at, 0x8d, word),
-            0x8e => self.brought_at(at, 0x8e, word),
-            0x8f => self.brought_at(at, 0x8f, word),
+            0x80 => self.usual_load_at(at, 0x80, word),
+            0x81 => self.usual_load_at(at, 0x81, word),
+            0x82 => self.usual_load_at(at, 0x82, word),
+            0x83 => self.usual_load_at(at, 0x83, word),
+            0x84 => self.usual_load_at(at, 0x84, word),
+            0x85 => self.usual_load_at(at, 0x85, word),
+            0x86 => self.usual_load_at(at, 0x86, word),
+            0x87 => self.usual_load_at(at, 0x87, word),
+            0x88 => self.usual_load_at(at, 0x88, word),
+            0x89 => self.usual_load_at(at, 0x89, word),
+            0x8a => self.usual_load_at(at, 0x8a, word),
+            0x8b => self.usual_load_at(at, 0x8b, word),
+            0x8c => self.usual_load_at(at, 0x8c, word),
+            0x8d => self.usual_load_at(at, 0x8d, word),
+            0x8e => self.usual_load_at(at, 0x8e, word),
+            0x8f => self.usual_load_at(at, 0x8f, word),
             0x90 => Usual::Other,
             0x91 => Usual::Other,
-            0x92 => self.brought_at(at, 0x92, word),
-            0x93 => self.brought_at(at, 0x93, word),
+            0x92 => self.usual_load_at(at, 0x92, word),
+            0x93 => self.usual_load_at(at, 0x93, word),
             0x94 => Usual::Other,
             0x95 => Usual::Other,
             0x96 => Usual::Other,
@@ -208,32 +208,32 @@ impl Machine {
             0xbd => Usual::Other,
             0xbe => Usual::Other,
             0xbf => Usual::Other,
-            0xc0 => self.computed_at(at, 0xc0, word),
-            0xc1 => self.computed_at(at, 0xc1, word),
-            0xc2 => self.computed_at(at, 0xc2, word),
-            0xc3 => self.computed_at(at, 0xc3, word),
-            0xc4 => self.computed_at(at, 0xc4, word),
-            0xc5 => self.computed_at(at, 0xc5, word),
-            0xc6 => self.computed_at(at, 0xc6, word),
-            0xc7 => self.computed_at(at, 0xc7, word),
-            0xc8 => self.computed_at(at, 0xc8, word),
-            0xc9 => self.computed_at(at, 0xc9, word),
-            0xca => self.computed_at(at, 0xca, word),
-            0xcb => self.computed_at(at, 0xcb, word),
-            0xcc => self.computed_at(at, 0xcc, word),
-            0xcd => self.computed_at(at, 0xcd, word),
-            0xce => self.computed_at(at, 0xce, word),
-            0xcf => self.computed_at(at, 0xcf, word),
+            0xc0 => self.usual_compute_at(at, 0xc0, word),
+            0xc1 => self.usual_compute_at(at, 0xc1, word),
+            0xc2 => self.usual_compute_at(at, 0xc2, word),
+            0xc3 => self.usual_compute_at(at, 0xc3, word),
+            0xc4 => self.usual_compute_at(at, 0xc4, word),
+            0xc5 => self.usual_compute_at(at, 0xc5, word),
+            0xc6 => self.usual_compute_at(at, 0xc6, word),
+            0xc7 => self.usual_compute_at(at, 0xc7, word),
+            0xc8 => self.usual_compute_at(at, 0xc8, word),
+            0xc9 => self.usual_compute_at(at, 0xc9, word),
+            0xca => self.usual_compute_at(at, 0xca, word),
+            0xcb => self.usual_compute_at(at, 0xcb, word),
+            0xcc => self.usual_compute_at(at, 0xcc, word),
+            0xcd => self.usual_compute_at(at, 0xcd, word),
+            0xce => self.usual_compute_at(at, 0xce, word),
+            0xcf => self.usual_compute_at(at, 0xcf, word),
             0xd0 => Usual::Other,
             0xd1 => Usual::Other,
             0xd2 => Usual::Other,
             0xd3 => Usual::Other,
             0xd4 => Usual::Other,
             0xd5 => Usual::Other,
-            0xd6 => self.computed_at(at, 0xd6, word),
-            0xd7 => self.computed_at(at, 0xd7, word),
-            0xd8 => self.computed_at(at, 0xd8, word),
-            0xd9 => self.computed_at(at, 0xd9, word),
+            0xd6 => self.usual_compute_at(at, 0xd6, word),
+            0xd7 => self.usual_compute_at(at, 0xd7, word),
+            0xd8 => self.usual_compute_at(at, 0xd8, word),
+            0xd9 => self.usual_compute_at(at, 0xd9, word),
             0xda => Usual::Other,
             0xdb => Usual::Other,
             0xdc => Usual::Other,
@@ -256,12 +256,12 @@ impl Machine {
             0xed => self.with_wyde_at(at, 0xed, word),
             0xee => self.with_wyde_at(at, 0xee, word),
             0xef => self.with_wyde_at(at, 0xef, word),
-            0xf0 => self.jumped(&Instruction::coded(at, 0xf0, word)),
-            0xf1 => self.jumped(&Instruction::coded(at, 0xf1, word)),
+            0xf0 => self.usual_jump(&Instruction::with_code(at, 0xf0, word)),
+            0xf1 => self.usual_jump(&Instruction::with_code(at, 0xf1, word)),
             0xf2 => Usual::Apart(0xf2),
             0xf3 => Usual::Apart(0xf3),
-            0xf4 => self.near_one(&Instruction::coded(at, 0xf4, word)),
-            0xf5 => self.near_one(&Instruction::coded(at, 0xf5, word)),
+            0xf4 => self.near_one(&Instruction::with_code(at, 0xf4, word)),
+            0xf5 => self.near_one(&Instruction::with_code(at, 0xf5, word)),
             0xf6 => Usual::Apart(0xf6),
             0xf7 => Usual::Other,
             0xf8 => Usual::Apart(0xf8),
@@ -269,48 +269,48 @@ impl Machine {
             0xfa => Usual::Other,
             0xfb => Usual::Other,
             0xfc => Usual::Other,
-            0xfd => self.passed(&Instruction::coded(at, 0xfd, word)),
-            0xfe => self.got(&Instruction::coded(at, 0xfe, word)),
+            0xfd => self.passed(&Instruction::with_code(at, 0xfd, word)),
+            0xfe => self.usual_get(&Instruction::with_code(at, 0xfe, word)),
             0xff => Usual::Other,
             // 0x6d. It differs from those without a frequent operation, so that no bound of the table of arms is tested.
-            _ => self.chosen(&Instruction::new(at, word)),
+            _ => self.usual_choose(&Instruction::new(at, word)),
         }
     }
 
     /// The frequent step of MUL to SRU and OR to MXOR, where the code is one of theirs.
     #[inline(always)]
-    fn computed_at(&self, at: u64, code: u8, word: u32) -> Usual
+    fn usual_compute_at(&self, at: u64, code: u8, word: u32) -> Usual
         requires { code ≡ code_of (instruction at word) }
         ensures { IsUsual result (state_of self.now) (instruction at word) }
     {
-        self.computed(&Instruction::coded(at, code, word))
+        self.usual_compute(&Instruction::with_code(at, code, word))
     }
 
     /// The frequent step of NEG and NEGU, where the code is one of theirs.
     #[inline(always)]
-    fn negated_at(&self, at: u64, code: u8, word: u32) -> Usual
+    fn usual_negate_at(&self, at: u64, code: u8, word: u32) -> Usual
         requires { code ≡ code_of (instruction at word) }
         ensures { IsUsual result (state_of self.now) (instruction at word) }
     {
-        self.negated(&Instruction::coded(at, code, word))
+        self.usual_negate(&Instruction::with_code(at, code, word))
     }
 
     /// The frequent step of BN to PBEV, where the code is one of theirs.
     #[inline(always)]
-    fn branched_at(&self, at: u64, code: u8, word: u32) -> Usual
+    fn usual_branch_at(&self, at: u64, code: u8, word: u32) -> Usual
         requires { code ≡ code_of (instruction at word) }
         ensures { IsUsual result (state_of self.now) (instruction at word) }
     {
-        self.branched(&Instruction::coded(at, code, word))
+        self.usual_branch(&Instruction::with_code(at, code, word))
     }
 
     /// The frequent step of CSN to CSEV, where the code is one of theirs.
     #[inline(always)]
-    fn chosen_at(&self, at: u64, code: u8, word: u32) -> Usual
+    fn usual_choose_at(&self, at: u64, code: u8, word: u32) -> Usual
         requires { code ≡ code_of (instruction at word) }
         ensures { IsUsual result (state_of self.now) (instruction at word) }
     {
-        self.chosen(&Instruction::coded(at, code, word))
+        self.usual_choose(&Instruction::with_code(at, code, word))
     }
 
     /// The frequent step of ZSN to ZSEV, where the code is one of theirs.
@@ -319,16 +319,16 @@ impl Machine {
         requires { code ≡ code_of (instruction at word) }
         ensures { IsUsual result (state_of self.now) (instruction at word) }
     {
-        self.zeroed(&Instruction::coded(at, code, word))
+        self.zeroed(&Instruction::with_code(at, code, word))
     }
 
     /// The frequent step of LDB to LDUNC, where the code is one of theirs.
     #[inline(always)]
-    fn brought_at(&self, at: u64, code: u8, word: u32) -> Usual
+    fn usual_load_at(&self, at: u64, code: u8, word: u32) -> Usual
         requires { code ≡ code_of (instruction at word) }
         ensures { IsUsual result (state_of self.now) (instruction at word) }
     {
-        self.brought(&Instruction::coded(at, code, word))
+        self.usual_load(&Instruction::with_code(at, code, word))
     }
 
     /// The frequent step of SETH to ANDNL, where the code is one of theirs.
@@ -337,6 +337,6 @@ impl Machine {
         requires { code ≡ code_of (instruction at word) }
         ensures { IsUsual result (state_of self.now) (instruction at word) }
     {
-        self.with_wyde(&Instruction::coded(at, code, word))
+        self.with_wyde(&Instruction::with_code(at, code, word))
     }
 }

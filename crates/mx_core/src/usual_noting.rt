@@ -44,7 +44,7 @@ impl Machine {
     /// Carries the instruction of a tetra out, where it is frequent and nothing is unusual about it.
     #[inline(always)]
     fn perform_noted(&mut self, at: u64, word: u32) -> Option<Note>
-        requires here { at ≡ (state_of self.old).pc }
+        requires at_pc { at ≡ (state_of self.old).pc }
         requires aligned { at % 4 ≡ 0 }
         requires low { at < 0x6000_0000_0000_0000 }
         requires paged { IsPaged (state_of self.old) }
@@ -68,15 +68,15 @@ impl Machine {
         ensures { IsUsual result (state_of self.now) i.now }
     {
         match i.operation() {
-            Operation::Compute => self.computed(i),
-            Operation::Negate => self.negated(i),
+            Operation::Compute => self.usual_compute(i),
+            Operation::Negate => self.usual_negate(i),
             Operation::Wyde => self.with_wyde(i),
-            Operation::ConditionalSet => self.chosen(i),
-            Operation::Load(_) => self.brought(i),
+            Operation::ConditionalSet => self.usual_choose(i),
+            Operation::Load(_) => self.usual_load(i),
             Operation::Address => self.near_one(i),
-            Operation::Get => self.got(i),
-            Operation::Branch => self.branched(i),
-            Operation::Jump => self.jumped(i),
+            Operation::Get => self.usual_get(i),
+            Operation::Branch => self.usual_branch(i),
+            Operation::Jump => self.usual_jump(i),
             Operation::Store(_) | Operation::Put => Usual::Apart(i.code()),
             _ => Usual::Other,
         }
@@ -85,7 +85,7 @@ impl Machine {
     /// $X gets a value, and the machine goes on.
     #[inline(always)]
     fn settle_noted(&mut self, i: &Instruction, x: u64) -> Option<Note>
-        requires here { i.now.at ≡ (state_of self.old).pc }
+        requires at_pc { i.now.at ≡ (state_of self.old).pc }
         requires aligned { i.now.at % 4 ≡ 0 }
         requires low { i.now.at < 0x6000_0000_0000_0000 }
         ensures made { result ≢ None → MakesState (λ s. settled s (x_of i.now) x (next_of i.now)) self.old self.new }
@@ -109,7 +109,7 @@ impl Machine {
     #[inline(never)]
     fn grow_noted(&mut self, i: &Instruction, x: u64) -> Option<Note>
         requires marginal { registers.is_marginal (visible (state_of self.old).stack) (x_of i.now) ≡ true }
-        requires here { i.now.at ≡ (state_of self.old).pc }
+        requires at_pc { i.now.at ≡ (state_of self.old).pc }
         requires aligned { i.now.at % 4 ≡ 0 }
         requires low { i.now.at < 0x6000_0000_0000_0000 }
         ensures made { result ≢ None → MakesState (λ s. settled s (x_of i.now) x (next_of i.now)) self.old self.new }

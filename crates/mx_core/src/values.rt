@@ -10,7 +10,7 @@ ghost use Rattle.mx_core.specs.Way.UsualDeeds.{IsUsual};
 use crate::Machine;
 use crate::usual::Usual;
 use mx_alu::{lone_result, wyde};
-use mx_code::{Instruction, Loading, Operation, holds, wyde_value};
+use mx_code::{Instruction, Loading, Operation, is_condition_met, wyde_value};
 
 impl Machine {
     /// What MUL to SRU and OR to MXOR give $X, where it is all that they give.
@@ -26,7 +26,7 @@ impl Machine {
 
     /// The frequent step of MUL to SRU and OR to MXOR, where the code is one of theirs.
     #[inline(always)]
-    pub(crate) fn computed(&self, i: &Instruction) -> Usual
+    pub(crate) fn usual_compute(&self, i: &Instruction) -> Usual
         ensures { IsUsual result (state_of self.now) i.now }
     {
         match i.operation() {
@@ -51,7 +51,7 @@ impl Machine {
 
     /// The frequent step of NEG and NEGU, where the code is one of theirs.
     #[inline(always)]
-    pub(crate) fn negated(&self, i: &Instruction) -> Usual
+    pub(crate) fn usual_negate(&self, i: &Instruction) -> Usual
         ensures { IsUsual result (state_of self.now) i.now }
     {
         match i.operation() {
@@ -99,7 +99,7 @@ impl Machine {
         ensures { IfSome result (λ x. outcome (state_of self.now) (deed_of Operation.ConditionalSet (state_of self.now) i.now)
             ≡ settled (state_of self.now) (x_of i.now) x (next_of i.now)) }
     {
-        if holds(i, self.y_operand(i)) {
+        if is_condition_met(i, self.y_operand(i)) {
             Some(self.z_operand(i))
         } else {
             Some(self.x_register(i))
@@ -108,7 +108,7 @@ impl Machine {
 
     /// The frequent step of CSN to CSEV, where the code is one of theirs.
     #[inline(always)]
-    pub(crate) fn chosen(&self, i: &Instruction) -> Usual
+    pub(crate) fn usual_choose(&self, i: &Instruction) -> Usual
         ensures { IsUsual result (state_of self.now) i.now }
     {
         match i.operation() {
@@ -128,7 +128,7 @@ impl Machine {
         ensures { outcome (state_of self.now) (deed_of Operation.ZeroOrSet (state_of self.now) i.now)
             ≡ settled (state_of self.now) (x_of i.now) result (next_of i.now) }
     {
-        if holds(i, self.y_operand(i)) {
+        if is_condition_met(i, self.y_operand(i)) {
             self.z_operand(i)
         } else {
             0
@@ -149,20 +149,20 @@ impl Machine {
     /// What LDB to LDUNC give $X below Stack_Segment, where the page is near.
     #[tactic(auto, using(crate::proofs::Results::Loads::load_below))]
     #[inline(always)]
-    fn loaded_here(&self, how: Loading, i: &Instruction) -> Option<u64>
+    fn load_operand_if_near(&self, how: Loading, i: &Instruction) -> Option<u64>
         ensures { IfSome result (λ x. outcome (state_of self.now) (deed_of (Operation.Load how) (state_of self.now) i.now)
             ≡ settled (state_of self.now) (x_of i.now) x (next_of i.now)) }
     {
-        self.loaded_near(how, self.data_address(i))
+        self.load_if_near(how, self.data_address(i))
     }
 
     /// The frequent step of LDB to LDUNC, where the code is one of theirs.
     #[inline(always)]
-    pub(crate) fn brought(&self, i: &Instruction) -> Usual
+    pub(crate) fn usual_load(&self, i: &Instruction) -> Usual
         ensures { IsUsual result (state_of self.now) i.now }
     {
         match i.operation() {
-            Operation::Load(how) => match self.loaded_here(how, i) {
+            Operation::Load(how) => match self.load_operand_if_near(how, i) {
                 Some(x) => Usual::Gives(x),
                 None => Usual::Other,
             },
@@ -197,7 +197,7 @@ impl Machine {
 
     /// The frequent step of GET, where the code is one of theirs.
     #[inline(always)]
-    pub(crate) fn got(&self, i: &Instruction) -> Usual
+    pub(crate) fn usual_get(&self, i: &Instruction) -> Usual
         ensures { IsUsual result (state_of self.now) i.now }
     {
         match i.operation() {
@@ -212,12 +212,12 @@ impl Machine {
     /// Where BN to PBEV go.
     #[tactic(auto, using(crate::proofs::Results::Others::branch_outcome), unfolding(mx_code::specs::Operations::has_condition))]
     #[inline(always)]
-    fn branched_address(&self, i: &Instruction) -> u64
+    fn branch_target(&self, i: &Instruction) -> u64
         requires { operation_in i.now ≡ Operation.Branch }
         ensures { outcome (state_of self.now) (deed_of Operation.Branch (state_of self.now) i.now)
             ≡ Ok (onward (state_of self.now) result) }
     {
-        if holds(i, self.x_register(i)) {
+        if is_condition_met(i, self.x_register(i)) {
             i.near_address()
         } else {
             i.next()
@@ -226,11 +226,11 @@ impl Machine {
 
     /// The frequent step of BN to PBEV, where the code is one of theirs.
     #[inline(always)]
-    pub(crate) fn branched(&self, i: &Instruction) -> Usual
+    pub(crate) fn usual_branch(&self, i: &Instruction) -> Usual
         ensures { IsUsual result (state_of self.now) i.now }
     {
         match i.operation() {
-            Operation::Branch => Usual::GoesTo(self.branched_address(i)),
+            Operation::Branch => Usual::GoesTo(self.branch_target(i)),
             _ => Usual::Other,
         }
     }
@@ -250,7 +250,7 @@ impl Machine {
     /// Where JMP goes.
     #[tactic(auto, using(crate::proofs::Results::Others::jump_outcome))]
     #[inline(always)]
-    fn jumped_address(&self, i: &Instruction) -> u64
+    fn jump_target(&self, i: &Instruction) -> u64
         requires { operation_in i.now ≡ Operation.Jump }
         ensures { outcome (state_of self.now) (deed_of Operation.Jump (state_of self.now) i.now)
             ≡ Ok (onward (state_of self.now) result) }
@@ -260,11 +260,11 @@ impl Machine {
 
     /// The frequent step of JMP, where the code is one of theirs.
     #[inline(always)]
-    pub(crate) fn jumped(&self, i: &Instruction) -> Usual
+    pub(crate) fn usual_jump(&self, i: &Instruction) -> Usual
         ensures { IsUsual result (state_of self.now) i.now }
     {
         match i.operation() {
-            Operation::Jump => Usual::GoesTo(self.jumped_address(i)),
+            Operation::Jump => Usual::GoesTo(self.jump_target(i)),
             _ => Usual::Other,
         }
     }

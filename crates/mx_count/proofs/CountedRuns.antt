@@ -26,7 +26,7 @@ use Rattle.mx_run.specs.AccompaniedRuns.{list_run}
 use Rattle.mx_view.specs.Loads.{loads_of}
 use Rattle.mx_count.specs.Counting.{counting_as, kept_tally}
 use Rattle.mx_count.specs.Reports.{report_of, report_text}
-use Rattle.mx_count.specs.Runs.{CountAnswer, CountsBoth, CountsByKind, EndsAsReported, EndsReported, GoesAs, Making, came_to, counted_to, halting_after, halting_steps, image_counted, machine_counted, mapped, meaning_counted, outcome_of, reporting, source_counted, start_counted, steps_counted, went_wild}
+use Rattle.mx_count.specs.Runs.{CountAnswer, CountsBoth, CountsByKind, EndsAsReported, EndsReported, GoesAs, AnswerForms, came_to, counted_to, halting_after, halting_steps, image_counted, counted_run_from, mapped, meaning_counted, outcome_of, reporting, source_counted, start_counted, steps_counted, went_wild}
 use Rattle.mx_count.specs.Tallies.{added, tally_in}
 use Rattle.mx_count.specs.declared.count.Counted.{Counted}
 use Rattle.mx_count.specs.declared.counts.Form.{Form}
@@ -66,14 +66,14 @@ list-counted steps w h (run_wild m) end outcome text new is told = told
 
 window-counted : (steps : ℕ) (report : List Trace → List ℕ) (s after : State) (old new : HostModel) (end : End) (outcome : Outcome) (text : List ℕ) → outcome ≡ outcome_of steps end →
     ended end after new ≡ run steps no_flags false s old → text ≡ report (steps_counted window_machine steps s old) →
-    came_to (record { outcome = outcome; sheet = Some text }) new ≡ machine_counted window_machine steps (reporting report) s old
+    came_to (record { outcome = outcome; sheet = Some text }) new ≡ counted_run_from window_machine steps (reporting report) s old
 window-counted steps report s after old new end outcome text is e told =
     λ i. came_to (record { outcome = (is ∙ ap (λ (x : Ended). outcome_of steps x.end) e) i; sheet = Some (told i) }) (ap (λ (x : Ended). x.host) e i)
 
 pub machine-told : (steps : ℕ) (w : Watching) (old new : Option HostModel) (s after : State) (end : End) (outcome : Outcome) (text : List ℕ) → s.touched ≡ false → outcome ≡ outcome_of steps end →
     EndsReported old new s after steps w (Ok (end, text)) →
-    CountsBoth old new outcome (record { outcome = outcome; sheet = Some text }) (λ m. machine_counted window_machine steps (reporting w.text) s m)
-    (λ m. machine_counted list_machine steps (reporting w.text) (as_list_state s) m)
+    CountsBoth old new outcome (record { outcome = outcome; sheet = Some text }) (λ m. counted_run_from window_machine steps (reporting w.text) s m)
+    (λ m. counted_run_from list_machine steps (reporting w.text) (as_list_state s) m)
 machine-told steps w old new s after end outcome text untouched is told = (
   λ t ne. window-counted steps w.text s after (contents old) (contents new) end outcome text is (told t).0 (told t).1,
   λ t ne. list-counted steps w (list_traces old s steps) (list_run old s steps) end outcome text (contents new) is ((told t).2 untouched),
@@ -81,11 +81,11 @@ machine-told steps w old new s after end outcome text untouched is told = (
 
 -- ---- an image
 
-module _ {A : Type 0} (old new : Option HostModel) (outcome : Outcome) (result : A) (o : Order) (arguments : List (List ℕ)) (making : Making A) where
+module _ {A : Type 0} (old new : Option HostModel) (outcome : Outcome) (result : A) (o : Order) (arguments : List (List ℕ)) (making : AnswerForms A) where
   -- a machine starts
   pub started-told : (image : Image) (s : State) → ◌≡◌ {A = Result State Outcome} (Ok s) (started window_machine o.ring image arguments) →
       ◌≡◌ {A = Result State Outcome} (Ok (as_list_state s)) (started list_machine o.ring image arguments) →
-      CountsBoth old new outcome result (λ m. machine_counted window_machine o.steps making s m) (λ m. machine_counted list_machine o.steps making (as_list_state s) m) →
+      CountsBoth old new outcome result (λ m. counted_run_from window_machine o.steps making s m) (λ m. counted_run_from list_machine o.steps making (as_list_state s) m) →
       CountsByKind old new outcome result (λ kind m. image_counted kind o arguments making image m)
   started-told image s e f told = (
     λ t ne. told.0 t ne ∙ ap (λ r. start_counted window_machine o.steps making r (contents old)) e,

@@ -9,7 +9,7 @@ use Rattle.mx_view.specs.Loads.{loads_of}
 use Rattle.mx_view.specs.declared.cells.Cell.{Cell}
 use Rattle.mx_count.specs.Counting.{kept_tally}
 use Rattle.mx_count.specs.InTurn.{no_sums, sum_at, tally_by, with_entries}
-use Rattle.mx_count.specs.Reports.{HasOctas, behind_tally, data_read, first_tally, lines_read, number_bytes, report_data, report_of, sheet_bytes, tally_bytes}
+use Rattle.mx_count.specs.Reports.{HasOctas, after_tally, data_read, first_tally, lines_read, number_bytes, report_data, report_of, sheet_bytes, tally_bytes}
 use Rattle.mx_count.specs.Sheets.{Counts, LineTally, counted_lines, first_load, is_among, line_tally, line_with, sheet_data}
 use Rattle.mx_count.specs.Tallies.{added, nothing, step_tally, tally_in}
 use Rattle.mx_count.specs.declared.counts.Form.TheVariants.{Octas}
@@ -33,7 +33,7 @@ pub ruleset whole = (bytes-are)
 
 pub read-next : (before : List CountedLine) (n : ℕ) (source rest line : List ℕ) (loads : List (List Cell)) (octas : List ℕ) → lines_of source ≡ line ∷ lines_of rest →
     before ++ lines_read n (lines_of source) loads octas
-    ≡ (before ++ line_with n line (first_load loads) (first_tally octas) ∷ []) ++ lines_read (n + 1) (lines_of rest) (drop 1 loads) (behind_tally octas)
+    ≡ (before ++ line_with n line (first_load loads) (first_tally octas) ∷ []) ++ lines_read (n + 1) (lines_of rest) (drop 1 loads) (after_tally octas)
 unfolding lines_read
 read-next before n source rest line loads octas e = rw e (sym (append_assoc before (line_with n line (first_load loads) (first_tally octas) ∷ []) _))
 
@@ -57,7 +57,7 @@ unfolding lines_read counted_lines
 lines-back tally [] loads n fit = refl
 lines-back tally (line ∷ lines) [] n fit = ap (λ more. line_with n line [] (tally []) ∷ more) (lines-back tally lines [] (n + 1) fit)
 lines-back tally (line ∷ lines) (cells ∷ loads) n fit =
-    ap (λ octas. line_with n line cells (first_tally octas) ∷ lines_read (n + 1) lines loads (behind_tally octas))
+    ap (λ octas. line_with n line cells (first_tally octas) ∷ lines_read (n + 1) lines loads (after_tally octas))
     (tally-back (tally cells) (flat_map (λ cs. tally_bytes (tally cs)) loads) (fit cells))
     ∙ ap (λ more. line_with n line cells (tally cells) ∷ more) (lines-back tally lines loads (n + 1) fit)
 

@@ -15,7 +15,7 @@ use Rattle.mx_outcome.specs.declared.outcome.Outcome.{Outcome}
 use Rattle.mx_begin.specs.Begun.{started}
 use Rattle.mx_costs.specs.Costs.{is_within, oops, mems}
 use Rattle.mx_count.specs.Reports.{HasOctas, report_of}
-use Rattle.mx_count.specs.Runs.{Making, by_lines, came_to, counted_to, data_of, halting_after, halting_in, halting_step, image_counted, in_form, is_halted, mapped, meaning_counted, outcome_of, ran, reporting, source_counted, start_counted, steps_counted, uncounted}
+use Rattle.mx_count.specs.Runs.{AnswerForms, by_lines, came_to, counted_to, data_of, halting_after, halting_in, halting_step, image_counted, in_form, is_halted, mapped, meaning_counted, outcome_of, ran, reporting, source_counted, start_counted, steps_counted, uncounted}
 use Rattle.mx_count.specs.Tallies.{added, code_in, goes_away, nothing, tally_in}
 use Rattle.mx_count.specs.declared.count.Counted.{Counted}
 use Rattle.mx_count.specs.declared.counts.Form.TheVariants.{Octas}
@@ -113,11 +113,11 @@ run-fits kind steps s m few =
 -- ---- what is made of a report is what is made of the steps
 
 -- of as many as the tallies in octas hold
-pub record Remakes {A : Type 0} (f : Counted → A) (report : List Trace → List ℕ) (making : Making A) : Type 0 where
+pub record Remakes {A : Type 0} (f : Counted → A) (report : List Trace → List ℕ) (making : AnswerForms A) : Type 0 where
   pub without : (outcome : Outcome) → f (uncounted outcome) ≡ making.without outcome
   pub with_steps : (outcome : Outcome) (h : List Trace) → HasOctas (tally_in (λ a. true) h) → f (record { outcome = outcome; sheet = Some (report h) }) ≡ making.with_steps outcome h
 
-module _ {A : Type 0} (f : Counted → A) (report : List Trace → List ℕ) (making : Making A) (same : Remakes f report making) where
+module _ {A : Type 0} (f : Counted → A) (report : List Trace → List ℕ) (making : AnswerForms A) (same : Remakes f report making) where
   ended-same : (steps : ℕ) (h : List Trace) (r : RunEnd) → HasOctas (tally_in (λ a. true) (h ++ halting_in r)) → mapped f (counted_to steps (reporting report) h r) ≡ counted_to steps making h r
   ended-same steps h (run_ended e) fit = ap (λ x. came_to x e.host) (same.with_steps (outcome_of steps e.end) (h ++ halting_after e) fit)
   ended-same steps h (run_wild m) fit = refl

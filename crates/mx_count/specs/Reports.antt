@@ -41,19 +41,19 @@ first_tally octas = record {
   mems = first_octa (drop 1 (drop 1 (drop 1 octas)));
 }
 
-abbrev pub behind_tally : List ℕ → List ℕ
-behind_tally octas = drop 1 (drop 1 (drop 1 (drop 1 octas)))
+abbrev pub after_tally : List ℕ → List ℕ
+after_tally octas = drop 1 (drop 1 (drop 1 (drop 1 octas)))
 
 -- lines, which are counted from a number, with the tetras that they load and the octas of their tallies
 unfoldable pub lines_read : ℕ → List (List ℕ) → List (List Cell) → List ℕ → List CountedLine
 lines_read number [] loads octas = []
 lines_read number (line ∷ lines) loads octas =
     line_with number line (first_load loads) (first_tally octas)
-    ∷ lines_read (number + 1) lines (drop 1 loads) (behind_tally octas)
+    ∷ lines_read (number + 1) lines (drop 1 loads) (after_tally octas)
 
 abbrev pub data_read : List ℕ → List (List Cell) → List ℕ → LineSheet
 data_read source loads octas = record {
-  lines = lines_read 1 (lines_of source) loads (behind_tally octas);
+  lines = lines_read 1 (lines_of source) loads (after_tally octas);
   total = first_tally octas;
 }
 

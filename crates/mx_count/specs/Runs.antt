@@ -89,32 +89,32 @@ mapped f (came_to x m) = came_to (f x) m
 mapped f (went_wild m) = went_wild m
 
 -- what is made of an outcome: where no machine ran, and where one did and these steps are counted
-pub record Making (A : Type 0) : Type 0 where
+pub record AnswerForms (A : Type 0) : Type 0 where
   pub without : Outcome → A
   pub with_steps : Outcome → List Trace → A
 
 -- a run of these traces that comes to this
-abbrev pub counted_to : {A : Type 0} → ℕ → Making A → List Trace → RunEnd → CountAnswer A
+abbrev pub counted_to : {A : Type 0} → ℕ → AnswerForms A → List Trace → RunEnd → CountAnswer A
 counted_to steps making h (run_ended e) = came_to (making.with_steps (outcome_of steps e.end) (h ++ halting_after e)) e.host
 counted_to steps making h (run_wild m) = went_wild m
 
-abbrev pub machine_counted : {A : Type 0} → MachineKind → ℕ → Making A → State → HostModel → CountAnswer A
-machine_counted kind steps making s m = counted_to steps making (traces kind steps s m) (ran kind steps s m)
+abbrev pub counted_run_from : {A : Type 0} → MachineKind → ℕ → AnswerForms A → State → HostModel → CountAnswer A
+counted_run_from kind steps making s m = counted_to steps making (traces kind steps s m) (ran kind steps s m)
 
-abbrev pub start_counted : {A : Type 0} → MachineKind → ℕ → Making A → Result State Outcome → HostModel → CountAnswer A
+abbrev pub start_counted : {A : Type 0} → MachineKind → ℕ → AnswerForms A → Result State Outcome → HostModel → CountAnswer A
 start_counted kind steps making (Err outcome) m = came_to (making.without outcome) m
-start_counted kind steps making (Ok s) m = machine_counted kind steps making s m
+start_counted kind steps making (Ok s) m = counted_run_from kind steps making s m
 
 -- an image is run with these arguments, on the ring and for the steps of an order
-abbrev pub image_counted : {A : Type 0} → MachineKind → Order → List (List ℕ) → Making A → Image → HostModel → CountAnswer A
+abbrev pub image_counted : {A : Type 0} → MachineKind → Order → List (List ℕ) → AnswerForms A → Image → HostModel → CountAnswer A
 image_counted kind o arguments making image m = start_counted kind o.steps making (started kind o.ring image arguments) m
 
 -- a source is refused, or its image is run
-abbrev pub meaning_counted : {A : Type 0} → MachineKind → Order → List (List ℕ) → Making A → Result Image Refusal → HostModel → CountAnswer A
+abbrev pub meaning_counted : {A : Type 0} → MachineKind → Order → List (List ℕ) → AnswerForms A → Result Image Refusal → HostModel → CountAnswer A
 meaning_counted kind o arguments making (Err refusal) m = came_to (making.without (refused_with refusal)) m
 meaning_counted kind o arguments making (Ok image) m = image_counted kind o arguments making image m
 
-abbrev pub source_counted : {A : Type 0} → MachineKind → Order → List (List ℕ) → Making A → List ℕ → HostModel → CountAnswer A
+abbrev pub source_counted : {A : Type 0} → MachineKind → Order → List (List ℕ) → AnswerForms A → List ℕ → HostModel → CountAnswer A
 source_counted kind o arguments making source m = meaning_counted kind o arguments making (source_meaning source) m
 
 -- ---- the sheet as a report
@@ -122,14 +122,14 @@ source_counted kind o arguments making source m = meaning_counted kind o argumen
 abbrev pub uncounted : Outcome → Counted
 uncounted outcome = record { outcome = outcome; sheet = None }
 
-abbrev pub reporting : (List Trace → List ℕ) → Making Counted
+abbrev pub reporting : (List Trace → List ℕ) → AnswerForms Counted
 reporting report = record {
   without = λ outcome. uncounted outcome;
   with_steps = λ outcome h. record { outcome = outcome; sheet = Some (report h) };
 }
 
 -- that of a source, in one of its forms
-abbrev pub in_form : Form → List ℕ → Making Counted
+abbrev pub in_form : Form → List ℕ → AnswerForms Counted
 in_form form source = reporting (report_of form source)
 
 -- ---- the sheet as data: read from a report in octas, and in words of the steps alone
@@ -142,7 +142,7 @@ abbrev pub data_of : List ℕ → Counted → CountedLines
 data_of source counted = record { outcome = counted.outcome; sheet = data_in source counted.sheet }
 
 -- each line has the tally of the steps at the tetras that it loads
-abbrev pub by_lines : List ℕ → Making CountedLines
+abbrev pub by_lines : List ℕ → AnswerForms CountedLines
 by_lines source = record {
   without = λ outcome. record { outcome = outcome; sheet = None };
   with_steps = λ outcome h. record { outcome = outcome; sheet = Some (sheet_data source (loads_of source) (λ test. tally_in test h)) };

@@ -12,7 +12,7 @@ ghost use Rattle.mx_count.specs.Runs.{AreArguments, CountsBoth, CountsByKind, re
 
 use crate::counts::{Counts, Form};
 use crate::watched::run_counted;
-use mx_begin::start;
+use mx_begin::start_machine;
 use mx_core::Machine;
 use mx_files::{SourceFault, load_source};
 use mx_host::Host;
@@ -33,7 +33,7 @@ pub struct Counted {
 }
 
 /// An outcome without a sheet.
-fn uncounted(outcome: Outcome) -> Counted
+fn without_sheet(outcome: Outcome) -> Counted
     ensures { result ≡ spec.uncounted outcome }
 {
     Counted {
@@ -49,7 +49,7 @@ fn with_sheet(outcome: Outcome, sheet: Bytes) -> Counted
     ensures none { result.outcome ≡ Outcome.OutOfMemory → result.sheet ≡ None }
 {
     match outcome {
-        Outcome::OutOfMemory => uncounted(Outcome::OutOfMemory),
+        Outcome::OutOfMemory => without_sheet(Outcome::OutOfMemory),
         _ => Counted {
             outcome,
             sheet: Some(sheet),
@@ -60,8 +60,8 @@ fn with_sheet(outcome: Outcome, sheet: Bytes) -> Counted
 /// The outcome of a run of at most this many steps, by its end. Without flags a run does not break.
 fn outcome_of(steps: u64, end: End) -> Outcome
     ensures value { result ≡ spec.outcome_of steps end }
-    ensures well { result ≢ Outcome.HostFault }
-    ensures present { result ≢ Outcome.NoFile }
+    ensures no_host_fault { result ≢ Outcome.HostFault }
+    ensures no_missing_file { result ≢ Outcome.NoFile }
 {
     match end {
         End::Halted(status) => Outcome::Done(status),
@@ -81,21 +81,21 @@ fn count_machine<H: Host>(
 ) -> Counted
     requires { (state_of machine).touched ≡ false }
     ensures told { CountsBoth (H.told host.old) (H.told host.new) result.outcome result
-        (λ m. spec.machine_counted window_machine steps (reporting (⟦<Counts as Watcher>⟧.meaning counts).text)
+        (λ m. spec.counted_run_from window_machine steps (reporting (⟦<Counts as Watcher>⟧.meaning counts).text)
         (state_of machine) m)
-        (λ m. spec.machine_counted list_machine steps (reporting (⟦<Counts as Watcher>⟧.meaning counts).text)
+        (λ m. spec.counted_run_from list_machine steps (reporting (⟦<Counts as Watcher>⟧.meaning counts).text)
         (as_list_state (state_of machine)) m) }
     ensures left { IsLeft (H.told host.old) (H.told host.new)
         (λ m k. RunLeaves steps (state_of machine) m k) }
     ensures none { result.outcome ≡ Outcome.OutOfMemory → result.sheet ≡ None }
-    ensures well { result.outcome ≢ Outcome.HostFault }
-    ensures present { result.outcome ≢ Outcome.NoFile }
+    ensures no_host_fault { result.outcome ≢ Outcome.HostFault }
+    ensures no_missing_file { result.outcome ≢ Outcome.NoFile }
     ensures keeps { Keeps (H.told host.old) (H.told host.new) (H.faults host.old) (H.faults host.new) }
 {
     let mut machine = machine;
     match run_counted(alloc, host, &mut machine, steps, counts) {
         Ok((end, sheet)) => with_sheet(outcome_of(steps, end), sheet),
-        Err(_) => uncounted(Outcome::OutOfMemory),
+        Err(_) => without_sheet(Outcome::OutOfMemory),
     }
 }
 
@@ -120,13 +120,13 @@ pub fn count_image<H: Host>(
     ensures left { IsLeft (H.told host.old) (H.told host.new)
         (λ m k. ImageLeaves order.now arguments.now (image_of image) m k) }
     ensures none { result.outcome ≡ Outcome.OutOfMemory → result.sheet ≡ None }
-    ensures well { result.outcome ≢ Outcome.HostFault }
-    ensures present { result.outcome ≢ Outcome.NoFile }
+    ensures no_host_fault { result.outcome ≢ Outcome.HostFault }
+    ensures no_missing_file { result.outcome ≢ Outcome.NoFile }
     ensures keeps { Keeps (H.told host.old) (H.told host.new) (H.faults host.old) (H.faults host.new) }
 {
-    match start(alloc, image, arguments, order.ring) {
+    match start_machine(alloc, image, arguments, order.ring) {
         Ok(machine) => count_machine(alloc, host, order.steps, machine, counts),
-        Err(outcome) => uncounted(outcome),
+        Err(outcome) => without_sheet(outcome),
     }
 }
 
@@ -146,13 +146,13 @@ fn count_meaning<H: Host>(
     ensures left { IsLeft (H.told host.old) (H.told host.new)
         (λ m k. ImageLeaves order.now arguments.now (image_of image) m k) }
     ensures none { result.outcome ≡ Outcome.OutOfMemory → result.sheet ≡ None }
-    ensures well { result.outcome ≢ Outcome.HostFault }
-    ensures present { result.outcome ≢ Outcome.NoFile }
+    ensures no_host_fault { result.outcome ≢ Outcome.HostFault }
+    ensures no_missing_file { result.outcome ≢ Outcome.NoFile }
     ensures keeps { Keeps (H.told host.old) (H.told host.new) (H.faults host.old) (H.faults host.new) }
 {
     match Counts::with_form(alloc, form, source) {
         Ok(counts) => count_image(alloc, host, order, image, arguments, counts),
-        Err(_) => uncounted(Outcome::OutOfMemory),
+        Err(_) => without_sheet(Outcome::OutOfMemory),
     }
 }
 
@@ -171,14 +171,14 @@ pub(crate) fn count_in_form<H: Host>(
     ensures left { IsLeft (H.told host.old) (H.told host.new)
         (λ m k. SourceLeaves order.now arguments.now source.now m k) }
     ensures none { result.outcome ≡ Outcome.OutOfMemory → result.sheet ≡ None }
-    ensures well { result.outcome ≢ Outcome.HostFault }
-    ensures present { result.outcome ≢ Outcome.NoFile }
+    ensures no_host_fault { result.outcome ≢ Outcome.HostFault }
+    ensures no_missing_file { result.outcome ≢ Outcome.NoFile }
     ensures keeps { Keeps (H.told host.old) (H.told host.new) (H.faults host.old) (H.faults host.new) }
 {
     match load_source(alloc, source) {
         Ok(image) => count_meaning(alloc, host, form, order, image, source, arguments),
-        Err(SourceFault::Refused(refusal)) => uncounted(refusal.outcome()),
-        Err(SourceFault::OutOfMemory) => uncounted(Outcome::OutOfMemory),
+        Err(SourceFault::Refused(refusal)) => without_sheet(refusal.outcome()),
+        Err(SourceFault::OutOfMemory) => without_sheet(Outcome::OutOfMemory),
     }
 }
 
@@ -200,8 +200,8 @@ pub fn count_source<H: Host>(
     ensures left { IsLeft (H.told host.old) (H.told host.new)
         (λ m k. SourceLeaves order.now arguments.now source.now m k) }
     ensures none { result.outcome ≡ Outcome.OutOfMemory → result.sheet ≡ None }
-    ensures well { result.outcome ≢ Outcome.HostFault }
-    ensures present { result.outcome ≢ Outcome.NoFile }
+    ensures no_host_fault { result.outcome ≢ Outcome.HostFault }
+    ensures no_missing_file { result.outcome ≢ Outcome.NoFile }
     ensures keeps { Keeps (H.told host.old) (H.told host.new) (H.faults host.old) (H.faults host.new) }
 {
     count_in_form(alloc, host, Form::Text, order, source, arguments)

@@ -21,8 +21,8 @@ fn with_lines(alloc: Global, source: &[u8], counted: Counted) -> CountedLines
     ensures lacking { result.outcome ≢ Outcome.OutOfMemory → counted.outcome ≢ Outcome.OutOfMemory }
     ensures none { (counted.outcome ≡ Outcome.OutOfMemory → counted.sheet ≡ None) →
         result.outcome ≡ Outcome.OutOfMemory → result.sheet ≡ None }
-    ensures well { counted.outcome ≢ Outcome.HostFault → result.outcome ≢ Outcome.HostFault }
-    ensures present { counted.outcome ≢ Outcome.NoFile → result.outcome ≢ Outcome.NoFile }
+    ensures no_host_fault { counted.outcome ≢ Outcome.HostFault → result.outcome ≢ Outcome.HostFault }
+    ensures no_missing_file { counted.outcome ≢ Outcome.NoFile → result.outcome ≢ Outcome.NoFile }
 {
     match sheet_if(alloc, source, &counted.sheet) {
         Ok(sheet) => CountedLines {
@@ -52,8 +52,8 @@ pub fn count_lines<H: Host>(
     ensures left { IsLeft (H.told host.old) (H.told host.new)
         (λ m k. SourceLeaves order.now arguments.now source.now m k) }
     ensures none { result.outcome ≡ Outcome.OutOfMemory → result.sheet ≡ None }
-    ensures well { result.outcome ≢ Outcome.HostFault }
-    ensures present { result.outcome ≢ Outcome.NoFile }
+    ensures no_host_fault { result.outcome ≢ Outcome.HostFault }
+    ensures no_missing_file { result.outcome ≢ Outcome.NoFile }
     ensures keeps { Keeps (H.told host.old) (H.told host.new) (H.faults host.old) (H.faults host.new) }
 {
     let counted = count_in_form(alloc, host, Form::Octas, order, source, arguments);

@@ -21,7 +21,7 @@ pub use laws::{
     lines_are_sums_over_their_tetras, sheets_are_read_back, tallies_count_traces,
 };
 pub use lines::{CountedLine, CountedLines, LineSheet, next_tally};
-pub use octas::octas_of;
+pub use octas::to_octas;
 pub use sheet::add_figures;
 pub use table::Entry;
 pub use tally::Tally;

@@ -6,7 +6,7 @@ ghost use Rattle.mx_count.specs.Reports as spec;
 ghost use Rattle.mx_count.specs.Runs.{data_in};
 ghost use Rattle.mx_count.specs.Sheets.{line_with, tally_of_line};
 
-use crate::octas::octas_of;
+use crate::octas::to_octas;
 use crate::sheet::next_load;
 use crate::tally::Tally;
 use mx_line::cut_line;
@@ -52,12 +52,12 @@ fn next_octa(octas: &[u64]) -> (u64, &[u64])
 /// The tally of the first four octas, and the others.
 pub fn next_tally(octas: &[u64]) -> (Tally, &[u64])
     ensures first { result.0 ≡ spec.first_tally octas.now }
-    ensures others { result.1.now ≡ spec.behind_tally octas.now }
+    ensures others { result.1.now ≡ spec.after_tally octas.now }
 {
-    let (times, behind_times) = next_octa(octas);
-    let (away, behind_away) = next_octa(behind_times);
-    let (oops, behind_oops) = next_octa(behind_away);
-    let (mems, others) = next_octa(behind_oops);
+    let (times, after_times) = next_octa(octas);
+    let (away, after_away) = next_octa(after_times);
+    let (oops, after_oops) = next_octa(after_away);
+    let (mems, others) = next_octa(after_oops);
     let tally = Tally {
         times,
         away,
@@ -131,7 +131,7 @@ fn sheet_in(alloc: Global, source: &[u8], report: &[u8]) -> Result<LineSheet, No
     ensures { IfOk result (λ sheet. sheet ≡ spec.report_data source.now report.now) }
 {
     let loads = cells_by_line(alloc, source)?;
-    let octas = octas_of(alloc, report)?;
+    let octas = to_octas(alloc, report)?;
     let (total, behind) = next_tally(octas.as_slice());
     let mut lines = Sequence::new(alloc);
     add_lines(alloc, &mut lines, source, loads.as_slice(), behind)?;

@@ -82,7 +82,7 @@ pub(crate) fn octas(
 }
 
 /// The octas of bytes.
-pub fn octas_of(alloc: Global, bytes: &[u8]) -> Result<Sequence<u64>, NoMemory>
+pub fn to_octas(alloc: Global, bytes: &[u8]) -> Result<Sequence<u64>, NoMemory>
     ensures { IfOk result (λ octas. octas ≡ octas_in bytes.now) }
 {
     let mut octas = Sequence::new(alloc);

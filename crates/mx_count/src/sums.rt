@@ -8,7 +8,7 @@ ghost use Rattle.mx_count.specs.InTurn as spec;
 ghost use Rattle.mx_count.specs.Tallies as tallies;
 
 use crate::table::Entry;
-use crate::tally::{Tally, added, nothing};
+use crate::tally::{Tally, add_tallies, empty_tally};
 use mx_view::Cell;
 use mx_word::NoMemory;
 use std::alloc::Global;
@@ -38,7 +38,7 @@ impl Sums {
     {
         match self.sums.get(&address) {
             Some(tally) => *tally,
-            None => nothing(),
+            None => empty_tally(),
         }
     }
 
@@ -57,7 +57,7 @@ impl Sums {
     fn add(&mut self, address: u64, tally: Tally) -> Result<(), NoMemory>
         ensures { OnOk result (spec.sum_at self.new ≡ spec.with_more (spec.sum_at self.old) address tally) }
     {
-        let sum = added(self.at(address), tally)?;
+        let sum = add_tallies(self.at(address), tally)?;
         self.set(address, sum)?;
         Ok(())
     }
@@ -80,9 +80,9 @@ pub(crate) fn sums_of(alloc: Global, entries: &[Entry]) -> Result<Sums, NoMemory
 pub(crate) fn total(entries: &[Entry]) -> Result<Tally, NoMemory>
     ensures { IfOk result (λ y. y ≡ kept_tally (λ a. true) entries.now) }
 {
-    let mut sum = nothing();
+    let mut sum = empty_tally();
     for entry in entries {
-        sum = added(sum, entry.tally)?;
+        sum = add_tallies(sum, entry.tally)?;
     }
     Ok(sum)
 }
@@ -111,7 +111,7 @@ fn add_new(
         contains nat_cmp seen.new ≡ spec.with_seen (contains nat_cmp seen.old) address) }
 {
     match note(seen, address) {
-        Ok(true) => added(tally, sums.at(address)),
+        Ok(true) => add_tallies(tally, sums.at(address)),
         Ok(false) => Ok(tally),
         Err(_) => Err(NoMemory),
     }
@@ -122,7 +122,7 @@ pub(crate) fn line_tally(alloc: Global, sums: &Sums, cells: &[Cell]) -> Result<T
     ensures { IfOk result (λ y. y ≡ spec.tally_by (spec.sum_at sums.now) cells.now) }
 {
     let mut seen = BTreeSet::new(alloc);
-    let mut tally = nothing();
+    let mut tally = empty_tally();
     for cell in cells {
         tally = add_new(sums, &mut seen, tally, cell.address)?;
     }

@@ -4,7 +4,7 @@ ghost use Rattle.std.specs.Prelude.{◌≡◌, ◌<◌, ◌++◌, ◌∷◌, [],
 ghost use Rattle.mx_count.specs.Counting.{IsAt, kept_tally};
 ghost use Rattle.mx_count.specs.Tallies as tallies;
 
-use crate::tally::{Tally, added, nothing, step_tally};
+use crate::tally::{Tally, add_tallies, empty_tally, step_tally};
 use mx_core::Trace;
 use mx_word::NoMemory;
 use std::alloc::Global;
@@ -124,7 +124,7 @@ fn add_entry(
     let place = entries.len();
     let entry = Entry {
         address,
-        tally: nothing(),
+        tally: empty_tally(),
     };
     match places.insert(address, place) {
         Ok(_) => {}
@@ -174,7 +174,7 @@ fn add_at(
         (kept_tally test entries.old.items) (if test address then tally else tallies.nothing)) }
     ensures err { OnErr result (entries.new.items ≡ entries.old.items) }
 {
-    match added(entries[place].tally, tally) {
+    match add_tallies(entries[place].tally, tally) {
         Ok(sum) => {
             set_at(
                 entries,

@@ -19,7 +19,7 @@ pub struct Tally {
 
 /// The tally of no steps.
 #[tactic(auto, unfolding(crate::specs::Tallies::nothing))]
-pub(crate) fn nothing() -> Tally
+pub(crate) fn empty_tally() -> Tally
     ensures { result ≡ spec.nothing }
 {
     Tally {
@@ -42,7 +42,7 @@ fn sum(a: u64, b: u64) -> Result<u64, NoMemory>
 
 /// The tally of these steps and those.
 #[tactic(auto, unfolding(crate::specs::Tallies::added))]
-pub(crate) fn added(x: Tally, y: Tally) -> Result<Tally, NoMemory>
+pub(crate) fn add_tallies(x: Tally, y: Tally) -> Result<Tally, NoMemory>
     ensures { IfOk result (λ z. z ≡ spec.added x y) }
 {
     let times = sum(x.times, y.times)?;
@@ -58,7 +58,7 @@ pub(crate) fn added(x: Tally, y: Tally) -> Result<Tally, NoMemory>
 }
 
 /// Whether the address that follows a step is another one than the next.
-fn goes_away(pc: u64, next: u64) -> bool
+fn is_transfer(pc: u64, next: u64) -> bool
     ensures { result ≡ spec.is_away pc next }
 {
     match pc.checked_add(4) {
@@ -71,7 +71,7 @@ fn goes_away(pc: u64, next: u64) -> bool
 pub(crate) fn step_tally(t: &Trace) -> Tally
     ensures { result ≡ spec.step_tally t.now }
 {
-    let away = goes_away(t.pc, t.next);
+    let away = is_transfer(t.pc, t.next);
     let code = (t.word >> 24) as u8;
     Tally {
         times: 1,

@@ -29,7 +29,7 @@ fn only(alloc: Global, watcher: Box<dyn Watcher>) -> Result<Vec<Box<dyn Watcher>
 }
 
 /// The step of a program that halts at an address. It has no trace in the run.
-fn halting_step(pc: u64) -> Option<Trace>
+fn trace_of_halt(pc: u64) -> Option<Trace>
     ensures { IfSome result (λ t. t ≡ spec.halting_step pc) }
 {
     let next = pc.checked_add(4)?;
@@ -47,7 +47,7 @@ fn halting_step(pc: u64) -> Option<Trace>
 fn tell_halt(watcher: &mut Box<dyn Watcher>, pc: u64) -> Result<(), NoMemory>
     ensures { OnOk result (meaning watcher.new ≡ later (spec.halting_step pc) (meaning watcher.old)) }
 {
-    let Some(step) = halting_step(pc) else {
+    let Some(step) = trace_of_halt(pc) else {
         return Err(NoMemory);
     };
     watcher.tell(&step)?;

@@ -90,7 +90,7 @@ pub(crate) fn arrive_back(
     ensures program { replay.new.program ≡ replay.old.program }
     ensures back { OnOk result (replay.new.at ≡ min k replay.old.at) }
 {
-    let k = k.min(replay.at());
+    let k = k.min(replay.step_number());
     arrive(replay, known, since, k, out)
 }
 
@@ -105,6 +105,6 @@ pub(crate) fn arrive_here(
     ensures program { replay.new.program ≡ replay.old.program }
     ensures same { OnOk result (replay.new.at ≡ replay.old.at) }
 {
-    let here = replay.at();
+    let here = replay.step_number();
     arrive_back(replay, known, since, here, out)
 }

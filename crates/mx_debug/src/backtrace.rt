@@ -18,7 +18,7 @@ type Arguments = Option<Sequence<u64>>;
 fn arguments_at(replay: &mut Replay, depth: u64) -> Result<Arguments, NoMemory>
     ensures { replay.new ≡ replay.old }
 {
-    match replay.last_shallow(depth)? {
+    match replay.find_last_shallow(depth)? {
         Some(k) => Ok(Some(replay.locals_at(k.saturating_add(1))?)),
         None => Ok(None),
     }

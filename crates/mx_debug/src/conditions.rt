@@ -1,7 +1,7 @@
 //! The condition of a break as a text.
 
 use mx_book::Book;
-use mx_places::{signs_of, thing_at};
+use mx_places::{signs_of, thing_of_place};
 use mx_replay::Condition;
 use mx_tell::{add_thing, add_value};
 use mx_word::{Bytes, NoMemory};
@@ -15,7 +15,7 @@ pub(crate) fn add_condition(
     let Some(condition) = condition else {
         return Ok(());
     };
-    add_thing(text, book, thing_at(condition.place))?;
+    add_thing(text, book, thing_of_place(condition.place))?;
     text.extend(b" ")?;
     text.extend(signs_of(condition.relation))?;
     text.extend(b" ")?;

@@ -7,8 +7,8 @@ ghost use Rattle.mx_debug.specs.Words.{Leads, LeavesCall};
 
 use crate::session::{Again, Session};
 use crate::telling::add_said;
-use mx_ask::{Word, count_in, number_in};
-use mx_places::{place_in, thing_at};
+use mx_ask::{Word, parse_count, parse_number};
+use mx_places::{parse_place, thing_of_place};
 use mx_replay::{Place, value_at};
 use mx_tell::{add_thing, add_value};
 use mx_word::{Bytes, NoMemory};
@@ -51,7 +51,7 @@ impl Session {
         ensures stops { KeepsStops self.old self.new }
         ensures leads { OnOk result (Leads self.old Word.Step rest.now self.new.at) }
     {
-        let Some(count) = count_in(rest) else {
+        let Some(count) = parse_count(rest) else {
             return add_said(out, b"? no number");
         };
         self.note_count(count);
@@ -64,7 +64,7 @@ impl Session {
         ensures stops { KeepsStops self.old self.new }
         ensures leads { OnOk result (Leads self.old Word.ReverseStep rest.now self.new.at) }
     {
-        let Some(count) = count_in(rest) else {
+        let Some(count) = parse_count(rest) else {
             return add_said(out, b"? no number");
         };
         self.note_count(count);
@@ -77,7 +77,7 @@ impl Session {
         ensures stops { KeepsStops self.old self.new }
         ensures leads { OnOk result (Leads self.old Word.GoTo rest.now self.new.at) }
     {
-        match number_in(rest) {
+        match parse_number(rest) {
             Some(k) => self.go_to(k, out),
             None => add_said(out, b"? no number of a step"),
         }
@@ -121,11 +121,11 @@ impl Session {
     ) -> Result<(), NoMemory> {
         let book = &self.known.book;
         if made.is_none() {
-            add_thing(out, book, thing_at(place))?;
+            add_thing(out, book, thing_of_place(place))?;
             return out.extend(b" has not changed since the start\n");
         }
         out.extend(b"makes ")?;
-        add_thing(out, book, thing_at(place))?;
+        add_thing(out, book, thing_of_place(place))?;
         out.extend(b" = ")?;
         add_value(out, book, value, None)?;
         out.extend(b"  (was ")?;
@@ -152,7 +152,7 @@ impl Session {
         ensures stops { KeepsStops self.old self.new }
         ensures leads { OnOk result (Leads self.old Word.Who rest.now self.new.at) }
     {
-        match place_in(&self.known.book, rest) {
+        match parse_place(&self.known.book, rest) {
             Some(place) => self.show_maker(place, out),
             None => add_said(out, b"? no place: a name, $K, rX, M#ADDRESS"),
         }

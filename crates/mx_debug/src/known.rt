@@ -10,21 +10,21 @@ use std::alloc::Global;
 
 /// The breaks, what is watched, and the number that was given last.
 #[derive(Drop)]
-pub(crate) struct Stops {
-    pub(crate) breaks: Sequence<Break>,
-    pub(crate) watches: Sequence<Watch>,
-    pub(crate) last: u32,
+pub struct Stops {
+    pub breaks: Sequence<Break>,
+    pub watches: Sequence<Watch>,
+    pub last: u32,
 }
 
 /// What is known of the program by name, its breaks, what is watched, the last step that can be reached, and how many registers
 /// the ring has.
 #[derive(Drop)]
-pub(crate) struct Known {
-    pub(crate) alloc: Global,
-    pub(crate) book: Book,
-    pub(crate) stops: Stops,
-    pub(crate) most: u64,
-    pub(crate) ring: u32,
+pub struct Known {
+    pub alloc: Global,
+    pub book: Book,
+    pub stops: Stops,
+    pub most: u64,
+    pub ring: u32,
 }
 
 impl Stops {
@@ -41,7 +41,7 @@ impl Stops {
     }
 
     /// The next number.
-    pub(crate) fn next(&mut self) -> u32
+    pub fn next(&mut self) -> u32
         ensures breaks { self.new.breaks ≡ self.old.breaks }
         ensures watches { self.new.watches ≡ self.old.watches }
     {

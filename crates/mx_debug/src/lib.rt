@@ -13,5 +13,6 @@ mod setting;
 mod showing;
 mod telling;
 
+pub use known::{Known, Stops};
 pub use obeying::Flow;
 pub use session::Session;

@@ -4,36 +4,36 @@ ghost use Rattle.std.specs.Prelude.{◌≡◌};
 
 use crate::session::{Again, Session};
 use crate::telling::add_said;
-use mx_ask::number_in;
+use mx_ask::parse_number;
 use mx_book::Book;
-use mx_places::target_in;
-use mx_tell::{add_instructions, add_lines, around};
+use mx_places::parse_target;
+use mx_tell::{add_instructions, add_lines, first_line_around};
 use mx_word::{Bytes, NoMemory};
 
 /// The line that a text names: by a number, or by the place of an instruction.
 fn line_in(book: &Book, text: &[u8]) -> Option<u32> {
-    if let Some(line) = number_in(text) {
+    if let Some(line) = parse_number(text) {
         return u32::try_from(line).ok();
     }
-    book.line_at(target_in(book, text)?.address)
+    book.line_at(parse_target(book, text)?.address)
 }
 
 /// The first of the lines that are shown: those near a place, those after the ones that were shown, or those near the instruction
 /// that comes next.
 fn first_line(book: &Book, pc: u64, again: Again, rest: &[u8]) -> Option<u32> {
     if !rest.is_empty() {
-        return Some(around(line_in(book, rest)?));
+        return Some(first_line_around(line_in(book, rest)?));
     }
     match again.listed {
         Some(line) => u32::try_from(line).ok(),
-        None => Some(around(book.line_at(pc)?)),
+        None => Some(first_line_around(book.line_at(pc)?)),
     }
 }
 
 /// The first address that is shown of an object.
 fn first_address(book: &Book, pc: u64, again: Again, rest: &[u8]) -> Option<u64> {
     if !rest.is_empty() {
-        return Some(target_in(book, rest)?.address);
+        return Some(parse_target(book, rest)?.address);
     }
     Some(again.listed.unwrap_or(pc))
 }

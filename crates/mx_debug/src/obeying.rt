@@ -7,7 +7,7 @@ ghost use Rattle.mx_debug.specs.Words.{Deletes, Leads};
 
 use crate::session::{Again, Session};
 use crate::showing::{info, print};
-use mx_ask::{Asked, Word, add_help, add_unasked, cut_form, cut_word, without_end, word_asked};
+use mx_ask::{Asked, Word, add_help, add_unasked, cut_form, cut_word, find_word, trim_end};
 use mx_word::{Bytes, NoMemory};
 
 /// Whether a session goes on after a line.
@@ -18,7 +18,7 @@ pub enum Flow {
 }
 
 /// Whether a word goes to another step.
-fn goes(word: Word) -> bool
+fn is_step_word(word: Word) -> bool
     ensures { result ≡ spec.goes word }
 {
     match word {
@@ -46,7 +46,7 @@ fn goes(word: Word) -> bool
 }
 
 /// Whether a word changes the breaks or what is watched.
-fn sets(word: Word) -> bool
+fn is_setting_word(word: Word) -> bool
     ensures { result ≡ spec.sets word }
 {
     matches!(word, Word::Break | Word::Watch | Word::Delete)
@@ -131,9 +131,9 @@ impl Session {
         ensures deletes { word ≡ Word.Delete → OnOk result (Deletes self.old rest.now self.new) }
     {
         self.note_word(word);
-        if goes(word) {
+        if is_step_word(word) {
             self.go(word, rest, out)
-        } else if sets(word) {
+        } else if is_setting_word(word) {
             self.set(word, rest, out)
         } else {
             self.show(word, form, rest, out)
@@ -166,7 +166,7 @@ impl Session {
     ) -> Result<Flow, NoMemory>
         ensures program { KeepsProgram self.old self.new }
     {
-        match word_asked(name) {
+        match find_word(name) {
             Asked::Word(row) if row.word == Word::Quit => return Ok(Flow::Quit),
             Asked::Word(row) => self.obey_word(row.word, form, rest, out)?,
             Asked::Unknown => add_unasked(out, name, false)?,
@@ -181,7 +181,7 @@ impl Session {
     pub fn obey(&mut self, line: &[u8], out: &mut Bytes) -> Result<Flow, NoMemory>
         ensures program { KeepsProgram self.old self.new }
     {
-        let (word, rest) = cut_word(without_end(line));
+        let (word, rest) = cut_word(trim_end(line));
         if word.is_empty() {
             self.repeat(out)?;
             return Ok(Flow::GoOn);

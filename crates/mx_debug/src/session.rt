@@ -32,8 +32,8 @@ pub(crate) struct Again {
 /// the program.
 #[derive(Drop)]
 pub struct Session {
-    pub(crate) replay: Replay,
-    pub(crate) known: Known,
+    pub replay: Replay,
+    pub known: Known,
     pub(crate) again: Again,
 }
 
@@ -53,7 +53,7 @@ impl Model for Session {
 }
 
 impl Session {
-    /// A session at the start of a program's run, with what is known of it by name. No step after `most` is visited.
+    /// A session at the start of a program's run, with what is known of it by name. No step after `last_step` is visited.
     ///
     /// Errors: the outcome where no machine starts, as that of a source that is refused, and out of memory.
     pub fn begin(alloc: Global, program: Program, book: Book, most: u64) -> Result<Session, Outcome>
@@ -107,7 +107,7 @@ impl Session {
     }
 
     /// The last step that can be reached.
-    pub fn most(&self) -> u64
+    pub fn last_step(&self) -> u64
         ensures { result ≡ self.now.most }
     {
         self.known.most
@@ -120,7 +120,11 @@ impl Session {
         ensures stops { KeepsStops self.old self.new }
         ensures reached { OnOk result (GoesTo self.old (self.old.at + n) self.new.at) }
     {
-        let k = self.replay.at().saturating_add(n).min(self.most());
+        let k = self
+            .replay
+            .step_number()
+            .saturating_add(n)
+            .min(self.last_step());
         self.go_to(k, out)
     }
 
@@ -132,7 +136,7 @@ impl Session {
         ensures back { OnOk result (self.new.at ≡ self.old.at - n) }
     {
         let since = Written::of(self.replay.host());
-        let k = self.replay.at().saturating_sub(n);
+        let k = self.replay.step_number().saturating_sub(n);
         arrive_back(&mut self.replay, &self.known, since, k, out)
     }
 
@@ -169,7 +173,7 @@ impl Session {
         let stops = &self.known.stops;
         let found = self
             .replay
-            .last_stop(stops.breaks.as_slice(), stops.watches.as_slice(), depth)?;
+            .find_last_stop(stops.breaks.as_slice(), stops.watches.as_slice(), depth)?;
         arrive_back(
             &mut self.replay,
             &self.known,
@@ -190,7 +194,7 @@ impl Session {
         ensures place { IfOk result (StandsBefore self.old.at self.new.at) }
     {
         let since = Written::of(self.replay.host());
-        let found = self.replay.maker(place)?;
+        let found = self.replay.find_maker(place)?;
         if let Some(k) = found {
             arrive_back(
                 &mut self.replay,

@@ -8,8 +8,8 @@ use crate::conditions::add_condition;
 use crate::known::{Known, breaks_but, watches_but};
 use crate::session::Session;
 use crate::telling::add_said;
-use mx_ask::number_in;
-use mx_places::{Unwanted, Wanted, place_in, thing_at, wanted_in};
+use mx_ask::parse_number;
+use mx_places::{Unwanted, Wanted, parse_break, parse_place, thing_of_place};
 use mx_replay::{Break, Place, Watch};
 use mx_tell::{add_break_row, add_place, add_watch_row};
 use mx_text::add_decimal;
@@ -34,7 +34,7 @@ fn add_watch(text: &mut Bytes, known: &Known, watch: &Watch) -> Result<(), NoMem
         text,
         &known.book,
         u64::from(watch.number),
-        thing_at(watch.place),
+        thing_of_place(watch.place),
     )
 }
 
@@ -106,7 +106,7 @@ impl Session {
         ensures place { self.new.at ≡ self.old.at }
     {
         let pc = self.replay.machine().pc();
-        match wanted_in(&self.known.book, pc, rest) {
+        match parse_break(&self.known.book, pc, rest) {
             Ok(wanted) => self.set_break(wanted, out),
             Err(why) => add_unwanted(out, why),
         }
@@ -117,7 +117,7 @@ impl Session {
         ensures program { KeepsProgram self.old self.new }
         ensures place { self.new.at ≡ self.old.at }
     {
-        match place_in(&self.known.book, rest) {
+        match parse_place(&self.known.book, rest) {
             Some(place) => self.set_watch(place, out),
             None => add_said(out, b"? nothing to watch: a name, $K, rX, M#ADDRESS"),
         }
@@ -164,7 +164,7 @@ impl Session {
         if rest.is_empty() {
             return self.delete_all(out);
         }
-        match number_in(rest) {
+        match parse_number(rest) {
             Some(number) => self.delete(number, out),
             None => add_said(out, b"? no number"),
         }

@@ -6,10 +6,10 @@ use crate::known::Known;
 use crate::session::{Again, Session};
 use crate::setting::add_stops;
 use crate::telling::add_said;
-use mx_ask::{Unit, units_in};
+use mx_ask::{Unit, parse_units};
 use mx_book::{Book, Thing};
 use mx_core::Machine;
-use mx_places::{named_thing, shown_thing};
+use mx_places::{resolve_for_display, resolve_name};
 use mx_replay::Replay;
 use mx_tell::{add_memory, add_output, add_registers, add_ring, add_shown, add_symbols, value_of};
 use mx_text::Form;
@@ -43,7 +43,7 @@ pub(crate) fn print(
             b"? no such form: /d decimal, /x hexadecimal, /t as text",
         );
     };
-    match shown_thing(&known.book, rest) {
+    match resolve_for_display(&known.book, rest) {
         Some(thing) => add_shown(out, &known.book, replay.machine(), thing, form),
         None => add_said(
             out,
@@ -61,11 +61,11 @@ fn address_of(machine: &Machine, thing: Thing) -> u64 {
 }
 
 /// The address that a text names: where nothing is written, the one after those that were shown.
-fn examined_in(book: &Book, machine: &Machine, again: Again, rest: &[u8]) -> Option<u64> {
+fn parse_examined(book: &Book, machine: &Machine, again: Again, rest: &[u8]) -> Option<u64> {
     let address = if rest.is_empty() {
         again.examined
     } else {
-        address_of(machine, named_thing(book, rest)?)
+        address_of(machine, resolve_name(book, rest)?)
     };
     if address < MEMORY_END {
         Some(address)
@@ -75,10 +75,10 @@ fn examined_in(book: &Book, machine: &Machine, again: Again, rest: &[u8]) -> Opt
 }
 
 /// The units that are asked for after a stroke: an octa where nothing is written.
-fn asked_units(letters: &[u8]) -> Option<(u64, Unit)> {
+fn parse_examined_units(letters: &[u8]) -> Option<(u64, Unit)> {
     match letters {
-        [b'/', units @ ..] => units_in(units),
-        _ => units_in(letters),
+        [b'/', units @ ..] => parse_units(units),
+        _ => parse_units(letters),
     }
 }
 
@@ -141,11 +141,11 @@ impl Session {
     ) -> Result<(), NoMemory>
         ensures { self.new ≡ self.old }
     {
-        let Some((count, unit)) = asked_units(letters) else {
+        let Some((count, unit)) = parse_examined_units(letters) else {
             return add_said(out, b"? no such units: /NU with U o, t, w, b or s");
         };
         let machine = self.replay.machine();
-        match examined_in(&self.known.book, machine, self.again, rest) {
+        match parse_examined(&self.known.book, machine, self.again, rest) {
             Some(from) => self.examine(from, count, unit, out),
             None => add_said(out, b"? no memory there: a name, $K, #ADDRESS"),
         }

@@ -3,7 +3,7 @@
 use crate::known::Known;
 use mx_core::Machine;
 use mx_host::MemHost;
-use mx_places::thing_at;
+use mx_places::thing_of_place;
 use mx_replay::{Replay, Watch, value_at};
 use mx_run::End;
 use mx_tell::{add_end, add_output, add_stop, add_watched};
@@ -55,7 +55,7 @@ pub(crate) fn add_step(
     since: Written,
 ) -> Result<(), NoMemory> {
     add_meanwhile(out, replay.host(), since)?;
-    add_stop(out, &known.book, replay.at(), replay.machine())
+    add_stop(out, &known.book, replay.step_number(), replay.machine())
 }
 
 /// Adds a line.
@@ -74,10 +74,10 @@ fn add_bounds(out: &mut Bytes, replay: &Replay, known: &Known) -> Result<(), NoM
     if is_over(replay.end()) {
         return add_end(out, &known.book, replay.end());
     }
-    if replay.at() == 0 {
+    if replay.step_number() == 0 {
         return out.extend(b"at the start\n");
     }
-    if replay.at() >= known.most {
+    if replay.step_number() >= known.most {
         add_decimal(out, known.most)?;
         return out.extend(b" steps spent: --steps allows more\n");
     }
@@ -128,7 +128,14 @@ fn add_if_changed(
         return Ok(());
     }
     let number = u64::from(watch.number);
-    add_watched(out, &known.book, number, thing_at(watch.place), old, new)
+    add_watched(
+        out,
+        &known.book,
+        number,
+        thing_of_place(watch.place),
+        old,
+        new,
+    )
 }
 
 /// Adds which of the values that are watched changed.

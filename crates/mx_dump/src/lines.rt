@@ -26,7 +26,7 @@ const RS: u8 = 11;
 const END: u64 = 1 << 63;
 
 /// A name and an octa as a line.
-fn named_octa(name: Bytes, x: u64) -> Result<Bytes, NoMemory>
+fn format_octa_line(name: Bytes, x: u64) -> Result<Bytes, NoMemory>
     ensures { IfOk result (λ line. line ≡ spec.named_octa name x) }
 {
     let mut line = name;
@@ -49,7 +49,7 @@ fn special_text(alloc: Global, machine: &Machine, code: u8) -> Result<Bytes, NoM
     ensures { IfOk result (λ line. line ≡ spec.special_text (state_of machine.now) code) }
 {
     let name = Bytes::copy(alloc, special_name(code).as_bytes())?;
-    named_octa(name, machine.special(code))
+    format_octa_line(name, machine.special(code))
 }
 
 /// Writes the line of a special register, if it is shown.
@@ -99,7 +99,7 @@ fn register_text(alloc: Global, machine: &Machine, k: u8) -> Result<Bytes, NoMem
 {
     let mut name = Bytes::copy(alloc, b"$")?;
     add_decimal(&mut name, u64::from(k))?;
-    named_octa(name, machine.register(k))
+    format_octa_line(name, machine.register(k))
 }
 
 /// Writes the line of a register, if it is local or global.
@@ -141,7 +141,7 @@ fn octa_text(alloc: Global, a: u64, x: u64) -> Result<Bytes, NoMemory>
 {
     let mut name = Bytes::copy(alloc, b"M")?;
     name.extend(&octa_hex(a))?;
-    named_octa(name, x)
+    format_octa_line(name, x)
 }
 
 /// Writes the line of an octa.

@@ -12,7 +12,7 @@ mod row;
 mod symbols;
 mod text;
 
-pub use matching::fits;
+pub use matching::is_number_or_name_of;
 pub use parts::{
     event_rows, file_rows, more_register_rows, other_rows, pseudo_rows, register_rows, service_rows,
 };

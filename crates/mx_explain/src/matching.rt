@@ -28,7 +28,7 @@ fn is_number(word: &str, number: Option<u16>) -> bool
 
 /// Whether a word is the number of a row, or its name; upper and lower case do not matter.
 #[tactic(auto, unfolding(crate::specs::Matching::fits))]
-pub fn fits(word: &str, row: Row) -> bool
+pub fn is_number_or_name_of(word: &str, row: Row) -> bool
     ensures { result ≡ spec.fits word.now (seen row) }
 {
     is_number(word, number_of(row.topic)) || word.eq_ignore_ascii_case(name_of(row))

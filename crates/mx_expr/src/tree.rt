@@ -76,7 +76,7 @@ impl Drop for Expr {
                 Expr::Unary(_, operand) => self = Box::into_inner(operand),
                 Expr::Binary(op, mut left, right) => {
                     let first = mem::replace(&mut *left, Expr::Here);
-                    self = first.turned(op, left, right);
+                    self = first.rotate(op, left, right);
                 }
             }
         }
@@ -86,7 +86,7 @@ impl Drop for Expr {
 impl Expr {
     /// The tree of this left operand, whose box is now free, and a right one, with one node less
     /// to the left.
-    fn turned(self, op: BinOp, mut free: Box<Expr>, right: Box<Expr>) -> Expr
+    fn rotate(self, op: BinOp, mut free: Box<Expr>, right: Box<Expr>) -> Expr
         requires { free.value ≡ Expr.Here }
         ensures { weight (tree_of result) < 1 + (weight (tree_of self) + weight (tree_of self)) + weight
             (tree_of right.value) }

@@ -163,7 +163,7 @@ fn object_of(
 }
 
 /// What a source that is assembled, or refused, comes to.
-fn assembled_answer(answer: Result<(), Refusal>) -> Result<(), Outcome>
+fn answer_of_source(answer: Result<(), Refusal>) -> Result<(), Outcome>
     ensures { result ≡ plans.assembled answer }
 {
     match answer {
@@ -177,7 +177,7 @@ fn close_object<H: Host>(host: &mut H, answer: Result<(), Refusal>) -> Result<()
     ensures { Works H.told H.faults host.old host.new result (plans.close_object answer) }
 {
     match close_file(host, OBJECT_SLOT) {
-        Ok(()) => assembled_answer(answer),
+        Ok(()) => answer_of_source(answer),
         Err(outcome) => Err(outcome),
     }
 }

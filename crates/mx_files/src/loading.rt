@@ -10,7 +10,7 @@ ghost use Rattle.mx_mmo.specs.Meaning.{nothing};
 ghost use Rattle.mx_files.specs.Loading as spec;
 ghost use Rattle.mx_files.specs.Sources.{source_meaning};
 
-use crate::refusal::{Refusal, SourceFault, is_out_of_memory, refusal_of, refused_at};
+use crate::refusal::{Refusal, SourceFault, is_out_of_memory, refusal_at, refusal_of};
 use mx_asm::{Assembler, Refused};
 use mx_line::cut_line;
 use mx_load::{Image, LoadFault, Loader};
@@ -40,7 +40,7 @@ fn load_items(loader: &mut Loader, items: &[Item]) -> Result<(), LoadFault>
 }
 
 /// The refusal that the assembler answers, unless there was no memory.
-fn told(refused: Refused) -> Result<Refusal, NoMemory>
+fn separate_no_memory(refused: Refused) -> Result<Refusal, NoMemory>
     ensures value { IfOk result (λ refusal. refusal ≡ spec.refusal_of refused) }
     ensures memory { OnOk result (refused ≢ no_memory) }
 {
@@ -62,7 +62,7 @@ fn take_line(
 {
     match assembler.line(text, items) {
         Ok(()) => Ok(Ok(())),
-        Err(refused) => match told(refused) {
+        Err(refused) => match separate_no_memory(refused) {
             Ok(refusal) => Ok(Err(refusal)),
             Err(e) => Err(e),
         },
@@ -91,20 +91,20 @@ fn load_line(
                 Ok(()) => Ok(()),
                 Err(refusal) => Err(SourceFault::Refused(refusal)),
             },
-            Err(fault) => Err(refused_line(line, fault)),
+            Err(fault) => Err(fault_of_line(line, fault)),
         },
         Err(_) => Err(SourceFault::OutOfMemory),
     }
 }
 
 /// Why a line is refused whose items cannot be loaded.
-fn refused_line(line: u32, fault: LoadFault) -> SourceFault
+fn fault_of_line(line: u32, fault: LoadFault) -> SourceFault
     ensures memory { fault ≡ LoadFault.OutOfMemory → result ≡ SourceFault.OutOfMemory }
     ensures refused { fault ≢ LoadFault.OutOfMemory → result ≡ spec.refused_line line fault }
 {
     match fault {
         LoadFault::OutOfMemory => SourceFault::OutOfMemory,
-        _ => SourceFault::Refused(refused_at(line, fault.number())),
+        _ => SourceFault::Refused(refusal_at(line, fault.number())),
     }
 }
 
@@ -155,9 +155,9 @@ fn load_end(
     match assembler.finish(&mut items) {
         Ok(_) => match load_items(loader, items.as_slice()) {
             Ok(()) => Ok(()),
-            Err(fault) => Err(refused_line(0, fault)),
+            Err(fault) => Err(fault_of_line(0, fault)),
         },
-        Err(refused) => match told(refused) {
+        Err(refused) => match separate_no_memory(refused) {
             Ok(refusal) => Err(SourceFault::Refused(refusal)),
             Err(_) => Err(SourceFault::OutOfMemory),
         },
@@ -202,7 +202,7 @@ pub fn load_source(alloc: Global, text: &[u8]) -> Result<Image, SourceFault>
     match load_into(alloc, &mut loader, text) {
         Ok(()) => match loader.finish(Symbols::new(alloc)) {
             Ok(image) => Ok(image),
-            Err(fault) => Err(refused_line(0, fault)),
+            Err(fault) => Err(fault_of_line(0, fault)),
         },
         Err(fault) => Err(fault),
     }

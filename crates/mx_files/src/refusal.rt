@@ -37,7 +37,7 @@ pub enum SourceFault {
 }
 
 /// The refusal of a line with the number of a fault.
-pub fn refused_at(line: u32, fault: u16) -> Refusal
+pub fn refusal_at(line: u32, fault: u16) -> Refusal
     ensures { result ≡ spec.refused_at line fault }
 {
     Refusal {

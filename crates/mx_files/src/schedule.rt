@@ -39,7 +39,7 @@ fn find_unnamed(bytes: &[u8]) -> Option<usize>
 /// The place of the first byte that names none of eight processors. Where the greatest byte names one, all do: this is
 /// known in a tenth of the time.
 #[tactic(auto, using(crate::proofs::GreatestBytes::greatest))]
-fn first_unnamed(bytes: &[u8]) -> Option<usize>
+fn find_first_unnamed(bytes: &[u8]) -> Option<usize>
     ensures { result ≡ position spec.is_unnamed bytes.now }
 {
     if greatest(bytes) <= 7 {
@@ -66,7 +66,7 @@ fn length_fault(count: usize) -> Option<usize>
 fn schedule_fault(bytes: &[u8]) -> Option<usize>
     ensures { result ≡ spec.schedule_fault bytes.now }
 {
-    match first_unnamed(bytes) {
+    match find_first_unnamed(bytes) {
         Some(place) if place < LONGEST => Some(place),
         _ => length_fault(bytes.len()),
     }
@@ -74,12 +74,12 @@ fn schedule_fault(bytes: &[u8]) -> Option<usize>
 
 /// A schedule that was read, or the outcome where it is at fault.
 #[tactic(auto, unfolding(crate::specs::Schedules::schedule_in))]
-fn judged(bytes: Bytes) -> Result<Bytes, Outcome>
+fn check_schedule(bytes: Bytes) -> Result<Bytes, Outcome>
     ensures value { result ≡ spec.schedule_in bytes }
     ensures names { IfOk result spec.AreEight }
-    ensures words { IfErr result (λ e. is_usage e ≡ false) }
-    ensures well { result ≢ Err Outcome.HostFault }
-    ensures present { result ≢ Err Outcome.NoFile }
+    ensures no_usage { IfErr result (λ e. is_usage e ≡ false) }
+    ensures no_host_fault { result ≢ Err Outcome.HostFault }
+    ensures no_missing_file { result ≢ Err Outcome.NoFile }
 {
     match schedule_fault(bytes.as_slice()) {
         Some(place) => Err(Outcome::BadSchedule {
@@ -100,7 +100,7 @@ pub fn read_schedule<H: Host>(alloc: Global, host: &mut H, name: &[u8]) -> Resul
     ensures causes { PartFailsOnlyBy H.told H.faults host.old host.new result }
 {
     match read_file(alloc, host, name, SOURCE_PIECES) {
-        Ok(bytes) => judged(bytes),
+        Ok(bytes) => check_schedule(bytes),
         Err(outcome) => Err(outcome),
     }
 }

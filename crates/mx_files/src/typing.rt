@@ -29,11 +29,11 @@ use mx_word::{Bytes, Symbol};
 use std::alloc::Global;
 
 /// What comes of bytes that are no object.
-fn unread(fault: MmoFault) -> Outcome
+fn refuse_bytes(fault: MmoFault) -> Outcome
     ensures value { result ≢ Outcome.OutOfMemory → result ≡ spec.unread fault }
     ensures memory { fault ≡ MmoFault.OutOfMemory → result ≡ Outcome.OutOfMemory }
-    ensures well { result ≢ Outcome.HostFault }
-    ensures present { result ≢ Outcome.NoFile }
+    ensures no_host_fault { result ≢ Outcome.HostFault }
+    ensures no_missing_file { result ≢ Outcome.NoFile }
     ensures end { is_end result ≡ true }
 {
     match fault.place() {
@@ -46,13 +46,13 @@ fn unread(fault: MmoFault) -> Outcome
 }
 
 /// What comes of a trie at a place that is none.
-fn unread_trie(place: u64, fault: StabFault) -> Outcome
+fn refuse_trie(place: u64, fault: StabFault) -> Outcome
     requires front { place ≤ 2 ^ 26 }
     requires within { IfSome (tries.place_of fault) (λ at. at < 2 ^ 63) }
     ensures value { result ≢ Outcome.OutOfMemory → result ≡ spec.unread_trie place fault }
     ensures memory { fault ≡ StabFault.OutOfMemory → result ≡ Outcome.OutOfMemory }
-    ensures well { result ≢ Outcome.HostFault }
-    ensures present { result ≢ Outcome.NoFile }
+    ensures no_host_fault { result ≢ Outcome.HostFault }
+    ensures no_missing_file { result ≢ Outcome.NoFile }
     ensures end { is_end result ≡ true }
 {
     match fault.place() {
@@ -119,7 +119,7 @@ fn list_next<H: Host>(
             Ok(()) => Ok(true),
             Err(outcome) => Err(outcome),
         },
-        Err(fault) => Err(unread(fault)),
+        Err(fault) => Err(refuse_bytes(fault)),
     }
 }
 
@@ -214,7 +214,7 @@ fn list_tail<H: Host>(
 {
     match mx_stab::read(alloc, tail.trie.as_slice()) {
         Ok(symbols) => put_tail(host, lister, tail.trie.as_slice(), symbols.as_slice()),
-        Err(fault) => Err(unread_trie(tail.place, fault)),
+        Err(fault) => Err(refuse_trie(tail.place, fault)),
     }
 }
 
@@ -231,7 +231,7 @@ fn list_end<H: Host>(
 {
     match reader.finish() {
         Ok(tail) => list_tail(alloc, host, lister, &tail),
-        Err(fault) => Err(unread(fault)),
+        Err(fault) => Err(refuse_bytes(fault)),
     }
 }
 
@@ -256,7 +256,7 @@ fn list_object<H: Host>(alloc: Global, host: &mut H, bytes: &[u8]) -> Result<(),
     let mut reader = Reader::new(alloc);
     match reader.feed(bytes) {
         Ok(()) => list_fed(alloc, host, &mut reader),
-        Err(fault) => Err(unread(fault)),
+        Err(fault) => Err(refuse_bytes(fault)),
     }
 }
 

@@ -126,7 +126,7 @@ impl MemHost {
 
     /// Counts a call, and says whether it is one that fails.
     #[tactic(auto, using(crate::proofs::FaultCount::rising))]
-    fn next_call(&mut self) -> bool
+    fn count_call(&mut self) -> bool
         ensures fails { result ≡ is_failing self.old }
         ensures counts { self.new ≡ counted self.old }
         ensures never_falls { fault_count self.old.calls self.old.failing

@@ -5,4 +5,4 @@ mod reading;
 mod words;
 
 pub use reading::{Gathered, file_at, gather};
-pub use words::{Named, Ordered, OwnOption, Unread, order_in};
+pub use words::{Named, Ordered, OwnOption, Unread, read_order};

@@ -179,7 +179,7 @@ impl Reading {
 }
 
 /// What the words after the name of a view name. Places count that name as 0.
-fn named_in(alloc: Global, own: OwnOption, words: &[String]) -> Result<Named, Unread> {
+fn read_named(alloc: Global, own: OwnOption, words: &[String]) -> Result<Named, Unread> {
     let mut reading = Reading {
         named: Named::new(alloc)?,
         awaiting: None,
@@ -205,10 +205,10 @@ pub struct Ordered {
 }
 
 /// What the words after the name of a view order.
-pub fn order_in(alloc: Global, own: OwnOption, words: &[String]) -> Result<Ordered, Unread>
+pub fn read_order(alloc: Global, own: OwnOption, words: &[String]) -> Result<Ordered, Unread>
     ensures { IfOk result (λ o. (o.order.file < length o.named.words.items) × (o.order.rest ≤ length o.named.words.items)) }
 {
-    let named = named_in(alloc, own, words)?;
+    let named = read_named(alloc, own, words)?;
     match read(named.words.as_slice()) {
         Ok(order) => Ok(Ordered { named, order }),
         Err(fault) => Err(Unread::Fault(WordsFault {

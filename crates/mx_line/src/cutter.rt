@@ -5,8 +5,8 @@ ghost use Rattle.mx_line.specs.Cutting as spec;
 ghost use Rattle.mx_line.specs.Fields.{field_length};
 ghost use Rattle.mx_line.specs.Statements.{Found, StatementOf, Statements};
 
-use crate::fields::{ends_here, field_length};
-use crate::kinds::{blanks, is_blank, word};
+use crate::fields::{field_length, is_field_end};
+use crate::kinds::{is_blank, split_blanks, split_word};
 use crate::{LineFault, Span};
 use mx_word::{is_digit, is_name_byte};
 
@@ -25,7 +25,7 @@ fn next_after(place: usize, text: &[u8]) -> usize
     requires { place + length text.now < 2 ^ 64 }
     ensures { result ≡ spec.next_after place text.now }
 {
-    let (gap, rest) = blanks(text);
+    let (gap, rest) = split_blanks(text);
     match rest {
         [b';', ..] => place + gap.len() + 1,
         _ => place + gap.len() + rest.len(),
@@ -69,7 +69,7 @@ fn operands_at(
     requires { place + length text.now < 2 ^ 64 }
     ensures { result ≡ spec.operands_at label op place text.now }
 {
-    let (gap, rest) = blanks(text);
+    let (gap, rest) = split_blanks(text);
     with_field(label, op, place + gap.len(), rest)
 }
 
@@ -95,7 +95,7 @@ fn opcode_at(
 {
     if op.is_empty() {
         no_opcode(label)
-    } else if ends_here(rest) {
+    } else if is_field_end(rest) {
         let end = place + op.len();
         let op = Span {
             from: place,
@@ -112,13 +112,13 @@ fn operation_at(label: Option<Span>, place: usize, text: &[u8]) -> Result<Option
     requires { place + length text.now < 2 ^ 64 }
     ensures { result ≡ spec.operation_at label place text.now }
 {
-    let (gap, rest) = blanks(text);
-    let (op, after) = word(rest);
+    let (gap, rest) = split_blanks(text);
+    let (op, after) = split_word(rest);
     opcode_at(label, place + gap.len(), op, after)
 }
 
 /// Whether a label ends before a text.
-fn ends_label(rest: &[u8]) -> bool
+fn is_label_end(rest: &[u8]) -> bool
     ensures { result ≡ spec.ends_label rest.now }
 {
     match rest {
@@ -138,13 +138,13 @@ fn is_bad_local(label: &[u8]) -> bool
 }
 
 /// A statement by the letters and digits at its front and the text after them.
-fn labelled_at(place: usize, label: &[u8], rest: &[u8]) -> Result<Option<Cut>, LineFault>
+fn cut_labelled(place: usize, label: &[u8], rest: &[u8]) -> Result<Option<Cut>, LineFault>
     requires { place + length label.now + length rest.now < 2 ^ 64 }
     ensures { result ≡ spec.labelled_at place label.now rest.now }
 {
     if is_bad_local(label) {
         Err(LineFault::BadLocal)
-    } else if ends_label(rest) {
+    } else if is_label_end(rest) {
         let end = place + label.len();
         let label = Span {
             from: place,
@@ -165,8 +165,8 @@ fn statement_at(place: usize, text: &[u8]) -> Result<Option<Cut>, LineFault>
         [] => Ok(None),
         [b, ..] => {
             if is_name_byte(*b) {
-                let (label, rest) = word(text);
-                labelled_at(place, label, rest)
+                let (label, rest) = split_word(text);
+                cut_labelled(place, label, rest)
             } else if is_blank(*b) {
                 operation_at(None, place, text)
             } else {

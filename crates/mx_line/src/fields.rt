@@ -6,22 +6,22 @@ ghost use Rattle.mx_line.specs.Fields as spec;
 
 use crate::LineFault;
 use crate::kinds::is_blank;
-use crate::pieces::first_length;
+use crate::pieces::first_piece_length;
 
 /// Whether a byte ends an operand field, and an opcode.
-fn ends_field(b: u8) -> bool
+fn is_field_end_byte(b: u8) -> bool
     ensures { result ≡ spec.ends_field b }
 {
     is_blank(b) || b == b';'
 }
 
 /// Whether an operand field or an opcode ends before a text.
-pub fn ends_here(rest: &[u8]) -> bool
+pub fn is_field_end(rest: &[u8]) -> bool
     ensures { result ≡ spec.ends_here rest.now }
 {
     match rest {
         [] => true,
-        [b, ..] => ends_field(*b),
+        [b, ..] => is_field_end_byte(*b),
     }
 }
 
@@ -31,7 +31,7 @@ fn string_length(rest: &[u8]) -> Result<usize, LineFault>
     ensures within { IfOk result (λ count. count ≤ length rest.now + 1) }
     ensures field { spec.field_length (34 ∷ rest.now) ≡ spec.after_first (34 ∷ rest.now) result }
 {
-    let count = first_length(b'"', rest);
+    let count = first_piece_length(b'"', rest);
     if count < rest.len() {
         Ok(count + 2)
     } else {
@@ -67,7 +67,7 @@ fn part_from(b: u8, rest: &[u8]) -> Result<usize, LineFault>
         string_length(rest)
     } else if b == b'\'' {
         constant_length(rest)
-    } else if ends_field(b) {
+    } else if is_field_end_byte(b) {
         Ok(0)
     } else {
         Ok(1)

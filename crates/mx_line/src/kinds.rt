@@ -25,7 +25,7 @@ fn word_count(text: &[u8]) -> usize
 
 /// The blanks at the front of a text, and what follows them.
 #[tactic(auto, using(crate::proofs::KindLemmas::runs))]
-pub fn blanks(text: &[u8]) -> (&[u8], &[u8])
+pub fn split_blanks(text: &[u8]) -> (&[u8], &[u8])
     ensures front { result.0.now ≡ spec.run spec.is_blank text.now }
     ensures rest { result.1.now ≡ spec.past spec.is_blank text.now }
     ensures whole { length result.0.now + length result.1.now ≡ length text.now }
@@ -35,7 +35,7 @@ pub fn blanks(text: &[u8]) -> (&[u8], &[u8])
 
 /// The letters and digits at the front of a text, and what follows them.
 #[tactic(auto, using(crate::proofs::KindLemmas::runs))]
-pub fn word(text: &[u8]) -> (&[u8], &[u8])
+pub fn split_word(text: &[u8]) -> (&[u8], &[u8])
     ensures front { result.0.now ≡ spec.run spec.is_name_byte text.now }
     ensures rest { result.1.now ≡ spec.past spec.is_name_byte text.now }
     ensures whole { length result.0.now + length result.1.now ≡ length text.now }

@@ -12,4 +12,4 @@ mod spans;
 pub use cutter::{Cut, next_statement, one_list};
 pub use faults::LineFault;
 pub use lines::cut_line;
-pub use spans::{Span, part};
+pub use spans::{Span, slice_span};

@@ -13,7 +13,7 @@ fn place(at: u8, text: &[u8]) -> Option<usize>
 }
 
 /// How long the first piece is.
-pub fn first_length(at: u8, text: &[u8]) -> usize
+pub fn first_piece_length(at: u8, text: &[u8]) -> usize
     ensures within { result ≤ length text.now }
     ensures value { result ≡ position_or_len (λ b. b == at) text.now }
 {
@@ -30,7 +30,7 @@ pub fn cut(at: u8, text: &[u8]) -> (&[u8], Option<&[u8]>)
     ensures alone { IfNone result.1 (result.0.now ≡ text.now) }
     ensures whole { IfSome result.1 (λ rest. length result.0.now + length rest.now + 1 ≡ length text.now) }
 {
-    let count = first_length(at, text);
+    let count = first_piece_length(at, text);
     if count == text.len() {
         (text, None)
     } else {

@@ -11,7 +11,7 @@ pub struct Span {
 }
 
 /// The bytes of a line at a span, whose `from` is not above its `to` and whose `to` is not past the end of the line.
-pub fn part(line: &[u8], span: Span) -> &[u8]
+pub fn slice_span(line: &[u8], span: Span) -> &[u8]
     requires order { span.from ≤ span.to }
     requires within { span.to ≤ length line.now }
     ensures { result.now ≡ spec.part line.now span }

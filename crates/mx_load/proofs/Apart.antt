@@ -2,7 +2,7 @@
 use Rattle.std.proofs.Common.{◌≡◌, ℕ, zero, suc, ◌+◌, ◌<◌, ◌≤◌, List, [], ◌∷◌, length, drop, Bool, true, false, cond, Some, Ok, Err, refl, sym, ◌∙◌, ap, subst, arith, Result, nat_lt}
 use Rattle.std.proofs.lemmas.Bool.Decides.{nat_tests}
 use Rattle.mx_mmo.specs.Image.{Image}
-use Rattle.mx_load.proofs.Words.{Loading, Meaningless, nothing, take_item, take_items, image_in, meaning, Due, IsWithin, first_item, limit, phase_after, tail_of, Left, Walk, behind, walk_on, walk, items_of, object_behind, object_of, with_tail, Item, MmoFault, MeansNothing, fault_at, Loaded, item_loaded, first_loaded, items_loaded, taken, trie_read, tail_read, with_symbols, whole_loaded, object_loaded, StabFault}
+use Rattle.mx_load.proofs.Words.{Loading, Meaningless, nothing, take_item, take_items, image_in, meaning, Due, IsWithin, first_item, limit, phase_after, tail_of, Left, Walk, behind, walk_on, walk, items_of, object_after, object_of, with_tail, Item, MmoFault, MeansNothing, fault_at, Loaded, item_loaded, first_loaded, items_loaded, taken, trie_read, tail_read, with_symbols, whole_loaded, object_loaded, StabFault}
 use Rattle.mx_mmo.specs.declared.faults.MmoFault.TheVariants.{TooLong}
 use Rattle.mx_mmo.specs.declared.items.Tail.{Tail}
 use Rattle.mx_mmo.specs.declared.items.Object.{Object}
@@ -132,7 +132,7 @@ tail-holds : (items : List Item) (tail : Result Tail MmoFault) → Holds items (
 tail-holds items (Ok tail) = refl
 tail-holds items (Err fault) = tt
 
-whole-holds : (items : List Item) (end : Result Left MmoFault) → Holds items (object_behind items end)
+whole-holds : (items : List Item) (end : Result Left MmoFault) → Holds items (object_after items end)
 whole-holds items (Ok left) = tail-holds items (tail_of left.phase left.at left.rest)
 whole-holds items (Err fault) = tt
 
@@ -152,9 +152,9 @@ means-nothing bytes place e s = record {
 }
 
 whole-gives : (bytes : List ℕ) (items : List Item) (r : Result Loading Meaningless) (end : Result Left MmoFault) (loaded : Loaded) →
-    Comes nothing Start 0 bytes r end loaded → Gives bytes r (object_behind items end) (whole_loaded loaded)
+    Comes nothing Start 0 bytes r end loaded → Gives bytes r (object_after items end) (whole_loaded loaded)
 whole-gives bytes items (Ok t) (Ok left) loaded c =
-    subst (λ l. Gives bytes (Ok t) (object_behind items (Ok left)) (whole_loaded l)) (sym c) (tail-gives bytes items t (tail_of left.phase left.at left.rest))
+    subst (λ l. Gives bytes (Ok t) (object_after items (Ok left)) (whole_loaded l)) (sym c) (tail-gives bytes items t (tail_of left.phase left.at left.rest))
 whole-gives bytes items (Ok t) (Err fault) loaded c = ap whole_loaded c
 whole-gives bytes items (Err e) end loaded (place, stops, c) = (place, means-nothing bytes place e stops, ap whole_loaded c)
 
@@ -176,7 +176,7 @@ either bytes = on (nat_lt limit (length bytes))
     loaded : Loaded
     loaded = items_loaded (length bytes + 1) nothing Start 0 bytes
 
-    on : (far : Bool) → Either bytes far (cond far (Err (TooLong limit)) (object_behind w.0 w.1)) (cond far (Err (fault_at (TooLong limit))) (whole_loaded loaded))
+    on : (far : Bool) → Either bytes far (cond far (Err (TooLong limit)) (object_after w.0 w.1)) (cond far (Err (fault_at (TooLong limit))) (whole_loaded loaded))
     on true = (refl, refl)
     on false = record { holds = whole-holds w.0 w.1; gives = whole-gives bytes w.0 (take_items w.0 (Ok nothing)) w.1 loaded (all-come nothing Start 0 bytes) }
 

@@ -1,7 +1,7 @@
 -- Items of an object are loaded one after another.
 use Rattle.std.proofs.Common.{◌≡◌, ◌≢◌, ℕ, zero, suc, ◌<◌, length, Bool, true, Some, None, Ok, Err, refl, sym, ◌∙◌, ap, arith, Result, IfErr}
 use Rattle.mx_load.specs.Faults as loads
-use Rattle.mx_load.proofs.Words.{told, fault_of, loading_of, LoadFault, Loading, Meaningless, take_item, Due, first_item, ReaderModel, given, next_item, next_due, next_answer, left_of, Item, MmoFault, loaded_from, loaded_behind, item_answer, unread, unloaded, place_and_number, Loaded, item_loaded, first_loaded, items_loaded, taken, fault_at, OutOfMemory}
+use Rattle.mx_load.proofs.Words.{told, fault_of, loading_of, LoadFault, Loading, Meaningless, take_item, Due, first_item, ReaderModel, given, next_item, next_due, next_answer, left_of, Item, MmoFault, loaded_from, loaded_after, item_answer, unread, unloaded, place_and_number, Loaded, item_loaded, first_loaded, items_loaded, taken, fault_at, OutOfMemory}
 use Rattle.mx_load.specs.declared.progress.Progress.{Progress}
 use Rattle.mx_load.specs.declared.fault.LoadFault.TheVariants.{OutOfMemory as NoRoom}
 use Rattle.mx_mmo.specs.declared.faults.MmoFault.TheVariants.{OutOfMemory as NoBytes}
@@ -51,26 +51,26 @@ next-fault k l m n f none h ne =
     fault-on k (loading_of l) m n f (first_item m.phase m.at m.rest) (h ∙ due m none) ∙ ap Err (sym (unread-is f ne))
 
 -- an item is next
-follow-is : (k : ℕ) (m : ReaderModel) (item : Item) (size : ℕ) (r : Result Loading (ℕ × ℕ)) → item_loaded (items_loaded k) m.phase m.at m.rest item size r ≡ loaded_behind k (given m item size) r
+follow-is : (k : ℕ) (m : ReaderModel) (item : Item) (size : ℕ) (r : Result Loading (ℕ × ℕ)) → item_loaded (items_loaded k) m.phase m.at m.rest item size r ≡ loaded_after k (given m item size) r
 follow-is k m item size (Ok s) = refl
 follow-is k m item size (Err fault) = refl
 
 item-on : (k : ℕ) (s : Loading) (m n : ReaderModel) (item : Item) (d : Due) → (Ok (Some item), n) ≡ next_item m d →
-    first_loaded (items_loaded k) s m.phase m.at m.rest d ≡ loaded_behind k n (taken n.place (take_item s item))
+    first_loaded (items_loaded k) s m.phase m.at m.rest d ≡ loaded_after k n (taken n.place (take_item s item))
 item-on k s m n item (Ok (Some (i, size))) h =
     let after : n ≡ given m i size = ap (λ p. p.1) h in
     let answer = ap (λ p. p.0) h in
     let same : item ≡ i = cc in
     follow-is k m i size (taken m.at (take_item s i))
-    ∙ sym (ap (λ (r : ReaderModel). loaded_behind k r (taken r.place (take_item s item))) after ∙ ap (λ j. loaded_behind k (given m i size) (taken m.at (take_item s j))) same)
+    ∙ sym (ap (λ (r : ReaderModel). loaded_after k r (taken r.place (take_item s item))) after ∙ ap (λ j. loaded_after k (given m i size) (taken m.at (take_item s j))) same)
 item-on k s m n item d h = let e = ap (λ p. p.0) h in absurd (cc)
 
 pub next-item : (k : ℕ) (l : Progress) (m n : ReaderModel) (item : Item) (place : ℕ) (r : Result Loading (ℕ × ℕ)) → m.fault ≡ None → (Ok (Some item), n) ≡ next_answer m →
-    place ≡ n.place → r ≡ taken place (take_item (loading_of l) item) → loaded_from (suc k) l m ≡ loaded_behind k n r
+    place ≡ n.place → r ≡ taken place (take_item (loading_of l) item) → loaded_from (suc k) l m ≡ loaded_after k n r
 unfolding items_loaded
 next-item k l m n item place r none h e f =
     item-on k (loading_of l) m n item (first_item m.phase m.at m.rest) (h ∙ due m none)
-    ∙ ap (loaded_behind k n) (sym (f ∙ ap (λ p. taken p (take_item (loading_of l) item)) e))
+    ∙ ap (loaded_after k n) (sym (f ∙ ap (λ p. taken p (take_item (loading_of l) item)) e))
 
 -- what an item was loaded to
 pub next-went : (l k : Progress) (m n : ReaderModel) (item : Item) (place : ℕ) (r : Result Bool ObjectFault) → m.fault ≡ None → (Ok (Some item), n) ≡ next_answer m → place ≡ n.place →

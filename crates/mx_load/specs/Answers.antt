@@ -42,12 +42,12 @@ abbrev pub unread : MmoFault → ObjectFault
 unread fault = bad_at (objects.place_of fault) (objects.number_of fault)
 
 -- the fault of a trie that is at a place
-abbrev pub bad_behind : ℕ → Option ℕ → ℕ → ObjectFault
-bad_behind place None number = OutOfMemory
-bad_behind place (Some at) number = Bad (place + at) number
+abbrev pub bad_after : ℕ → Option ℕ → ℕ → ObjectFault
+bad_after place None number = OutOfMemory
+bad_after place (Some at) number = Bad (place + at) number
 
 abbrev pub unread_trie : ℕ → StabFault → ObjectFault
-unread_trie place fault = bad_behind place (tries.place_of fault) (tries.number_of fault)
+unread_trie place fault = bad_after place (tries.place_of fault) (tries.number_of fault)
 
 -- the fault of an item that cannot be loaded
 abbrev pub unloaded : ℕ → LoadFault → ObjectFault
@@ -66,6 +66,6 @@ item_answer (Ok more) s = Ok s
 item_answer (Err fault) s = Err (place_and_number fault)
 
 -- what follows an item after which a reader stands
-abbrev pub loaded_behind : ℕ → ReaderModel → Result Loading (ℕ × ℕ) → Loaded
-loaded_behind n reader (Ok s) = items_loaded n s reader.phase reader.at reader.rest
-loaded_behind n reader (Err fault) = Err fault
+abbrev pub loaded_after : ℕ → ReaderModel → Result Loading (ℕ × ℕ) → Loaded
+loaded_after n reader (Ok s) = items_loaded n s reader.phase reader.at reader.rest
+loaded_after n reader (Err fault) = Err fault

@@ -54,7 +54,7 @@ impl Loader {
         ensures meaning { result ≢ Err LoadFault.OutOfMemory →
             standing self.new ≡ after (standing self.old) item.now }
         ensures answer { result ≡ answer (standing self.new) }
-        ensures again { IfErr (standing self.old) (λ fault. standing self.new ≡ Err fault) }
+        ensures fault_again { IfErr (standing self.old) (λ fault. standing self.new ≡ Err fault) }
     {
         if let Some(fault) = self.fault {
             return Err(fault);

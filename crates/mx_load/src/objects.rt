@@ -29,7 +29,7 @@ pub enum ObjectFault {
 }
 
 /// The fault of bytes that are no object.
-fn unread(fault: MmoFault) -> ObjectFault
+fn fault_of_bytes(fault: MmoFault) -> ObjectFault
     ensures { result ≡ spec.unread fault }
 {
     match fault.place() {
@@ -42,7 +42,7 @@ fn unread(fault: MmoFault) -> ObjectFault
 }
 
 /// The fault of an item at a place that sets up nothing.
-fn unloaded(place: u64, fault: LoadFault) -> ObjectFault
+fn fault_of_item(place: u64, fault: LoadFault) -> ObjectFault
     ensures { result ≡ spec.unloaded place fault }
 {
     match fault {
@@ -64,7 +64,7 @@ fn load_item(progress: &mut Progress, item: &Item, place: u64) -> Result<bool, O
 {
     match progress.take(item) {
         Ok(()) => Ok(true),
-        Err(fault) => Err(unloaded(place, fault)),
+        Err(fault) => Err(fault_of_item(place, fault)),
     }
 }
 
@@ -79,7 +79,7 @@ fn load_tetra(progress: &mut Progress, t: u32, place: u64) -> Result<bool, Objec
 {
     match progress.load(t) {
         Ok(()) => Ok(true),
-        Err(fault) => Err(unloaded(place, fault)),
+        Err(fault) => Err(fault_of_item(place, fault)),
     }
 }
 
@@ -118,7 +118,7 @@ fn load_other(reader: &mut Reader, progress: &mut Progress) -> Result<bool, Obje
     match reader.next() {
         Ok(None) => Ok(false),
         Ok(Some(item)) => load_item(progress, &item, reader.place()),
-        Err(fault) => Err(unread(fault)),
+        Err(fault) => Err(fault_of_bytes(fault)),
     }
 }
 
@@ -142,7 +142,7 @@ fn load_items(reader: &mut Reader, progress: &mut Progress) -> Result<(), Object
 }
 
 /// The fault of a trie that is at a place.
-fn unread_trie(place: u64, fault: StabFault) -> ObjectFault
+fn fault_of_trie(place: u64, fault: StabFault) -> ObjectFault
     requires front { place ≤ 2 ^ 26 }
     requires within { IfSome (tries.place_of fault) (λ at. at < 2 ^ 63) }
     ensures { result ≡ spec.unread_trie place fault }
@@ -165,7 +165,7 @@ fn read_trie(alloc: Global, tail: &Tail) -> Result<Symbols, ObjectFault>
 {
     match mx_stab::read(alloc, tail.trie.as_slice()) {
         Ok(symbols) => Ok(symbols),
-        Err(fault) => Err(unread_trie(tail.place, fault)),
+        Err(fault) => Err(fault_of_trie(tail.place, fault)),
     }
 }
 
@@ -182,7 +182,7 @@ fn finish(alloc: Global, reader: &mut Reader, progress: Progress) -> Result<Imag
             Ok(symbols) => Ok(progress.image.with_symbols(symbols)),
             Err(fault) => Err(fault),
         },
-        Err(fault) => Err(unread(fault)),
+        Err(fault) => Err(fault_of_bytes(fault)),
     }
 }
 
@@ -200,6 +200,6 @@ pub fn load_object(alloc: Global, bytes: &[u8]) -> Result<Image, ObjectFault>
             Ok(()) => finish(alloc, &mut reader, progress),
             Err(fault) => Err(fault),
         },
-        Err(fault) => Err(unread(fault)),
+        Err(fault) => Err(fault_of_bytes(fault)),
     }
 }

@@ -5,9 +5,9 @@ use face_explain::{Answer, explain};
 use mx_costs::{mems, oops};
 use mx_json::{add_between, add_string};
 use mx_marks::line_text;
-use mx_occurrences::{Named, Occurrence, definition_of, occurrence_at, occurrences};
+use mx_occurrences::{Named, Occurrence, definition_of, occurrence_at, occurrences_in};
 use mx_ops::predefined;
-use mx_slips::{SourceLine, Statement, source_lines};
+use mx_slips::{SourceLine, Statement, read_lines};
 use mx_text::{add_decimal, instruction, octa_hex, tetra_hex};
 use mx_view::{Cell, Listed, Wanted, list_source};
 use mx_wire::add_range;
@@ -250,7 +250,8 @@ fn hover_statement(
 /// What is told of a place of a text: of a name its value and its label, else of the statement there.
 pub(crate) fn hover(alloc: Global, place: Place, source: &[u8]) -> Result<Bytes, NoMemory> {
     let listed = list_source(alloc, Wanted::All, source)?;
-    let names = occurrences(alloc, source)?;
+    let lines = read_lines(alloc, source)?;
+    let names = occurrences_in(alloc, lines.as_slice())?;
     if let Some(o) = occurrence_at(names.as_slice(), place.line, place.from) {
         let mut told = Bytes::new(alloc);
         add_name(alloc, &mut told, &listed, names.as_slice(), o, source)?;
@@ -260,7 +261,6 @@ pub(crate) fn hover(alloc: Global, place: Place, source: &[u8]) -> Result<Bytes,
             return hover_with(alloc, told.as_slice(), place.line, line, o.from, length);
         }
     }
-    let lines = source_lines(alloc, source)?;
     match statement_at(lines.as_slice(), place) {
         None => Bytes::copy(alloc, b"null"),
         Some(statement) => hover_statement(alloc, &listed, statement, place, source),

@@ -4,7 +4,7 @@ use crate::hover::{meaning, statement_at};
 use crate::lines::Place;
 use mx_json::add_string;
 use mx_line::cut_line;
-use mx_slips::source_lines;
+use mx_slips::read_lines;
 use mx_word::{Bytes, NoMemory};
 use std::alloc::Global;
 
@@ -28,7 +28,7 @@ fn second_line(text: &[u8]) -> &[u8] {
 
 /// How the operation of the statement at a place is written.
 pub(crate) fn signature(alloc: Global, place: Place, source: &[u8]) -> Result<Bytes, NoMemory> {
-    let lines = source_lines(alloc, source)?;
+    let lines = read_lines(alloc, source)?;
     let Some(statement) = statement_at(lines.as_slice(), place) else {
         return Bytes::copy(alloc, b"null");
     };

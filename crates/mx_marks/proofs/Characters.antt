@@ -7,7 +7,7 @@ use Rattle.std.proofs.lemmas.Bool.Decides.{nat_tests}
 use Rattle.std.proofs.lemmas.List.{take_at, drop_at}
 use Rattle.std.proofs.lemmas.Str.{IsUtf8-encode, is_utf8-from_IsUtf8}
 use Rattle.mx_marks.specs.Under.{under, under_text}
-unfoldable use Rattle.mx_marks.specs.Under.{char_length, under_behind}
+unfoldable use Rattle.mx_marks.specs.Under.{char_length, under_after}
 use Rattle.mx_marks.proofs.UnderTurns.{behind-is}
 
 -- ---- the first byte of a character
@@ -57,7 +57,7 @@ first-is b bs rest count valid =
     (λ i. cond (is_utf8 (front i)) (continuation_len b + 1) 1) ∙ ap (λ t. cond t (continuation_len b + 1) 1) valid ∙ ap (λ n. n + 1) count
 
 one-under : (b : ℕ) (bs rest : List ℕ) → continuation_len b ≡ length bs → is_utf8 (b ∷ bs) ≡ true → under_text (b ∷ (bs ++ rest)) ≡ under b ∷ under_text rest
-unfolding under_behind
+unfolding under_after
 one-under b bs rest count valid =
     let whole = first-is b bs rest count valid in
     let left : length bs ≡ char_length (b ∷ (bs ++ rest)) - 1 = omega (arith, whole) in
@@ -69,7 +69,7 @@ char-under bytes rest a valid =
     ap (λ l. under_text (l ++ rest)) a.are ∙ one-under a.first a.others rest a.count (ap is_utf8 (sym a.are) ∙ valid)
 
 pub chars-under : (cs : List ℕ) → all_scalars cs ≡ true → length (under_text (encode_utf8_all cs)) ≡ length cs
-unfolding under_behind
+unfolding under_after
 chars-under [] h = refl
 chars-under (c ∷ cs) h =
     let parts = and_parts _ _ h in

@@ -3,11 +3,11 @@ use Rattle.std.proofs.Common.{◌≡◌, ◌≤◌, ℕ, zero, suc, ◌-◌, Boo
 use Rattle.std.specs.Str.{IsUtf8, is_utf8}
 use Rattle.std.proofs.lemmas.List.{take_all}
 use Rattle.std.proofs.lemmas.Str.{IsUtf8-from_is_utf8, is_utf8-from_IsUtf8}
-use Rattle.mx_marks.specs.Under.{char_length, tildes_behind, under, under_behind, under_text}
+use Rattle.mx_marks.specs.Under.{char_length, tildes_after, under, under_after, under_text}
 
 -- what follows the bytes of a character
-pub behind-is : (n : ℕ) (text : List ℕ) → under_behind n text ≡ under_text (drop n text)
-unfolding under_behind
+pub behind-is : (n : ℕ) (text : List ℕ) → under_after n text ≡ under_text (drop n text)
+unfolding under_after
 behind-is zero [] = refl
 behind-is zero (b ∷ bs) = refl
 behind-is (suc n) [] = refl
@@ -15,7 +15,7 @@ behind-is (suc n) (b ∷ bs) = behind-is n bs
 
 pub under-next : (text : List ℕ) (b : ℕ) (bs : List ℕ) →
     text ++ under_text (b ∷ bs) ≡ (text ++ under b ∷ []) ++ under_text (drop (char_length (b ∷ bs) - 1) bs)
-unfolding under_behind
+unfolding under_after
 under-next text b bs =
     ap (λ more. text ++ under b ∷ more) (behind-is (char_length (b ∷ bs) - 1) bs) ∙ sym (append_assoc text (under b ∷ []) _)
 
@@ -28,7 +28,7 @@ under-at text (b ∷ bs) e =
     under-next text b bs ∙ ap (λ more. (text ++ under b ∷ []) ++ under_text (drop (char_length (b ∷ bs) - 1) more)) (sym whole)
 
 pub under-none : (text : List ℕ) → text ++ under_text [] ≡ text
-unfolding under_behind
+unfolding under_after
 under-none text = append-nil text
 
 pub ruleset turns = (under-at, under-none)
@@ -44,25 +44,25 @@ no-text text none = by (is_utf8 text) refl
 pub ruleset tests = (is_utf8-from_IsUtf8, no-text)
 
 -- and the same of the tildes
-tildes-behind-is : (n : ℕ) (text : List ℕ) → tildes_behind n text ≡ tildes_behind 0 (drop n text)
-unfolding tildes_behind
+tildes-behind-is : (n : ℕ) (text : List ℕ) → tildes_after n text ≡ tildes_after 0 (drop n text)
+unfolding tildes_after
 tildes-behind-is zero [] = refl
 tildes-behind-is zero (b ∷ bs) = refl
 tildes-behind-is (suc n) [] = refl
 tildes-behind-is (suc n) (b ∷ bs) = tildes-behind-is n bs
 
 pub tilde-at : (text rest : List ℕ) → 1 ≤ length rest →
-    text ++ tildes_behind 0 rest ≡ (text ++ 126 ∷ []) ++ tildes_behind 0 (drop (char_length rest - 1) (take (length rest - 1) (drop 1 rest)))
-unfolding tildes_behind
+    text ++ tildes_after 0 rest ≡ (text ++ 126 ∷ []) ++ tildes_after 0 (drop (char_length rest - 1) (take (length rest - 1) (drop 1 rest)))
+unfolding tildes_after
 tilde-at text [] e = absurd (omega (arith, e))
 tilde-at text (b ∷ bs) e =
     let whole : take (length (b ∷ bs) - 1) bs ≡ bs = take_all (length (b ∷ bs) - 1) bs (omega arith) in
     ap (λ more. text ++ 126 ∷ more) (tildes-behind-is (char_length (b ∷ bs) - 1) bs)
-    ∙ ap (λ more. text ++ 126 ∷ tildes_behind 0 (drop (char_length (b ∷ bs) - 1) more)) (sym whole)
+    ∙ ap (λ more. text ++ 126 ∷ tildes_after 0 (drop (char_length (b ∷ bs) - 1) more)) (sym whole)
     ∙ sym (append_assoc text (126 ∷ []) _)
 
-pub tilde-none : (text : List ℕ) → text ++ tildes_behind 0 [] ≡ text
-unfolding tildes_behind
+pub tilde-none : (text : List ℕ) → text ++ tildes_after 0 [] ≡ text
+unfolding tildes_after
 tilde-none text = append-nil text
 
 pub ruleset tildes = (tilde-at, tilde-none)

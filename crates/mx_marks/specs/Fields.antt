@@ -60,16 +60,16 @@ operands_at line place = operands_by (statement_of line place) (from_field Opera
 abbrev pub is_no_comma : ℕ → Bool
 is_no_comma b = not (b == 44)
 
-abbrev pub behind_comma : Line → Line
-behind_comma operands = drop (length (run is_no_comma operands) + 1) operands
+abbrev pub after_comma : Line → Line
+after_comma operands = drop (length (run is_no_comma operands) + 1) operands
 
 -- ---- which statement
 
 -- the place after the statements that are cut from a line
-abbrev pub behind_cuts : ℕ → List (Result Cut LineFault) → ℕ
-behind_cuts place [] = place
-behind_cuts place (Err why ∷ cuts) = place
-behind_cuts place (Ok cut ∷ cuts) = behind_cuts cut.next cuts
+abbrev pub after_cuts : ℕ → List (Result Cut LineFault) → ℕ
+after_cuts place [] = place
+after_cuts place (Err why ∷ cuts) = place
+after_cuts place (Ok cut ∷ cuts) = after_cuts cut.next cuts
 
 -- the front of a line, if it has one statement and no more
 abbrev pub only_front : List (Result Cut LineFault) → Option ℕ

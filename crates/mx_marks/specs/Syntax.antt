@@ -49,13 +49,13 @@ abbrev pub wanting_length : List ℕ → ℕ
 wanting_length [] = 0
 wanting_length (b ∷ bs) = if is_prefix b then 1 else primary_length (b ∷ bs)
 
-abbrev pub behind_length : List ℕ → ℕ
-behind_length [] = 0
-behind_length (b ∷ bs) = if is_pair b bs then 2 else if is_infix b || b == 41 then 1 else 0
+abbrev pub after_length : List ℕ → ℕ
+after_length [] = 0
+after_length (b ∷ bs) = if is_pair b bs then 2 else if is_infix b || b == 41 then 1 else 0
 
 abbrev pub step_length : Bool → List ℕ → ℕ
 step_length true text = wanting_length text
-step_length false text = behind_length text
+step_length false text = after_length text
 
 -- whether a primary is wanted after it
 abbrev pub is_wanting : Bool → List ℕ → Bool

@@ -14,23 +14,23 @@ abbrev pub under : ℕ → ℕ
 under b = if b == 9 then 9 else 32
 
 -- under the characters of a text, whose first n bytes belong to a character before them
-unfoldable pub under_behind : ℕ → List ℕ → List ℕ
-under_behind n [] = []
-under_behind (suc n) (b ∷ bs) = under_behind n bs
-under_behind zero (b ∷ bs) = under b ∷ under_behind (char_length (b ∷ bs) - 1) bs
+unfoldable pub under_after : ℕ → List ℕ → List ℕ
+under_after n [] = []
+under_after (suc n) (b ∷ bs) = under_after n bs
+under_after zero (b ∷ bs) = under b ∷ under_after (char_length (b ∷ bs) - 1) bs
 
 abbrev pub under_text : List ℕ → List ℕ
-under_text text = under_behind 0 text
+under_text text = under_after 0 text
 
 -- a tilde under each character of a text, whose first n bytes belong to a character before them
-unfoldable pub tildes_behind : ℕ → List ℕ → List ℕ
-tildes_behind n [] = []
-tildes_behind (suc n) (b ∷ bs) = tildes_behind n bs
-tildes_behind zero (b ∷ bs) = 126 ∷ tildes_behind (char_length (b ∷ bs) - 1) bs
+unfoldable pub tildes_after : ℕ → List ℕ → List ℕ
+tildes_after n [] = []
+tildes_after (suc n) (b ∷ bs) = tildes_after n bs
+tildes_after zero (b ∷ bs) = 126 ∷ tildes_after (char_length (b ∷ bs) - 1) bs
 
 -- under the characters after the first one
 abbrev pub tildes : List ℕ → List ℕ
-tildes text = tildes_behind 0 (drop (char_length text) text)
+tildes text = tildes_after 0 (drop (char_length text) text)
 
 -- below a line, after what is under the bytes in front of the marked text, which has this many bytes
 abbrev pub marks_text : Line → Option ℕ → ℕ → List ℕ

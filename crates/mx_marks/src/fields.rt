@@ -5,7 +5,7 @@ ghost use Rattle.mx_line.specs.Bytes as bytes;
 ghost use Rattle.mx_line.specs.Cutting.{cuts_from};
 ghost use Rattle.mx_marks.specs.Fields as spec;
 
-use crate::under::parted;
+use crate::under::split_at_most;
 use mx_line::{LineFault, next_statement};
 use mx_ops::find;
 use mx_stmt::StmtFault;
@@ -53,15 +53,15 @@ fn first_length(operands: &[u8]) -> usize
 
 /// What follows the first comma of operands; no text where there is none.
 #[tactic(auto, using(crate::proofs::TokenTurns::lengths))]
-pub fn behind_comma(operands: &[u8]) -> &[u8]
-    ensures { result.now ≡ spec.behind_comma operands.now }
+pub fn skip_past_comma(operands: &[u8]) -> &[u8]
+    ensures { result.now ≡ spec.after_comma operands.now }
 {
-    parted(operands, first_length(operands).saturating_add(1)).1
+    split_at_most(operands, first_length(operands).saturating_add(1)).1
 }
 
 /// The place after the statements that are cut from a line.
-pub fn behind_cuts(line: &[u8]) -> usize
-    ensures place { result ≡ spec.behind_cuts 0 (cuts_from line.now 0) }
+pub fn find_end_of_cuts(line: &[u8]) -> usize
+    ensures place { result ≡ spec.after_cuts 0 (cuts_from line.now 0) }
     ensures within { result ≤ length line.now }
 {
     let mut place = 0;
@@ -72,7 +72,7 @@ pub fn behind_cuts(line: &[u8]) -> usize
 }
 
 /// The front of a line, if it has one statement and no more.
-pub fn only_front(line: &[u8]) -> Option<usize>
+pub fn find_only_statement(line: &[u8]) -> Option<usize>
     ensures { result ≡ spec.only_front (cuts_from line.now 0) }
 {
     match next_statement(line, 0) {
@@ -107,7 +107,7 @@ fn blank_length(text: &[u8]) -> usize
 
 /// The letters and digits at the front of a text.
 #[tactic(auto, using(crate::proofs::Words::words))]
-pub fn word(text: &[u8]) -> &[u8]
+pub fn leading_word(text: &[u8]) -> &[u8]
     ensures { result.now ≡ bytes.run bytes.is_name_byte text.now }
 {
     text.split_at(word_length(text)).0
@@ -137,9 +137,9 @@ pub fn operands_at(line: &[u8], place: usize) -> &[u8]
     requires { place ≤ length line.now }
     ensures { result.now ≡ spec.operands_at line.now place }
 {
-    let rest = from_field(Field::Operands, parted(line, place).1);
+    let rest = from_field(Field::Operands, split_at_most(line, place).1);
     match next_statement(line, place) {
-        Ok(Some(cut)) => parted(rest, cut.operands.to.saturating_sub(cut.operands.from)).0,
+        Ok(Some(cut)) => split_at_most(rest, cut.operands.to.saturating_sub(cut.operands.from)).0,
         _ => rest,
     }
 }
@@ -151,7 +151,7 @@ pub fn unknown_place(line: &[u8]) -> Option<usize>
 {
     let mut place = 0;
     while let Ok(Some(cut)) = next_statement(line, place) {
-        let operation = word(from_field(Field::Operation, parted(line, place).1));
+        let operation = leading_word(from_field(Field::Operation, split_at_most(line, place).1));
         if find(operation).is_none() {
             return Some(place);
         }

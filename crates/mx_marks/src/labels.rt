@@ -4,8 +4,8 @@ ghost use Rattle.std.specs.Prelude.{◌≡◌, drop, length};
 ghost use Rattle.mx_line.specs.Lines.{lines_of};
 ghost use Rattle.mx_marks.specs.Labels as spec;
 
-use crate::fields::{behind_word, word};
-use crate::under::parted;
+use crate::fields::{behind_word, leading_word};
+use crate::under::split_at_most;
 use mx_line::cut_line;
 use mx_ops::{Op, Pseudo, find};
 use mx_word::{is_digit, is_letter};
@@ -21,7 +21,7 @@ pub enum Likeness {
 fn without_first(text: &[u8]) -> &[u8]
     ensures { result.now ≡ drop 1 text.now }
 {
-    parted(text, 1).1
+    split_at_most(text, 1).1
 }
 
 /// Whether the first two letters of a text are those of another, exchanged.
@@ -42,7 +42,7 @@ fn is_slip(a: &[u8], b: &[u8]) -> bool
     without_first(a) == without_first(b)
         || without_first(a) == b
         || a == without_first(b)
-        || (are_exchanged(a, b) && parted(a, 2).1 == parted(b, 2).1)
+        || (are_exchanged(a, b) && split_at_most(a, 2).1 == split_at_most(b, 2).1)
 }
 
 /// Whether one of two bytes is a digit and the other a letter.
@@ -77,7 +77,7 @@ fn is_slip_in(is_long: bool, a: &[u8], b: &[u8]) -> bool
 }
 
 /// Whether two texts begin with one byte.
-fn begin_alike(a: &[u8], b: &[u8]) -> bool
+fn have_same_first_byte(a: &[u8], b: &[u8]) -> bool
     ensures { result ≡ spec.begin_alike a.now b.now }
 {
     match (a, b) {
@@ -93,7 +93,7 @@ fn is_near(is_long: bool, a: &[u8], b: &[u8]) -> bool
 {
     let mut left = a;
     let mut right = b;
-    while begin_alike(left, right) {
+    while have_same_first_byte(left, right) {
         left = without_first(left);
         right = without_first(right);
     }
@@ -129,7 +129,7 @@ fn first_line<'a>(kind: Likeness, name: &[u8], most: u32, source: &'a [u8]) -> &
         if left == 0 {
             return &[];
         }
-        if is_like(kind, name, word(line)) {
+        if is_like(kind, name, leading_word(line)) {
             return line;
         }
         left -= 1;
@@ -139,15 +139,15 @@ fn first_line<'a>(kind: Likeness, name: &[u8], most: u32, source: &'a [u8]) -> &
 }
 
 /// The first label of this many lines of a source that is like a name; no text where none is.
-pub fn first_label<'a>(kind: Likeness, name: &[u8], most: u32, source: &'a [u8]) -> &'a [u8]
+pub fn find_similar_label<'a>(kind: Likeness, name: &[u8], most: u32, source: &'a [u8]) -> &'a [u8]
     ensures { result.now ≡ spec.first_label kind name.now most (lines_of source.now) }
 {
-    word(first_line(kind, name, most, source))
+    leading_word(first_line(kind, name, most, source))
 }
 
 /// The number of the first of this many lines of a source that has a label; 0 where none has it.
 #[tactic(auto, using(crate::proofs::LabelTurns::numbers))]
-pub fn label_number(name: &[u8], most: u32, source: &[u8]) -> u64
+pub fn find_label_line(name: &[u8], most: u32, source: &[u8]) -> u64
     ensures { result ≡ spec.label_number name.now most 1 (lines_of source.now) }
 {
     let mut number: u64 = 1;
@@ -158,7 +158,7 @@ pub fn label_number(name: &[u8], most: u32, source: &[u8]) -> u64
         if left == 0 {
             return 0;
         }
-        if name == word(line) {
+        if name == leading_word(line) {
             return number;
         }
         number += 1;
@@ -172,11 +172,11 @@ pub fn label_number(name: &[u8], most: u32, source: &[u8]) -> u64
 fn label_operation(name: &[u8], source: &[u8]) -> Option<Op>
     ensures { result ≡ spec.label_operation name.now source.now }
 {
-    find(word(behind_word(first_line(Likeness::Same, name, u32::MAX, source))))
+    find(leading_word(behind_word(first_line(Likeness::Same, name, u32::MAX, source))))
 }
 
 /// Whether a name is a label of data.
-pub(crate) fn labels_data(name: &[u8], source: &[u8]) -> bool
+pub(crate) fn is_data_label(name: &[u8], source: &[u8]) -> bool
     ensures { result ≡ spec.labels_data name.now source.now }
 {
     match label_operation(name, source) {
@@ -186,7 +186,7 @@ pub(crate) fn labels_data(name: &[u8], source: &[u8]) -> bool
 }
 
 /// Whether a name is a label of an instruction.
-pub fn labels_code(name: &[u8], source: &[u8]) -> bool
+pub fn is_code_label(name: &[u8], source: &[u8]) -> bool
     ensures { result ≡ spec.labels_code name.now source.now }
 {
     match label_operation(name, source) {
@@ -199,7 +199,7 @@ pub fn labels_code(name: &[u8], source: &[u8]) -> bool
 pub fn is_label(name: &[u8], most: u32, source: &[u8]) -> bool
     ensures { result ≡ spec.is_label name.now most (lines_of source.now) }
 {
-    first_label(Likeness::Same, name, most, source).len() >= 1
+    find_similar_label(Likeness::Same, name, most, source).len() >= 1
 }
 
 /// The first word of a text that is like a name; no text where none is.
@@ -210,8 +210,8 @@ fn first_word<'a>(name: &[u8], text: &'a [u8]) -> &'a [u8]
     let mut rest = text;
     let mut left = text.len();
     while left > 0 {
-        if is_alike(name, word(rest)) {
-            return word(rest);
+        if is_alike(name, leading_word(rest)) {
+            return leading_word(rest);
         }
         rest = behind_word(rest);
         left -= 1;
@@ -221,7 +221,7 @@ fn first_word<'a>(name: &[u8], text: &'a [u8]) -> &'a [u8]
 
 /// The first name that MMIXAL defines which is like a name; no text where none is.
 #[tactic(auto, unfolding(crate::specs::Labels::known_names))]
-pub fn known_name(name: &[u8]) -> &'static [u8]
+pub fn find_similar_name(name: &[u8]) -> &'static [u8]
     ensures { result.now ≡ spec.first_word (length spec.known_names) name.now spec.known_names }
 {
     first_word(
@@ -232,7 +232,7 @@ pub fn known_name(name: &[u8]) -> &'static [u8]
 
 /// The first operation that is like a name; no text where none is.
 #[tactic(auto, unfolding(crate::specs::Labels::operation_names))]
-pub fn operation_name(name: &[u8]) -> &'static [u8]
+pub fn find_similar_operation(name: &[u8]) -> &'static [u8]
     ensures { result.now ≡ spec.first_word (length spec.operation_names) name.now spec.operation_names }
 {
     first_word(

@@ -13,16 +13,17 @@ mod tokens;
 mod under;
 
 pub use fields::{
-    Field, behind_comma, behind_cuts, from_field, line_field, only_front, operands_at,
-    statement_field, unknown_place, word,
+    Field, find_end_of_cuts, find_only_statement, from_field, leading_word, line_field,
+    operands_at, skip_past_comma, statement_field, unknown_place,
 };
 pub use labels::{
-    Likeness, first_label, is_label, known_name, label_number, labels_code, operation_name,
+    Likeness, find_label_line, find_similar_label, find_similar_name, find_similar_operation,
+    is_code_label, is_label,
 };
 pub use laws::{
     carets_count_characters, carets_stand_under_their_fields, marks_begin_within_their_fields,
 };
-pub use marks::{Mark, field_mark, marked_text, operation_at, room_at};
+pub use marks::{Mark, field_mark, operation_at, room_at, slice_marked};
 pub use mending::{line_text, with_blank, with_label};
 pub use rooms::Room;
 pub use syntax::is_read_through;

@@ -5,11 +5,11 @@ ghost use Rattle.mx_marks.specs.Marks as spec;
 ghost use Rattle.mx_marks.specs.Syntax as syntax;
 ghost use Rattle.mx_marks.specs.declared.tokens.Wanted.TheVariants.{Above, Unknown};
 
-use crate::fields::{Field, from_field, operands_at, word};
+use crate::fields::{Field, from_field, leading_word, operands_at};
 use crate::rooms::{Room, limit_of, room_of};
 use crate::syntax::scan;
 use crate::tokens::{Wanted, from_part, marked_length};
-use crate::under::parted;
+use crate::under::split_at_most;
 use mx_ops::find;
 use mx_word::NoMemory;
 use std::alloc::Global;
@@ -27,7 +27,7 @@ pub struct Mark {
 pub fn operation_at(line: &[u8], place: usize) -> &[u8]
     ensures { result.now ≡ spec.operation_at line.now place }
 {
-    word(from_field(Field::Operation, parted(line, place).1))
+    leading_word(from_field(Field::Operation, split_at_most(line, place).1))
 }
 
 /// The room for a number in the operands of the statement at a place.
@@ -38,14 +38,14 @@ pub fn room_at(line: &[u8], place: usize) -> Room
 }
 
 /// Where operands are no expressions; their last byte where they end too early.
-fn stopped_at(operands: &[u8]) -> &[u8]
+fn skip_to_fault(operands: &[u8]) -> &[u8]
     ensures { result.now ≡ spec.stopped_at operands.now (syntax.scan operands.now) }
 {
     let (wants, rest) = scan(operands);
     if !rest.is_empty() {
         rest
     } else if wants {
-        parted(operands, operands.len().saturating_sub(1)).1
+        split_at_most(operands, operands.len().saturating_sub(1)).1
     } else {
         &[]
     }
@@ -99,7 +99,7 @@ fn faulty_part<'a>(
     ensures { IfOk result (λ part. part.now ≡ spec.faulty_part fault number source.now room operands.now) }
 {
     match fault {
-        10 => Ok(stopped_at(operands)),
+        10 => Ok(skip_to_fault(operands)),
         17 => early_part(alloc, number.saturating_sub(1), source, operands),
         43 => fit_part(alloc, source, room, operands),
         80 => from_part(alloc, Wanted::Unknown, source, u32::MAX, operands),
@@ -133,7 +133,7 @@ fn word_mark(line: &[u8], rest: &[u8]) -> Mark
 {
     Mark {
         from: line.len().saturating_sub(rest.len()),
-        length: word(rest).len(),
+        length: leading_word(rest).len(),
         is_part: true,
     }
 }
@@ -153,7 +153,7 @@ pub fn field_mark(
     requires { place ≤ length line.now }
     ensures { IfOk result (λ mark. mark ≡ spec.field_mark fault number source.now line.now field place) }
 {
-    let rest = from_field(field, parted(line, place).1);
+    let rest = from_field(field, split_at_most(line, place).1);
     match field {
         Field::Operands => {
             let operands = operands_at(line, place);
@@ -166,8 +166,8 @@ pub fn field_mark(
 }
 
 /// The text that is marked.
-pub fn marked_text(line: &[u8], mark: Mark) -> &[u8]
+pub fn slice_marked(line: &[u8], mark: Mark) -> &[u8]
     ensures { result.now ≡ spec.marked_text line.now mark }
 {
-    parted(parted(line, mark.from).1, mark.length).0
+    split_at_most(split_at_most(line, mark.from).1, mark.length).0
 }

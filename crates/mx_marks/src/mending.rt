@@ -4,7 +4,7 @@ ghost use Rattle.std.specs.Prelude.{◌≡◌, IfOk};
 ghost use Rattle.mx_line.specs.Lines.{lines_of};
 ghost use Rattle.mx_marks.specs.Mending as spec;
 
-use crate::fields::{Field, from_field, word};
+use crate::fields::{Field, from_field, leading_word};
 use mx_line::cut_line;
 use mx_word::{Bytes, NoMemory};
 use std::alloc::Global;
@@ -13,7 +13,7 @@ use std::alloc::Global;
 const LINE_LENGTH: usize = 4096;
 
 /// A line, or a text in place of the line that is counted as 1.
-fn replaced<'a>(ahead: u32, text: &'a [u8], line: &'a [u8]) -> &'a [u8]
+fn choose_line<'a>(ahead: u32, text: &'a [u8], line: &'a [u8]) -> &'a [u8]
     ensures { result.now ≡ spec.replaced ahead text.now line.now }
 {
     if ahead == 1 { text } else { line }
@@ -29,7 +29,7 @@ fn with_line(alloc: Global, line: u32, text: &[u8], source: &[u8]) -> Result<Byt
     let mut rest = source;
     while !rest.is_empty() {
         let (first, more) = cut_line(rest);
-        mended.extend(replaced(ahead, text, first))?;
+        mended.extend(choose_line(ahead, text, first))?;
         mended.extend(b"\n")?;
         ahead = ahead.saturating_sub(1);
         rest = more;
@@ -62,7 +62,7 @@ fn front_label(line: &[u8]) -> &[u8]
     if line.len() > LINE_LENGTH {
         &[]
     } else {
-        word(line)
+        leading_word(line)
     }
 }
 
@@ -98,7 +98,7 @@ fn label_alone(alloc: Global, line: &[u8]) -> Result<Bytes, NoMemory>
     if label.is_empty() {
         return Bytes::copy(alloc, b" ");
     }
-    let operation = word(from_field(Field::Operation, line));
+    let operation = leading_word(from_field(Field::Operation, line));
     let operands = from_field(Field::Operands, line);
     let mut left = Bytes::copy(alloc, label)?;
     left.extend(value_text(operation, operands))?;

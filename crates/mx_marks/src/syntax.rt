@@ -5,9 +5,9 @@ ghost use Rattle.mx_line.specs.Bytes.{run};
 ghost use Rattle.mx_word.specs.Kinds as kinds;
 ghost use Rattle.mx_marks.specs.Syntax as spec;
 
-use crate::fields::word;
+use crate::fields::leading_word;
 use crate::tokens::{digits_length, string_length};
-use crate::under::parted;
+use crate::under::split_at_most;
 use mx_word::{is_digit, is_hexadecimal, is_letter};
 
 /// Whether a byte may come before a primary.
@@ -57,7 +57,7 @@ fn number_length(text: &[u8]) -> usize
     ensures { result ≡ spec.number_length text.now }
 {
     let count = digits_length(text);
-    if count == 1 && is_turn(parted(text, 1).1) {
+    if count == 1 && is_turn(split_at_most(text, 1).1) {
         2
     } else {
         count
@@ -98,7 +98,7 @@ fn primary_length(text: &[u8]) -> usize
     } else if is_digit(*b) {
         number_length(text)
     } else if is_letter(*b) {
-        word(text).len()
+        leading_word(text).len()
     } else {
         0
     }
@@ -122,8 +122,8 @@ fn wanting_length(text: &[u8]) -> usize
 
 /// How many bytes are taken after a primary.
 #[tactic(auto, using(crate::proofs::SyntaxTurns::rests))]
-fn behind_length(text: &[u8]) -> usize
-    ensures { result ≡ spec.behind_length text.now }
+fn after_length(text: &[u8]) -> usize
+    ensures { result ≡ spec.after_length text.now }
 {
     let [b, rest @ ..] = text else {
         return 0;
@@ -144,7 +144,7 @@ fn step_length(wants: bool, text: &[u8]) -> usize
     if wants {
         wanting_length(text)
     } else {
-        behind_length(text)
+        after_length(text)
     }
 }
 
@@ -173,7 +173,7 @@ pub(crate) fn scan(text: &[u8]) -> (bool, &[u8])
             return (wants, rest);
         }
         wants = is_wanting(wants, rest);
-        rest = parted(rest, count).1;
+        rest = split_at_most(rest, count).1;
         left -= 1;
     }
     (wants, rest)

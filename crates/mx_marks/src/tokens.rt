@@ -5,9 +5,9 @@ ghost use Rattle.mx_line.specs.Bytes.{run};
 ghost use Rattle.mx_word.specs.Kinds as kinds;
 ghost use Rattle.mx_marks.specs.Tokens as spec;
 
-use crate::fields::word;
-use crate::labels::{is_label, labels_data};
-use crate::under::parted;
+use crate::fields::leading_word;
+use crate::labels::{is_data_label, is_label};
+use crate::under::split_at_most;
 use mx_ops::predefined;
 use mx_word::{Bytes, NoMemory, is_digit, is_letter, is_name_byte};
 use std::alloc::Global;
@@ -51,9 +51,9 @@ fn part_length(text: &[u8]) -> usize
     } else if *b == b'\'' {
         3
     } else if *b == b'#' {
-        word(rest).len().saturating_add(1)
+        leading_word(rest).len().saturating_add(1)
     } else if is_name_byte(*b) {
-        word(text).len()
+        leading_word(text).len()
     } else {
         1
     }
@@ -97,7 +97,7 @@ fn value_of(base: u64, digits: &[u8]) -> u64
 }
 
 /// Whether a text begins with a digit.
-fn begins_digit(text: &[u8]) -> bool
+fn starts_with_digit(text: &[u8]) -> bool
     ensures { result ≡ spec.begins_digit text.now }
 {
     match text {
@@ -115,9 +115,9 @@ fn is_above(limit: u64, text: &[u8]) -> bool
         return false;
     };
     if *b == b'-' {
-        begins_digit(rest)
+        starts_with_digit(rest)
     } else if *b == b'#' {
-        limit < value_of(16, word(rest))
+        limit < value_of(16, leading_word(rest))
     } else {
         is_digit(*b) && limit < value_of(10, text.split_at(digits_length(text)).0)
     }
@@ -133,7 +133,7 @@ fn is_predefined(alloc: Global, name: &[u8]) -> Result<bool, NoMemory>
 }
 
 /// Whether a text begins with a name.
-fn begins_name(text: &[u8]) -> bool
+fn starts_with_name(text: &[u8]) -> bool
     ensures { result ≡ spec.begins_name text.now }
 {
     match text {
@@ -146,10 +146,10 @@ fn begins_name(text: &[u8]) -> bool
 fn is_unknown(alloc: Global, source: &[u8], most: u32, text: &[u8]) -> Result<bool, NoMemory>
     ensures { IfOk result (λ is. is ≡ spec.is_unknown source.now most text.now) }
 {
-    if !begins_name(text) || is_label(word(text), most, source) {
+    if !starts_with_name(text) || is_label(leading_word(text), most, source) {
         return Ok(false);
     }
-    Ok(!is_predefined(alloc, word(text))?)
+    Ok(!is_predefined(alloc, leading_word(text))?)
 }
 
 /// Whether a word is a digit and `F`.
@@ -174,9 +174,9 @@ fn is_wanted(
 {
     match kind {
         Wanted::Unknown => is_unknown(alloc, source, most, text),
-        Wanted::Ahead => Ok(is_ahead(word(text))),
+        Wanted::Ahead => Ok(is_ahead(leading_word(text))),
         Wanted::Above(limit) => Ok(is_above(limit, text)),
-        Wanted::Address => Ok(begins_name(text) && labels_data(word(text), source)),
+        Wanted::Address => Ok(starts_with_name(text) && is_data_label(leading_word(text), source)),
     }
 }
 
@@ -199,7 +199,7 @@ pub(crate) fn from_part<'a>(
             Ok(false) => {}
             Err(e) => return Err(e),
         }
-        rest = parted(rest, part_length(rest)).1;
+        rest = split_at_most(rest, part_length(rest)).1;
         left -= 1;
     }
     Ok(&[])
@@ -214,9 +214,9 @@ pub(crate) fn marked_length(text: &[u8]) -> usize
         return 0;
     };
     if *b == b'-' || *b == b'#' {
-        word(rest).len().saturating_add(1)
+        leading_word(rest).len().saturating_add(1)
     } else if is_name_byte(*b) {
-        word(text).len()
+        leading_word(text).len()
     } else {
         1
     }

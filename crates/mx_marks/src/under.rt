@@ -15,7 +15,7 @@ fn under(b: u8) -> u8
 
 /// The first bytes of a text, this many or all, and the others.
 #[tactic(auto, using(crate::proofs::Fronts::fronts))]
-pub(crate) fn parted(text: &[u8], count: usize) -> (&[u8], &[u8])
+pub(crate) fn split_at_most(text: &[u8], count: usize) -> (&[u8], &[u8])
     ensures front { result.0.now ≡ take count text.now }
     ensures others { result.1.now ≡ drop count text.now }
 {
@@ -27,7 +27,7 @@ pub(crate) fn parted(text: &[u8], count: usize) -> (&[u8], &[u8])
 }
 
 /// How many bytes follow the first byte of a character.
-fn following(b: u8) -> usize
+fn continuation_count(b: u8) -> usize
     ensures count { result ≡ continuation_len b }
     ensures few { result ≤ 3 }
 {
@@ -50,35 +50,35 @@ fn char_length(text: &[u8]) -> usize
     let [b, ..] = text else {
         return 0;
     };
-    let count = following(*b) + 1;
-    match str::from_utf8(parted(text, count).0) {
+    let count = continuation_count(*b) + 1;
+    match str::from_utf8(split_at_most(text, count).0) {
         Ok(_) => count,
         Err(_) => 1,
     }
 }
 
 /// Adds what is under the characters of a text.
-#[tactic(auto, using(crate::proofs::UnderTurns::turns), unfolding(crate::specs::Under::under_behind))]
+#[tactic(auto, using(crate::proofs::UnderTurns::turns), unfolding(crate::specs::Under::under_after))]
 fn add_under(text: &mut Bytes, front: &[u8]) -> Result<(), NoMemory>
     ensures { OnOk result (text.new ≡ text.old ++ spec.under_text front.now) }
 {
     let mut rest = front;
     while let [b, more @ ..] = rest {
         text.push(under(*b))?;
-        rest = parted(more, char_length(rest).saturating_sub(1)).1;
+        rest = split_at_most(more, char_length(rest).saturating_sub(1)).1;
     }
     Ok(())
 }
 
 /// Adds the tildes under what follows the first character of the marked text.
-#[tactic(auto, using(crate::proofs::UnderTurns::tildes), unfolding(crate::specs::Under::tildes_behind))]
+#[tactic(auto, using(crate::proofs::UnderTurns::tildes), unfolding(crate::specs::Under::tildes_after))]
 fn add_tildes(text: &mut Bytes, marked: &[u8]) -> Result<(), NoMemory>
     ensures { OnOk result (text.new ≡ text.old ++ spec.tildes marked.now) }
 {
-    let mut rest = parted(marked, char_length(marked)).1;
+    let mut rest = split_at_most(marked, char_length(marked)).1;
     while let [_, more @ ..] = rest {
         text.push(b'~')?;
-        rest = parted(more, char_length(rest).saturating_sub(1)).1;
+        rest = split_at_most(more, char_length(rest).saturating_sub(1)).1;
     }
     Ok(())
 }
@@ -96,10 +96,10 @@ pub fn add_marks(
     let Some(place) = caret else {
         return Ok(());
     };
-    let (front, rest) = parted(line, place);
+    let (front, rest) = split_at_most(line, place);
     text.extend(b"    ")?;
     add_under(text, front)?;
     text.extend(b"^")?;
-    add_tildes(text, parted(rest, count).0)?;
+    add_tildes(text, split_at_most(rest, count).0)?;
     text.extend(b"\n")
 }

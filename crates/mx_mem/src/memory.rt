@@ -17,7 +17,9 @@ mod copy;
 use crate::dropping::take_away;
 use crate::page::{LOW_PAGES, Page};
 use crate::part::with_part;
-use crate::places::{GUESSES, add, guessed_place, low_place, next_page, place_of, slot};
+use crate::places::{
+    GUESSES, add, check_low_place, find_guessed_place, find_place, guess_index, next_page,
+};
 use crate::{MemFault, Part};
 use std::alloc::Global;
 use std::cell::Cell;
@@ -87,7 +89,7 @@ impl Memory {
         ensures value { result ≡ octa_at self.now a }
         ensures paged { result ≢ 0 → IsTrue (has_page self.now (a / 4096)) }
     {
-        self.octa(&self.guesses[slot(a / PAGE)], a)
+        self.octa(&self.guesses[guess_index(a / PAGE)], a)
     }
 
     /// The tetra that holds an address, which is below 2^63; 0 where nothing was stored. It is for
@@ -97,7 +99,7 @@ impl Memory {
         requires { a < 2 ^ 63 }
         ensures { result ≡ tetra_at self.now a }
     {
-        match guessed_place(&self.pages, &self.places, &self.code, a / PAGE) {
+        match find_guessed_place(&self.pages, &self.places, &self.code, a / PAGE) {
             Some(place) => self.pages[place].tetra(a),
             None => 0,
         }
@@ -140,8 +142,8 @@ impl Memory {
         ensures value { IfSome result (λ x. x ≡ octa_at self.now a) }
         ensures low { IfSome result (λ _. a / 4096 < low_pages) }
     {
-        let place = self.guesses[slot(a / PAGE)].get();
-        match low_place(&self.pages, &self.places, place, a / PAGE) {
+        let place = self.guesses[guess_index(a / PAGE)].get();
+        match check_low_place(&self.pages, &self.places, place, a / PAGE) {
             Some(place) => Some(self.pages[place].octa((a / 8 % 512) as usize)),
             None => None,
         }
@@ -154,8 +156,8 @@ impl Memory {
         ensures value { IfSome result (λ t. t ≡ tetra_at self.now a) }
         ensures low { IfSome result (λ _. a / 4096 < low_pages) }
     {
-        let place = self.guesses[slot(a / PAGE)].get();
-        match low_place(&self.pages, &self.places, place, a / PAGE) {
+        let place = self.guesses[guess_index(a / PAGE)].get();
+        match check_low_place(&self.pages, &self.places, place, a / PAGE) {
             Some(place) => Some(self.pages[place].tetra(a)),
             None => None,
         }
@@ -173,8 +175,8 @@ impl Memory {
         ensures low { IsTrue result → a / 4096 < low_pages }
         ensures unmade { result ≡ false → self.new ≡ self.old }
     {
-        let place = self.guesses[slot(a / PAGE)].get();
-        match low_place(&self.pages, &self.places, place, a / PAGE) {
+        let place = self.guesses[guess_index(a / PAGE)].get();
+        match check_low_place(&self.pages, &self.places, place, a / PAGE) {
             Some(place) => {
                 self.pages[place].put_part(a, part, x);
                 true
@@ -208,7 +210,7 @@ impl Memory {
         ensures full { IsTrue (is_refused self.old (a / 4096)) ↔ (result ≡ Err MemFault.PagesFull) }
         ensures err { OnErr result (self.new ≡ self.old) }
     {
-        let place = place_of(&self.pages, &self.places, &self.guesses, a / PAGE);
+        let place = find_place(&self.pages, &self.places, &self.guesses, a / PAGE);
         match place {
             Some(place) => {
                 self.pages[place].put((a / 8 % 512) as usize, x);
@@ -263,7 +265,7 @@ impl Memory {
         requires { a < 2 ^ 63 }
         ensures { result ≡ octa_at self.now a }
     {
-        match guessed_place(&self.pages, &self.places, guess, a / PAGE) {
+        match find_guessed_place(&self.pages, &self.places, guess, a / PAGE) {
             Some(place) => self.pages[place].octa((a / 8 % 512) as usize),
             None => 0,
         }

@@ -48,7 +48,7 @@ pub fn add(
 /// Which of the remembered places a page has, whose number is below 2^52. Pages at the beginning of the four segments, which
 /// are 2^61 bytes apart, have different ones.
 #[inline(always)]
-pub fn slot(number: u64) -> usize
+pub fn guess_index(number: u64) -> usize
     requires { number < 2 ^ 52 }
     ensures { result < 64 }
 {
@@ -57,7 +57,7 @@ pub fn slot(number: u64) -> usize
 
 /// The place of the page with a number below 2^51: one of those that are remembered, or else by the map.
 #[inline(always)]
-pub fn place_of(
+pub fn find_place(
     pages: &[Page],
     places: &BTreeMap<u64, usize>,
     guesses: &[Cell<usize>; GUESSES],
@@ -68,12 +68,12 @@ pub fn place_of(
     ensures place { result ≡ get nat_cmp places.now number }
     ensures within { IfSome result (λ place. place < length pages.now) }
 {
-    guessed_place(pages, places, &guesses[slot(number)], number)
+    find_guessed_place(pages, places, &guesses[guess_index(number)], number)
 }
 
 /// The place of the page with a number: the one that is remembered, or else by the map.
 #[inline(always)]
-pub fn guessed_place(
+pub fn find_guessed_place(
     pages: &[Page],
     places: &BTreeMap<u64, usize>,
     guess: &Cell<usize>,
@@ -83,7 +83,7 @@ pub fn guessed_place(
     ensures place { result ≡ get nat_cmp places.now number }
     ensures within { IfSome result (λ place. place < length pages.now) }
 {
-    match near_place(pages, places, guess.get(), number) {
+    match check_place(pages, places, guess.get(), number) {
         Some(place) => Some(place),
         None => place_far(places, guess, number),
     }
@@ -91,7 +91,7 @@ pub fn guessed_place(
 
 /// A place, where the page with a number is there.
 #[inline(always)]
-pub fn near_place(
+pub fn check_place(
     pages: &[Page],
     places: &BTreeMap<u64, usize>,
     place: usize,
@@ -111,7 +111,7 @@ pub fn near_place(
 
 /// A place, where the low page with a number below 2^52 is there.
 #[inline(always)]
-pub fn low_place(
+pub fn check_low_place(
     pages: &[Page],
     places: &BTreeMap<u64, usize>,
     place: usize,

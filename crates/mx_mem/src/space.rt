@@ -44,7 +44,7 @@ pub trait Space {
             (result, Self.contents self.new) ≡ put_answer (Self.contents self.old) a b }
         ensures memory { result ≡ Err SpaceFault.OutOfMemory →
             Self.contents self.new ≡ Self.contents self.old }
-        ensures there { IsTrue (not (makes_page (Self.contents self.old) a)) →
+        ensures lacks_memory { IsTrue (not (makes_page (Self.contents self.old) a)) →
             result ≢ Err SpaceFault.OutOfMemory };
 }
 

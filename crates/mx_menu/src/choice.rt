@@ -1,6 +1,6 @@
 //! What the words of the command line choose.
 
-use crate::parser::parser;
+use crate::parser::build_parser;
 use crate::table::{COMMANDS, Face};
 use clap::{ArgMatches, Error};
 use std::alloc::Global;
@@ -33,7 +33,7 @@ fn word<'a>(given: &ArgMatches<'a>, id: &str) -> &'a str {
 }
 
 /// What the words choose.
-fn chosen<'a>(matches: &ArgMatches<'a>) -> Option<Choice<'a>> {
+fn find_choice<'a>(matches: &ArgMatches<'a>) -> Option<Choice<'a>> {
     let (name, given) = matches.subcommand()?;
     Some(Choice {
         face: face_of(name),
@@ -51,9 +51,9 @@ fn chosen<'a>(matches: &ArgMatches<'a>) -> Option<Choice<'a>> {
 ///
 /// Errors: the words are none of the table's, or ask for help or the version, or there is no word: its text says so. Out of memory.
 pub fn choose<'a>(alloc: Global, words: &'a [String]) -> Result<Option<Choice<'a>>, Error> {
-    let command = parser(alloc)?;
+    let command = build_parser(alloc)?;
     let matches = command.try_get_matches_from(words)?;
-    Ok(chosen(&matches))
+    Ok(find_choice(&matches))
 }
 
 /// The words after a command whose words are not read by the table, unless they ask for its help.

@@ -35,7 +35,7 @@ fn program<'a>(alloc: Global) -> Command<'a> {
 }
 
 /// The program with its commands.
-pub fn parser<'a>(alloc: Global) -> Result<Command<'a>, AllocError> {
+pub fn build_parser<'a>(alloc: Global) -> Result<Command<'a>, AllocError> {
     let mut command = program(alloc);
     for entry in &COMMANDS {
         command = command.subcommand(row(alloc, entry)?)?;

@@ -19,6 +19,8 @@ pub enum Face {
     Page,
     /// A server for editors.
     Lsp,
+    /// A debug adapter for editors.
+    Dap,
 }
 
 /// How a word is given: by a name after two dashes, alone or with a value, or by its place, where it may be left out or come often.
@@ -54,7 +56,7 @@ pub const VERSION: &str = "0.4.0";
 pub const ABOUT: &str = "Views of a source in MMIXAL, and of a run of it.";
 
 /// The commands in the order in which help has them.
-pub static COMMANDS: [Row; 8] = [
+pub static COMMANDS: [Row; 9] = [
     Row {
         face: Face::List,
         name: "list",
@@ -251,6 +253,12 @@ pub static COMMANDS: [Row; 8] = [
         face: Face::Lsp,
         name: "lsp",
         about: "serves an editor over standard input and output, by the Language Server Protocol",
+        words: &[],
+    },
+    Row {
+        face: Face::Dap,
+        name: "dap",
+        about: "lets an editor go through a run forward and back, by the Debug Adapter Protocol",
         words: &[],
     },
 ];

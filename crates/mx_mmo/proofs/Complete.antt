@@ -1,6 +1,6 @@
 -- An object is read as its items and its trie.
 use Rattle.std.proofs.Common.{◌≡◌, ℕ, ◌+◌, ◌-◌, ◌*◌, ◌/◌, ◌%◌, ◌^◌, ◌<◌, ◌≤◌, length, List, [], ◌∷◌, ◌++◌, arith, refl, sym, ◌∙◌, ap, subst, Ok, Some, None, length-append, append_assoc, append-nil, add-zero, zero-add, ◌==◌}
-use Rattle.mx_mmo.proofs.Words.{nat_tests, drop_at, wide_lop, Spells, Spelled, SpecsEnd, first_item, limit, phase_after, tail_of, end_count, ComeInTurn, EndsItem, EndsLast, phase_end, Left, Walk, behind, items_of, SpellsObject, object_of, object_behind, onto, with_tail, Item, Pre, Post, Stab, Object, Phase, Start, Ended, common_steps}
+use Rattle.mx_mmo.proofs.Words.{nat_tests, drop_at, wide_lop, Spells, Spelled, SpecsEnd, first_item, limit, phase_after, tail_of, end_count, ComeInTurn, EndsItem, EndsLast, phase_end, Left, Walk, behind, items_of, SpellsObject, object_of, object_after, onto, with_tail, Item, Pre, Post, Stab, Object, Phase, Start, Ended, common_steps}
 use Rattle.mx_mmo.proofs.Ends.{ends-next}
 use Rattle.mx_mmo.proofs.Phases.{Reaches, placed-reaches}
 use Rattle.mx_mmo.proofs.Pieces.{not-long}
@@ -70,7 +70,7 @@ object-only bytes object s l =
     let rest = object.tail.trie ++ wide_lop 12 o.count in
     let ends : EndsLast object.items rest = subst (λ (is : List Item). EndsLast is rest) (sym p.whole) (stab-last (Pre p.tetras ∷ p.middle) p.g p.values rest) in
     not-long bytes l
-    ∙ ap (λ (bs : List ℕ). object_behind (items_of Start 0 bs).0 (items_of Start 0 bs).1) (o.whole ∙ append_assoc o.front object.tail.trie (wide_lop 12 o.count))
-    ∙ ap (λ (w : Walk). object_behind w.0 w.1) (items-read object.items o.front rest o.spelled (placed-reaches object.items p) o.valid.specs ends)
+    ∙ ap (λ (bs : List ℕ). object_after (items_of Start 0 bs).0 (items_of Start 0 bs).1) (o.whole ∙ append_assoc o.front object.tail.trie (wide_lop 12 o.count))
+    ∙ ap (λ (w : Walk). object_after w.0 w.1) (items-read object.items o.front rest o.spelled (placed-reaches object.items p) o.valid.specs ends)
     ∙ ap (with_tail object.items) (tail-read (length o.front) o.count object.tail.trie rest o.counted o.most refl)
     ∙ ap Ok (same-object object (length o.front) s.place)

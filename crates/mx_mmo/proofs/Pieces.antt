@@ -1,6 +1,6 @@
 -- Reading goes on over more pieces.
 use Rattle.std.proofs.Common.{◌≡◌, ℕ, zero, suc, ◌+◌, ◌<◌, ◌≤◌, length, List, [], ◌∷◌, ◌++◌, take, drop, get_or, arith, refl, sym, ◌∙◌, ap, Ok, Err, length-append, append_assoc, append-nil, false, add-one, add-zero, Result, nat_lt, rules}
-use Rattle.mx_mmo.proofs.Words.{Object, TooLong, bytes-append, AreBytes, ReaderModel, limit, fresh, tail_of, Walk, passed_limit, pieces_within, with_rest, fed, items_of, left_of, object_of, object_behind, with_tail, with_more, extended, Item, MmoFault, Start, concat, common_steps, nat_tests}
+use Rattle.mx_mmo.proofs.Words.{Object, TooLong, bytes-append, AreBytes, ReaderModel, limit, fresh, tail_of, Walk, passed_limit, pieces_within, with_rest, fed, items_of, left_of, object_of, object_after, with_tail, with_more, extended, Item, MmoFault, Start, concat, common_steps, nat_tests}
 use Rattle.mx_mmo.proofs.Walks.{items-none, extends}
 
 -- one piece more, and all pieces from those so far
@@ -28,12 +28,12 @@ stays w rest fault h = cc
 pub fault-stays : (front rest : List ℕ) (fault : MmoFault) → (items_of Start 0 front).1 ≡ Err fault → (items_of Start 0 (front ++ rest)).1 ≡ Err fault
 fault-stays front rest fault h = ap (λ (w : Walk). w.1) (extends Start 0 front rest) ∙ stays (items_of Start 0 front) rest fault h
 
-pub not-long : (bytes : List ℕ) → length bytes ≤ limit → object_of bytes ≡ object_behind (items_of Start 0 bytes).0 (items_of Start 0 bytes).1
+pub not-long : (bytes : List ℕ) → length bytes ≤ limit → object_of bytes ≡ object_after (items_of Start 0 bytes).0 (items_of Start 0 bytes).1
 not-long bytes h = let e : nat_lt limit (length bytes) ≡ false = grind (arith, nat_tests) in rw e refl
 
 pub object-of-all : (bytes : List ℕ) (items : List Item) (m : ReaderModel) → items_of Start 0 bytes ≡ (items, Ok (left_of m)) → length bytes ≤ limit →
     object_of bytes ≡ with_tail items (tail_of m.phase m.at m.rest)
-object-of-all bytes items m h l = not-long bytes l ∙ ap (λ (w : Walk). object_behind w.0 w.1) h
+object-of-all bytes items m h l = not-long bytes l ∙ ap (λ (w : Walk). object_after w.0 w.1) h
 
 pub length-of-piece : (pieces : List (List ℕ)) (i : ℕ) (piece d : List ℕ) → i < length pieces → piece ≡ get_or pieces i d →
     length (concat (take (i + 1) pieces)) ≡ length (concat (take i pieces)) + length piece
@@ -53,7 +53,7 @@ within-passed n i [] d l h = absurd (omega arith)
 
 -- the fault of an item in the pieces so far, whatever follows
 item-fault : (bytes : List ℕ) (fault : MmoFault) → (items_of Start 0 bytes).1 ≡ Err fault → length bytes ≤ limit → object_of bytes ≡ Err fault
-item-fault bytes fault h l = not-long bytes l ∙ ap (object_behind (items_of Start 0 bytes).0) h
+item-fault bytes fault h l = not-long bytes l ∙ ap (object_after (items_of Start 0 bytes).0) h
 
 fault-here : (pieces : List (List ℕ)) (i : ℕ) (piece d : List ℕ) (items : List Item) (m : ReaderModel) (fault : MmoFault) → i < length pieces → piece ≡ get_or pieces i d →
     items_of Start 0 (concat (take i pieces)) ≡ (items, Ok (left_of m)) → (with_rest items (with_more m piece)).1 ≡ Err fault →

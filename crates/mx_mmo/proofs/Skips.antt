@@ -1,6 +1,6 @@
 -- The tetras that a spec skips, read and spelled.
 use Rattle.std.proofs.Common.{◌≡◌, ℕ, zero, suc, ◌+◌, ◌-◌, ◌/◌, ◌^◌, ◌<◌, ◌≤◌, length, List, [], ◌∷◌, ◌++◌, take, drop, get_or, Bool, true, false, arith, refl, sym, ◌∙◌, ap, subst, Some, None, length-take, length-drop, add-zero, Option, ◌==◌, ◌&&◌, rules}
-use Rattle.mx_mmo.proofs.Words.{take-append-drop, take_all, drop-drop, tetra_to_bytes, tetra_from_bytes, AreBytes, EndsSpec, IsSkipped, quote_behind, four_more, skip_on, skipped, quoted_on, quoted_behind, four-bytes, four-fit, top-byte, take-four, drop-four, nat_tests}
+use Rattle.mx_mmo.proofs.Words.{take-append-drop, take_all, drop-drop, tetra_to_bytes, tetra_from_bytes, AreBytes, EndsSpec, IsSkipped, quote_after, four_more, skip_on, skipped, quoted_on, quoted_after, four-bytes, four-fit, top-byte, take-four, drop-four, nat_tests}
 
 -- what is skipped stays so, whatever follows
 abbrev pub SkipGrows : Option ℕ → Option ℕ → Type 0
@@ -12,7 +12,7 @@ on-grows o f g h = grind arith
 
 pub skip-grows : (quoted : Bool) (xs ys : List ℕ) → SkipGrows (skipped quoted xs) (skipped quoted (xs ++ ys))
 skip-grows quoted (a ∷ code ∷ y ∷ z ∷ more) ys =
-    on-grows (quote_behind quoted a code y z) (λ q. skipped q more) (λ q. skipped q (more ++ ys)) (λ q. skip-grows q more ys)
+    on-grows (quote_after quoted a code y z) (λ q. skipped q more) (λ q. skipped q (more ++ ys)) (λ q. skip-grows q more ys)
 skip-grows quoted xs ys = tt
 
 -- no more is skipped than there is
@@ -25,7 +25,7 @@ on-within o f n m h1 h2 = grind arith
 
 pub skip-within : (quoted : Bool) (xs : List ℕ) → SkipWithin (skipped quoted xs) (length xs)
 skip-within quoted (a ∷ code ∷ y ∷ z ∷ more) =
-    on-within (quote_behind quoted a code y z) (λ q. skipped q more) (length more) (length (a ∷ code ∷ y ∷ z ∷ more)) (omega arith) (λ q. skip-within q more)
+    on-within (quote_after quoted a code y z) (λ q. skipped q more) (length more) (length (a ∷ code ∷ y ∷ z ∷ more)) (omega arith) (λ q. skip-within q more)
 skip-within quoted xs = tt
 
 -- what is skipped, after a quote and elsewhere
@@ -62,7 +62,7 @@ Tells quoted a code y z (Some q) = Follows quoted a code y z q
 record Told (quoted : Bool) (a code y z : ℕ) (o : Option Bool) : Type 0 where
   is : Tells quoted a code y z o
 
-told : (quoted : Bool) (a code y z : ℕ) → Told quoted a code y z (quote_behind quoted a code y z)
+told : (quoted : Bool) (a code y z : ℕ) → Told quoted a code y z (quote_after quoted a code y z)
 told quoted a code y z = grind arith
 
 -- one tetra in front of what is skipped
@@ -90,7 +90,7 @@ on-tell quoted a b c d more (Some q) k l m n t h = four-tell quoted q a b c d mo
 
 skip-tells : (quoted : Bool) (bytes : List ℕ) → AreBytes bytes → SkipTells quoted bytes (skipped quoted bytes)
 skip-tells quoted (a ∷ b ∷ c ∷ d ∷ more) h =
-    on-tell quoted a b c d more (quote_behind quoted a b c d) h.0 h.1.0 h.1.1.0 h.1.1.1.0 (told quoted a b c d).is (λ q. skip-tells q more h.1.1.1.1)
+    on-tell quoted a b c d more (quote_after quoted a b c d) h.0 h.1.0 h.1.1.0 h.1.1.1.0 (told quoted a b c d).is (λ q. skip-tells q more h.1.1.1.1)
 skip-tells quoted bytes h = tt
 
 pub record Ended (bytes : List ℕ) (size : ℕ) : Type 0 where
@@ -118,21 +118,21 @@ on-looked : (f : Bool → Option Bool) (g h : Bool → Option ℕ) (o : Option B
     ((p : Bool) → f p ≡ Some q → g p ≡ plus n (h q)) → skip_on g o ≡ plus m (h q)
 on-looked f g h o q n m h1 h2 h3 = grind arith
 
-skipped-on : (quoted q : Bool) (front rest : List ℕ) → quoted_behind quoted front ≡ Some q → skipped quoted (front ++ rest) ≡ plus (length front) (skipped q rest)
+skipped-on : (quoted q : Bool) (front rest : List ℕ) → quoted_after quoted front ≡ Some q → skipped quoted (front ++ rest) ≡ plus (length front) (skipped q rest)
 skipped-on quoted q [] rest e = grind arith
 skipped-on quoted q (a ∷ code ∷ y ∷ z ∷ more) rest e =
-    on-looked (λ p. quoted_behind p more) (λ p. skipped p (more ++ rest)) (λ p. skipped p rest) (quote_behind quoted a code y z) q (length more) (length (a ∷ code ∷ y ∷ z ∷ more)) (omega arith) e
+    on-looked (λ p. quoted_after p more) (λ p. skipped p (more ++ rest)) (λ p. skipped p rest) (quote_after quoted a code y z) q (length more) (length (a ∷ code ∷ y ∷ z ∷ more)) (omega arith) e
     (λ p i. skipped-on p q more rest i)
 skipped-on quoted q front rest e = absurd (cc)
 
 step-more : (f g : Bool → Option Bool) (o : Option Bool) (q r : Bool) → quoted_on f o ≡ Some q → ((p : Bool) → f p ≡ Some q → g p ≡ Some r) → quoted_on g o ≡ Some r
 step-more f g o q r h1 h2 = grind arith
 
-behind-more : (quoted q r : Bool) (front : List ℕ) (a b c d : ℕ) → quoted_behind quoted front ≡ Some q → quote_behind q a b c d ≡ Some r →
-    quoted_behind quoted (front ++ a ∷ b ∷ c ∷ d ∷ []) ≡ Some r
+behind-more : (quoted q r : Bool) (front : List ℕ) (a b c d : ℕ) → quoted_after quoted front ≡ Some q → quote_after q a b c d ≡ Some r →
+    quoted_after quoted (front ++ a ∷ b ∷ c ∷ d ∷ []) ≡ Some r
 behind-more quoted q r [] a b c d e h = let is : quoted ≡ q = cc in rw (is, h) refl
 behind-more quoted q r (k ∷ l ∷ m ∷ n ∷ more) a b c d e h =
-    step-more (λ p. quoted_behind p more) (λ p. quoted_behind p (more ++ a ∷ b ∷ c ∷ d ∷ [])) (quote_behind quoted k l m n) q r e (λ p i. behind-more p q r more a b c d i h)
+    step-more (λ p. quoted_after p more) (λ p. quoted_after p (more ++ a ∷ b ∷ c ∷ d ∷ [])) (quote_after quoted k l m n) q r e (λ p i. behind-more p q r more a b c d i h)
 behind-more quoted q r front a b c d e h = absurd (cc)
 
 -- the tetra that is first in what is left
@@ -148,21 +148,21 @@ pub rest-more : (n : ℕ) (more r : List ℕ) → r ≡ drop n more → take (le
 rest-more n more r e = take_all (length r - 4) (drop 4 r) (omega (arith, length-drop 4 r)) ∙ ap (drop 4) e ∙ drop-drop 4 n more
 
 -- one tetra more was looked at
-pub looked-more : (n : ℕ) (more : List ℕ) (q r : Bool) (a b c d : ℕ) (others : List ℕ) → drop n more ≡ a ∷ b ∷ c ∷ d ∷ others → quoted_behind false (take n more) ≡ Some q →
-    quote_behind q a b c d ≡ Some r → quoted_behind false (take (n + 4) more) ≡ Some r
+pub looked-more : (n : ℕ) (more : List ℕ) (q r : Bool) (a b c d : ℕ) (others : List ℕ) → drop n more ≡ a ∷ b ∷ c ∷ d ∷ others → quoted_after false (take n more) ≡ Some q →
+    quote_after q a b c d ≡ Some r → quoted_after false (take (n + 4) more) ≡ Some r
 looked-more n more q r a b c d others e h i = rw (front-grows n more a b c d others e) (behind-more false q r (take n more) a b c d h i)
 
-looked-on : (n : ℕ) (more : List ℕ) (q : Bool) → n ≤ length more → quoted_behind false (take n more) ≡ Some q → skipped false more ≡ plus n (skipped q (drop n more))
+looked-on : (n : ℕ) (more : List ℕ) (q : Bool) → n ≤ length more → quoted_after false (take n more) ≡ Some q → skipped false more ≡ plus n (skipped q (drop n more))
 looked-on n more q l h =
     grind (arith, nat_tests, take-append-drop n more, skipped-on false q (take n more) (drop n more) h, length-take n more)
 
 -- the lopcode that ends a spec was found, and it was not
 pub looked-end : (n : ℕ) (more : List ℕ) (q : Bool) (a b c d : ℕ) (others : List ℕ) → n ≤ length more → drop n more ≡ a ∷ b ∷ c ∷ d ∷ others →
-    quoted_behind false (take n more) ≡ Some q → quote_behind q a b c d ≡ None → skipped false more ≡ Some n
+    quoted_after false (take n more) ≡ Some q → quote_after q a b c d ≡ None → skipped false more ≡ Some n
 looked-end n more q a b c d others l e h i = looked-on n more q l h ∙ ap (λ r. plus n (skipped q r)) e ∙ rw i (ap Some (add-zero n))
 
 few-none : (q : Bool) (r : List ℕ) → length r < 4 → skipped q r ≡ None
 few-none q r h = grind arith
 
-pub looked-none : (n : ℕ) (more : List ℕ) (q : Bool) → n ≤ length more → quoted_behind false (take n more) ≡ Some q → length (drop n more) < 4 → skipped false more ≡ None
+pub looked-none : (n : ℕ) (more : List ℕ) (q : Bool) → n ≤ length more → quoted_after false (take n more) ≡ Some q → length (drop n more) < 4 → skipped false more ≡ None
 looked-none n more q l h few = looked-on n more q l h ∙ ap (λ o. plus n o) (few-none q (drop n more) few)

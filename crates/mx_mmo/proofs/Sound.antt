@@ -1,6 +1,6 @@
 -- What is read is in the grammar.
 use Rattle.std.proofs.Common.{◌≡◌, ℕ, zero, suc, ◌+◌, ◌-◌, ◌*◌, ◌/◌, ◌%◌, ◌^◌, ◌<◌, ◌≤◌, length, List, [], ◌∷◌, ◌++◌, take, drop, arith, refl, sym, ◌∙◌, ap, subst, Ok, Err, Some, None, Bool, true, false, cond, length-append, append_assoc, add-zero, zero-add, length-take, length-drop, Result, Option, nat_lt, ◌==◌, ◌&&◌, rules}
-use Rattle.mx_mmo.proofs.Words.{AllByRecursion, take-append-drop, wide_lop, AreBytes, Fits, Spelled, Due, IsWithin, first_item, limit, phase_after, tail_of, tail_behind, counted_tail, end_count, StandFirst, phase_end, Left, StandAt, Walk, behind, walk_on, walk, items_of, SpellsObject, object_of, object_behind, with_tail, Item, Tail, Object, MmoFault, TooLong, Phase, Start, Ended, bytes-behind, same-number, nat_tests}
+use Rattle.mx_mmo.proofs.Words.{AllByRecursion, take-append-drop, wide_lop, AreBytes, Fits, Spelled, Due, IsWithin, first_item, limit, phase_after, tail_of, tail_after, counted_tail, end_count, StandFirst, phase_end, Left, StandAt, Walk, behind, walk_on, walk, items_of, SpellsObject, object_of, object_after, with_tail, Item, Tail, Object, MmoFault, TooLong, Phase, Start, Ended, bytes-behind, same-number, nat_tests}
 use Rattle.mx_mmo.proofs.Ends.{last-cons, specs-cons}
 use Rattle.mx_mmo.proofs.Firsts.{first-within}
 use Rattle.mx_mmo.proofs.Phases.{Reaches, placed-items}
@@ -132,7 +132,7 @@ trie-tail at count rest b m e c =
 counted-tells : (at : ℕ) (rest : List ℕ) (o : Option ℕ) → AreBytes rest → length rest % 4 ≡ 0 → o ≡ end_count (drop (length rest - 4) rest) → TailTold Ended at rest (counted_tail at rest o)
 counted-tells at rest o h1 h2 h3 = search (rules, refused-tail, cond-tail, trie-tail, same-number)
 
-behind-tells : (phase : Phase) (at : ℕ) (rest : List ℕ) → AreBytes rest → length rest % 4 ≡ 0 → TailTold phase at rest (tail_behind phase at rest)
+behind-tells : (phase : Phase) (at : ℕ) (rest : List ℕ) → AreBytes rest → length rest % 4 ≡ 0 → TailTold phase at rest (tail_after phase at rest)
 behind-tells phase at rest h1 h2 = search (rules, counted-tells, refused-tail)
 
 tail-tells : (phase : Phase) (at : ℕ) (rest : List ℕ) → AreBytes rest → TailTold phase at rest (tail_of phase at rest)
@@ -169,7 +169,7 @@ left-bytes front rest bytes e b = behind front rest (subst (λ (x : List ℕ). A
     behind [] rest b = b
     behind (x ∷ front) rest b = behind front rest b.1
 
-behind-read : (bytes : List ℕ) (w : Walk) → AreBytes bytes → Stands Start 0 bytes w → IsRead bytes (object_behind w.0 w.1)
+behind-read : (bytes : List ℕ) (w : Walk) → AreBytes bytes → Stands Start 0 bytes w → IsRead bytes (object_after w.0 w.1)
 behind-read bytes w h1 h2 = search (rules, with-tail-stands, tail-tells, left-bytes)
 
 cond-read : (b : Bool) (bytes : List ℕ) (fault : MmoFault) (r : Result Object MmoFault) → IsRead bytes r → IsRead bytes (cond b (Err fault) r)

@@ -1,6 +1,6 @@
 -- The first fault of bytes is the one that the table tells.
 use Rattle.std.proofs.Common.{◌≡◌, ◌≢◌, ℕ, ◌+◌, ◌-◌, ◌*◌, ◌/◌, ◌%◌, ◌^◌, ◌<◌, ◌≤◌, length, List, [], ◌++◌, take, drop, arith, refl, sym, ◌∙◌, ap, subst, Ok, Err, Some, None, Bool, true, false, length-append, length-take, zero-add, Result, Option, ◌==◌, rules}
-use Rattle.mx_mmo.proofs.Words.{take-append-drop, drop_at, length-replicate, wide_lop, AreBytes, IsSkipped, Spells, Spelled, limit, tail_of, tail_behind, end_count, phase_end, ItemFault, EndsWith, FaultOf, Left, Walk, items_of, object_of, object_behind, object_fault, fault_in, onto, Item, Object, MmoFault, NotTetras, BadFields, Truncated, Phase, Start, Middle, Posted, Ended, bytes-behind, same-number, other-number, nat_tests, common_steps}
+use Rattle.mx_mmo.proofs.Words.{take-append-drop, drop_at, length-replicate, wide_lop, AreBytes, IsSkipped, Spells, Spelled, limit, tail_of, tail_after, end_count, phase_end, ItemFault, EndsWith, FaultOf, Left, Walk, items_of, object_of, object_after, object_fault, fault_in, onto, Item, Object, MmoFault, NotTetras, BadFields, Truncated, Phase, Start, Middle, Posted, Ended, bytes-behind, same-number, other-number, nat_tests, common_steps}
 use Rattle.mx_mmo.proofs.Complete.{end-told, items-read, left_behind, walk-spelled}
 use Rattle.mx_mmo.proofs.Pieces.{not-long}
 use Rattle.mx_mmo.proofs.Sound.{Stood, Stopped, Stands, left-bytes, stands}
@@ -42,7 +42,7 @@ abbrev Unmet : List ℕ → Type 0
 Unmet bytes = (f : MmoFault) → ¬ ItemFault bytes f
 
 behind-fault : (bytes : List ℕ) (fault : MmoFault) (w : Walk) → items_of Start 0 bytes ≡ w → Stands Start 0 bytes w → Unmet bytes →
-    ((items : List Item) (left : Left) → Stood Start 0 bytes items left → tail_of left.phase left.at left.rest ≡ Err fault) → object_behind w.0 w.1 ≡ Err fault
+    ((items : List Item) (left : Left) → Stood Start 0 bytes items left → tail_of left.phase left.at left.rest ≡ Err fault) → object_after w.0 w.1 ≡ Err fault
 behind-fault bytes fault w h1 h2 h3 h4 = search (rules, stopped-fault)
 
 end-fault : (bytes : List ℕ) (fault : MmoFault) → AreBytes bytes → length bytes ≤ limit → Unmet bytes →
@@ -58,7 +58,7 @@ over-tail bytes items left s h = grind (arith, nat_tests, sizes bytes items left
 cut-place : (bytes : List ℕ) (items : List Item) (left : Left) → Stood Start 0 bytes items left → left.at + length left.rest ≡ length bytes
 cut-place bytes items left s = omega (arith, sizes bytes items left s, s.place)
 
-cut-behind : (phase : Phase) (at : ℕ) (rest : List ℕ) → (phase ≡ Ended → end_count (drop (length rest - 4) rest) ≡ None) → tail_behind phase at rest ≡ Err (Truncated (at + length rest))
+cut-behind : (phase : Phase) (at : ℕ) (rest : List ℕ) → (phase ≡ Ended → end_count (drop (length rest - 4) rest) ≡ None) → tail_after phase at rest ≡ Err (Truncated (at + length rest))
 cut-behind phase at rest h = grind arith
 
 -- the lopcode `end` that stands last
@@ -88,7 +88,7 @@ wrong-count : (bytes trie : List ℕ) (count : ℕ) → length bytes ≤ limit �
 wrong-count bytes trie count l e w n = search (rules, length-append, not-long, ends-met, wrong-tail)
 
 told : {bytes : List ℕ} {fault : MmoFault} → AreBytes bytes → length bytes ≤ limit → FaultOf bytes fault → object_of bytes ≡ Err fault
-told b l (FaultOf.of_item bytes fault i) = not-long bytes l ∙ ap (object_behind (items_of Start 0 bytes).0) (item-fault-met bytes fault i)
+told b l (FaultOf.of_item bytes fault i) = not-long bytes l ∙ ap (object_after (items_of Start 0 bytes).0) (item-fault-met bytes fault i)
 told b l (FaultOf.left_over bytes n h) = end-fault bytes _ b l n (λ items left s. over-tail bytes items left s h)
 told b l (FaultOf.cut_off bytes n h e) = end-fault bytes _ b l n (λ items left s. cut-tail bytes items left s b h e)
 told b l (FaultOf.counted_wrong bytes trie count e w n) = wrong-count bytes trie count l e w n

@@ -82,14 +82,14 @@ counted_tail at rest (Some count) =
     else Err (BadFields (at + length rest - 4))
 
 -- what follows the items that were given
-abbrev pub tail_behind : Phase → ℕ → List ℕ → Result Tail MmoFault
-tail_behind Ended at rest = counted_tail at rest (end_count (drop (length rest - 4) rest))
-tail_behind _ at rest = Err (Truncated (at + length rest))
+abbrev pub tail_after : Phase → ℕ → List ℕ → Result Tail MmoFault
+tail_after Ended at rest = counted_tail at rest (end_count (drop (length rest - 4) rest))
+tail_after _ at rest = Err (Truncated (at + length rest))
 
 -- no more comes: first of all the bytes are whole tetras
 abbrev pub tail_of : Phase → ℕ → List ℕ → Result Tail MmoFault
 tail_of phase at rest =
-    if length rest % 4 == 0 then tail_behind phase at rest
+    if length rest % 4 == 0 then tail_after phase at rest
     else Err (NotTetras (at + length rest - length rest % 4))
 
 abbrev pub finished : ReaderModel → Result Tail MmoFault → Then Tail

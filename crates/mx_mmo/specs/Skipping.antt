@@ -4,9 +4,9 @@ use Rattle.std.specs.Prelude.{ℕ, ◌+◌, ◌==◌, ◌&&◌, Bool, true, fals
 
 -- whether the tetra after this one is quoted, by whether this one is; nothing where this one ends a spec: a lopcode other
 -- than a quote with YZ = 1
-abbrev pub quote_behind : Bool → ℕ → ℕ → ℕ → ℕ → Option Bool
-quote_behind true a code y z = Some false
-quote_behind false a code y z =
+abbrev pub quote_after : Bool → ℕ → ℕ → ℕ → ℕ → Option Bool
+quote_after true a code y z = Some false
+quote_after false a code y z =
     if a == 0x98 then (if code == 0 && y == 0 && z == 1 then Some true else None) else Some false
 
 -- four bytes more
@@ -21,7 +21,7 @@ skip_on behind (Some quoted) = four_more (behind quoted)
 
 -- how many bytes are before the lopcode that ends a spec, where it is there; `quoted` tells whether the first tetra is
 abbrev pub skipped : Bool → List ℕ → Option ℕ
-skipped quoted (a ∷ code ∷ y ∷ z ∷ more) = skip_on (λ q. skipped q more) (quote_behind quoted a code y z)
+skipped quoted (a ∷ code ∷ y ∷ z ∷ more) = skip_on (λ q. skipped q more) (quote_after quoted a code y z)
 skipped quoted _ = None
 
 abbrev pub quoted_on : (Bool → Option Bool) → Option Bool → Option Bool
@@ -29,7 +29,7 @@ quoted_on behind None = None
 quoted_on behind (Some quoted) = behind quoted
 
 -- whether the tetra after these is quoted, where all of these are skipped
-abbrev pub quoted_behind : Bool → List ℕ → Option Bool
-quoted_behind quoted [] = Some quoted
-quoted_behind quoted (a ∷ code ∷ y ∷ z ∷ more) = quoted_on (λ q. quoted_behind q more) (quote_behind quoted a code y z)
-quoted_behind quoted _ = None
+abbrev pub quoted_after : Bool → List ℕ → Option Bool
+quoted_after quoted [] = Some quoted
+quoted_after quoted (a ∷ code ∷ y ∷ z ∷ more) = quoted_on (λ q. quoted_after q more) (quote_after quoted a code y z)
+quoted_after quoted _ = None

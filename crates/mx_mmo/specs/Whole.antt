@@ -47,16 +47,16 @@ abbrev pub with_tail : List Item → Result Tail MmoFault → Result Object MmoF
 with_tail items (Ok tail) = Ok (record { items = items; tail = tail })
 with_tail items (Err fault) = Err fault
 
-abbrev pub object_behind : List Item → Result Left MmoFault → Result Object MmoFault
-object_behind items (Ok left) = with_tail items (tail_of left.phase left.at left.rest)
-object_behind items (Err fault) = Err fault
+abbrev pub object_after : List Item → Result Left MmoFault → Result Object MmoFault
+object_after items (Ok left) = with_tail items (tail_of left.phase left.at left.rest)
+object_after items (Err fault) = Err fault
 
 -- the object that bytes are, or the first fault: too many bytes; then the fault of the first item
 -- that has one; then what is wrong at the end
 abbrev pub object_of : List ℕ → Result Object MmoFault
 object_of bytes =
     if nat_lt limit (length bytes) then Err (TooLong limit)
-    else (let w = items_of Start 0 bytes in object_behind w.0 w.1)
+    else (let w = items_of Start 0 bytes in object_after w.0 w.1)
 
 abbrev pub fault_in : Result Object MmoFault → Option MmoFault
 fault_in (Ok object) = None

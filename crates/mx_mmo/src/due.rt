@@ -3,12 +3,12 @@
 ghost use Rattle.std.specs.Prelude.{◌≡◌, ◌≢◌, ◌≤◌, ◌*◌, ◌+◌, ℕ, Ok, Some, false, IfOk, IfSome, OnSome, length, take, drop};
 ghost use Rattle.mx_mmo.specs.Reading as spec;
 ghost use Rattle.mx_mmo.specs.Reading.{IsWithin};
-ghost use Rattle.mx_mmo.specs.Skipping.{quoted_behind, skipped};
+ghost use Rattle.mx_mmo.specs.Skipping.{quoted_after, skipped};
 ghost use Rattle.mx_mmo.specs.Valid.{Fits};
 
 use crate::lops::{Lop, lop_of};
 use crate::parts::{
-    Due, far_item, file_item, fixo_item, loc_item, post_item, pre_item, quoted_item,
+    Due, read_far_fix, read_file, read_fixo, read_loc, read_post, read_pre, read_quote,
 };
 use crate::skipping::{Scan, skip};
 use crate::{Item, MmoFault};
@@ -38,10 +38,10 @@ fn wide(y: u8, z: u8) -> u16
 /// A spec, once the lopcode is there that ends it.
 fn spec_item(scan: &mut Scan, n: u16, more: &[u8]) -> Due
     requires within { scan.old.size ≤ length more.now }
-    requires looked { quoted_behind false (take scan.old.size more.now) ≡ Some scan.old.quoted }
+    requires looked { quoted_after false (take scan.old.size more.now) ≡ Some scan.old.quoted }
     ensures item { result ≡ spec.ended_spec n (skipped false more.now) }
     ensures within { scan.new.size ≤ length more.now }
-    ensures looked { quoted_behind false (take scan.new.size more.now) ≡ Some scan.new.quoted }
+    ensures looked { quoted_after false (take scan.new.size more.now) ≡ Some scan.new.quoted }
 {
     match skip(scan, more) {
         Some(size) => Ok(Some((Item::Spec(n), 4 + size))),
@@ -60,22 +60,22 @@ fn lop_item(
     more: &[u8],
 ) -> Due
     requires within { scan.old.size ≤ length more.now }
-    requires looked { quoted_behind false (take scan.old.size more.now) ≡ Some scan.old.quoted }
+    requires looked { quoted_after false (take scan.old.size more.now) ≡ Some scan.old.quoted }
     ensures item { result ≢ Err MmoFault.OutOfMemory → result ≡ spec.lop_item at lop y z more.now }
     ensures within { scan.new.size ≤ length more.now }
-    ensures looked { quoted_behind false (take scan.new.size more.now) ≡ Some scan.new.quoted }
+    ensures looked { quoted_after false (take scan.new.size more.now) ≡ Some scan.new.quoted }
 {
     match lop {
-        Some(Lop::Quote) if y == 0 && z == 1 => quoted_item(more),
-        Some(Lop::Loc) => loc_item(at, y, z, more),
+        Some(Lop::Quote) if y == 0 && z == 1 => read_quote(more),
+        Some(Lop::Loc) => read_loc(at, y, z, more),
         Some(Lop::Skip) => Ok(Some((Item::Skip(wide(y, z)), 4))),
-        Some(Lop::Fixo) => fixo_item(at, y, z, more),
+        Some(Lop::Fixo) => read_fixo(at, y, z, more),
         Some(Lop::Fixr) => Ok(Some((Item::FixNear(wide(y, z)), 4))),
-        Some(Lop::Fixrx) if y == 0 && (z == 16 || z == 24) => far_item(at, z, more),
-        Some(Lop::File) => file_item(alloc, at, y, z, more),
+        Some(Lop::Fixrx) if y == 0 && (z == 16 || z == 24) => read_far_fix(at, z, more),
+        Some(Lop::File) => read_file(alloc, at, y, z, more),
         Some(Lop::Line) => Ok(Some((Item::Line(wide(y, z)), 4))),
         Some(Lop::Spec) => spec_item(scan, wide(y, z), more),
-        Some(Lop::Post) if y == 0 && z >= 32 => post_item(alloc, z, more),
+        Some(Lop::Post) if y == 0 && z >= 32 => read_post(alloc, z, more),
         Some(Lop::Quote | Lop::Fixrx | Lop::Post) => Err(MmoFault::BadFields(at)),
         _ => Err(MmoFault::BadLop(at)),
     }
@@ -84,16 +84,16 @@ fn lop_item(
 /// The item that a first tetra begins.
 fn due_item(alloc: Global, scan: &mut Scan, phase: Phase, at: u64, rest: &[u8]) -> Due
     requires within { scan.old.size ≤ length (drop 4 rest.now) }
-    requires looked { quoted_behind false (take scan.old.size (drop 4 rest.now)) ≡ Some scan.old.quoted }
+    requires looked { quoted_after false (take scan.old.size (drop 4 rest.now)) ≡ Some scan.old.quoted }
     ensures item { result ≢ Err MmoFault.OutOfMemory → result ≡ spec.first_item phase at rest.now }
     ensures size { scan.new.size ≤ length (drop 4 rest.now) }
-    ensures looked { quoted_behind false (take scan.new.size (drop 4 rest.now)) ≡ Some scan.new.quoted }
+    ensures looked { quoted_after false (take scan.new.size (drop 4 rest.now)) ≡ Some scan.new.quoted }
 {
     let [a, code, y, z, more @ ..] = rest else {
         return Ok(None);
     };
     match phase {
-        Phase::Start if *a == 0x98 && *code == 9 && *y == 1 => pre_item(alloc, *z, more),
+        Phase::Start if *a == 0x98 && *code == 9 && *y == 1 => read_pre(alloc, *z, more),
         Phase::Start => Err(MmoFault::NoPre(at)),
         Phase::Middle if *a == 0x98 => lop_item(alloc, scan, at, lop_of(*code), *y, *z, more),
         Phase::Middle => Ok(Some((Item::Load(tetra_of([*a, *code, *y, *z])), 4))),
@@ -119,14 +119,14 @@ pub fn plain_tetra(rest: &[u8]) -> Option<u32>
 
 /// The item that is first in bytes that begin at a byte place, where the tetras after a spec
 /// were looked through so far.
-pub fn first_item(alloc: Global, scan: &mut Scan, phase: Phase, at: u64, rest: &[u8]) -> Due
+pub fn read_first_item(alloc: Global, scan: &mut Scan, phase: Phase, at: u64, rest: &[u8]) -> Due
     requires within { scan.old.size ≤ length (drop 4 rest.now) }
-    requires looked { quoted_behind false (take scan.old.size (drop 4 rest.now)) ≡ Some scan.old.quoted }
+    requires looked { quoted_after false (take scan.old.size (drop 4 rest.now)) ≡ Some scan.old.quoted }
     ensures item { result ≢ Err MmoFault.OutOfMemory → result ≡ spec.first_item phase at rest.now }
     ensures within { IsWithin result (length rest.now) }
     ensures fits { IfOk result (λ due. IfSome due (λ found. Fits found.0)) }
     ensures size { scan.new.size ≤ length (drop 4 rest.now) }
-    ensures looked { quoted_behind false (take scan.new.size (drop 4 rest.now)) ≡ Some scan.new.quoted }
+    ensures looked { quoted_after false (take scan.new.size (drop 4 rest.now)) ≡ Some scan.new.quoted }
 {
     due_item(alloc, scan, phase, at, rest)
 }

@@ -43,7 +43,7 @@ fn octas_of(alloc: Global, bytes: &[u8]) -> Result<Octas, MmoFault>
 }
 
 /// Bytes without the zeros at their end.
-fn trimmed(bytes: &[u8]) -> &[u8]
+fn trim_zeros(bytes: &[u8]) -> &[u8]
     ensures { result.now ≡ spec.trimmed bytes.now }
 {
     let mut name = bytes;
@@ -57,7 +57,7 @@ fn trimmed(bytes: &[u8]) -> &[u8]
 }
 
 /// `pre` with this many tetras after it.
-pub fn pre_item(alloc: Global, z: u8, more: &[u8]) -> Due
+pub fn read_pre(alloc: Global, z: u8, more: &[u8]) -> Due
     ensures { result ≢ Err MmoFault.OutOfMemory → result ≡ spec.pre_item z more.now }
 {
     let size = 4 * usize::from(z);
@@ -71,7 +71,7 @@ pub fn pre_item(alloc: Global, z: u8, more: &[u8]) -> Due
 }
 
 /// A tetra after a quote.
-pub fn quoted_item(more: &[u8]) -> Due
+pub fn read_quote(more: &[u8]) -> Due
     ensures { result ≡ spec.on_tetra spec.quoted_tetra more.now }
 {
     match more {
@@ -118,7 +118,7 @@ fn address_due(at: u64, y: u8, z: u8, more: &[u8]) -> Result<Option<(u64, usize)
 }
 
 /// A new address for lambda.
-pub fn loc_item(at: u64, y: u8, z: u8, more: &[u8]) -> Due
+pub fn read_loc(at: u64, y: u8, z: u8, more: &[u8]) -> Due
     ensures { result ≡ spec.item_due (λ a. Item.Loc a) (spec.address_due at y z more.now) }
 {
     match address_due(at, y, z, more) {
@@ -129,7 +129,7 @@ pub fn loc_item(at: u64, y: u8, z: u8, more: &[u8]) -> Due
 }
 
 /// An address where lambda is joined.
-pub fn fixo_item(at: u64, y: u8, z: u8, more: &[u8]) -> Due
+pub fn read_fixo(at: u64, y: u8, z: u8, more: &[u8]) -> Due
     ensures { result ≡ spec.item_due (λ a. Item.FixOcta a) (spec.address_due at y z more.now) }
 {
     match address_due(at, y, z, more) {
@@ -140,7 +140,7 @@ pub fn fixo_item(at: u64, y: u8, z: u8, more: &[u8]) -> Due
 }
 
 /// A far fix of this many bits, whose tetra begins with 0 or 1.
-pub fn far_item(at: u64, bits: u8, more: &[u8]) -> Due
+pub fn read_far_fix(at: u64, bits: u8, more: &[u8]) -> Due
     ensures { result ≡ spec.on_tetra (spec.far_tetra at bits) more.now }
 {
     match more {
@@ -157,11 +157,11 @@ pub fn far_item(at: u64, bits: u8, more: &[u8]) -> Due
 }
 
 /// A file whose name is in these bytes, with zeros after it.
-fn named_file(alloc: Global, at: u64, number: u8, bytes: &[u8]) -> Due
+fn read_file_name(alloc: Global, at: u64, number: u8, bytes: &[u8]) -> Due
     ensures { result ≢ Err MmoFault.OutOfMemory →
         result ≡ spec.named_file at number (4 + length bytes.now) (spec.trimmed bytes.now) }
 {
-    let name = trimmed(bytes);
+    let name = trim_zeros(bytes);
     if name.is_empty() {
         return Err(MmoFault::BadFields(at));
     }
@@ -178,7 +178,7 @@ fn named_file(alloc: Global, at: u64, number: u8, bytes: &[u8]) -> Due
 }
 
 /// A file with this many tetras of its name after it.
-pub fn file_item(alloc: Global, at: u64, number: u8, z: u8, more: &[u8]) -> Due
+pub fn read_file(alloc: Global, at: u64, number: u8, z: u8, more: &[u8]) -> Due
     ensures { result ≢ Err MmoFault.OutOfMemory → result ≡ spec.file_item at number z more.now }
 {
     if z == 0 {
@@ -188,11 +188,11 @@ pub fn file_item(alloc: Global, at: u64, number: u8, z: u8, more: &[u8]) -> Due
     if more.len() < size {
         return Ok(None);
     }
-    named_file(alloc, at, number, &more[..size])
+    read_file_name(alloc, at, number, &more[..size])
 }
 
 /// `post` with the values of $g to $255 after it.
-pub fn post_item(alloc: Global, g: u8, more: &[u8]) -> Due
+pub fn read_post(alloc: Global, g: u8, more: &[u8]) -> Due
     ensures { result ≢ Err MmoFault.OutOfMemory → result ≡ spec.post_item g more.now }
 {
     let size = 8 * (256 - usize::from(g));

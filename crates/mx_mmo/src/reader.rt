@@ -5,10 +5,10 @@ ghost use Rattle.std.specs.Prelude.{OnSome, None, Ok, Some};
 ghost use Rattle.mx_mmo.specs.Replies as spec;
 ghost use Rattle.mx_mmo.specs.Valid.{Fits};
 
-use crate::due::{Phase, first_item, plain_tetra};
+use crate::due::{Phase, plain_tetra, read_first_item};
 use crate::input::Input;
 use crate::skipping::Scan;
-use crate::tail::tail_of;
+use crate::tail::read_tail;
 use crate::{Item, MmoFault, Tail};
 use std::alloc::Global;
 use std::marker::Model;
@@ -35,7 +35,7 @@ pub struct Reader {
 impl Model for Reader {
     ghost use Rattle.std.specs.Prelude.{◌≡◌, ◌≤◌, ◌+◌, ◌^◌, Some, false, length, drop, take};
     ghost use Rattle.mx_mmo.specs.Replies.{ReaderModel};
-    ghost use Rattle.mx_mmo.specs.Skipping.{quoted_behind};
+    ghost use Rattle.mx_mmo.specs.Skipping.{quoted_after};
 
     ghost Value = { ReaderModel };
 
@@ -49,7 +49,7 @@ impl Model for Reader {
 
     ghost invariant = { λ r. (r.at + length r.input ≤ 2 ^ 26) ×
         (r.scan.size ≤ length (drop 4 r.input)) ×
-        (quoted_behind false (take r.scan.size (drop 4 r.input)) ≡ Some r.scan.quoted) };
+        (quoted_after false (take r.scan.size (drop 4 r.input)) ≡ Some r.scan.quoted) };
 }
 
 /// How far a reader has come after an item.
@@ -72,7 +72,7 @@ impl Reader {
         Reader {
             alloc,
             input: Input::new(alloc),
-            scan: Scan::start(),
+            scan: Scan::new(),
             phase: Phase::Start,
             at: 0,
             place: 0,
@@ -88,7 +88,7 @@ impl Reader {
         ensures answers { result ≢ Err MmoFault.OutOfMemory →
             (result, self.new) ≡ spec.feed_answer self.old piece.now }
         ensures memory { result ≡ Err MmoFault.OutOfMemory → self.new ≡ self.old }
-        ensures again { IfSome self.old.fault (λ fault. result ≡ Err fault) }
+        ensures fault_again { IfSome self.old.fault (λ fault. result ≡ Err fault) }
     {
         if let Some(fault) = self.fault {
             return Err(fault);
@@ -107,7 +107,7 @@ impl Reader {
         ensures answers { result ≢ Err MmoFault.OutOfMemory →
             (result, self.new) ≡ spec.next_answer self.old }
         ensures memory { result ≡ Err MmoFault.OutOfMemory → self.new ≡ self.old }
-        ensures again { IfSome self.old.fault (λ fault. result ≡ Err fault) }
+        ensures fault_again { IfSome self.old.fault (λ fault. result ≡ Err fault) }
         ensures fits { IfOk result (λ item. IfSome item Fits) }
         ensures place { IfOk result (λ item. OnSome item (self.new.place ≡ self.old.at)) }
         ensures shorter { IfOk result (λ item. OnSome item (length self.new.rest < length self.old.rest)) }
@@ -116,7 +116,7 @@ impl Reader {
             return Err(fault);
         }
         let mut scan = self.scan;
-        let due = first_item(
+        let due = read_first_item(
             self.alloc,
             &mut scan,
             self.phase,
@@ -171,13 +171,13 @@ impl Reader {
         ensures answers { result ≢ Err MmoFault.OutOfMemory →
             (result, self.new) ≡ spec.finish_answer self.old }
         ensures memory { result ≡ Err MmoFault.OutOfMemory → self.new ≡ self.old }
-        ensures again { IfSome self.old.fault (λ fault. result ≡ Err fault) }
+        ensures fault_again { IfSome self.old.fault (λ fault. result ≡ Err fault) }
         ensures place { IfOk result (λ tail. tail.place ≤ 2 ^ 26) }
     {
         if let Some(fault) = self.fault {
             return Err(fault);
         }
-        match tail_of(self.alloc, self.phase, self.at, self.input.bytes()) {
+        match read_tail(self.alloc, self.phase, self.at, self.input.bytes()) {
             Ok(tail) => Ok(tail),
             Err(MmoFault::OutOfMemory) => Err(MmoFault::OutOfMemory),
             Err(fault) => self.refuse(fault),
@@ -212,7 +212,7 @@ impl Reader {
         } }
     {
         self.input.advance(size);
-        self.scan = Scan::start();
+        self.scan = Scan::new();
         self.place = self.at;
         self.at += size as u64;
     }

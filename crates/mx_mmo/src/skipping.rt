@@ -13,7 +13,7 @@ pub struct Scan {
 
 impl Scan {
     /// Nothing was looked at.
-    pub fn start() -> Scan
+    pub fn new() -> Scan
         ensures size { result.size ≡ 0 }
         ensures quoted { result.quoted ≡ false }
     {
@@ -25,8 +25,8 @@ impl Scan {
 }
 
 /// Whether the tetra after this one is quoted; nothing where this one ends a spec.
-fn quote_behind(quoted: bool, a: u8, code: u8, y: u8, z: u8) -> Option<bool>
-    ensures { result ≡ spec.quote_behind quoted a code y z }
+fn quote_after(quoted: bool, a: u8, code: u8, y: u8, z: u8) -> Option<bool>
+    ensures { result ≡ spec.quote_after quoted a code y z }
 {
     if quoted || a != 0x98 {
         Some(false)
@@ -41,15 +41,15 @@ fn quote_behind(quoted: bool, a: u8, code: u8, y: u8, z: u8) -> Option<bool>
 /// before is not looked at again.
 pub fn skip(scan: &mut Scan, more: &[u8]) -> Option<usize>
     requires within { scan.old.size ≤ length more.now }
-    requires looked { spec.quoted_behind false (take scan.old.size more.now) ≡ Some scan.old.quoted }
+    requires looked { spec.quoted_after false (take scan.old.size more.now) ≡ Some scan.old.quoted }
     ensures size { result ≡ spec.skipped false more.now }
     ensures there { IfSome result (λ size. size ≤ length more.now) }
     ensures within { scan.new.size ≤ length more.now }
-    ensures looked { spec.quoted_behind false (take scan.new.size more.now) ≡ Some scan.new.quoted }
+    ensures looked { spec.quoted_after false (take scan.new.size more.now) ≡ Some scan.new.quoted }
 {
     let mut rest = &more[scan.size..];
     while let [a, code, y, z, others @ ..] = rest {
-        match quote_behind(scan.quoted, *a, *code, *y, *z) {
+        match quote_after(scan.quoted, *a, *code, *y, *z) {
             Some(quoted) => {
                 scan.size += 4;
                 scan.quoted = quoted;

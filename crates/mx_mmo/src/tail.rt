@@ -19,7 +19,7 @@ fn end_count(last: &[u8]) -> Option<u16>
 }
 
 /// The trie, which has `size` bytes and begins at `at`, where the last tetra counts its tetras.
-fn counted_tail(
+fn read_counted_tail(
     alloc: Global,
     at: u64,
     rest: &[u8],
@@ -40,9 +40,9 @@ fn counted_tail(
 }
 
 /// What follows `stab`: the trie and the lopcode `end`.
-fn tail_behind(alloc: Global, at: u64, rest: &[u8]) -> Result<Tail, MmoFault>
+fn tail_after(alloc: Global, at: u64, rest: &[u8]) -> Result<Tail, MmoFault>
     requires { at + length rest.now ≤ 2 ^ 26 }
-    ensures { result ≢ Err MmoFault.OutOfMemory → result ≡ spec.tail_behind Phase.Ended at rest.now }
+    ensures { result ≢ Err MmoFault.OutOfMemory → result ≡ spec.tail_after Phase.Ended at rest.now }
 {
     let end = at + rest.len() as u64;
     if rest.len() < 4 {
@@ -50,13 +50,13 @@ fn tail_behind(alloc: Global, at: u64, rest: &[u8]) -> Result<Tail, MmoFault>
     }
     let size = rest.len() - 4;
     match end_count(&rest[size..]) {
-        Some(count) => counted_tail(alloc, at, rest, size, count),
+        Some(count) => read_counted_tail(alloc, at, rest, size, count),
         None => Err(MmoFault::Truncated(end)),
     }
 }
 
 /// What follows the items that were given, where no more comes.
-pub fn tail_of(alloc: Global, phase: Phase, at: u64, rest: &[u8]) -> Result<Tail, MmoFault>
+pub fn read_tail(alloc: Global, phase: Phase, at: u64, rest: &[u8]) -> Result<Tail, MmoFault>
     requires { at + length rest.now ≤ 2 ^ 26 }
     ensures { result ≢ Err MmoFault.OutOfMemory → result ≡ spec.tail_of phase at rest.now }
 {
@@ -66,7 +66,7 @@ pub fn tail_of(alloc: Global, phase: Phase, at: u64, rest: &[u8]) -> Result<Tail
         return Err(MmoFault::NotTetras(end - left as u64));
     }
     match phase {
-        Phase::Ended => tail_behind(alloc, at, rest),
+        Phase::Ended => tail_after(alloc, at, rest),
         _ => Err(MmoFault::Truncated(end)),
     }
 }

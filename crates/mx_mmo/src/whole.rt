@@ -24,7 +24,7 @@ fn take_one(reader: &mut Reader, items: &mut Items) -> Result<bool, MmoFault>
     ensures last { result ≡ Ok false →
         with_rest items.old reader.old ≡ (items.new, Ok (left_of reader.new)) }
     ensures less { result ≡ Ok true → length reader.new.rest < length reader.old.rest }
-    ensures well { OnOk result (reader.new.fault ≡ None) }
+    ensures no_fault { OnOk result (reader.new.fault ≡ None) }
     ensures end { OnOk result (fed reader.new ≡ fed reader.old) }
     ensures fault { result ≢ Err MmoFault.OutOfMemory →
         IfErr result (λ f. (with_rest items.old reader.old).1 ≡ Err f) }
@@ -43,7 +43,7 @@ fn take_one(reader: &mut Reader, items: &mut Items) -> Result<bool, MmoFault>
 fn take_all(reader: &mut Reader, items: &mut Items) -> Result<(), MmoFault>
     requires { reader.old.fault ≡ None }
     ensures last { OnOk result (with_rest items.old reader.old ≡ (items.new, Ok (left_of reader.new))) }
-    ensures well { OnOk result (reader.new.fault ≡ None) }
+    ensures no_fault { OnOk result (reader.new.fault ≡ None) }
     ensures end { OnOk result (fed reader.new ≡ fed reader.old) }
     ensures fault { result ≢ Err MmoFault.OutOfMemory →
         IfErr result (λ f. (with_rest items.old reader.old).1 ≡ Err f) }
@@ -62,7 +62,7 @@ fn take_piece(reader: &mut Reader, items: &mut Items, piece: &[u8]) -> Result<()
     requires { reader.old.fault ≡ None }
     ensures last { OnOk result (with_rest items.old (with_more reader.old piece.now)
         ≡ (items.new, Ok (left_of reader.new))) }
-    ensures well { OnOk result (reader.new.fault ≡ None) }
+    ensures no_fault { OnOk result (reader.new.fault ≡ None) }
     ensures end { OnOk result (fed reader.new ≡ fed reader.old + length piece.now) }
     ensures most { OnOk result (fed reader.old + length piece.now ≤ limit) }
     ensures bytes { AreBytes piece.now }
@@ -83,7 +83,7 @@ fn take_pieces(reader: &mut Reader, items: &mut Items, pieces: &[Bytes]) -> Resu
     requires none { items.old ≡ [] }
     ensures last { OnOk result (items_of Phase.Start 0 (concat pieces.now)
         ≡ (items.new, Ok (left_of reader.new))) }
-    ensures well { OnOk result (reader.new.fault ≡ None) }
+    ensures no_fault { OnOk result (reader.new.fault ≡ None) }
     ensures most { OnOk result (length (concat pieces.now) ≤ limit) }
     ensures bytes { OnOk result (AreBytes (concat pieces.now)) }
     ensures fault { length (concat pieces.now) ≤ limit → result ≢ Err MmoFault.OutOfMemory →

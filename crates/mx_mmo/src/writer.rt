@@ -44,7 +44,7 @@ impl Writer {
         requires { Fits item.now }
         ensures ok { OnOk result (self.new ≡ self.old ++ bytes_of item.now) }
         ensures err { OnErr result (self.new ≡ self.old) }
-        ensures only { IfErr result (λ e. e ≡ MmoFault.OutOfMemory) }
+        ensures only_no_memory { IfErr result (λ e. e ≡ MmoFault.OutOfMemory) }
     {
         let before = self.bytes.len();
         match append_item(&mut self.bytes, item) {
@@ -65,7 +65,7 @@ impl Writer {
         // What is written from valid items is an object of these items and this trie.
         ensures object { IfOk result (λ bytes. (items : List Item) → Valid items →
             self ≡ written items → IsObject bytes items trie.now) }
-        ensures only { IfErr result (λ e. e ≡ MmoFault.OutOfMemory) }
+        ensures only_no_memory { IfErr result (λ e. e ≡ MmoFault.OutOfMemory) }
     {
         let mut bytes = self.bytes;
         match append_end(&mut bytes, trie) {

@@ -22,7 +22,7 @@ pub(crate) fn turn_alone<H: Host>(alloc: Global, machine: &mut Machine, host: &m
     let pc = machine.pc();
     match machine.advance() {
         Advance::Went => Turn::Went,
-        Advance::Trap => told_at(pc, turn(alloc, machine, host)),
+        Advance::Trap => turn_without_trace(pc, turn(alloc, machine, host)),
         Advance::Stopped(reason) => Turn::Stopped {
             pc,
             reason: reason.number(),
@@ -32,7 +32,7 @@ pub(crate) fn turn_alone<H: Host>(alloc: Global, machine: &mut Machine, host: &m
 }
 
 /// What a turn from an address tells without its trace.
-fn told_at(pc: u64, step: TurnAnswer) -> Turn
+fn turn_without_trace(pc: u64, step: TurnAnswer) -> Turn
     ensures { result ≡ spec.told_at pc step }
 {
     match step {

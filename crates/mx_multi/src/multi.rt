@@ -16,7 +16,7 @@ use mx_load::Image;
 use mx_mem::Memory;
 use mx_mmo::Octas;
 use mx_ring::RingSize;
-use mx_start::globals_in;
+use mx_start::collect_globals;
 use mx_word::NoMemory;
 use std::alloc::Global;
 use std::marker::Model;
@@ -55,7 +55,7 @@ impl Multi {
         ensures state { IfOk result (λ p. joint_of p ≡ started (image_of image) count (windowed (window_at_start r))) }
         ensures count { IfOk result (λ p. processor_count p ≡ count) }
     {
-        let globals = globals_in(alloc, &image)?;
+        let globals = collect_globals(alloc, &image)?;
         let processors = bare_machines(alloc, image.g(), &globals, count, r)?;
         let halted = none_halted(alloc, count)?;
         Ok(Multi {
@@ -83,7 +83,7 @@ impl Multi {
     }
 
     /// Which processors have halted, by their numbers. It takes no memory.
-    pub(crate) fn flags(&self) -> &[bool]
+    pub(crate) fn halted_flags(&self) -> &[bool]
         ensures flags { result.now ≡ self.now.halted }
         ensures count { length result.now ≡ processor_count self.now }
     {

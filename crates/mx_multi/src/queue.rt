@@ -37,7 +37,7 @@ pub(crate) fn queue_of(alloc: Global, multi: &Multi, schedule: &[u8]) -> Result<
     ensures place { IfOk result (λ q. drop q.at q.names.items ≡ running multi.now.halted schedule.now) }
     ensures none { IfErr result (λ _. AllHaveHalted multi.now.halted schedule.now → ⊥) }
 {
-    if !any_runs(multi, schedule) {
+    if !has_any_running(multi, schedule) {
         return Ok(Queue {
             names: Vec::new(alloc),
             at: 0,
@@ -45,7 +45,7 @@ pub(crate) fn queue_of(alloc: Global, multi: &Multi, schedule: &[u8]) -> Result<
     }
     let names = Vec::from_slice(alloc, schedule)?;
     let mut queue = Queue { names, at: 0 };
-    if any_halted(multi.flags()) {
+    if has_any_halted(multi.halted_flags()) {
         leave_out_halted(multi, &mut queue);
     }
     Ok(queue)
@@ -53,7 +53,7 @@ pub(crate) fn queue_of(alloc: Global, multi: &Multi, schedule: &[u8]) -> Result<
 
 /// Whether one of all processors has halted. Where none has, each name is that of one which has not.
 #[tactic(auto, using(crate::proofs::Packed::flags))]
-fn any_halted(halted: &[bool]) -> bool
+fn has_any_halted(halted: &[bool]) -> bool
     ensures { result ≡ false → (names : List ℕ) → AreNames (length halted.now) names → running halted.now names ≡ names }
 {
     for flag in halted {
@@ -65,7 +65,7 @@ fn any_halted(halted: &[bool]) -> bool
 }
 
 /// Whether a name is that of a processor which has not halted.
-fn any_runs(multi: &Multi, names: &[u8]) -> bool
+fn has_any_running(multi: &Multi, names: &[u8]) -> bool
     requires { AreNames (processor_count multi.now) names.now }
     ensures some { result ≡ true → AllHaveHalted multi.now.halted names.now → ⊥ }
     ensures none { result ≡ false → running multi.now.halted names.now ≡ [] }
@@ -85,7 +85,7 @@ pub(crate) fn leave_out_halted(multi: &Multi, queue: &mut Queue)
     ensures names { queue.new.names.items ≡ running multi.now.halted queue.old.names.items }
     ensures place { drop queue.new.at queue.new.names.items ≡ running multi.now.halted (drop queue.old.at queue.old.names.items) }
 {
-    let halted = multi.flags();
+    let halted = multi.halted_flags();
     let length = queue.names.len();
     let names = queue.names.as_mut_slice();
     let place = pack(halted, names, 0, queue.at, 0);

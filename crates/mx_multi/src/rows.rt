@@ -17,7 +17,7 @@ pub(crate) enum RowEnd {
 /// How many names of a list, from a place on and at most this many, are the same.
 #[tactic(auto, using(crate::proofs::Stretches::walking))]
 pub(crate) fn row_length(names: &[u8], at: usize, most: u64) -> u64
-    requires some { 1 ≤ most }
+    requires positive { 1 ≤ most }
     requires inside { at < length names.now }
     ensures some { 1 ≤ result }
     ensures few { result ≤ most }

@@ -9,7 +9,7 @@ use Rattle.mx_code.specs.declared.trace.Trace.{Trace}
 use Rattle.mx_run.specs.WildRuns.{MachineKind}
 use Rattle.mx_words.specs.declared.order.Order.{Order}
 use Rattle.mx_view.specs.declared.cells.Cell.{Cell}
-use Rattle.mx_count.specs.Reports.{HasOctas, behind_tally, first_tally, tally_bytes}
+use Rattle.mx_count.specs.Reports.{HasOctas, after_tally, first_tally, tally_bytes}
 unfoldable use Rattle.mx_count.specs.Reports.{sheet_bytes}
 use Rattle.mx_count.specs.Sheets.{Counts, is_among, line_tally}
 use Rattle.mx_count.specs.Tallies.{step_tally}
@@ -18,7 +18,7 @@ use Rattle.mx_count.specs.declared.tally.Tally.{Tally}
 use Rattle.mx_count.proofs.ReadSheets.{all-fit, tally-back}
 use Rattle.mx_count.proofs.TracedLines.{Remakes, image-same}
 use Rattle.mx_object.specs.Addresses.{addresses_of, items_in}
-use Rattle.mx_object.specs.Counting.{behind_count, cell_of, cells_of, count_of, less, loads_of, part_cells, part_if, sheet_of, sheet_read}
+use Rattle.mx_object.specs.Counting.{after_count, cell_of, cells_of, count_of, less, loads_of, part_cells, part_if, sheet_of, sheet_read}
 unfoldable use Rattle.mx_object.specs.Counting.{counts_of, counts_read, loads_from}
 use Rattle.mx_object.specs.Listing.{tetras_at}
 use Rattle.mx_object.specs.Runs.{by_report, by_steps, by_tetras, loaded_with, object_counted, object_in, object_traced, report_on}

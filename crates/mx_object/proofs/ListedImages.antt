@@ -13,7 +13,7 @@ use Rattle.mx_mmo.specs.Meaning.{Loading, Meaningless, after_load, far_place, im
 use Rattle.mx_mmo.specs.Meaning.Meaningless.{BadPlace, NoFile, PagesFull}
 use Rattle.mx_mmo.specs.Replies.{limit, tail_of}
 use Rattle.mx_mmo.specs.Valid.{Fits}
-use Rattle.mx_mmo.specs.Whole.{Left, object_behind, object_of, with_tail}
+use Rattle.mx_mmo.specs.Whole.{Left, object_after, object_of, with_tail}
 unfoldable use Rattle.mx_mmo.specs.Whole.{items_of}
 use Rattle.mx_mmo.specs.declared.due.Phase.TheVariants.{Start}
 use Rattle.mx_mmo.specs.declared.faults.MmoFault.{MmoFault}
@@ -267,14 +267,14 @@ tail-items items (Ok tail) object e =
     ap (λ (o : Object). o.items) same
 tail-items items (Err fault) object e = absurd (cc)
 
-behind-items : (items : List Item) (r : Result Left MmoFault) (object : Object) → object_behind items r ≡ Ok object → items ≡ object.items
+behind-items : (items : List Item) (r : Result Left MmoFault) (object : Object) → object_after items r ≡ Ok object → items ≡ object.items
 behind-items items (Ok left) object e = tail-items items (tail_of left.phase left.at left.rest) object e
 behind-items items (Err fault) object e = absurd (cc)
 
 object-items : (bytes : List ℕ) (object : Object) → object_of bytes ≡ Ok object → items_in bytes ≡ object.items
 object-items bytes object e = by (nat_lt limit (length bytes)) e
   where
-    by : (b : Bool) → cond b (Err (TooLong limit)) (object_behind (items_in bytes) (items_of Start 0 bytes).1) ≡ Ok object → items_in bytes ≡ object.items
+    by : (b : Bool) → cond b (Err (TooLong limit)) (object_after (items_in bytes) (items_of Start 0 bytes).1) ≡ Ok object → items_in bytes ≡ object.items
     by true e = absurd (cc)
     by false e = behind-items (items_in bytes) (items_of Start 0 bytes).1 object e
 

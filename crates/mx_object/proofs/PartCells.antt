@@ -1,7 +1,7 @@
 -- Tetras one after another: the cells of their parts, and their counts.
 use Rattle.std.proofs.Common.{◌≡◌, ℕ, Bool, true, false, cond, List, [], ◌∷◌, ◌++◌, length, append-nil, append_assoc, arith, sym, ap, ◌∙◌}
 use Rattle.mx_view.specs.declared.cells.Cell.{Cell}
-use Rattle.mx_object.specs.Counting.{begins_part, behind_count, cell_of, cells_of, count_read, tetra_loads}
+use Rattle.mx_object.specs.Counting.{begins_part, after_count, cell_of, cells_of, count_read, tetra_loads}
 unfoldable use Rattle.mx_object.specs.Counting.{before_part, counts_read, loads_from}
 use Rattle.mx_object.specs.declared.counting.TetraCount.{TetraCount}
 use Rattle.mx_object.specs.declared.tetras.ListedTetra.{ListedTetra}
@@ -35,9 +35,9 @@ loads-none loads (t ∷ rest) e = absurd (omega (arith, e))
 pub ruleset loads = (loads-more, loads-none)
 
 pub counts-more : (counts : List TetraCount) (t : ListedTetra) (tetras : List ListedTetra) (octas : List ℕ) →
-    counts ++ counts_read (t ∷ tetras) octas ≡ (counts ++ count_read t octas ∷ []) ++ counts_read tetras (behind_count octas)
+    counts ++ counts_read (t ∷ tetras) octas ≡ (counts ++ count_read t octas ∷ []) ++ counts_read tetras (after_count octas)
 unfolding counts_read
-counts-more counts t tetras octas = sym (append_assoc counts (count_read t octas ∷ []) (counts_read tetras (behind_count octas)))
+counts-more counts t tetras octas = sym (append_assoc counts (count_read t octas ∷ []) (counts_read tetras (after_count octas)))
 
 pub counts-none : (counts : List TetraCount) (rest : List ListedTetra) (octas : List ℕ) → length rest ≡ 0 → counts ++ counts_read rest octas ≡ counts
 unfolding counts_read

@@ -1,7 +1,7 @@
 -- What is counted of a run of an object: the steps at each tetra that it loads, the steps at each part, which goes from a tetra
 -- with labels up to the next one, and the steps elsewhere.
 use Rattle.std.specs.Prelude.{ℕ, ◌-◌, Bool, true, false, not, List, [], ◌∷◌, ◌++◌, map, Option, None, Some, if◌then◌else◌}
-use Rattle.mx_count.specs.Reports.{behind_tally, first_tally}
+use Rattle.mx_count.specs.Reports.{after_tally, first_tally}
 use Rattle.mx_count.specs.Sheets.{Counts, is_among}
 use Rattle.mx_count.specs.declared.tally.Tally.{Tally}
 use Rattle.mx_view.specs.declared.cells.Cell.{Cell}
@@ -78,19 +78,19 @@ abbrev pub less : Tally → Tally → Tally
 less x y = record { times = x.times - y.times; away = x.away - y.away; oops = x.oops - y.oops; mems = x.mems - y.mems }
 
 abbrev pub count_read : ListedTetra → List ℕ → TetraCount
-count_read t octas = record { tally = first_tally octas; part = part_if t (first_tally (behind_tally octas)) }
+count_read t octas = record { tally = first_tally octas; part = part_if t (first_tally (after_tally octas)) }
 
-abbrev pub behind_count : List ℕ → List ℕ
-behind_count octas = behind_tally (behind_tally octas)
+abbrev pub after_count : List ℕ → List ℕ
+after_count octas = after_tally (after_tally octas)
 
 unfoldable pub counts_read : List ListedTetra → List ℕ → List TetraCount
 counts_read [] octas = []
-counts_read (t ∷ tetras) octas = count_read t octas ∷ counts_read tetras (behind_count octas)
+counts_read (t ∷ tetras) octas = count_read t octas ∷ counts_read tetras (after_count octas)
 
 abbrev pub sheet_read : List ListedTetra → List ℕ → ObjectSheet
 sheet_read tetras octas = record {
   tetras = tetras;
-  counts = counts_read tetras (behind_count octas);
-  elsewhere = less (first_tally octas) (first_tally (behind_tally octas));
+  counts = counts_read tetras (after_count octas);
+  elsewhere = less (first_tally octas) (first_tally (after_tally octas));
   total = first_tally octas;
 }

@@ -13,7 +13,7 @@ use Rattle.mx_outcome.specs.declared.outcome.Outcome.{Outcome}
 use Rattle.mx_outcome.specs.declared.outcome.Outcome.TheVariants.{BadObject}
 use Rattle.mx_count.specs.Leaving.{ImageLeaves}
 use Rattle.mx_count.specs.Reports.{sheet_bytes}
-use Rattle.mx_count.specs.Runs.{CountAnswer, Making, came_to, image_counted, mapped, reporting}
+use Rattle.mx_count.specs.Runs.{CountAnswer, AnswerForms, came_to, image_counted, mapped, reporting}
 use Rattle.mx_count.specs.Tallies.{tally_in}
 use Rattle.mx_count.specs.declared.count.Counted.{Counted}
 use Rattle.mx_object.specs.Addresses.{addresses_of, items_in}
@@ -46,7 +46,7 @@ abbrev pub by_report : Counting
 by_report kind o arguments tetras image m = mapped (object_in tetras) (image_counted kind o arguments (reporting (report_on tetras)) image m)
 
 -- by the steps: each tetra has the tally of the steps there
-abbrev pub by_tetras : List ListedTetra → Making CountedObject
+abbrev pub by_tetras : List ListedTetra → AnswerForms CountedObject
 by_tetras tetras = record {
   without = λ outcome. uncounted outcome;
   with_steps = λ outcome h. record { outcome = outcome; sheet = Some (sheet_of (λ test. tally_in test h) tetras) };

@@ -30,7 +30,7 @@ pub struct CountedObject {
 }
 
 /// An outcome without a sheet.
-fn uncounted(outcome: Outcome) -> CountedObject
+fn without_sheet(outcome: Outcome) -> CountedObject
     ensures { result ≡ spec.uncounted outcome }
 {
     CountedObject {
@@ -59,15 +59,15 @@ fn with_tetras(alloc: Global, tetras: ListedTetras, counted: &Counted) -> Counte
     ensures same { result.outcome ≢ Outcome.OutOfMemory → result.outcome ≡ counted.now.outcome }
     ensures none { (counted.now.outcome ≡ Outcome.OutOfMemory → counted.now.sheet ≡ None) →
         result.outcome ≡ Outcome.OutOfMemory → result.sheet ≡ None }
-    ensures well { counted.now.outcome ≢ Outcome.HostFault → result.outcome ≢ Outcome.HostFault }
-    ensures present { counted.now.outcome ≢ Outcome.NoFile → result.outcome ≢ Outcome.NoFile }
+    ensures no_host_fault { counted.now.outcome ≢ Outcome.HostFault → result.outcome ≢ Outcome.HostFault }
+    ensures no_missing_file { counted.now.outcome ≢ Outcome.NoFile → result.outcome ≢ Outcome.NoFile }
 {
     match sheet_if(alloc, tetras, &counted.sheet) {
         Ok(sheet) => CountedObject {
             outcome: counted.outcome,
             sheet,
         },
-        Err(_) => uncounted(Outcome::OutOfMemory),
+        Err(_) => without_sheet(Outcome::OutOfMemory),
     }
 }
 
@@ -88,8 +88,8 @@ fn count_loads<H: Host>(
     ensures left { IsLeft (H.told host.old) (H.told host.new)
         (λ m k. ImageLeaves order.now arguments.now (image_of image) m k) }
     ensures none { result.outcome ≡ Outcome.OutOfMemory → result.sheet ≡ None }
-    ensures well { result.outcome ≢ Outcome.HostFault }
-    ensures present { result.outcome ≢ Outcome.NoFile }
+    ensures no_host_fault { result.outcome ≢ Outcome.HostFault }
+    ensures no_missing_file { result.outcome ≢ Outcome.NoFile }
     ensures keeps { Keeps (H.told host.old) (H.told host.new) (H.faults host.old) (H.faults host.new) }
 {
     let counts = Counts::of_loads(alloc, Form::Octas, Bytes::new(alloc), loads);
@@ -112,13 +112,13 @@ fn count_tetras<H: Host>(
     ensures left { IsLeft (H.told host.old) (H.told host.new)
         (λ m k. ImageLeaves order.now arguments.now (image_of image) m k) }
     ensures none { result.outcome ≡ Outcome.OutOfMemory → result.sheet ≡ None }
-    ensures well { result.outcome ≢ Outcome.HostFault }
-    ensures present { result.outcome ≢ Outcome.NoFile }
+    ensures no_host_fault { result.outcome ≢ Outcome.HostFault }
+    ensures no_missing_file { result.outcome ≢ Outcome.NoFile }
     ensures keeps { Keeps (H.told host.old) (H.told host.new) (H.faults host.old) (H.faults host.new) }
 {
     match loads_of(alloc, tetras.as_slice()) {
         Ok(loads) => count_loads(alloc, host, order, image, arguments, tetras, loads),
-        Err(_) => uncounted(Outcome::OutOfMemory),
+        Err(_) => without_sheet(Outcome::OutOfMemory),
     }
 }
 
@@ -139,13 +139,13 @@ fn count_loaded<H: Host>(
     ensures left { IsLeft (H.told host.old) (H.told host.new)
         (λ m k. ImageLeaves order.now arguments.now (image_of image) m k) }
     ensures none { result.outcome ≡ Outcome.OutOfMemory → result.sheet ≡ None }
-    ensures well { result.outcome ≢ Outcome.HostFault }
-    ensures present { result.outcome ≢ Outcome.NoFile }
+    ensures no_host_fault { result.outcome ≢ Outcome.HostFault }
+    ensures no_missing_file { result.outcome ≢ Outcome.NoFile }
     ensures keeps { Keeps (H.told host.old) (H.told host.new) (H.faults host.old) (H.faults host.new) }
 {
     match tetras_of(alloc, &image, bytes) {
         Ok(tetras) => count_tetras(alloc, host, order, image, arguments, tetras),
-        Err(_) => uncounted(Outcome::OutOfMemory),
+        Err(_) => without_sheet(Outcome::OutOfMemory),
     }
 }
 
@@ -170,13 +170,16 @@ pub fn count_object<H: Host>(
     ensures left { IsLeft (H.told host.old) (H.told host.new)
         (λ m k. ObjectLeaves order.now arguments.now bytes.now m k) }
     ensures none { result.outcome ≡ Outcome.OutOfMemory → result.sheet ≡ None }
-    ensures well { result.outcome ≢ Outcome.HostFault }
-    ensures present { result.outcome ≢ Outcome.NoFile }
+    ensures no_host_fault { result.outcome ≢ Outcome.HostFault }
+    ensures no_missing_file { result.outcome ≢ Outcome.NoFile }
     ensures keeps { Keeps (H.told host.old) (H.told host.new) (H.faults host.old) (H.faults host.new) }
 {
     match load_object(alloc, bytes) {
         Ok(image) => count_loaded(alloc, host, order, image, bytes, arguments),
-        Err(ObjectFault::Bad { place, fault }) => uncounted(Outcome::BadObject { place, fault }),
-        Err(ObjectFault::OutOfMemory) => uncounted(Outcome::OutOfMemory),
+        Err(ObjectFault::Bad { place, fault }) => without_sheet(Outcome::BadObject {
+            place,
+            fault,
+        }),
+        Err(ObjectFault::OutOfMemory) => without_sheet(Outcome::OutOfMemory),
     }
 }

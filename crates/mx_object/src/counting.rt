@@ -5,7 +5,7 @@ ghost use Rattle.mx_mmo.specs.Reading.{octas_of as octas_in};
 ghost use Rattle.mx_object.specs.Counting as spec;
 
 use crate::tetras::{ListedTetra, ListedTetras};
-use mx_count::{Tally, next_tally, octas_of};
+use mx_count::{Tally, next_tally, to_octas};
 use mx_view::{Cell, LineCells};
 use mx_word::{NoMemory, Sequence};
 use std::alloc::Global;
@@ -38,7 +38,7 @@ fn cell_of(tetra: &ListedTetra) -> Cell
 }
 
 /// Whether a part begins with a tetra.
-fn begins_part(tetra: &ListedTetra) -> bool
+fn is_part_start(tetra: &ListedTetra) -> bool
     ensures { result ≡ spec.begins_part tetra.now }
 {
     !tetra.labels.as_slice().is_empty()
@@ -62,7 +62,7 @@ fn add_before_part(cells: &mut Sequence<Cell>, tetras: &[ListedTetra]) -> Result
 {
     let mut rest = tetras;
     while let Some((tetra, others)) = rest.split_first() {
-        if begins_part(tetra) {
+        if is_part_start(tetra) {
             return Ok(());
         }
         cells.push(cell_of(tetra))?;
@@ -80,7 +80,7 @@ fn part_cells(
     ensures { IfOk result (λ cells. cells ≡ spec.part_cells tetra.now others.now) }
 {
     let mut cells = Sequence::new(alloc);
-    if begins_part(tetra) {
+    if is_part_start(tetra) {
         cells.push(cell_of(tetra))?;
         add_before_part(&mut cells, others)?;
     }
@@ -132,11 +132,15 @@ pub(crate) fn loads_of(alloc: Global, tetras: &[ListedTetra]) -> Result<LineCell
 /// The count of a tetra, and the octas that follow it.
 fn next_count<'a>(tetra: &ListedTetra, octas: &'a [u64]) -> (TetraCount, &'a [u64])
     ensures count { result.0 ≡ spec.count_read tetra.now octas.now }
-    ensures others { result.1.now ≡ spec.behind_count octas.now }
+    ensures others { result.1.now ≡ spec.after_count octas.now }
 {
     let (tally, behind) = next_tally(octas);
     let (part, others) = next_tally(behind);
-    let part = if begins_part(tetra) { Some(part) } else { None };
+    let part = if is_part_start(tetra) {
+        Some(part)
+    } else {
+        None
+    };
     (TetraCount { tally, part }, others)
 }
 
@@ -183,7 +187,7 @@ fn figures_in(
     ensures elsewhere { IfOk result (λ read. read.1 ≡ (spec.sheet_read tetras.now (octas_in report.now)).elsewhere) }
     ensures total { IfOk result (λ read. read.2 ≡ (spec.sheet_read tetras.now (octas_in report.now)).total) }
 {
-    let octas = octas_of(alloc, report)?;
+    let octas = to_octas(alloc, report)?;
     let (total, behind) = next_tally(octas.as_slice());
     let (loaded, others) = next_tally(behind);
     let counts = counts_in(alloc, tetras, others)?;

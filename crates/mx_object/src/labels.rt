@@ -68,7 +68,7 @@ fn add_tetra(addresses: &mut Addresses, value: Value) -> Result<(), NoMemory>
 }
 
 /// The addresses of the tetras that have labels.
-pub(crate) fn labelled(alloc: Global, symbols: &[Symbol]) -> Result<Addresses, NoMemory>
+pub(crate) fn collect_labelled(alloc: Global, symbols: &[Symbol]) -> Result<Addresses, NoMemory>
     ensures { IfOk result (λ addresses. addresses ≡ spec.labelled symbols.now) }
 {
     let mut addresses = Addresses::new(alloc);
@@ -78,7 +78,7 @@ pub(crate) fn labelled(alloc: Global, symbols: &[Symbol]) -> Result<Addresses, N
     Ok(addresses)
 }
 
-/// The labels of the tetra at an address, where `labelled` has the addresses of the tetras that have any.
+/// The labels of the tetra at an address, where `collect_labelled` has the addresses of the tetras that have any.
 #[tactic(auto, using(crate::proofs::LabelLists::none))]
 pub(crate) fn labels_at(
     alloc: Global,
@@ -96,7 +96,7 @@ pub(crate) fn labels_at(
 }
 
 /// Whether an address is at or before another in its segment.
-fn precedes(a: u64, b: u64) -> bool
+fn is_at_or_before(a: u64, b: u64) -> bool
     ensures { result ≡ spec.precedes a b }
 {
     a <= b && a >> 61 == b >> 61
@@ -109,7 +109,7 @@ fn place_of(alloc: Global, address: u64, symbol: &Symbol) -> Result<Option<Place
     let Value::Pure(a) = symbol.value else {
         return Ok(None);
     };
-    if !precedes(a, address) {
+    if !is_at_or_before(a, address) {
         return Ok(None);
     }
     let name = Bytes::copy(alloc, symbol.name.as_slice())?;

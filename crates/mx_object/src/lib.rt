@@ -21,7 +21,7 @@ pub use laws::{
     counted_objects_are_those_of_the_steps, every_loaded_tetra_is_listed_once,
     the_listing_is_the_image, the_nearest_symbol_is_told,
 };
-pub use rows::{found_text, listing_text};
-pub use sheet::{next_count, sheet_text};
+pub use rows::{format_found, format_listing};
+pub use sheet::{format_sheet, next_count};
 pub use tetras::{FoundTetra, ListedTetra, ListedTetras};
 pub use view::{ListedObject, find_tetra, is_object, list_object};

@@ -23,7 +23,7 @@ fn note(addresses: &mut Addresses, lambda: &mut u64, item: &Item) -> Result<bool
 }
 
 /// No item is next where bytes have a fault.
-fn stopped(fault: MmoFault) -> Result<bool, NoMemory>
+fn end_at_fault(fault: MmoFault) -> Result<bool, NoMemory>
     ensures { IfOk result (λ more. (more ≡ false) × (fault ≢ MmoFault.OutOfMemory)) }
 {
     match fault {
@@ -47,7 +47,7 @@ fn note_next(
     match reader.next() {
         Ok(Some(item)) => note(addresses, lambda, &item),
         Ok(None) => Ok(false),
-        Err(fault) => stopped(fault),
+        Err(fault) => end_at_fault(fault),
     }
 }
 

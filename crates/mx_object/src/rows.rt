@@ -162,7 +162,7 @@ fn add_symbols(text: &mut Bytes, lister: &Lister, symbols: &[Symbol]) -> Result<
 }
 
 /// What is listed of an object as a text: the rows of each tetra, and the symbols in the order of their names.
-pub fn listing_text(alloc: Global, listed: &ListedObject) -> Result<Bytes, NoMemory>
+pub fn format_listing(alloc: Global, listed: &ListedObject) -> Result<Bytes, NoMemory>
     ensures { IfOk result (λ text. text ≡ spec.listing_of listed.now) }
 {
     let mut text = Bytes::new(alloc);
@@ -197,7 +197,7 @@ fn add_place(text: &mut Bytes, place: &Option<Place>) -> Result<(), NoMemory>
 
 /// The tetra that holds an address as a text: the place of the address, and the row of the tetra; no text where there is
 /// none.
-pub fn found_text(alloc: Global, found: &Option<FoundTetra>) -> Result<Bytes, NoMemory>
+pub fn format_found(alloc: Global, found: &Option<FoundTetra>) -> Result<Bytes, NoMemory>
     ensures { IfOk result (λ text. text ≡ spec.found_row found.now) }
 {
     let mut text = Bytes::new(alloc);

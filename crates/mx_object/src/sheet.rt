@@ -137,7 +137,7 @@ fn add_row(alloc: Global, text: &mut Bytes, tally: Tally, ending: &[u8]) -> Resu
 }
 
 /// The sheet of a run of an object as a text: the parts, the tetras and the sums that have steps.
-pub fn sheet_text(alloc: Global, sheet: &ObjectSheet) -> Result<Bytes, NoMemory>
+pub fn format_sheet(alloc: Global, sheet: &ObjectSheet) -> Result<Bytes, NoMemory>
     ensures { IfOk result (λ text. text ≡ spec.sheet_text sheet.now) }
 {
     let mut text = Bytes::copy(alloc, &HEADING)?;

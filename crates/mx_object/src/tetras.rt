@@ -58,7 +58,7 @@ fn line_in(image: &Image, address: u64) -> Option<u32>
     }
 }
 
-/// The tetra at an address, where `labelled` has the addresses of the tetras that have labels.
+/// The tetra at an address, where `collect_labelled` has the addresses of the tetras that have labels.
 pub(crate) fn tetra_at(
     alloc: Global,
     image: &Image,

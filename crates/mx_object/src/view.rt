@@ -5,7 +5,7 @@ ghost use Rattle.mx_load.specs.Kept.{image_of};
 ghost use Rattle.mx_object.specs.Listing as spec;
 
 use crate::joining::tetra_address;
-use crate::labels::{labelled, nearest};
+use crate::labels::{collect_labelled, nearest};
 use crate::reading::addresses_in;
 use crate::tetras::{FoundTetra, ListedTetras, tetra_at, tetras_at};
 use mx_load::{Image, ObjectFault, load_object};
@@ -31,7 +31,7 @@ pub fn is_object(bytes: &[u8]) -> bool
 }
 
 /// A symbol like another.
-fn copied(alloc: Global, symbol: &Symbol) -> Result<Symbol, NoMemory>
+fn copy_symbol(alloc: Global, symbol: &Symbol) -> Result<Symbol, NoMemory>
     ensures { IfOk result (λ copy. copy ≡ symbol.now) }
 {
     let name = Bytes::copy(alloc, symbol.name.as_slice())?;
@@ -43,12 +43,12 @@ fn copied(alloc: Global, symbol: &Symbol) -> Result<Symbol, NoMemory>
 }
 
 /// Symbols like these.
-fn all_copied(alloc: Global, symbols: &[Symbol]) -> Result<Symbols, NoMemory>
+fn copy_symbols(alloc: Global, symbols: &[Symbol]) -> Result<Symbols, NoMemory>
     ensures { IfOk result (λ copies. copies ≡ symbols.now) }
 {
     let mut copies = Symbols::new(alloc);
     for symbol in symbols {
-        copies.push(copied(alloc, symbol)?)?;
+        copies.push(copy_symbol(alloc, symbol)?)?;
     }
     Ok(copies)
 }
@@ -63,19 +63,19 @@ pub(crate) fn tetras_of(
     ensures { IfOk result (λ tetras. tetras
         ≡ (spec.listed_of (image_of image.now) image.now.symbols bytes.now).tetras) }
 {
-    let labelled = labelled(alloc, image.symbols().as_slice())?;
+    let labelled = collect_labelled(alloc, image.symbols().as_slice())?;
     let addresses = addresses_in(alloc, bytes)?;
     let list = addresses.list(alloc)?;
     tetras_at(alloc, image, &labelled, list.as_slice())
 }
 
 /// What is listed of an object whose image this is.
-fn listed_of(alloc: Global, image: &Image, bytes: &[u8]) -> Result<ListedObject, NoMemory>
+fn list_image(alloc: Global, image: &Image, bytes: &[u8]) -> Result<ListedObject, NoMemory>
     requires { length bytes.now ≤ 2 ^ 26 }
     ensures { IfOk result (λ listed. listed ≡ spec.listed_of (image_of image.now) image.now.symbols bytes.now) }
 {
     let tetras = tetras_of(alloc, image, bytes)?;
-    let symbols = all_copied(alloc, image.symbols().as_slice())?;
+    let symbols = copy_symbols(alloc, image.symbols().as_slice())?;
     Ok(ListedObject { tetras, symbols })
 }
 
@@ -87,7 +87,7 @@ pub fn list_object(alloc: Global, bytes: &[u8]) -> Result<ListedObject, ObjectFa
     ensures { result ≢ Err ObjectFault.OutOfMemory → spec.answer_in result ≡ spec.object_listed bytes.now }
 {
     match load_object(alloc, bytes) {
-        Ok(image) => match listed_of(alloc, &image, bytes) {
+        Ok(image) => match list_image(alloc, &image, bytes) {
             Ok(listed) => Ok(listed),
             Err(_) => Err(ObjectFault::OutOfMemory),
         },
@@ -96,17 +96,17 @@ pub fn list_object(alloc: Global, bytes: &[u8]) -> Result<ListedObject, ObjectFa
 }
 
 /// The tetra at an address with the place of the address.
-fn found_in(alloc: Global, image: &Image, address: u64) -> Result<FoundTetra, NoMemory>
+fn tetra_in_image(alloc: Global, image: &Image, address: u64) -> Result<FoundTetra, NoMemory>
     ensures { IfOk result (λ found. found ≡ spec.found_in (image_of image.now) image.now.symbols address) }
 {
-    let labelled = labelled(alloc, image.symbols().as_slice())?;
+    let labelled = collect_labelled(alloc, image.symbols().as_slice())?;
     let tetra = tetra_at(alloc, image, &labelled, tetra_address(address))?;
     let place = nearest(alloc, address, image.symbols().as_slice())?;
     Ok(FoundTetra { tetra, place })
 }
 
 /// The tetra that holds an address of an object whose image this is, if it loads one.
-fn found_of(
+fn find_tetra_in(
     alloc: Global,
     image: &Image,
     bytes: &[u8],
@@ -120,7 +120,7 @@ fn found_of(
     if !addresses.has(tetra_address(address)) {
         return Ok(None);
     }
-    let found = found_in(alloc, image, address)?;
+    let found = tetra_in_image(alloc, image, address)?;
     Ok(Some(found))
 }
 
@@ -137,7 +137,7 @@ pub fn find_tetra(
         spec.answer_in result ≡ spec.object_found bytes.now address }
 {
     match load_object(alloc, bytes) {
-        Ok(image) => match found_of(alloc, &image, bytes, address) {
+        Ok(image) => match find_tetra_in(alloc, &image, bytes, address) {
             Ok(found) => Ok(found),
             Err(_) => Err(ObjectFault::OutOfMemory),
         },

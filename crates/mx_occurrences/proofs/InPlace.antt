@@ -13,9 +13,9 @@ use Rattle.mx_line.specs.Lines.{lines_of}
 use Rattle.mx_line.specs.Spans.{part}
 use Rattle.mx_line.proofs.StatementLemmas.{statement-order}
 use Rattle.mx_marks.specs.Mending.{line_text}
-use Rattle.mx_slips.specs.Loads.{first_cells, loads_in}
-use Rattle.mx_slips.specs.Sources.{line_with, numbered_from, source_lines, statement_at, statements_in}
-use Rattle.mx_slips.specs.Tokens.{piece_at, token_length, tokens_behind, tokens_of}
+use Rattle.mx_slips.specs.Loads.{first_cells}
+use Rattle.mx_slips.specs.Sources.{line_with, numbered_from, statement_at, statements_in}
+use Rattle.mx_slips.specs.Tokens.{piece_at, token_length, tokens_after, tokens_of}
 use Rattle.mx_slips.specs.declared.pieces.Piece.{Piece}
 use Rattle.mx_slips.specs.declared.sources.Statement.{Statement}
 use Rattle.mx_slips.specs.declared.sources.SourceLine.{SourceLine}
@@ -24,7 +24,7 @@ use Rattle.mx_view.specs.declared.cells.Cell.{Cell}
 use Rattle.mx_occurrences.specs.declared.course.Course.{Course}
 use Rattle.mx_occurrences.specs.declared.occurrence.Named.{Named}
 use Rattle.mx_occurrences.specs.declared.occurrence.Occurrence.{Occurrence}
-use Rattle.mx_occurrences.specs.Occurrences.{after_label, course_after, course_behind, in_label, in_lines, in_operands, in_statement, in_statements, in_token, is_prefix, label_in, occurrences_of, start, token_if, token_named}
+use Rattle.mx_occurrences.specs.Occurrences.{after_label, course_after, course_through, in_label, in_lines, in_operands, in_statement, in_statements, in_token, is_prefix, label_in, occurrences_of, start, token_if, token_named}
 use Rattle.mx_occurrences.specs.Places.{AreInPlace, IsAt, IsInPlace}
 
 -- ---- texts at places
@@ -51,8 +51,8 @@ next-drop (suc j) (c ∷ line) b bs e = next-drop j line b bs e
 abbrev pub AreTokensAt : List ℕ → List Token → Type 0
 AreTokensAt line tokens = AllByRecursion (λ (t : Token). IsAt line t.from t.text) tokens
 
-tokens-at : (line : List ℕ) (n j end : ℕ) (text rest : List ℕ) → drop j line ≡ text ++ rest → end ≡ j + length text → AreTokensAt line (tokens_behind n end text)
-unfolding tokens_behind
+tokens-at : (line : List ℕ) (n j end : ℕ) (text rest : List ℕ) → drop j line ≡ text ++ rest → end ≡ j + length text → AreTokensAt line (tokens_after n end text)
+unfolding tokens_after
 tokens-at line n j end [] rest e f = tt
 tokens-at line (suc n) j end (b ∷ bs) rest e f = tokens-at line n (suc j) end bs rest (next-drop j line b (bs ++ rest) e) (omega (arith, f))
 tokens-at line zero j end (b ∷ bs) rest e f =
@@ -168,11 +168,11 @@ unfolding in_lines numbered_from
 lines-in-place all n c loads [] numbered = tt
 lines-in-place all n c loads (line ∷ later) numbered =
     let statements = statements_in line (cuts_from line 0) in
-    all-both (IsInPlace all) (in_statements c n statements) (in_lines (course_behind c statements) (numbered_from (n + 1) (drop 1 loads) later))
+    all-both (IsInPlace all) (in_statements c n statements) (in_lines (course_through c statements) (numbered_from (n + 1) (drop 1 loads) later))
     (statements-in-place all line n c statements (first-line all n line later numbered) (cuts-at (length line + 1 - 0) line 0 (omega arith)))
-    (lines-in-place all (n + 1) (course_behind c statements) (drop 1 loads) later (later-lines all n line later numbered))
+    (lines-in-place all (n + 1) (course_through c statements) (drop 1 loads) later (later-lines all n line later numbered))
 
 pub names-in-place : (source : List ℕ) → AreInPlace source (occurrences_of source)
-names-in-place source = lines-in-place (lines_of source) 1 start (loads_in source) (lines_of source) (λ i. refl)
+names-in-place source = lines-in-place (lines_of source) 1 start [] (lines_of source) (λ i. refl)
 
 pub ruleset laws = (names-in-place)

@@ -1,2 +1,3 @@
 pub mod NameTurns
 pub mod InPlace
+pub mod Ascending

@@ -8,7 +8,7 @@ use Rattle.mx_ops.specs.Opcodes.{operation_of}
 use Rattle.mx_ops.specs.declared.op.Op.{Op}
 use Rattle.mx_ops.specs.declared.op.Op.TheVariants.{Pseudo as PseudoOp}
 use Rattle.mx_ops.specs.declared.op.Pseudo.TheVariants as pseudo
-use Rattle.mx_slips.specs.Sources.{source_lines}
+use Rattle.mx_slips.specs.Sources.{unloaded_lines}
 use Rattle.mx_slips.specs.declared.pieces.Piece.{Piece}
 use Rattle.mx_slips.specs.declared.sources.Statement.{Statement}
 use Rattle.mx_slips.specs.declared.sources.SourceLine.{SourceLine}
@@ -137,16 +137,19 @@ unfoldable pub in_statements : Course → ℕ → List Statement → List Occurr
 in_statements c line [] = []
 in_statements c line (s ∷ later) = in_statement c line s ++ in_statements (course_after c s) line later
 
-unfoldable pub course_behind : Course → List Statement → Course
-course_behind c [] = c
-course_behind c (s ∷ later) = course_behind (course_after c s) later
+unfoldable pub course_through : Course → List Statement → Course
+course_through c [] = c
+course_through c (s ∷ later) = course_through (course_after c s) later
 
 unfoldable pub in_lines : Course → List SourceLine → List Occurrence
 in_lines c [] = []
-in_lines c (l ∷ later) = in_statements c l.number l.statements ++ in_lines (course_behind c l.statements) later
+in_lines c (l ∷ later) = in_statements c l.number l.statements ++ in_lines (course_through c l.statements) later
+
+abbrev pub occurrences_in : List SourceLine → List Occurrence
+occurrences_in lines = in_lines start lines
 
 abbrev pub occurrences_of : List ℕ → List Occurrence
-occurrences_of source = in_lines start (source_lines source)
+occurrences_of source = occurrences_in (unloaded_lines source)
 
 -- ---- names that are looked up
 

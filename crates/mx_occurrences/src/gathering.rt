@@ -6,7 +6,7 @@ ghost use Rattle.mx_occurrences.specs.Occurrences as spec;
 
 use crate::course::{Course, is_prefix, label_named, pass_label, pass_prefix, start, token_named};
 use crate::occurrence::{Occurrences, make_occurrence};
-use mx_slips::{SourceLine, Statement, Token, source_lines};
+use mx_slips::{SourceLine, Statement, Token, read_lines};
 use mx_word::{Bytes, NoMemory};
 use std::alloc::Global;
 
@@ -119,7 +119,7 @@ fn add_statement(
 }
 
 /// Adds the names of statements, and gives what has come after them.
-#[tactic(auto, using(crate::proofs::NameTurns::turns), unfolding(crate::specs::Occurrences::in_statements, crate::specs::Occurrences::course_behind))]
+#[tactic(auto, using(crate::proofs::NameTurns::turns), unfolding(crate::specs::Occurrences::in_statements, crate::specs::Occurrences::course_through))]
 fn add_statements(
     alloc: Global,
     out: &mut Occurrences,
@@ -128,7 +128,7 @@ fn add_statements(
     statements: &[Statement],
 ) -> Result<Course, NoMemory>
     ensures names { IfOk result (λ _. out.new ≡ out.old ++ spec.in_statements before line statements.now) }
-    ensures course { IfOk result (λ course. course ≡ spec.course_behind before statements.now) }
+    ensures course { IfOk result (λ course. course ≡ spec.course_through before statements.now) }
 {
     let mut course = before;
     let mut rest = statements;
@@ -158,12 +158,19 @@ fn add_lines(
     Ok(())
 }
 
+/// The names of lines in their places, in order.
+pub fn occurrences_in(alloc: Global, lines: &[SourceLine]) -> Result<Occurrences, NoMemory>
+    ensures { IfOk result (λ names. names ≡ spec.occurrences_in lines.now) }
+{
+    let mut names = Occurrences::new(alloc);
+    add_lines(alloc, &mut names, start(alloc)?, lines)?;
+    Ok(names)
+}
+
 /// The names of a source in their places, in order. A line has none from its first faulty statement on.
 pub fn occurrences(alloc: Global, source: &[u8]) -> Result<Occurrences, NoMemory>
     ensures { IfOk result (λ names. names ≡ spec.occurrences_of source.now) }
 {
-    let lines = source_lines(alloc, source)?;
-    let mut names = Occurrences::new(alloc);
-    add_lines(alloc, &mut names, start(alloc)?, lines.as_slice())?;
-    Ok(names)
+    let lines = read_lines(alloc, source)?;
+    occurrences_in(alloc, lines.as_slice())
 }

@@ -9,3 +9,8 @@ ghost use Rattle.mx_occurrences.specs.Places as spec;
 pub fn names_are_in_their_places()
     ensures { (source : List ℕ) → spec.AreInPlace source (occurrences_of source) }
 {}
+
+/// The places of names ascend: of two names the later one begins in a later line, or in the same line and not before the end of the first.
+pub fn places_of_names_ascend()
+    ensures { (source : List ℕ) → spec.Ascend (occurrences_of source) }
+{}

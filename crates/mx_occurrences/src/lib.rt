@@ -9,6 +9,6 @@ mod occurrence;
 
 pub use course::full_name;
 pub use finding::{definition_of, occurrence_at, same_named};
-pub use gathering::occurrences;
-pub use laws::names_are_in_their_places;
+pub use gathering::{occurrences, occurrences_in};
+pub use laws::{names_are_in_their_places, places_of_names_ascend};
 pub use occurrence::{Named, Occurrence, Occurrences};

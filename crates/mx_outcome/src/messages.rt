@@ -43,7 +43,7 @@ fn usage_text(alloc: Global, fault: WordsFault) -> Result<Bytes, NoMemory>
     Ok(text)
 }
 
-fn refused_text(alloc: Global, line: u32, fault: u16, from_line: u32) -> Result<Bytes, NoMemory>
+fn format_refusal(alloc: Global, line: u32, fault: u16, from_line: u32) -> Result<Bytes, NoMemory>
     ensures { IfOk result (λ text. text ≡ spec.refused_text line fault from_line) }
 {
     let mut text = Bytes::copy(alloc, b"line ")?;
@@ -75,7 +75,7 @@ fn schedule_text(alloc: Global, place: u64) -> Result<Bytes, NoMemory>
     Ok(text)
 }
 
-fn stopped_text(alloc: Global, pc: u64, reason: u16) -> Result<Bytes, NoMemory>
+fn format_stop(alloc: Global, pc: u64, reason: u16) -> Result<Bytes, NoMemory>
     ensures { IfOk result (λ text. text ≡ spec.stopped_text pc reason) }
 {
     let mut text = Bytes::copy(alloc, &octa_hex(pc))?;
@@ -85,7 +85,7 @@ fn stopped_text(alloc: Global, pc: u64, reason: u16) -> Result<Bytes, NoMemory>
     Ok(text)
 }
 
-fn spent_text(alloc: Global, steps: u64) -> Result<Bytes, NoMemory>
+fn format_spent(alloc: Global, steps: u64) -> Result<Bytes, NoMemory>
     ensures { IfOk result (λ text. text ≡ decimal steps ++ codes " steps spent\n") }
 {
     let mut text = Bytes::new(alloc);
@@ -108,11 +108,11 @@ pub fn message(alloc: Global, outcome: Outcome) -> Result<Bytes, NoMemory>
             line,
             fault,
             from_line,
-        } => refused_text(alloc, line, fault, from_line),
+        } => format_refusal(alloc, line, fault, from_line),
         Outcome::BadObject { place, fault } => object_text(alloc, place, fault),
         Outcome::BadSchedule { place } => schedule_text(alloc, place),
-        Outcome::Stopped { pc, reason } => stopped_text(alloc, pc, reason),
-        Outcome::StepsSpent { steps } => spent_text(alloc, steps),
+        Outcome::Stopped { pc, reason } => format_stop(alloc, pc, reason),
+        Outcome::StepsSpent { steps } => format_spent(alloc, steps),
         Outcome::ConsoleLimit => Bytes::copy(alloc, b"console limit\n"),
         Outcome::OutOfMemory => Bytes::copy(alloc, b"out of memory\n"),
     }

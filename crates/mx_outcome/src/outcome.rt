@@ -70,7 +70,7 @@ impl Outcome {
     }
 
     /// Whether the machine is left with something to show.
-    pub fn leaves_machine(&self) -> bool
+    pub fn has_machine(&self) -> bool
         ensures { result ≡ leaves_machine self.now }
     {
         match self {

@@ -38,13 +38,13 @@ pub fn add_short_hex(text: &mut Bytes, x: u64) -> Result<(), NoMemory> {
 }
 
 /// A byte as it is shown: itself from 32 to 126, otherwise a dot.
-fn shown_byte(b: u8) -> u8 {
+fn printable_byte(b: u8) -> u8 {
     if 32 <= b && b <= 126 { b } else { b'.' }
 }
 
 /// Adds the eight bytes of an octa between quotation marks.
 pub fn add_octa_text(text: &mut Bytes, x: u64) -> Result<(), NoMemory> {
     text.push(b'"')?;
-    text.extend(&octa_bytes(x).map(shown_byte))?;
+    text.extend(&octa_bytes(x).map(printable_byte))?;
     text.push(b'"')
 }

@@ -6,8 +6,8 @@ ghost use Rattle.mx_cmd.specs.Numerals.{front, past};
 ghost use Rattle.mx_places.specs.Conditions as spec;
 ghost use Rattle.mx_places.specs.Named.{shown_thing as thing_shown, place_of as place_thing};
 
-use crate::places::{place_of, shown_thing, value_in};
-use mx_ask::{cut_word, without_end};
+use crate::places::{parse_value, place_of_thing, resolve_for_display};
+use mx_ask::{cut_word, trim_end};
 use mx_book::Book;
 use mx_replay::{Condition, Place, Relation};
 
@@ -94,19 +94,19 @@ fn relation_of(signs: &[u8]) -> Option<Relation>
 fn shown_place(book: &Book, text: &[u8]) -> Option<Place>
     ensures { result ≡ option_and_then place_thing (thing_shown book.now text.now) }
 {
-    place_of(shown_thing(book, text)?)
+    place_of_thing(resolve_for_display(book, text)?)
 }
 
 /// The condition that a text writes.
 #[tactic(auto, unfolding(crate::specs::Conditions::condition_in))]
-pub fn condition_in(book: &Book, text: &[u8]) -> Option<Condition>
+pub fn parse_condition(book: &Book, text: &[u8]) -> Option<Condition>
     ensures { result ≡ spec.condition_in book.now text.now }
 {
     let (value, rest) = cut_value(text);
     let (signs, rest) = cut_signs(rest);
     let relation = relation_of(signs)?;
-    let place = shown_place(book, without_end(value))?;
-    let number = value_in(book, cut_word(rest).0)?;
+    let place = shown_place(book, trim_end(value))?;
+    let number = parse_value(book, cut_word(rest).0)?;
     Some(Condition {
         place,
         relation,

@@ -5,6 +5,8 @@ mod conditions;
 mod orders;
 mod places;
 
-pub use conditions::{condition_in, signs_of};
-pub use orders::{Unwanted, Wanted, wanted_in};
-pub use places::{Target, named_thing, place_in, shown_thing, target_in, thing_at};
+pub use conditions::{parse_condition, signs_of};
+pub use orders::{Unwanted, Wanted, parse_break};
+pub use places::{
+    Target, parse_place, parse_target, resolve_for_display, resolve_name, thing_of_place,
+};

@@ -3,8 +3,8 @@
 ghost use Rattle.std.specs.Prelude.{◌≡◌};
 ghost use Rattle.mx_places.specs.Orders as spec;
 
-use crate::conditions::condition_in;
-use crate::places::target_in;
+use crate::conditions::parse_condition;
+use crate::places::parse_target;
 use mx_ask::cut_word;
 use mx_book::Book;
 use mx_replay::Condition;
@@ -29,14 +29,14 @@ fn condition_after(book: &Book, text: &[u8]) -> Option<Condition>
 {
     let (word, rest) = cut_word(text);
     if word == b"if".as_slice() {
-        condition_in(book, rest)
+        parse_condition(book, rest)
     } else {
         None
     }
 }
 
 /// What follows the place of a break: a condition, or nothing.
-fn wanted_condition(book: &Book, text: &[u8]) -> Result<Option<Condition>, Unwanted>
+fn parse_break_condition(book: &Book, text: &[u8]) -> Result<Option<Condition>, Unwanted>
     ensures { result ≡ spec.wanted_condition book.now text.now }
 {
     if text.is_empty() {
@@ -49,13 +49,13 @@ fn wanted_condition(book: &Book, text: &[u8]) -> Result<Option<Condition>, Unwan
 }
 
 /// The address of a break: where nothing is written, that of the instruction that comes next.
-fn wanted_address(book: &Book, pc: u64, word: &[u8]) -> Result<u64, Unwanted>
+fn parse_break_address(book: &Book, pc: u64, word: &[u8]) -> Result<u64, Unwanted>
     ensures { result ≡ spec.wanted_address book.now pc word.now }
 {
     if word.is_empty() {
         return Ok(pc);
     }
-    match target_in(book, word) {
+    match parse_target(book, word) {
         Some(target) => Ok(target.address),
         None => Err(Unwanted::Target),
     }
@@ -63,15 +63,15 @@ fn wanted_address(book: &Book, pc: u64, word: &[u8]) -> Result<u64, Unwanted>
 
 /// The break that a line orders where an instruction comes next.
 #[tactic(auto, unfolding(crate::specs::Orders::wanted_in))]
-pub fn wanted_in(book: &Book, pc: u64, text: &[u8]) -> Result<Wanted, Unwanted>
+pub fn parse_break(book: &Book, pc: u64, text: &[u8]) -> Result<Wanted, Unwanted>
     ensures { result ≡ spec.wanted_in book.now pc text.now }
 {
     let (word, rest) = cut_word(text);
-    let address = match wanted_address(book, pc, word) {
+    let address = match parse_break_address(book, pc, word) {
         Ok(address) => address,
         Err(why) => return Err(why),
     };
-    match wanted_condition(book, rest) {
+    match parse_break_condition(book, rest) {
         Ok(condition) => Ok(Wanted { address, condition }),
         Err(why) => Err(why),
     }

@@ -3,8 +3,8 @@
 ghost use Rattle.std.specs.Prelude.{◌≡◌, None};
 ghost use Rattle.mx_places.specs.Named as spec;
 
-use mx_ask::{address_in, number_in, octa_in, subject_in};
-use mx_book::{Book, Thing, thing_of};
+use mx_ask::{parse_address, parse_number, parse_octa, parse_subject};
+use mx_book::{Book, Thing, thing_of_subject};
 use mx_replay::Place;
 use mx_word::Value;
 
@@ -15,7 +15,7 @@ const DATA: u64 = 0x2000_0000_0000_0000;
 const MEMORY_END: u64 = 1 << 63;
 
 /// The place as a thing.
-pub fn thing_at(place: Place) -> Thing
+pub fn thing_of_place(place: Place) -> Thing
     ensures { result ≡ spec.thing_at place }
 {
     match place {
@@ -29,18 +29,18 @@ pub fn thing_at(place: Place) -> Thing
 fn thing_written(text: &[u8]) -> Option<Thing>
     ensures { result ≡ spec.thing_written text.now }
 {
-    match subject_in(text) {
-        Some(subject) => thing_of(subject),
-        None => Some(Thing::Number(octa_in(text)?)),
+    match parse_subject(text) {
+        Some(subject) => thing_of_subject(subject),
+        None => Some(Thing::Number(parse_octa(text)?)),
     }
 }
 
 /// What a text names: a symbol, `$K`, `rX`, `M#ADDRESS`, or a number.
 #[tactic(auto, unfolding(crate::specs::Named::named_thing))]
-pub fn named_thing(book: &Book, text: &[u8]) -> Option<Thing>
+pub fn resolve_name(book: &Book, text: &[u8]) -> Option<Thing>
     ensures { result ≡ spec.named_thing book.now text.now }
 {
-    match book.thing(text) {
+    match book.look_up_thing(text) {
         Some(thing) => Some(thing),
         None => thing_written(text),
     }
@@ -58,17 +58,17 @@ fn as_data(thing: Thing) -> Thing
 
 /// The same, but for a name with an address of data: it stands for the octa there.
 #[tactic(auto, unfolding(crate::specs::Named::shown_thing))]
-pub fn shown_thing(book: &Book, text: &[u8]) -> Option<Thing>
+pub fn resolve_for_display(book: &Book, text: &[u8]) -> Option<Thing>
     ensures { result ≡ spec.shown_thing book.now text.now }
 {
-    match book.thing(text) {
+    match book.look_up_thing(text) {
         Some(thing) => Some(as_data(thing)),
         None => thing_written(text),
     }
 }
 
 /// The place that a thing has: a number is an address.
-pub fn place_of(thing: Thing) -> Option<Place>
+pub fn place_of_thing(thing: Thing) -> Option<Place>
     ensures { result ≡ spec.place_of thing }
 {
     match thing {
@@ -86,17 +86,17 @@ pub fn place_of(thing: Thing) -> Option<Place>
 
 /// The place that a text names.
 #[tactic(auto, unfolding(crate::specs::Named::place_in))]
-pub fn place_in(book: &Book, text: &[u8]) -> Option<Place>
+pub fn parse_place(book: &Book, text: &[u8]) -> Option<Place>
     ensures { result ≡ spec.place_in book.now text.now }
 {
-    place_of(named_thing(book, text)?)
+    place_of_thing(resolve_name(book, text)?)
 }
 
 /// The value of a symbol that is an address, or a number.
 fn symbol_address(book: &Book, name: &[u8]) -> Option<u64>
     ensures { result ≡ spec.symbol_address book.now name.now }
 {
-    match book.symbol(name)? {
+    match book.look_up_symbol(name)? {
         Value::Pure(a) => Some(a),
         Value::Reg(_) => None,
     }
@@ -137,7 +137,7 @@ fn line_target(book: &Book, line: u64) -> Option<Target>
 fn named_target(book: &Book, text: &[u8]) -> Option<Target>
     ensures { result ≡ spec.by_number None book.now text.now }
 {
-    match address_in(text) {
+    match parse_address(text) {
         Some(address) => Some(target_at(address)),
         None => Some(target_at(symbol_address(book, text)?)),
     }
@@ -145,10 +145,10 @@ fn named_target(book: &Book, text: &[u8]) -> Option<Target>
 
 /// The instruction that a text names by a label, a line or an address.
 #[tactic(auto, unfolding(crate::specs::Named::target_in))]
-pub fn target_in(book: &Book, text: &[u8]) -> Option<Target>
+pub fn parse_target(book: &Book, text: &[u8]) -> Option<Target>
     ensures { result ≡ spec.target_in book.now text.now }
 {
-    match number_in(text) {
+    match parse_number(text) {
         Some(line) => line_target(book, line),
         None => named_target(book, text),
     }
@@ -156,10 +156,10 @@ pub fn target_in(book: &Book, text: &[u8]) -> Option<Target>
 
 /// The number that a text writes, or the value of a symbol.
 #[tactic(auto, unfolding(crate::specs::Named::value_in))]
-pub fn value_in(book: &Book, text: &[u8]) -> Option<u64>
+pub fn parse_value(book: &Book, text: &[u8]) -> Option<u64>
     ensures { result ≡ spec.value_in book.now text.now }
 {
-    match octa_in(text) {
+    match parse_octa(text) {
         Some(n) => Some(n),
         None => symbol_address(book, text),
     }

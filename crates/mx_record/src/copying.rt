@@ -10,7 +10,7 @@ use mx_word::{Bytes, NoMemory, Sequence};
 use std::alloc::Global;
 
 /// The same words once more.
-fn copied_words(alloc: Global, words: &[String]) -> Result<Vec<String>, NoMemory>
+fn copy_words(alloc: Global, words: &[String]) -> Result<Vec<String>, NoMemory>
     ensures { IfOk result (λ copy. map string_bytes copy.items ≡ map string_bytes words.now) }
 {
     let mut copy = Vec::new(alloc);
@@ -21,7 +21,7 @@ fn copied_words(alloc: Global, words: &[String]) -> Result<Vec<String>, NoMemory
 }
 
 /// The same file once more.
-fn copied_file(alloc: Global, file: &StoredFile) -> Result<StoredFile, NoMemory>
+fn copy_file(alloc: Global, file: &StoredFile) -> Result<StoredFile, NoMemory>
     ensures { IfOk result (λ copy. copy ≡ file.now) }
 {
     Ok(StoredFile {
@@ -31,26 +31,26 @@ fn copied_file(alloc: Global, file: &StoredFile) -> Result<StoredFile, NoMemory>
 }
 
 /// The same files once more.
-fn copied_files(alloc: Global, files: &[StoredFile]) -> Result<Sequence<StoredFile>, NoMemory>
+fn copy_files(alloc: Global, files: &[StoredFile]) -> Result<Sequence<StoredFile>, NoMemory>
     ensures { IfOk result (λ copy. copy ≡ files.now) }
 {
     let mut copy = Sequence::new(alloc);
     for file in files {
-        copy.push(copied_file(alloc, file)?)?;
+        copy.push(copy_file(alloc, file)?)?;
     }
     Ok(copy)
 }
 
 /// A program with the same run.
 #[tactic(auto, using(crate::proofs::Recording::naming))]
-pub(crate) fn copied(alloc: Global, program: &Program) -> Result<Program, NoMemory>
+pub(crate) fn copy_program(alloc: Global, program: &Program) -> Result<Program, NoMemory>
     requires { NamesFile program.now }
     ensures alike { IfOk result (λ copy. AreAlike program.now copy) }
     ensures named { IfOk result NamesFile }
 {
-    let words = copied_words(alloc, program.words.as_slice())?;
+    let words = copy_words(alloc, program.words.as_slice())?;
     let input = Bytes::copy(alloc, program.input.as_slice())?;
-    let files = copied_files(alloc, program.files.as_slice())?;
+    let files = copy_files(alloc, program.files.as_slice())?;
     Ok(Program {
         words: Sequence::from_vec(words),
         order: program.order,

@@ -18,7 +18,7 @@ pub(crate) enum Reach {
 }
 
 /// What a step that writes there may change.
-fn written_reach(writes: Option<Touch>) -> Reach
+fn reach_of_write(writes: Option<Touch>) -> Reach
     ensures { result ≡ spec.written_reach writes }
 {
     match writes {
@@ -58,7 +58,7 @@ fn is_deep(word: u32) -> bool
 }
 
 /// Whether a step writes into the stack area.
-fn writes_area(writes: Option<Touch>) -> bool
+fn is_area_write(writes: Option<Touch>) -> bool
     ensures { result ≡ spec.writes_area writes }
 {
     match writes {
@@ -68,11 +68,11 @@ fn writes_area(writes: Option<Touch>) -> bool
 }
 
 /// Whether a turn may change registers that are hidden before and after it.
-fn reaches_hidden(trace: Option<Trace>) -> bool
+fn may_change_hidden(trace: Option<Trace>) -> bool
     ensures { result ≡ spec.reaches_hidden trace }
 {
     match trace {
-        Some(trace) => is_deep(trace.word) || writes_area(trace.writes),
+        Some(trace) => is_deep(trace.word) || is_area_write(trace.writes),
         None => true,
     }
 }
@@ -82,7 +82,7 @@ fn reaches_hidden(trace: Option<Trace>) -> bool
 pub(crate) fn kept_count(trace: Option<Trace>, before: u64, after: u64) -> u64
     ensures { result ≡ spec.kept_count trace before after }
 {
-    if reaches_hidden(trace) {
+    if may_change_hidden(trace) {
         0
     } else {
         before.min(after)
@@ -98,7 +98,7 @@ pub(crate) fn reach_of(trace: Option<Trace>) -> Reach
             if is_trap(trace.word) {
                 trap_reach(trace.word)
             } else {
-                written_reach(trace.writes)
+                reach_of_write(trace.writes)
             }
         }
         None => Reach::All,

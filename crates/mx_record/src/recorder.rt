@@ -9,7 +9,7 @@ ghost use Rattle.mx_record.specs.Recording.{IsReady, IsRecordOf};
 ghost use Rattle.mx_word.specs.Results.{map_ok};
 
 use crate::changes::Record;
-use crate::copying::copied;
+use crate::copying::copy_program;
 use crate::stacked::Stacked;
 use crate::start::start_changes;
 use crate::turns::turn_changes;
@@ -52,7 +52,7 @@ impl Recorder {
         ensures record { IfOk result (λ begun. Leads begun.1 no_picture (picture_at program 0)) }
         ensures refused { IfErr result (λ outcome. outcome ≢ Outcome.OutOfMemory → step_of program 0 ≡ Err outcome) }
     {
-        let Ok(copy) = copied(alloc, &program) else {
+        let Ok(copy) = copy_program(alloc, &program) else {
             return Err(Outcome::OutOfMemory);
         };
         let before = match Replay::begin(alloc, program) {
@@ -79,10 +79,10 @@ impl Recorder {
     }
 
     /// The step that it is at: how many turns were recorded.
-    pub fn at(&self) -> u64
+    pub fn step_number(&self) -> u64
         ensures { result ≡ self.now.before.at }
     {
-        self.before.at()
+        self.before.step_number()
     }
 
     /// The machine at this step.

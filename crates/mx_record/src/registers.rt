@@ -14,7 +14,7 @@ use std::alloc::Global;
 const RC: u8 = 8;
 
 /// What is shown of the special register with a code.
-pub(crate) fn special_shown(machine: &Machine, code: u8) -> u64
+pub(crate) fn shown_special(machine: &Machine, code: u8) -> u64
     requires { code < 32 }
     ensures { result ≡ spec.special_shown (state_of machine.now) code }
 {
@@ -22,7 +22,7 @@ pub(crate) fn special_shown(machine: &Machine, code: u8) -> u64
 }
 
 /// What is shown of the global register with a number.
-pub(crate) fn global_shown(machine: &Machine, k: u8) -> u64
+pub(crate) fn shown_global(machine: &Machine, k: u8) -> u64
     ensures { result ≡ spec.global_shown (state_of machine.now) k }
 {
     if k < machine.g() {
@@ -49,8 +49,8 @@ pub(crate) fn special_changes(
         note(
             &mut changes,
             u64::from(code),
-            special_shown(old, code),
-            special_shown(new, code),
+            shown_special(old, code),
+            shown_special(new, code),
         )?;
     }
     Ok(changes)
@@ -74,8 +74,8 @@ pub(crate) fn global_changes(
         note(
             &mut changes,
             u64::from(k),
-            global_shown(old, k as u8),
-            global_shown(new, k as u8),
+            shown_global(old, k as u8),
+            shown_global(new, k as u8),
         )?;
     }
     Ok(changes)

@@ -9,8 +9,8 @@ ghost use Rattle.mx_record.specs.Pictures.{no_picture, octa_of, picture};
 ghost use Rattle.mx_record.specs.Records.{Leads};
 
 use crate::changes::{Change, Record, note};
-use crate::octas::{OCTAS, octa_shown};
-use crate::registers::{global_shown, special_shown};
+use crate::octas::{OCTAS, shown_octa};
+use crate::registers::{shown_global, shown_special};
 use crate::stacked::{Stacked, stacked_changes};
 use mx_core::{Machine, machines_keep_the_invariant};
 use mx_word::{NoMemory, Sequence};
@@ -28,7 +28,7 @@ fn special_values(alloc: Global, machine: &Machine) -> Result<Sequence<Change>, 
             &mut changes,
             u64::from(code),
             0,
-            special_shown(machine, code),
+            shown_special(machine, code),
         )?;
     }
     Ok(changes)
@@ -46,7 +46,7 @@ fn global_values(alloc: Global, machine: &Machine) -> Result<Sequence<Change>, N
             &mut changes,
             u64::from(k),
             0,
-            global_shown(machine, k as u8),
+            shown_global(machine, k as u8),
         )?;
     }
     Ok(changes)
@@ -62,7 +62,7 @@ fn octa_values(alloc: Global, machine: &Machine) -> Result<Sequence<Change>, NoM
     while n < OCTAS {
         match machine.next_nonzero(8 * n) {
             Some((at, _)) => {
-                note(&mut changes, at / 8, 0, octa_shown(machine, at / 8))?;
+                note(&mut changes, at / 8, 0, shown_octa(machine, at / 8))?;
                 n = at / 8 + 1;
             }
             None => return Ok(changes),

@@ -13,7 +13,7 @@ use crate::RingFault;
 use crate::hidden::ROOM;
 use crate::knowing::know_octas;
 use crate::list::HiddenList;
-use crate::slices::{append, put};
+use crate::slices::{append, copy_to};
 use std::alloc::Global;
 use std::marker::Model;
 
@@ -134,7 +134,7 @@ fn write(list: &mut Vec<u64>, place: usize, items: &[u64])
     ensures items { list.new.items ≡ with_part list.old.items place items.now }
     ensures kept { AreKept list.old → AreKept list.new }
 {
-    put(list, place, items);
+    copy_to(list, place, items);
 }
 
 /// Keeps zeros after the octas that are kept, up to a number of octas that is at most 2^20.

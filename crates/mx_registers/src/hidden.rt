@@ -76,7 +76,7 @@ impl Hidden {
 
     /// The number of hidden octas in the stack area, at most that of the hidden ones.
     #[inline(always)]
-    pub fn spilled(&self) -> usize
+    pub fn spilled_count(&self) -> usize
         ensures { result ≡ self.now.spilled }
     {
         self.spilled
@@ -141,7 +141,7 @@ impl Hidden {
     }
 
     /// The octas of the stack area up to the one at a place below 2^20; nothing only where that one is 0.
-    pub fn stack_to(&self, i: usize) -> Option<&[u64]>
+    pub fn area_up_to(&self, i: usize) -> Option<&[u64]>
         requires { i < 2 ^ 20 }
         ensures some { IfSome result (λ octas. octas.now ≡ take (i + 1) self.now.stack) }
         ensures none { result ≡ None → slice_index self.now.stack i ≡ 0 }
@@ -161,13 +161,13 @@ impl Hidden {
     /// Hides the first `n` of some octas, and that number. There are more than `n`, and for all of them there is
     /// room: with them at most 2^20 would be hidden.
     #[inline(always)]
-    pub fn append_counted(&mut self, octas: &[u64], n: usize)
+    pub fn append_with_count(&mut self, octas: &[u64], n: usize)
         requires room { length (octas_of self.old) + length octas.now ≤ 2 ^ 20 }
         requires among { n < length octas.now }
         ensures { self.new ≡ with_hidden self.old (take n octas.now ++ n ∷ []) }
     {
         if self.has_room(octas.len()) {
-            self.list.append_counted(octas, n);
+            self.list.append_with_count(octas, n);
         } else {
             self.append_number(&octas[..n]);
         }

@@ -7,7 +7,7 @@ ghost use Rattle.mx_word.specs.Lists.{with_part};
 
 use crate::RingFault;
 use crate::hidden::ROOM;
-use crate::slices::{append, put};
+use crate::slices::{append, copy_to};
 use mx_word::NoMemory;
 use std::alloc::Global;
 use std::marker::Model;
@@ -76,13 +76,13 @@ impl HiddenList {
     {
         let end = self.count + octas.len();
         lengthen(&mut self.octas, end + SPARE);
-        put(&mut self.octas, self.count, octas);
+        copy_to(&mut self.octas, self.count, octas);
         self.count = end;
     }
 
     /// The first `n` of some octas and that number count too. There are more than `n`, and octas for all of them.
     #[inline(always)]
-    pub(crate) fn append_counted(&mut self, octas: &[u64], n: usize)
+    pub(crate) fn append_with_count(&mut self, octas: &[u64], n: usize)
         requires room { length self.old.octas + length octas.now ≤ self.old.room }
         requires among { n < length octas.now }
         ensures octas { self.new.octas ≡ self.old.octas ++ (take n octas.now ++ n ∷ []) }
@@ -153,7 +153,7 @@ fn write(list: &mut Vec<u64>, place: usize, items: &[u64])
     ensures items { list.new.items ≡ with_part list.old.items place items.now }
     ensures capacity { vec_capacity list.old ≤ vec_capacity list.new }
 {
-    put(list, place, items);
+    copy_to(list, place, items);
 }
 
 /// Keeps zeros after the octas, up to this many in all.

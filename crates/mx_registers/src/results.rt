@@ -5,7 +5,7 @@ ghost use Rattle.std.specs.Prelude.{◌==◌, if◌then◌else◌, slice_index, 
 ghost use Rattle.mx_word.specs.Lists.{with_part, with_zeros};
 ghost use Rattle.mx_registers.specs.Registers.{results};
 
-use crate::slices::{clear, copy, put};
+use crate::slices::{copy_to, copy_within, fill_with_zeros};
 
 /// Among the registers below G, of which `l` are local and the others 0, these octas come back, and
 /// the results of POP with `x` follow, as far as there is room. Gives the new number of locals.
@@ -18,13 +18,13 @@ pub(crate) fn bring_back(front: &mut [u64], l: usize, octas: &[u64], x: usize) -
 {
     let room = front.len();
     if octas.len() >= room {
-        put(front, 0, &octas[..room]);
+        copy_to(front, 0, &octas[..room]);
         return room;
     }
     let top = octas.len() + put_results(front, l, x, octas.len());
-    put(front, 0, octas);
+    copy_to(front, 0, octas);
     if top < l {
-        clear(front, top, l);
+        fill_with_zeros(front, top, l);
     }
     top
 }
@@ -62,7 +62,7 @@ fn put_first(front: &mut [u64], main: u64, count: usize, hole: usize) -> usize
         return 1;
     }
     let others = count.min(front.len() - hole - 1);
-    copy(front, 0, others, hole + 1);
+    copy_within(front, 0, others, hole + 1);
     front[hole] = main;
     others + 1
 }
@@ -78,7 +78,7 @@ pub(crate) fn put_few(front: &mut [u64], octas: &[u64], n: usize, x: usize)
         (if x == 0 then 0 else slice_index front.old 0) }
 {
     let main = octa_if(front[0], x != 0);
-    put(front, 0, &first_of_eight(octas, n));
+    copy_to(front, 0, &first_of_eight(octas, n));
     front[n] = main;
 }
 

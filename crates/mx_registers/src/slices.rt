@@ -19,7 +19,7 @@ pub(crate) fn append(list: &mut Vec<u64>, items: &[u64])
 
 /// Zeros in place of what stands from `from` up to `to`.
 #[inline]
-pub(crate) fn clear(items: &mut [u64], from: usize, to: usize)
+pub(crate) fn fill_with_zeros(items: &mut [u64], from: usize, to: usize)
     requires forward { from ≤ to }
     requires inside { to ≤ length items.old }
     ensures { items.new ≡ with_zeros_at items.old from to }
@@ -29,7 +29,7 @@ pub(crate) fn clear(items: &mut [u64], from: usize, to: usize)
 
 /// Other items in place of as many from `place` on.
 #[inline(always)]
-pub(crate) fn put(items: &mut [u64], place: usize, others: &[u64])
+pub(crate) fn copy_to(items: &mut [u64], place: usize, others: &[u64])
     requires { place + length others.now ≤ length items.old }
     ensures { items.new ≡ with_part items.old place others.now }
 {
@@ -38,7 +38,7 @@ pub(crate) fn put(items: &mut [u64], place: usize, others: &[u64])
 
 /// What stands from `from` up to `to`, once more from `place` on.
 #[inline(always)]
-pub(crate) fn copy(items: &mut [u64], from: usize, to: usize, place: usize)
+pub(crate) fn copy_within(items: &mut [u64], from: usize, to: usize, place: usize)
     requires forward { from ≤ to }
     requires inside { to ≤ length items.old }
     requires fits { place + (to - from) ≤ length items.old }

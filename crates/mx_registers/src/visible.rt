@@ -11,7 +11,7 @@ ghost use Rattle.mx_registers.specs.Registers.{with_returned};
 
 use crate::knowing::know_octas;
 use crate::results::{bring_back, put_few};
-use crate::slices::{clear, copy, put};
+use crate::slices::{copy_to, copy_within, fill_with_zeros};
 use std::marker::Model;
 
 /// How many registers are copied at once where this many are enough.
@@ -116,11 +116,11 @@ impl Visible {
     }
 
     /// L falls to `l`, which is at most L.
-    pub fn cut(&mut self, l: usize)
+    pub fn truncate(&mut self, l: usize)
         requires { l ≤ length self.old.locals }
         ensures { self.new ≡ with_locals_cut self.old l }
     {
-        clear(&mut self.values, l, self.local_count);
+        fill_with_zeros(&mut self.values, l, self.local_count);
         self.local_count = l;
     }
 
@@ -133,7 +133,7 @@ impl Visible {
         ensures { self.new ≡ with_globals_from self.old g }
     {
         let end = g.max(self.first_global);
-        clear(&mut self.values, self.first_global, end);
+        fill_with_zeros(&mut self.values, self.first_global, end);
         self.first_global = g;
     }
 
@@ -153,7 +153,7 @@ impl Visible {
 
     /// The first `n` registers, at most G of them.
     #[inline]
-    pub fn below(&self, n: usize) -> &[u64]
+    pub fn registers_below(&self, n: usize) -> &[u64]
         requires { n ≤ self.now.first_global }
         ensures { result.now ≡ registers_below self.now n }
     {
@@ -169,20 +169,20 @@ impl Visible {
 
     /// The first `n` locals are gone, and what follows them becomes $0 and so on.
     #[inline]
-    pub fn keep_from(&mut self, n: usize)
+    pub fn drop_first(&mut self, n: usize)
         ensures { self.new ≡ registers_from self.old n }
     {
         let count = self.local_count.saturating_sub(n);
         if count <= FEW && n <= self.first_global - FEW {
-            self.keep_few(n, count);
+            self.drop_first_few(n, count);
         } else {
-            self.keep_all(n, count);
+            self.drop_first_any(n, count);
         }
     }
 
     /// The first `n` locals are gone, where few stay: that many registers are moved at once.
     #[inline(always)]
-    pub(crate) fn keep_few(&mut self, n: usize, count: usize)
+    pub(crate) fn drop_first_few(&mut self, n: usize, count: usize)
         requires count { count ≡ length self.old.locals - n }
         requires few { count ≤ 8 }
         requires room { n + 8 ≤ self.old.first_global }
@@ -195,7 +195,7 @@ impl Visible {
     /// The first `n` locals are gone, where at most `size` were local, `n` is at most G less `size`, and `count` stay.
     /// Nothing after them is to be cleared.
     #[inline(always)]
-    pub fn keep_fewer(&mut self, n: usize, count: usize, size: usize)
+    pub fn drop_first_fewer(&mut self, n: usize, count: usize, size: usize)
         requires count { count ≡ length self.old.locals - n }
         requires few { length self.old.locals ≤ size }
         requires room { n + size ≤ self.old.first_global }
@@ -207,17 +207,17 @@ impl Visible {
 
     /// The first `n` locals are gone, however many stay.
     #[inline(never)]
-    fn keep_all(&mut self, n: usize, count: usize)
+    fn drop_first_any(&mut self, n: usize, count: usize)
         requires { count ≡ length self.old.locals - n }
         ensures { self.new ≡ registers_from self.old n }
     {
-        copy(
+        copy_within(
             &mut self.values,
             self.local_count - count,
             self.local_count,
             0,
         );
-        clear(&mut self.values, count, self.local_count);
+        fill_with_zeros(&mut self.values, count, self.local_count);
         self.local_count = count;
     }
 
@@ -233,7 +233,7 @@ impl Visible {
     }
 
     /// The registers become what others are.
-    pub fn become_those(&mut self, others: &Visible)
+    pub fn copy_from(&mut self, others: &Visible)
         ensures { self.new ≡ others.now }
     {
         self.values = others.values;
@@ -271,7 +271,7 @@ impl Visible {
     pub fn restore(&mut self, first_global: usize, locals: &[u64], globals: &[u64])
         requires least { 32 ≤ first_global }
         requires all { first_global + length globals.now ≡ 256 }
-        requires some { 0 < length globals.now }
+        requires not_empty { 0 < length globals.now }
         ensures { self.new ≡ record {
           locals = take first_global locals.now;
           first_global = first_global;
@@ -279,9 +279,9 @@ impl Visible {
         } }
     {
         let count = first_global.min(locals.len());
-        put(&mut self.values, 0, &locals[..count]);
-        clear(&mut self.values, count, first_global);
-        put(&mut self.values, first_global, globals);
+        copy_to(&mut self.values, 0, &locals[..count]);
+        fill_with_zeros(&mut self.values, count, first_global);
+        copy_to(&mut self.values, first_global, globals);
         self.first_global = first_global;
         self.local_count = count;
     }
@@ -295,8 +295,8 @@ fn move_few(values: &mut [u64], n: usize, l: usize)
     requires locals { l ≤ length values.old }
     ensures { values.new ≡ with_zeros_at (with_part values.old 0 (take 8 (drop n values.old))) 8 (max l 8) }
 {
-    copy(values, n, n + FEW, 0);
-    clear(values, FEW, l.max(FEW));
+    copy_within(values, n, n + FEW, 0);
+    fill_with_zeros(values, FEW, l.max(FEW));
 }
 
 /// As many registers as `size` from the place `n` on become the first ones.
@@ -305,5 +305,5 @@ fn move_fewer(values: &mut [u64], n: usize, size: usize)
     requires { n + size ≤ length values.old }
     ensures { values.new ≡ with_part values.old 0 (take size (drop n values.old)) }
 {
-    copy(values, n, n + size, 0);
+    copy_within(values, n, n + size, 0);
 }

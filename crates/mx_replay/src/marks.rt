@@ -58,7 +58,7 @@ pub(crate) fn is_shallow_if(machine: &Machine, most: Option<u64>) -> bool
 }
 
 /// Whether the start of a run has a mark, by its machine.
-pub(crate) fn marks_start(machine: &Machine, sought: Sought<'_>) -> bool
+pub(crate) fn has_mark_at_start(machine: &Machine, sought: Sought<'_>) -> bool
     ensures { result ≡ (spec.mark_of sought.entry).start (state_of machine.now) }
 {
     match sought {
@@ -82,11 +82,11 @@ pub fn value_at(machine: &Machine, place: Place) -> u64
 pub(crate) fn is_watched(flags: &FlagMap, trace: &Trace) -> bool
     ensures { result ≡ spec.is_watched (flags_at flags.now) trace.now }
 {
-    reads_flag(flags, trace.reads) || writes_flag(flags, trace.writes)
+    has_flag_read(flags, trace.reads) || has_flag_written(flags, trace.writes)
 }
 
 /// Whether what is read has a tetra with the flag for that.
-fn reads_flag(flags: &FlagMap, touch: Option<Touch>) -> bool
+fn has_flag_read(flags: &FlagMap, touch: Option<Touch>) -> bool
     ensures { result ≡ spec.touches (λ n. (flags_at flags.now n).r) touch }
 {
     match touch {
@@ -96,7 +96,7 @@ fn reads_flag(flags: &FlagMap, touch: Option<Touch>) -> bool
 }
 
 /// Whether what is written has a tetra with the flag for that.
-fn writes_flag(flags: &FlagMap, touch: Option<Touch>) -> bool
+fn has_flag_written(flags: &FlagMap, touch: Option<Touch>) -> bool
     ensures { result ≡ spec.touches (λ n. (flags_at flags.now n).w) touch }
 {
     match touch {

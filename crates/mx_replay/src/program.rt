@@ -27,7 +27,7 @@ pub struct Program {
 }
 
 /// A copy of bytes as a vector.
-fn copied(alloc: Global, bytes: &Bytes) -> Result<Vec<u8>, NoMemory>
+fn to_vec(alloc: Global, bytes: &Bytes) -> Result<Vec<u8>, NoMemory>
     ensures { IfOk result (λ v. v.items ≡ bytes.now) }
 {
     Ok(Vec::from_slice(alloc, bytes.as_slice())?)
@@ -37,7 +37,7 @@ fn copied(alloc: Global, bytes: &Bytes) -> Result<Vec<u8>, NoMemory>
 fn put(alloc: Global, host: &mut MemHost, file: &StoredFile) -> Result<(), NoMemory>
     ensures { OnOk result (host.new ≡ with_file host.old file.now.name file.now.bytes) }
 {
-    let bytes = copied(alloc, &file.bytes)?;
+    let bytes = to_vec(alloc, &file.bytes)?;
     match host.put_file(file.name.as_slice(), bytes) {
         Ok(()) => Ok(()),
         Err(_) => Err(NoMemory),
@@ -48,7 +48,7 @@ fn put(alloc: Global, host: &mut MemHost, file: &StoredFile) -> Result<(), NoMem
 fn host_with(alloc: Global, input: &Bytes) -> Result<MemHost, NoMemory>
     ensures { IfOk result (λ h. h ≡ start_model input.now []) }
 {
-    let input = copied(alloc, input)?;
+    let input = to_vec(alloc, input)?;
     match MemHost::new(alloc, input, Vec::new(alloc)) {
         Ok(host) => Ok(host),
         Err(_) => Err(NoMemory),

@@ -15,7 +15,7 @@ use crate::kept::{Kept, go_keeping};
 use crate::marks::depth;
 use crate::program::Program;
 use crate::turns::make_next;
-use crate::visit::{Visit, start};
+use crate::visit::{Visit, start_visit};
 use mx_core::{Machine, Trace};
 use mx_host::MemHost;
 use mx_outcome::Outcome;
@@ -60,7 +60,7 @@ impl Replay {
         ensures start { IfOk result (λ r. r ≡ record { program = program; at = 0 }) }
         ensures refused { IfErr result (λ outcome. outcome ≢ Outcome.OutOfMemory → step_of program 0 ≡ Err outcome) }
     {
-        match start(alloc, &program) {
+        match start_visit(alloc, &program) {
             Ok(here) => Ok(Replay {
                 alloc,
                 program,
@@ -73,7 +73,7 @@ impl Replay {
     }
 
     /// The step that is visited: how many turns were made.
-    pub fn at(&self) -> u64
+    pub fn step_number(&self) -> u64
         ensures count { result ≡ self.now.at }
         ensures made { (j : ℕ) → j < result → GoesOn self.now.program j }
     {

@@ -44,7 +44,7 @@ pub struct Watch {
 }
 
 /// Whether octas are so related.
-fn compare(relation: Relation, x: u64, y: u64) -> bool
+fn is_related(relation: Relation, x: u64, y: u64) -> bool
     ensures { result ≡ spec.compares relation x y }
 {
     match relation {
@@ -58,12 +58,12 @@ fn compare(relation: Relation, x: u64, y: u64) -> bool
 }
 
 /// Whether a condition holds.
-fn holds(machine: &Machine, condition: Option<Condition>) -> bool
+fn is_condition_met(machine: &Machine, condition: Option<Condition>) -> bool
     ensures { result ≡ spec.holds condition (state_of machine.now) }
 {
     match condition {
         None => true,
-        Some(c) => compare(c.relation, value_at(machine, c.place), c.number),
+        Some(c) => is_related(c.relation, value_at(machine, c.place), c.number),
     }
 }
 
@@ -72,12 +72,12 @@ impl Break {
     pub fn is_met(&self, machine: &Machine) -> bool
         ensures { result ≡ spec.is_met (state_of machine.now) self.now }
     {
-        machine.pc() / 4 == self.address / 4 && holds(machine, self.condition)
+        machine.pc() / 4 == self.address / 4 && is_condition_met(machine, self.condition)
     }
 }
 
 /// Whether a machine is at one of some breaks.
-pub(crate) fn meets_any(machine: &Machine, breaks: &[Break]) -> bool
+pub(crate) fn is_at_any_break(machine: &Machine, breaks: &[Break]) -> bool
     ensures { result ≡ list_any (spec.is_met (state_of machine.now)) breaks.now }
 {
     breaks.iter().any(|b| b.is_met(machine))

@@ -11,7 +11,7 @@ ghost use Rattle.mx_replay.specs.Visits.{IsStep, MakesTurn, turn_from};
 ghost use Rattle.mx_replay.specs.declared.program.Program.{Program};
 
 use crate::marks::{Place, Sought, depth, is_shallow_if, is_watched, value_at};
-use crate::stops::{Break, Watch, meets_any};
+use crate::stops::{Break, Watch, is_at_any_break};
 use crate::visit::{Visit, is_over};
 use mx_code::Trace;
 use mx_run::{End, FlagMap, TurnAnswer, turn};
@@ -116,7 +116,7 @@ fn turn_to_break(alloc: Global, visit: &mut Visit, breaks: &[Break]) -> Result<b
     ensures mark { IfOk result (λ marked. marked ≡ marks.meets_break breaks.now (turn_from visit.old)) }
 {
     match make_turn(alloc, visit) {
-        Ok(Some(_)) => Ok(meets_any(&visit.machine, breaks)),
+        Ok(Some(_)) => Ok(is_at_any_break(&visit.machine, breaks)),
         Ok(None) => Ok(false),
         Err(NoMemory) => Err(NoMemory),
     }

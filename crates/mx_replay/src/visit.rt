@@ -71,7 +71,7 @@ fn turns_between(before: u64, after: u64, end: End) -> u64
 /// The start of a program's run.
 ///
 /// Errors: the outcome where no machine starts, and out of memory.
-pub(crate) fn start(alloc: Global, program: &Program) -> Result<Visit, Outcome>
+pub(crate) fn start_visit(alloc: Global, program: &Program) -> Result<Visit, Outcome>
     requires { NamesFile program.now }
     ensures start { IfOk result (λ v. IsStart program.now v) }
     ensures refused { IfErr result (λ outcome. outcome ≢ Outcome.OutOfMemory → step_of program.now 0 ≡ Err outcome) }

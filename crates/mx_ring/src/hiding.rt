@@ -34,7 +34,7 @@ pub(crate) fn hide_below(hidden: &mut Hidden, visible: &Visible, count: usize)
     requires room { length (octas_of hidden.old) + (count + 1) ≤ 2 ^ 20 }
     ensures { hidden.new ≡ with_hidden hidden.old (registers_below visible.now count ++ count ∷ []) }
 {
-    hidden.append(visible.below(count));
+    hidden.append(visible.registers_below(count));
     hidden.append(&[count as u64]);
 }
 
@@ -47,7 +47,7 @@ pub(crate) fn hide_few_below(hidden: &mut Hidden, visible: &Visible, count: usiz
     requires room { length (octas_of hidden.old) + size ≤ 2 ^ 20 }
     ensures { hidden.new ≡ with_hidden hidden.old (registers_below visible.now count ++ count ∷ []) }
 {
-    hidden.append_counted(visible.below(size), count);
+    hidden.append_with_count(visible.registers_below(size), count);
 }
 
 /// Hides a frame with all local and global registers and these special ones.
@@ -59,7 +59,7 @@ pub(crate) fn hide_registers(hidden: &mut Hidden, visible: &Visible, s: &Saved)
     ensures { hidden.new ≡ with_hidden hidden.old (frame visible.now s.now) }
 {
     let l = visible.local_count();
-    hidden.append(visible.below(l));
+    hidden.append(visible.registers_below(l));
     hidden.append(&[l as u64]);
     hidden.append(visible.globals());
     hidden.append(&upper_octas(s, visible.first_global()));

@@ -75,11 +75,11 @@ impl RingNote {
                 value,
                 last,
             } => {
-                visible.cut(usize::from(*local_count));
+                visible.truncate(usize::from(*local_count));
                 give(visible, *place, *value);
                 give(visible, 255, *last);
             }
-            Before::All(registers) => visible.become_those(registers),
+            Before::All(registers) => visible.copy_from(registers),
         }
     }
 

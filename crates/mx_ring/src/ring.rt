@@ -105,7 +105,7 @@ impl Ring {
         ensures value { result ≡ spilled_count (windowed self.now) }
         ensures bounds { IsRing self.now }
     {
-        self.hidden.spilled() as u32
+        self.hidden.spilled_count() as u32
     }
 
     /// rO: the address where the next hidden register goes.
@@ -120,7 +120,7 @@ impl Ring {
     pub fn rs(&self) -> u64
         ensures { result ≡ stack_address (spilled_count (windowed self.now)) }
     {
-        STACK_SEGMENT + 8 * self.hidden.spilled() as u64
+        STACK_SEGMENT + 8 * self.hidden.spilled_count() as u64
     }
 
     /// Tells that the stack area has 2^20 octas, each below 2^64. It does nothing.
@@ -215,7 +215,7 @@ impl Ring {
         ensures window { windowed self.new ≡ cut_to (windowed self.old) l }
         ensures list { list_of self.new ≡ cut_to (list_of self.old) l }
     {
-        self.visible.cut(usize::from(l));
+        self.visible.truncate(usize::from(l));
     }
 
     /// G becomes `g`, which is at least 32 and at least L. A register that is global only before or only
@@ -280,7 +280,7 @@ impl Ring {
     {
         hide_few_below(&mut self.hidden, &self.visible, count, size);
         let left = self.visible.local_count().saturating_sub(count + 1);
-        self.visible.keep_fewer(count + 1, left, size);
+        self.visible.drop_first_fewer(count + 1, left, size);
     }
 
     /// PUSHJ and PUSHGO for any number of registers.
@@ -308,7 +308,7 @@ impl Ring {
         ensures { windowed self.new ≡ with_pushed (windowed self.old) count }
     {
         hide_below(&mut self.hidden, &self.visible, count);
-        self.visible.keep_from(count + 1);
+        self.visible.drop_first(count + 1);
         self.hidden.make_room(self.visible.local_count(), self.size);
     }
 
@@ -431,7 +431,7 @@ impl Ring {
     {
         hide_registers(&mut self.hidden, &self.visible, s);
         self.hidden.spill_all();
-        self.visible.cut(0);
+        self.visible.truncate(0);
         self.visible.set(x, STACK_SEGMENT + 8 * last as u64);
     }
 
@@ -476,7 +476,7 @@ impl Ring {
         ensures ok { OnOk result (windowed self.new ≡ unsaved (windowed self.old) i) }
         ensures err { OnErr result (self.new ≡ self.old) }
     {
-        let Some(octas) = self.hidden.stack_to(i) else {
+        let Some(octas) = self.hidden.area_up_to(i) else {
             return Err(RingFault::BadFrame);
         };
         match frame_at(octas, i) {

@@ -9,7 +9,7 @@ use crate::{BreakKind, End, FlagMap, Flags, TurnAnswer};
 use mx_core::{Touch, Trace};
 
 /// Whether a run ends with a turn from an address.
-pub fn end_of_turn(flags: &FlagMap, pc: u64, answer: TurnAnswer) -> Result<(), End>
+pub fn check_turn_end(flags: &FlagMap, pc: u64, answer: TurnAnswer) -> Result<(), End>
     ensures value { result ≡ end_of_turn (flags_at flags.now) pc answer }
     ensures memory { result ≡ Err End.OutOfMemory → answer ≡ TurnAnswer.OutOfMemory }
 {
@@ -56,9 +56,9 @@ fn break_of(flags: &FlagMap, trace: &Trace) -> Option<(BreakKind, u64)>
     ensures value { result ≡ ends.break_of (flags_at flags.now) trace.now }
     ensures below { IfSome result (λ b. b.1 < 2 ^ 62) }
 {
-    match flagged_in(flags, BreakKind::Read, trace.reads) {
+    match find_flagged(flags, BreakKind::Read, trace.reads) {
         Some(n) => Some((BreakKind::Read, n)),
-        None => match flagged_in(flags, BreakKind::Write, trace.writes) {
+        None => match find_flagged(flags, BreakKind::Write, trace.writes) {
             Some(n) => Some((BreakKind::Write, n)),
             None => None,
         },
@@ -66,34 +66,34 @@ fn break_of(flags: &FlagMap, trace: &Trace) -> Option<(BreakKind, u64)>
 }
 
 /// The lowest tetra of what is touched that has the flag of a kind.
-fn flagged_in(flags: &FlagMap, kind: BreakKind, touch: Option<Touch>) -> Option<u64>
+fn find_flagged(flags: &FlagMap, kind: BreakKind, touch: Option<Touch>) -> Option<u64>
     ensures value { result ≡ ends.flagged_in (λ n. break_flag kind (flags_at flags.now n)) touch }
     ensures below { IfSome result (λ n. n < 2 ^ 62) }
 {
     match touch {
-        Some(touch) => first_flagged(flags, kind, touch),
+        Some(touch) => find_first_flagged(flags, kind, touch),
         None => None,
     }
 }
 
 /// The lowest tetra of a touch that has the flag of a kind.
 #[tactic(auto, using(crate::proofs::FlaggedTetras::breaking))]
-fn first_flagged(flags: &FlagMap, kind: BreakKind, touch: Touch) -> Option<u64>
+fn find_first_flagged(flags: &FlagMap, kind: BreakKind, touch: Touch) -> Option<u64>
     ensures value { result ≡ ends.first_flagged (λ n. break_flag kind (flags_at flags.now n)) touch }
     ensures below { IfSome result (λ n. n < 2 ^ 62) }
 {
     let n = touch.at / 4;
-    if breaks(kind, flags.flags_of(n)) {
+    if has_flag(kind, flags.flags_of(n)) {
         return Some(n);
     }
-    if touch.size > 4 && breaks(kind, flags.flags_of(n + 1)) {
+    if touch.size > 4 && has_flag(kind, flags.flags_of(n + 1)) {
         return Some(n + 1);
     }
     None
 }
 
 /// Whether flags have the one of a kind.
-fn breaks(kind: BreakKind, flags: Flags) -> bool
+fn has_flag(kind: BreakKind, flags: Flags) -> bool
     ensures { result ≡ break_flag kind flags }
 {
     match kind {

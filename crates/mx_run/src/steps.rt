@@ -9,7 +9,7 @@ ghost use Rattle.mx_run.specs.FlagMaps.{flags_at};
 ghost use Rattle.mx_run.specs.RunPlans.{ended_turn, step_plan};
 ghost use Rattle.mx_run.specs.WildRuns.{HasWindow};
 
-use crate::breaks::end_of_turn;
+use crate::breaks::check_turn_end;
 use crate::turning::make_turn;
 use crate::windows::know_window;
 use crate::{BreakKind, End, FlagMap};
@@ -29,11 +29,11 @@ pub fn run_step<H: Host>(
 ) -> Result<(), End>
     ensures step { TakesStep (H.told host.old) (H.told host.new) (H.faults host.old) (H.faults host.new) (state_of machine.old)
         (state_of machine.new) result (step_plan (flags_at flags.now) pass) }
-    ensures over { HasWindow (state_of machine.old) }
+    ensures has_window { HasWindow (state_of machine.old) }
 {
     know_window(machine);
     let pc = machine.pc();
-    if breaks_before(flags, pc, pass) {
+    if is_break_before(flags, pc, pass) {
         return Err(End::Broke {
             kind: BreakKind::Execute,
             at: pc,
@@ -45,7 +45,7 @@ pub fn run_step<H: Host>(
 
 /// Whether a run breaks before the instruction at an address.
 #[inline]
-fn breaks_before(flags: &FlagMap, pc: u64, pass: bool) -> bool
+fn is_break_before(flags: &FlagMap, pc: u64, pass: bool) -> bool
     ensures { result ≡ ((flags_at flags.now (pc / 4)).x && not pass) }
 {
     flags.flags(pc).x && !pass
@@ -64,7 +64,7 @@ fn turn_and_end<H: Host>(
 {
     let pc = machine.pc();
     let answer = make_turn(alloc, machine, host);
-    end_of_turn(flags, pc, answer)
+    check_turn_end(flags, pc, answer)
 }
 
 /// What a run without flags comes to at a step that does not go on. No trace is made but for a file trap.
@@ -83,7 +83,7 @@ pub fn step_over<H: Host>(
     requires there { last ≡ Advance.OutOfMemory → IsTrue (step_needs_page (state_of machine.old)) }
     ensures step { TakesStep (H.told host.old) (H.told host.new) (H.faults host.old) (H.faults host.new) (state_of machine.old)
         (state_of machine.new) result (step_plan (flags_at flags.now) true) }
-    ensures over { HasWindow (state_of machine.old) }
+    ensures has_window { HasWindow (state_of machine.old) }
 {
     know_window(machine);
     match last {

@@ -31,7 +31,7 @@ use std::alloc::Global;
 pub fn turn<H: Host>(alloc: Global, machine: &mut Machine, host: &mut H) -> TurnAnswer
     ensures turn { IsTurn (H.told host.old) (H.told host.new) (H.faults host.old) (H.faults host.new)
         (state_of machine.old) (state_of machine.new) result }
-    ensures over { HasWindow (state_of machine.old) }
+    ensures has_window { HasWindow (state_of machine.old) }
     ensures spared { (n : ℕ) → SparesMemory (suc n) (state_of machine.old) → SparesAfter n result (state_of machine.new) }
 {
     make_turn(alloc, machine, host)
@@ -42,7 +42,7 @@ pub fn turn<H: Host>(alloc: Global, machine: &mut Machine, host: &mut H) -> Turn
 pub(crate) fn make_turn<H: Host>(alloc: Global, machine: &mut Machine, host: &mut H) -> TurnAnswer
     ensures told { CarriesOutRun (H.told host.old) (H.told host.new) (state_of machine.old) (state_of machine.new)
         TurnAnswer.OutOfMemory result turn_plan }
-    ensures over { HasWindow (state_of machine.old) }
+    ensures has_window { HasWindow (state_of machine.old) }
     ensures spared { (n : ℕ) → SparesMemory (suc n) (state_of machine.old) → SparesAfter n result (state_of machine.new) }
     ensures bound { IsLater 1 (state_of machine.old) (state_of machine.new) }
     ensures stands { Stands (H.told host.old) (H.told host.new) (H.faults host.old) (H.faults host.new) }
@@ -75,13 +75,13 @@ pub fn trap_turn<H: Host>(
     ensures stands { Stands (H.told host.old) (H.told host.new) (H.faults host.old) (H.faults host.new) }
 {
     let looks = touches(machine, call);
-    let answer = carry_out(alloc, machine, host, call);
-    finish(machine, call, looks, answer)
+    let answer = do_trap(alloc, machine, host, call);
+    finish_with_answer(machine, call, looks, answer)
 }
 
 /// Carries out a file trap on the machine's memory.
 #[tactic(auto, using(crate::proofs::Later::resting))]
-fn carry_out<H: Host>(
+fn do_trap<H: Host>(
     alloc: Global,
     machine: &mut Machine,
     host: &mut H,
@@ -102,7 +102,12 @@ fn carry_out<H: Host>(
 
 /// Completes a file trap with its answer.
 #[tactic(auto, using(crate::proofs::Later::finishing, crate::proofs::RefusedTraps::stops))]
-fn finish(machine: &mut Machine, call: &TrapCall, looks: bool, answer: TrapAnswer) -> TurnAnswer
+fn finish_with_answer(
+    machine: &mut Machine,
+    call: &TrapCall,
+    looks: bool,
+    answer: TrapAnswer,
+) -> TurnAnswer
     ensures told { answer ≢ TrapAnswer.OutOfMemory → (m : HostModel) → (result, state_of machine.new, m)
         ≡ turn_answer (spec.turn_with looks call.now (state_of machine.old) m answer) }
     ensures same { spec.moves_bytes answer ≡ false → state_of machine.new ≡ state_of machine.old }
@@ -114,7 +119,9 @@ fn finish(machine: &mut Machine, call: &TrapCall, looks: bool, answer: TrapAnswe
         → state_of machine.new ≡ spec.with_touch_if looks (state_of machine.old) }
 {
     match answer {
-        TrapAnswer::Value(value) => TurnAnswer::Went(complete(machine, call, looks, value)),
+        TrapAnswer::Value(value) => TurnAnswer::Went(finish_with_value(
+            machine, call, looks, value,
+        )),
         TrapAnswer::Halt => TurnAnswer::Halted(halt(machine, call, looks)),
         TrapAnswer::Stopped(why) => {
             note_where(machine, looks && why == TrapStop::TrapPagesFull);
@@ -128,7 +135,7 @@ fn finish(machine: &mut Machine, call: &TrapCall, looks: bool, answer: TrapAnswe
 }
 
 /// Completes a file trap with its result.
-fn complete(machine: &mut Machine, call: &TrapCall, looks: bool, value: u64) -> Trace
+fn finish_with_value(machine: &mut Machine, call: &TrapCall, looks: bool, value: u64) -> Trace
     ensures state { state_of machine.new
         ≡ spec.with_touch_if looks (traps.trapped (state_of machine.old) call.now value) }
     ensures trace { result ≡ traps.trap_trace (state_of machine.old) call.now value }

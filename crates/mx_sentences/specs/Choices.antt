@@ -11,7 +11,7 @@ use Rattle.mx_marks.specs.declared.rooms.Room.{Room}
 use Rattle.mx_marks.specs.declared.rooms.Room.TheVariants.{Byte, Wyde, Tetra, DataByte, DataWyde}
 use Rattle.mx_sentences.specs.declared.choices.Unknown.{Unknown}
 use Rattle.mx_sentences.specs.declared.choices.Unknown.TheVariants.{Indented, Remark, Foreign, Misspelled}
-use Rattle.mx_marks.specs.Fields.{behind_comma, from_field, operands_at, word}
+use Rattle.mx_marks.specs.Fields.{after_comma, from_field, operands_at, word}
 use Rattle.mx_marks.specs.Labels.{first_label, is_label, labels_code}
 use Rattle.mx_marks.specs.Marks.{operation_at, room_at}
 use Rattle.mx_marks.specs.Syntax.{is_read_through}
@@ -35,7 +35,7 @@ syntax_row marked operands = if is_read_through operands then read_row marked el
 -- GETA does where LDA has a register and the label of an instruction, and nothing else.
 abbrev pub gives_way : List ℕ → Line → Line → ℕ → Bool
 gives_way source name line place =
-    bytes_eq (operation_at line place) (codes "LDA") && bytes_eq (behind_comma (operands_at line place)) name && labels_code name source
+    bytes_eq (operation_at line place) (codes "LDA") && bytes_eq (after_comma (operands_at line place)) name && labels_code name source
 
 abbrev pub early_row : List ℕ → Line → Line → ℕ → Row
 early_row source name line place =

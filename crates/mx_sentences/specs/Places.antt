@@ -9,7 +9,7 @@ use Rattle.mx_asm.specs.declared.faults.AsmFault.TheVariants as fault
 use Rattle.mx_marks.specs.declared.fields.Field.{Field}
 use Rattle.mx_marks.specs.declared.fields.Field.TheVariants.{Label, Operands}
 use Rattle.mx_marks.specs.declared.marks.Mark.{Mark}
-use Rattle.mx_marks.specs.Fields.{behind_cuts, line_field, only_front, statement_field, unknown_from}
+use Rattle.mx_marks.specs.Fields.{after_cuts, line_field, only_front, statement_field, unknown_from}
 use Rattle.mx_marks.specs.Marks.{field_mark}
 
 -- A label that does not suit a reference is about the operands of the reference. A fault of the source as a whole has no field.
@@ -27,7 +27,7 @@ field_of whole = None
 -- Where the faulty statement begins: the one that is not cut from its line; the first one with an unknown operation; or the only one
 -- of its line.
 abbrev pub statement_place : AsmFault → Line → Option ℕ
-statement_place (fault.Line why) line = Some (behind_cuts 0 (cuts_from line 0))
+statement_place (fault.Line why) line = Some (after_cuts 0 (cuts_from line 0))
 statement_place (fault.Stmt UnknownOpcode) line = unknown_from line 0 (cuts_from line 0)
 statement_place why line = only_front (cuts_from line 0)
 

@@ -12,8 +12,8 @@ use crate::chosen::{
 use crate::rows::{Row, row_of};
 use mx_foreign::advice_on;
 use mx_marks::{
-    Field, Likeness, Room, behind_comma, first_label, from_field, is_label, is_read_through,
-    labels_code, operands_at, operation_at, room_at, word,
+    Field, Likeness, Room, find_similar_label, from_field, is_code_label, is_label,
+    is_read_through, leading_word, operands_at, operation_at, room_at, skip_past_comma,
 };
 use mx_ops::find;
 use mx_word::is_letter;
@@ -61,12 +61,12 @@ fn syntax_row(marked: &[u8], operands: &[u8]) -> Row
 }
 
 /// Whether GETA does where LDA has a name that is defined further down.
-fn gives_way(source: &[u8], name: &[u8], line: &[u8], place: usize) -> bool
+fn is_geta_better(source: &[u8], name: &[u8], line: &[u8], place: usize) -> bool
     ensures { result ≡ spec.gives_way source.now name.now line.now place }
 {
     operation_at(line, place) == b"LDA".as_slice()
-        && behind_comma(operands_at(line, place)) == name
-        && labels_code(name, source)
+        && skip_past_comma(operands_at(line, place)) == name
+        && is_code_label(name, source)
 }
 
 /// The row for a name without a value.
@@ -76,7 +76,7 @@ fn early_row(source: &[u8], name: &[u8], line: &[u8], place: usize) -> Row
 {
     if !is_defined(source, name) {
         row_of(17)
-    } else if gives_way(source, name, line, place) {
+    } else if is_geta_better(source, name, line, place) {
         later_code_row()
     } else {
         later_row()
@@ -84,7 +84,7 @@ fn early_row(source: &[u8], name: &[u8], line: &[u8], place: usize) -> Row
 }
 
 /// Whether a text begins with a capital.
-fn begins_capital(text: &[u8]) -> bool
+fn starts_with_capital(text: &[u8]) -> bool
     ensures { result ≡ spec.begins_capital text.now }
 {
     match text {
@@ -97,7 +97,7 @@ fn begins_capital(text: &[u8]) -> bool
 fn is_remark(marked: &[u8], place: usize) -> bool
     ensures { result ≡ spec.is_remark marked.now place }
 {
-    place != 0 && !begins_capital(marked)
+    place != 0 && !starts_with_capital(marked)
 }
 
 /// Whether the operation of the statement at a place is a label that is not in the first column.
@@ -106,7 +106,8 @@ fn is_indented(line: &[u8], place: usize) -> bool
     ensures { result ≡ spec.is_indented line.now place }
 {
     let statement = &line[place..];
-    word(statement).is_empty() && find(word(from_field(Field::Operands, statement))).is_some()
+    leading_word(statement).is_empty()
+        && find(leading_word(from_field(Field::Operands, statement))).is_some()
 }
 
 /// What the word is that the statement at a place has for an operation.
@@ -197,7 +198,7 @@ pub(crate) fn like_main(source: &[u8]) -> &[u8]
     if is_defined(source, b"Main") {
         &[]
     } else {
-        first_label(Likeness::Alike, b"Main", u32::MAX, source)
+        find_similar_label(Likeness::Alike, b"Main", u32::MAX, source)
     }
 }
 

@@ -5,7 +5,8 @@ ghost use Rattle.mx_sentences.specs.Places as spec;
 
 use mx_asm::AsmFault;
 use mx_marks::{
-    Field, Mark, behind_cuts, field_mark, line_field, only_front, statement_field, unknown_place,
+    Field, Mark, field_mark, find_end_of_cuts, find_only_statement, line_field, statement_field,
+    unknown_place,
 };
 use mx_stmt::StmtFault;
 use mx_word::NoMemory;
@@ -34,9 +35,9 @@ pub(crate) fn statement_place(why: AsmFault, line: &[u8]) -> Option<usize>
     ensures within { IfSome result (λ place. place ≤ length line.now) }
 {
     match why {
-        AsmFault::Line(_) => Some(behind_cuts(line)),
+        AsmFault::Line(_) => Some(find_end_of_cuts(line)),
         AsmFault::Stmt(StmtFault::UnknownOpcode) => unknown_place(line),
-        _ => only_front(line),
+        _ => find_only_statement(line),
     }
 }
 

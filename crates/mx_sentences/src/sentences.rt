@@ -14,8 +14,8 @@ use crate::places::{mark_of, statement_place};
 use crate::rows::Row;
 use mx_asm::AsmFault;
 use mx_marks::{
-    Likeness, Mark, first_label, known_name, label_number, marked_text, operation_at,
-    operation_name,
+    Likeness, Mark, find_label_line, find_similar_label, find_similar_name, find_similar_operation,
+    operation_at, slice_marked,
 };
 use mx_ops::{Op, Shape, find, shape_of};
 use mx_text::add_decimal;
@@ -115,7 +115,7 @@ fn add_takes(text: &mut Bytes, operation: &[u8], operands: &[u8]) -> Result<(), 
 }
 
 /// Whether a text begins with a letter.
-fn begins_letter(text: &[u8]) -> bool
+fn starts_with_letter(text: &[u8]) -> bool
     ensures { result ≡ spec.begins_letter text.now }
 {
     match text {
@@ -161,7 +161,7 @@ fn add_load(text: &mut Bytes, name: &[u8]) -> Result<(), NoMemory>
 fn add_address(text: &mut Bytes, marked: &[u8]) -> Result<(), NoMemory>
     ensures { OnOk result (text.new ≡ text.old ++ spec.address_text marked.now) }
 {
-    if begins_letter(marked) {
+    if starts_with_letter(marked) {
         return add_load(text, marked);
     }
     Ok(())
@@ -206,7 +206,10 @@ fn add_help(
     match fault {
         40 | 41 | 42 => add_shape(text, line, place),
         43 => add_address(text, marked),
-        30 => add_defined(text, label_number(marked, number.saturating_sub(1), source)),
+        30 => add_defined(
+            text,
+            find_label_line(marked, number.saturating_sub(1), source),
+        ),
         _ => Ok(()),
     }
 }
@@ -230,40 +233,40 @@ fn help_text(
 }
 
 /// A label of a source that is like a name, or else a name that MMIXAL defines; no text where none is.
-fn meant_name<'a>(source: &'a [u8], name: &[u8]) -> &'a [u8]
+fn guess_name<'a>(source: &'a [u8], name: &[u8]) -> &'a [u8]
     ensures { result.now ≡ spec.meant_name source.now name.now }
 {
-    let label = first_label(Likeness::Alike, name, u32::MAX, source);
+    let label = find_similar_label(Likeness::Alike, name, u32::MAX, source);
     if label.is_empty() {
-        known_name(name)
+        find_similar_name(name)
     } else {
         label
     }
 }
 
 /// The operation that is meant perhaps by a word of this kind; no text where none is known.
-fn meant_of(kind: Unknown, marked: &[u8]) -> &'static [u8]
+fn guess_operation(kind: Unknown, marked: &[u8]) -> &'static [u8]
     ensures { result.now ≡ spec.meant_of kind marked.now }
 {
     match kind {
-        Unknown::Misspelled => operation_name(marked),
+        Unknown::Misspelled => find_similar_operation(marked),
         _ => b"",
     }
 }
 
 /// The operation that is meant perhaps in the statement at a place.
-fn meant_unknown(marked: &[u8], line: &[u8], place: Option<usize>) -> &'static [u8]
+fn guess_operation_at(marked: &[u8], line: &[u8], place: Option<usize>) -> &'static [u8]
     requires { IfSome place (λ p. p ≤ length line.now) }
     ensures { result.now ≡ spec.meant_unknown marked.now line.now place }
 {
     match place {
         None => b"",
-        Some(place) => meant_of(unknown_kind(marked, line, place), marked),
+        Some(place) => guess_operation(unknown_kind(marked, line, place), marked),
     }
 }
 
 /// The name that is meant perhaps where this text is marked under a fault; no text where none is known.
-fn meant_by<'a>(
+fn guess_by_fault<'a>(
     fault: u16,
     source: &'a [u8],
     marked: &[u8],
@@ -274,13 +277,13 @@ fn meant_by<'a>(
     ensures { result.now ≡ spec.meant_by fault source.now marked.now line.now place }
 {
     match fault {
-        39 => meant_unknown(marked, line, place),
-        80 => meant_name(source, marked),
+        39 => guess_operation_at(marked, line, place),
+        80 => guess_name(source, marked),
         17 => {
             if is_defined(source, marked) {
                 &[]
             } else {
-                meant_name(source, marked)
+                guess_name(source, marked)
             }
         }
         _ => &[],
@@ -288,7 +291,7 @@ fn meant_by<'a>(
 }
 
 /// The label that is meant perhaps for Main, where a fault of the source as a whole is that there is none.
-fn meant_whole(fault: u16, source: &[u8]) -> &[u8]
+fn guess_main(fault: u16, source: &[u8]) -> &[u8]
     ensures { result.now ≡ spec.meant_whole fault source.now }
 {
     if fault != 82 || has_colon(source) {
@@ -303,7 +306,7 @@ fn part_text(line: &[u8], mark: Option<Mark>) -> &[u8]
     ensures { result.now ≡ spec.part_text line.now mark }
 {
     match mark {
-        Some(mark) if mark.is_part => marked_text(line, mark),
+        Some(mark) if mark.is_part => slice_marked(line, mark),
         _ => &[],
     }
 }
@@ -325,7 +328,10 @@ pub fn remark_on(
     let place = statement_place(why, line);
     let row = row_with(why.number(), source, marked, line, place);
     let what = what_text(alloc, row, marked)?;
-    let meant = Bytes::copy(alloc, meant_by(why.number(), source, marked, line, place))?;
+    let meant = Bytes::copy(
+        alloc,
+        guess_by_fault(why.number(), source, marked, line, place),
+    )?;
     let help = help_text(
         alloc,
         row,
@@ -352,7 +358,7 @@ pub fn remark_on_whole(alloc: Global, fault: u16, source: &[u8]) -> Result<Remar
 {
     let row = whole_row(fault, source);
     let what = what_text(alloc, row, &[])?;
-    let meant = Bytes::copy(alloc, meant_whole(fault, source))?;
+    let meant = Bytes::copy(alloc, guess_main(fault, source))?;
     let help = Bytes::copy(alloc, row.help.as_bytes())?;
     Ok(Remark {
         mark: None,

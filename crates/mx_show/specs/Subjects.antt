@@ -4,7 +4,7 @@ use Rattle.mx_ring.specs.Stack.{register}
 use Rattle.mx_code.specs.SpecialRegisters.{rS}
 use Rattle.mx_text.specs.Numbers.{hex_text, shown_text}
 use Rattle.mx_text.specs.declared.numbers.Form.{Form}
-use Rattle.mx_core.specs.Changes.{register_changed, special_changed, octa_changed}
+use Rattle.mx_core.specs.UserChanges.{register_changed, special_changed, octa_changed}
 use Rattle.mx_word.specs.Segments.{is_in_stack_segment}
 use Rattle.mx_core.specs.State.{State, octa, special_register, is_negative}
 use Rattle.mx_core.specs.declared.changes.SetFault.{SetFault}

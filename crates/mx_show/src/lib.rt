@@ -5,5 +5,5 @@
 mod subjects;
 mod texts;
 
-pub use subjects::{set_subject, shown_line};
+pub use subjects::{format_subject, set_subject};
 pub use texts::{state_line, trace_line};

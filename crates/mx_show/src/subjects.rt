@@ -14,7 +14,7 @@ use std::alloc::Global;
 
 /// The line that shows a subject.
 #[tactic(auto, unfolding(crate::specs::Subjects::shown_line))]
-pub fn shown_line(
+pub fn format_subject(
     alloc: Global,
     machine: &Machine,
     subject: Subject,

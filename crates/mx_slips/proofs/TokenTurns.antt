@@ -2,32 +2,32 @@
 use Rattle.std.proofs.Common.{◌≡◌, ◌≤◌, ℕ, zero, suc, ◌-◌, List, [], ◌∷◌, ◌++◌, drop, take, length, arith, append-nil, append_assoc, refl, sym, ap, ◌∙◌}
 use Rattle.std.proofs.lemmas.List.{take_all}
 use Rattle.mx_slips.specs.declared.tokens.Token.{Token}
-use Rattle.mx_slips.specs.Tokens.{token_at, token_length, tokens_behind, tokens_of}
+use Rattle.mx_slips.specs.Tokens.{token_at, token_length, tokens_after, tokens_of}
 
 pub whole-front : (count : ℕ) (text : List ℕ) → length text ≤ count → take count text ≡ text
 whole-front count text e = take_all count text e
 
-pub none-behind : (count : ℕ) (text : List ℕ) → length text ≤ count → drop count text ≡ []
-none-behind zero [] e = refl
-none-behind zero (b ∷ bs) e = absurd (omega (arith, e))
-none-behind (suc n) [] e = refl
-none-behind (suc n) (b ∷ bs) e = none-behind n bs (omega (arith, e))
+pub none-left : (count : ℕ) (text : List ℕ) → length text ≤ count → drop count text ≡ []
+none-left zero [] e = refl
+none-left zero (b ∷ bs) e = absurd (omega (arith, e))
+none-left (suc n) [] e = refl
+none-left (suc n) (b ∷ bs) e = none-left n bs (omega (arith, e))
 
-pub ruleset parts = (whole-front, none-behind)
+pub ruleset parts = (whole-front, none-left)
 
 -- the tokens that follow the bytes of one
-behind-is : (n end : ℕ) (text : List ℕ) → tokens_behind n end text ≡ tokens_of end (drop n text)
-unfolding tokens_behind
-behind-is zero end [] = refl
-behind-is zero end (b ∷ bs) = refl
-behind-is (suc n) end [] = refl
-behind-is (suc n) end (b ∷ bs) = behind-is n end bs
+rest-is : (n end : ℕ) (text : List ℕ) → tokens_after n end text ≡ tokens_of end (drop n text)
+unfolding tokens_after
+rest-is zero end [] = refl
+rest-is zero end (b ∷ bs) = refl
+rest-is (suc n) end [] = refl
+rest-is (suc n) end (b ∷ bs) = rest-is n end bs
 
 next : (tokens : List Token) (end b : ℕ) (bs : List ℕ) →
     tokens ++ tokens_of end (b ∷ bs) ≡ (tokens ++ token_at end (b ∷ bs) ∷ []) ++ tokens_of end (drop (token_length (b ∷ bs) - 1) bs)
-unfolding tokens_behind
+unfolding tokens_after
 next tokens end b bs =
-    ap (λ more. tokens ++ token_at end (b ∷ bs) ∷ more) (behind-is (token_length (b ∷ bs) - 1) end bs) ∙ sym (append_assoc tokens (token_at end (b ∷ bs) ∷ []) _)
+    ap (λ more. tokens ++ token_at end (b ∷ bs) ∷ more) (rest-is (token_length (b ∷ bs) - 1) end bs) ∙ sym (append_assoc tokens (token_at end (b ∷ bs) ∷ []) _)
 
 -- the same of a list with a first byte
 pub tokens-at : (tokens : List Token) (end : ℕ) (rest : List ℕ) → 1 ≤ length rest →
@@ -38,7 +38,7 @@ tokens-at tokens end (b ∷ bs) e =
     next tokens end b bs ∙ ap (λ more. (tokens ++ token_at end (b ∷ bs) ∷ []) ++ tokens_of end (drop (token_length (b ∷ bs) - 1) more)) (sym whole)
 
 pub tokens-none : (tokens : List Token) (end : ℕ) (rest : List ℕ) → length rest ≤ 0 → tokens ++ tokens_of end rest ≡ tokens
-unfolding tokens_behind
+unfolding tokens_after
 tokens-none tokens end [] e = append-nil tokens
 tokens-none tokens end (b ∷ bs) e = absurd (omega (arith, e))
 

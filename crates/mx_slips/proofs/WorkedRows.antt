@@ -1,11 +1,10 @@
 -- The definitions on worked rows.
-use Rattle.std.proofs.Common.{◌≡◌, true, false, [], ◌∷◌, None, Some, refl, codes, map}
+use Rattle.std.proofs.Common.{◌≡◌, true, false, [], ◌∷◌, refl, codes, map}
 use Rattle.mx_slips.specs.declared.tokens.Token.{Token}
 use Rattle.mx_slips.specs.Afters as afters
 use Rattle.mx_slips.specs.Backslashes.{has_escape}
 use Rattle.mx_slips.specs.Cases.{ends_with}
-use Rattle.mx_slips.specs.Locals.{back_digit}
-use Rattle.mx_slips.specs.Tokens.{token_length, tokens_behind, tokens_of}
+use Rattle.mx_slips.specs.Tokens.{token_length, tokens_after, tokens_of}
 
 -- what follows the operands: an operator and a number, a comma and a number; and comments
 product : afters.goes_on (codes " * 8") ≡ true
@@ -29,11 +28,11 @@ words-after-number = refl
 -- a register, a string with a blank, and a local label
 texts : map (λ (t : Token). t.text) (tokens_of 11 (codes "$0,\"a b\",1B"))
     ≡ codes "$" ∷ codes "0" ∷ codes "," ∷ codes "\"a b\"" ∷ codes "," ∷ codes "1B" ∷ []
-unfolding tokens_behind token_length
+unfolding tokens_after token_length
 texts = refl
 
 places : map (λ (t : Token). t.from) (tokens_of 11 (codes "#1B,'\"'")) ≡ 4 ∷ 7 ∷ 8 ∷ []
-unfolding tokens_behind token_length
+unfolding tokens_after token_length
 places = refl
 
 escaped : has_escape (codes "\"a\\n\"") ≡ true
@@ -43,12 +42,6 @@ escaped = refl
 other-backslash : has_escape (codes "\"a\\b\"") ≡ false
 unfolding has_escape
 other-backslash = refl
-
-last-one : back_digit (codes "1B") ≡ Some 49
-last-one = refl
-
-no-label : back_digit (codes "1F") ≡ None
-no-label = refl
 
 with-prefix : ends_with (codes ":Lib:Loop") (codes "Loop") ≡ true
 with-prefix = refl

@@ -7,24 +7,22 @@ use Rattle.mx_word.specs.Kinds.{is_letter}
 use Rattle.mx_slips.specs.declared.pieces.Piece.{Piece}
 use Rattle.mx_slips.specs.declared.sources.SourceLine.{SourceLine}
 use Rattle.mx_slips.specs.declared.sources.Statement.{Statement}
+use Rattle.mx_slips.specs.declared.surveys.Survey.{Survey}
+use Rattle.mx_slips.specs.declared.surveys.Use.{Use}
 use Rattle.mx_slips.specs.declared.tokens.Token.{Token}
 use Rattle.mx_slips.specs.declared.marks.Mark.{Mark}
-use Rattle.mx_slips.specs.Marks.{line_number, mark_of}
+use Rattle.mx_slips.specs.Marks.{mark_of}
 
 -- whether a text ends with another one
 abbrev pub ends_with : List ℕ → List ℕ → Bool
 ends_with text end = bytes_eq (drop (length text - length end) text) end
 
--- whether a token of a statement of a line is of a kind
-abbrev pub statement_has : (Token → Bool) → Statement → Bool
-statement_has kind s = list_any kind s.tokens
-
-abbrev pub line_has : (Token → Bool) → SourceLine → Bool
-line_has kind line = list_any (statement_has kind) line.statements
-
 -- A token that ends with a label uses it: a prefix may come before it.
 abbrev pub is_use : List ℕ → Token → Bool
 is_use label t = ends_with t.text label
+
+abbrev pub is_use_of : List ℕ → Use → Bool
+is_use_of label u = is_use label u.token
 
 -- a name that differs from a label in the case of letters alone, and is not predefined
 abbrev pub is_other_case : List ℕ → Token → Bool
@@ -52,24 +50,28 @@ begins_letter (b ∷ bs) = is_letter b
 abbrev pub is_named : List ℕ → Bool
 is_named label = begins_letter label && not (ends_with label (codes "Main"))
 
-abbrev pub is_used : List SourceLine → List ℕ → Bool
-is_used lines label = list_any (line_has (is_use label)) lines
+abbrev pub is_used : List Use → List ℕ → Bool
+is_used uses label = list_any (is_use_of label) uses
 
-abbrev pub is_unused : List SourceLine → List ℕ → Bool
-is_unused lines label = is_named label && not (is_used lines label)
+abbrev pub is_unused : List Use → List ℕ → Bool
+is_unused uses label = is_named label && not (is_used uses label)
 
 -- the first line that uses the other name
-unfoldable pub other_line : List SourceLine → List ℕ → Option ℕ
-other_line lines label = option_map line_number (find (line_has (is_misspelled lines label)) lines)
+abbrev pub differs_from : List SourceLine → List ℕ → Use → Bool
+differs_from lines label u = is_misspelled lines label u.token
+
+unfoldable pub other_line : Survey → List ℕ → Option ℕ
+other_line survey label = option_map (λ (u : Use). u.line) (find (differs_from survey.lines label) survey.uses)
 
 abbrev pub other_mark : Piece → Option ℕ → Option Mark
 other_mark label None = None
 other_mark label (Some number) = Some (mark_of label.from label.text number)
 
 -- the label, with that line
-abbrev pub label_case : List SourceLine → Option Piece → Option Mark
-label_case lines None = None
-label_case lines (Some label) = if is_unused lines label.text then other_mark label (other_line lines label.text) else None
+abbrev pub label_case : Survey → Option Piece → Option Mark
+label_case survey None = None
+label_case survey (Some label) =
+    if is_unused survey.uses label.text then other_mark label (other_line survey label.text) else None
 
-unfoldable pub other_case : List SourceLine → Statement → Option Mark
-other_case lines s = label_case lines s.label
+unfoldable pub other_case : Survey → Statement → Option Mark
+other_case survey s = label_case survey s.label

@@ -1,11 +1,11 @@
 pub mod Tokens
 pub mod Loads
 pub mod Sources
+pub mod Surveys
 pub mod Marks
 pub mod Operations
 pub mod Afters
 pub mod Backslashes
-pub mod Locals
 pub mod Bases
 pub mod Cases
 pub mod Returns

@@ -6,9 +6,11 @@ use Rattle.std.specs.List.{list_any}
 use Rattle.std.specs.Str.{bytes_eq}
 use Rattle.mx_slips.specs.declared.pieces.Piece.{Piece}
 use Rattle.mx_slips.specs.declared.returns.Place.{Place}
-use Rattle.mx_slips.specs.declared.returns.Place.TheVariants.{Outside, Inside, Behind}
+use Rattle.mx_slips.specs.declared.returns.Place.TheVariants.{Outside, Inside, After}
 use Rattle.mx_slips.specs.declared.sources.SourceLine.{SourceLine}
 use Rattle.mx_slips.specs.declared.sources.Statement.{Statement}
+use Rattle.mx_slips.specs.declared.surveys.Survey.{Survey}
+use Rattle.mx_slips.specs.declared.surveys.Use.{Use}
 use Rattle.mx_slips.specs.declared.tokens.Token.{Token}
 use Rattle.mx_slips.specs.declared.marks.Mark.{Mark}
 use Rattle.mx_slips.specs.Cases.{begins_letter, ends_with}
@@ -23,14 +25,12 @@ without_colon (b ∷ bs) = if b == 58 then bs else b ∷ bs
 abbrev pub is_name_of : List ℕ → Token → Bool
 is_name_of label t = bytes_eq (without_colon t.text) (without_colon label)
 
-abbrev pub calls : List ℕ → Statement → Bool
-calls label s = bytes_eq s.op.text (codes "PUSHJ") && list_any (is_name_of label) s.tokens
+-- a name that PUSHJ has
+abbrev pub is_call_of : List ℕ → Use → Bool
+is_call_of label u = u.is_call && is_name_of label u.token
 
-abbrev pub line_calls : List ℕ → SourceLine → Bool
-line_calls label line = list_any (calls label) line.statements
-
-abbrev pub is_called : List SourceLine → List ℕ → Bool
-is_called lines label = begins_letter label && list_any (line_calls label) lines
+abbrev pub is_called : List Use → List ℕ → Bool
+is_called uses label = begins_letter label && list_any (is_call_of label) uses
 
 -- ---- statements
 
@@ -63,16 +63,16 @@ leads_away s = bytes_eq s.op.text (codes "JMP") || is_halt s
 -- ---- one statement after another
 
 -- at a label that is called a subroutine begins
-abbrev pub place_at_label : List SourceLine → Option Piece → Place → Place
-place_at_label lines None place = place
-place_at_label lines (Some label) place = if is_called lines label.text then Inside else place
+abbrev pub place_at_label : List Use → Option Piece → Place → Place
+place_at_label uses None place = place
+place_at_label uses (Some label) place = if is_called uses label.text then Inside else place
 
 abbrev pub place_after_call : ℕ → Place → Place
-place_after_call number Inside = Behind number
+place_after_call number Inside = After number
 place_after_call number place = place
 
 abbrev pub place_after_jump : Place → Place
-place_after_jump (Behind number) = Outside
+place_after_jump (After number) = Outside
 place_after_jump place = place
 
 -- after a statement of the line with this number
@@ -83,8 +83,8 @@ place_by number s place =
     else if leads_away s then place_after_jump place
     else place
 
-unfoldable pub place_after : List SourceLine → ℕ → Statement → Place → Place
-place_after lines number s place = place_by number s (place_at_label lines s.label place)
+unfoldable pub place_after : List Use → ℕ → Statement → Place → Place
+place_after uses number s place = place_by number s (place_at_label uses s.label place)
 
 abbrev pub is_unsave : Statement → Bool
 is_unsave s = bytes_eq s.op.text (codes "UNSAVE")
@@ -92,14 +92,16 @@ is_unsave s = bytes_eq s.op.text (codes "UNSAVE")
 abbrev pub line_unsaves : SourceLine → Bool
 line_unsaves line = list_any is_unsave line.statements
 
--- the call that a POP comes after, by its line
-abbrev pub pop_mark : Statement → Place → Option Mark
-pop_mark s (Behind number) = if is_pop s.op.text then Some (mark_of s.op.from s.op.text number) else None
-pop_mark s place = None
+-- the call that a statement comes after, by its line
+abbrev pub call_mark : Statement → Place → Option Mark
+call_mark s (After number) = Some (mark_of s.op.from s.op.text number)
+call_mark s place = None
 
 abbrev pub unless_unsaved : List SourceLine → Option Mark → Option Mark
 unless_unsaved lines None = None
 unless_unsaved lines (Some mark) = if list_any line_unsaves lines then None else Some mark
 
-unfoldable pub lost_return : List SourceLine → Statement → Place → Option Mark
-lost_return lines s place = unless_unsaved lines (pop_mark s (place_at_label lines s.label place))
+-- a POP after a call
+unfoldable pub lost_return : Survey → Statement → Place → Option Mark
+lost_return survey s place =
+    if is_pop s.op.text then unless_unsaved survey.lines (call_mark s (place_at_label survey.uses s.label place)) else None

@@ -42,5 +42,9 @@ numbered_from number loads [] = []
 numbered_from number loads (line ∷ later) =
     line_with number (first_cells loads) line ∷ numbered_from (number + 1) (drop 1 loads) later
 
+-- the lines of a source without what they load
+abbrev pub unloaded_lines : List ℕ → List SourceLine
+unloaded_lines source = numbered_from 1 [] (lines_of source)
+
 abbrev pub source_lines : List ℕ → List SourceLine
 source_lines source = numbered_from 1 (loads_in source) (lines_of source)

@@ -41,10 +41,10 @@ abbrev pub token_at : ℕ → List ℕ → Token
 token_at end text = token_with (end - length text) (take (token_length text) text)
 
 -- those of a text whose first n bytes belong to a token before them
-unfoldable pub tokens_behind : ℕ → ℕ → List ℕ → List Token
-tokens_behind n end [] = []
-tokens_behind (suc n) end (b ∷ bs) = tokens_behind n end bs
-tokens_behind zero end (b ∷ bs) = token_at end (b ∷ bs) ∷ tokens_behind (token_length (b ∷ bs) - 1) end bs
+unfoldable pub tokens_after : ℕ → ℕ → List ℕ → List Token
+tokens_after n end [] = []
+tokens_after (suc n) end (b ∷ bs) = tokens_after n end bs
+tokens_after zero end (b ∷ bs) = token_at end (b ∷ bs) ∷ tokens_after (token_length (b ∷ bs) - 1) end bs
 
 abbrev pub tokens_of : ℕ → List ℕ → List Token
-tokens_of end text = tokens_behind 0 end text
+tokens_of end text = tokens_after 0 end text

@@ -6,7 +6,7 @@ ghost use Rattle.mx_line.specs.Bytes as bytes;
 ghost use Rattle.mx_slips.specs.Afters as spec;
 
 use crate::marks::{Mark, mark_of};
-use crate::pieces::behind;
+use crate::pieces::drop_front;
 use crate::sources::Statement;
 use crate::tokens::hexadecimal_count;
 use mx_word::is_digit;
@@ -26,7 +26,7 @@ fn is_doubled(b: u8) -> bool
 }
 
 /// Whether a text begins with a byte.
-pub fn begins_with(b: u8, text: &[u8]) -> bool
+pub fn starts_with_byte(b: u8, text: &[u8]) -> bool
     ensures { result ≡ spec.begins_with b text.now }
 {
     match text {
@@ -42,7 +42,7 @@ fn operator_length(text: &[u8]) -> usize
     let [b, more @ ..] = text else {
         return 0;
     };
-    if is_doubled(*b) && begins_with(*b, more) {
+    if is_doubled(*b) && starts_with_byte(*b, more) {
         2
     } else if is_operator(*b) {
         1
@@ -69,7 +69,7 @@ fn blank_count(text: &[u8]) -> usize
 fn past_blanks(text: &[u8]) -> &[u8]
     ensures { result.now ≡ bytes.past bytes.is_blank text.now }
 {
-    behind(text, blank_count(text))
+    drop_front(text, blank_count(text))
 }
 
 /// How many decimal digits are at the front of a text.
@@ -91,7 +91,7 @@ fn signed_length(count: usize) -> usize
 fn constant_length(bytes: &[u8]) -> usize
     ensures { result ≡ spec.constant_length bytes.now }
 {
-    if begins_with(b'\'', behind(bytes, 1)) {
+    if starts_with_byte(b'\'', drop_front(bytes, 1)) {
         3
     } else {
         0
@@ -125,15 +125,15 @@ fn ends_operand(text: &[u8]) -> bool
 }
 
 /// Whether a text begins with an operand that ends.
-fn begins_operand(text: &[u8]) -> bool
+fn starts_with_operand(text: &[u8]) -> bool
     ensures { result ≡ spec.begins_operand text.now }
 {
     let count = operand_length(text);
-    count > 0 && ends_operand(past_blanks(behind(text, count)))
+    count > 0 && ends_operand(past_blanks(drop_front(text, count)))
 }
 
 /// Whether a text begins with a blank.
-fn begins_blank(text: &[u8]) -> bool
+fn starts_with_blank(text: &[u8]) -> bool
     ensures { result ≡ spec.begins_blank text.now }
 {
     match text {
@@ -146,16 +146,16 @@ fn begins_blank(text: &[u8]) -> bool
 fn continues_after(count: usize, text: &[u8]) -> bool
     ensures { result ≡ spec.continues_after count text.now }
 {
-    let rest = behind(text, count);
-    count > 0 && begins_blank(rest) && begins_operand(past_blanks(rest))
+    let rest = drop_front(text, count);
+    count > 0 && starts_with_blank(rest) && starts_with_operand(past_blanks(rest))
 }
 
 /// Whether the operands go on after the blank.
 fn continues(text: &[u8]) -> bool
     ensures { result ≡ spec.continues text.now }
 {
-    if begins_with(b',', text) {
-        begins_operand(past_blanks(behind(text, 1)))
+    if starts_with_byte(b',', text) {
+        starts_with_operand(past_blanks(drop_front(text, 1)))
     } else {
         continues_after(operator_length(text), text)
     }
@@ -165,12 +165,12 @@ fn continues(text: &[u8]) -> bool
 fn goes_on(text: &[u8]) -> bool
     ensures { result ≡ spec.goes_on text.now }
 {
-    begins_with(b' ', text) && continues(behind(text, 1))
+    starts_with_byte(b' ', text) && continues(drop_front(text, 1))
 }
 
 /// The blank after the operands and what follows it, if operands go on there.
 #[tactic(auto, unfolding(crate::specs::Afters::operator_after_blank))]
-pub fn operator_after_blank(statement: &Statement) -> Option<Mark>
+pub fn find_operator_after_blank(statement: &Statement) -> Option<Mark>
     ensures { result ≡ spec.operator_after_blank statement.now }
 {
     let rest = statement.rest.text.as_slice();

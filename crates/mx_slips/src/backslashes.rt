@@ -3,13 +3,13 @@
 ghost use Rattle.std.specs.Prelude.{◌≡◌};
 ghost use Rattle.mx_slips.specs.Backslashes as spec;
 
-use crate::afters::begins_with;
+use crate::afters::starts_with_byte;
 use crate::marks::{Mark, mark_of};
 use crate::sources::Statement;
 use crate::tokens::Token;
 
 /// Whether a text begins with the letter or digit of an escape.
-fn begins_escape(text: &[u8]) -> bool
+fn starts_with_escape(text: &[u8]) -> bool
     ensures { result ≡ spec.begins_escape text.now }
 {
     matches!(text, [b'n' | b't' | b'r' | b'0', ..])
@@ -22,7 +22,7 @@ fn has_escape(text: &[u8]) -> bool
 {
     let mut rest = text;
     while let [b, more @ ..] = rest {
-        if *b == b'\\' && begins_escape(more) {
+        if *b == b'\\' && starts_with_escape(more) {
             return true;
         }
         rest = more;
@@ -35,12 +35,12 @@ fn is_escaping(token: &Token) -> bool
     ensures { result ≡ spec.is_escaping token.now }
 {
     let text = token.text.as_slice();
-    begins_with(b'"', text) && has_escape(text)
+    starts_with_byte(b'"', text) && has_escape(text)
 }
 
 /// The first string of a statement with an escape.
 #[tactic(auto, unfolding(crate::specs::Backslashes::backslash_in_string))]
-pub fn backslash_in_string(statement: &Statement) -> Option<Mark>
+pub fn find_backslash(statement: &Statement) -> Option<Mark>
     ensures { result ≡ spec.backslash_in_string statement.now }
 {
     let tokens = statement.tokens.as_slice();

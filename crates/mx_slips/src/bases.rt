@@ -47,7 +47,7 @@ fn is_statement_after(number: u32, line: &SourceLine) -> bool
 }
 
 /// Whether the first of statements is data with a label.
-fn begins_data(statements: &[Statement]) -> bool
+fn starts_with_data(statements: &[Statement]) -> bool
     ensures { result ≡ spec.begins_data statements.now }
 {
     match statements {
@@ -68,7 +68,7 @@ fn is_before_data(lines: &[SourceLine], number: u32) -> bool
     ensures { result ≡ spec.is_before_data (spec.next_line lines.now number) }
 {
     match next_line(lines, number) {
-        Some(line) => begins_data(line.statements.as_slice()),
+        Some(line) => starts_with_data(line.statements.as_slice()),
         None => false,
     }
 }
@@ -81,7 +81,7 @@ fn precedes_data(lines: &[SourceLine], number: u32, statement: &Statement) -> bo
 }
 
 /// Whether the first of tokens is this name.
-fn first_is(name: &[u8], tokens: &[Token]) -> bool
+fn is_first_token(name: &[u8], tokens: &[Token]) -> bool
     ensures { result ≡ spec.first_is name.now tokens.now }
 {
     match tokens {
@@ -91,24 +91,22 @@ fn first_is(name: &[u8], tokens: &[Token]) -> bool
 }
 
 /// Whether a line has a statement whose first operand is this name.
-fn line_sets(name: &[u8], line: &SourceLine) -> bool
+fn is_set_in_line(name: &[u8], line: &SourceLine) -> bool
     ensures { result ≡ spec.line_sets name.now line.now }
 {
     let statements = line.statements.as_slice();
-    statements
-        .iter()
-        .any(|statement| first_is(name, statement.tokens.as_slice()))
+    statements.iter().any(|statement| is_first_token(name, statement.tokens.as_slice()))
 }
 
 /// Whether one of these lines has such a statement.
-fn lines_set(lines: &[SourceLine], name: &[u8]) -> bool
+fn is_set_in_lines(lines: &[SourceLine], name: &[u8]) -> bool
     ensures { result ≡ list_any (spec.line_sets name.now) lines.now }
 {
-    lines.iter().any(|line| line_sets(name, line))
+    lines.iter().any(|line| is_set_in_line(name, line))
 }
 
 /// Whether tokens begin with a comma and this name.
-fn second_is(name: &[u8], tokens: &[Token]) -> bool
+fn is_second_operand(name: &[u8], tokens: &[Token]) -> bool
     ensures { result ≡ spec.second_is name.now tokens.now }
 {
     match tokens {
@@ -120,7 +118,7 @@ fn second_is(name: &[u8], tokens: &[Token]) -> bool
 }
 
 /// Tokens without the first one.
-fn behind_first(tokens: &[Token]) -> &[Token]
+fn without_first(tokens: &[Token]) -> &[Token]
     ensures { result.now ≡ drop 1 tokens.now }
 {
     match tokens {
@@ -135,7 +133,8 @@ fn is_based(name: &[u8], tokens: &[Token]) -> bool
 {
     match tokens {
         [] => false,
-        [_, more @ ..] => second_is(name, more) || second_is(name, behind_first(more)),
+        [_, more @ ..] => is_second_operand(name, more)
+            || is_second_operand(name, without_first(more)),
     }
 }
 
@@ -150,25 +149,27 @@ fn is_access(op: &[u8]) -> bool
 }
 
 /// Whether a statement loads or stores with this base.
-fn bases(name: &[u8], statement: &Statement) -> bool
+fn is_base_of(name: &[u8], statement: &Statement) -> bool
     ensures { result ≡ spec.bases name.now statement.now }
 {
     is_access(statement.op.text.as_slice()) && is_based(name, statement.tokens.as_slice())
 }
 
 /// Whether a line has such a statement.
-fn line_bases(name: &[u8], line: &SourceLine) -> bool
+fn is_base_in_line(name: &[u8], line: &SourceLine) -> bool
     ensures { result ≡ spec.line_bases name.now line.now }
 {
     let statements = line.statements.as_slice();
-    statements.iter().any(|statement| bases(name, statement))
+    statements
+        .iter()
+        .any(|statement| is_base_of(name, statement))
 }
 
 /// Whether one of these lines has such a statement.
-fn lines_base(lines: &[SourceLine], name: &[u8]) -> bool
+fn is_base_in_lines(lines: &[SourceLine], name: &[u8]) -> bool
     ensures { result ≡ list_any (spec.line_bases name.now) lines.now }
 {
-    lines.iter().any(|line| line_bases(name, line))
+    lines.iter().any(|line| is_base_in_line(name, line))
 }
 
 /// Whether the register of a label is a base and gets no value.
@@ -179,7 +180,7 @@ fn is_zero_base(lines: &[SourceLine], label: &Option<Piece>) -> bool
         None => false,
         Some(label) => {
             let name = label.text.as_slice();
-            lines_base(lines, name) && !lines_set(lines, name)
+            is_base_in_lines(lines, name) && !is_set_in_lines(lines, name)
         }
     }
 }
@@ -195,7 +196,11 @@ fn makes_zero_base(lines: &[SourceLine], statement: &Statement) -> bool
 
 /// A GREG that makes a register of 0 where a base was meant.
 #[tactic(auto, unfolding(crate::specs::Bases::greg_of_zero))]
-pub fn greg_of_zero(lines: &[SourceLine], line: &SourceLine, statement: &Statement) -> Option<Mark>
+pub fn find_zero_greg(
+    lines: &[SourceLine],
+    line: &SourceLine,
+    statement: &Statement,
+) -> Option<Mark>
     ensures { result ≡ spec.greg_of_zero lines.now line.now statement.now }
 {
     if precedes_data(lines, line.number, statement) || makes_zero_base(lines, statement) {

@@ -5,8 +5,9 @@ ghost use Rattle.std.specs.Str.{str_eq_ignore_ascii_case};
 ghost use Rattle.mx_slips.specs.Cases as spec;
 
 use crate::marks::{Mark, mark_of};
-use crate::pieces::{Piece, behind};
+use crate::pieces::{Piece, drop_front};
 use crate::sources::{SourceLine, Statement};
+use crate::surveys::{Survey, Use};
 use crate::tokens::Token;
 use mx_word::is_letter;
 
@@ -14,7 +15,7 @@ use mx_word::is_letter;
 pub(crate) fn ends_with(text: &[u8], end: &[u8]) -> bool
     ensures { result ≡ spec.ends_with text.now end.now }
 {
-    behind(text, text.len().saturating_sub(end.len())) == end
+    drop_front(text, text.len().saturating_sub(end.len())) == end
 }
 
 /// Whether two texts differ in the case of their letters alone, or not at all.
@@ -25,22 +26,11 @@ fn is_same_letters(one: &[u8], other: &[u8]) -> bool
     one.eq_ignore_ascii_case(other)
 }
 
-/// Whether a statement uses a label.
-fn statement_uses(label: &[u8], statement: &Statement) -> bool
-    ensures { result ≡ spec.statement_has (spec.is_use label.now) statement.now }
+/// Whether a name uses a label.
+fn is_use(label: &[u8], it: &Use) -> bool
+    ensures { result ≡ spec.is_use_of label.now it.now }
 {
-    let tokens = statement.tokens.as_slice();
-    tokens
-        .iter()
-        .any(|token| ends_with(token.text.as_slice(), label))
-}
-
-/// Whether a line uses a label.
-fn line_uses(label: &[u8], line: &SourceLine) -> bool
-    ensures { result ≡ spec.line_has (spec.is_use label.now) line.now }
-{
-    let statements = line.statements.as_slice();
-    statements.iter().any(|s| statement_uses(label, s))
+    ends_with(it.token.text.as_slice(), label)
 }
 
 /// Whether a token is a label in another case.
@@ -61,7 +51,7 @@ fn is_label_of(token: &Token, label: &Option<Piece>) -> bool
 }
 
 /// Whether a line has a label that a token uses.
-fn line_defines(token: &Token, line: &SourceLine) -> bool
+fn is_defined_in_line(token: &Token, line: &SourceLine) -> bool
     ensures { result ≡ spec.line_defines token.now line.now }
 {
     let statements = line.statements.as_slice();
@@ -72,7 +62,7 @@ fn line_defines(token: &Token, line: &SourceLine) -> bool
 fn is_defined(lines: &[SourceLine], token: &Token) -> bool
     ensures { result ≡ spec.is_defined lines.now token.now }
 {
-    lines.iter().any(|line| line_defines(token, line))
+    lines.iter().any(|line| is_defined_in_line(token, line))
 }
 
 /// Whether a token is a label in another case, and is not defined.
@@ -82,28 +72,15 @@ fn is_misspelled(lines: &[SourceLine], label: &[u8], token: &Token) -> bool
     is_other_case(label, token) && !is_defined(lines, token)
 }
 
-/// Whether a statement has a label in another case that is not defined.
-fn statement_differs(lines: &[SourceLine], label: &[u8], statement: &Statement) -> bool
-    ensures { result ≡ spec.statement_has (spec.is_misspelled lines.now label.now) statement.now }
+/// Whether a name is a label in another case that is not defined.
+fn differs_from(lines: &[SourceLine], label: &[u8], it: &Use) -> bool
+    ensures { result ≡ spec.differs_from lines.now label.now it.now }
 {
-    let tokens = statement.tokens.as_slice();
-    tokens
-        .iter()
-        .any(|token| is_misspelled(lines, label, token))
-}
-
-/// Whether a line has a label in another case that is not defined.
-fn line_differs(lines: &[SourceLine], label: &[u8], line: &SourceLine) -> bool
-    ensures { result ≡ spec.line_has (spec.is_misspelled lines.now label.now) line.now }
-{
-    let statements = line.statements.as_slice();
-    statements
-        .iter()
-        .any(|s| statement_differs(lines, label, s))
+    is_misspelled(lines, label, &it.token)
 }
 
 /// Whether a text begins with a letter.
-pub(crate) fn begins_letter(text: &[u8]) -> bool
+pub(crate) fn starts_with_letter(text: &[u8]) -> bool
     ensures { result ≡ spec.begins_letter text.now }
 {
     match text {
@@ -116,43 +93,45 @@ pub(crate) fn begins_letter(text: &[u8]) -> bool
 fn is_named(label: &[u8]) -> bool
     ensures { result ≡ spec.is_named label.now }
 {
-    begins_letter(label) && !ends_with(label, b"Main")
+    starts_with_letter(label) && !ends_with(label, b"Main")
 }
 
-/// Whether a line uses a label.
-fn is_used(lines: &[SourceLine], label: &[u8]) -> bool
-    ensures { result ≡ spec.is_used lines.now label.now }
+/// Whether one of these names uses a label.
+fn is_used(uses: &[Use], label: &[u8]) -> bool
+    ensures { result ≡ spec.is_used uses.now label.now }
 {
-    lines.iter().any(|line| line_uses(label, line))
+    uses.iter().any(|it| is_use(label, it))
 }
 
-/// Whether no line uses a label.
-fn is_unused(lines: &[SourceLine], label: &[u8]) -> bool
-    ensures { result ≡ spec.is_unused lines.now label.now }
+/// Whether none of these names uses a label.
+fn is_unused(uses: &[Use], label: &[u8]) -> bool
+    ensures { result ≡ spec.is_unused uses.now label.now }
 {
-    is_named(label) && !is_used(lines, label)
+    is_named(label) && !is_used(uses, label)
 }
 
 /// The number of the first line that has a label in another case that is not defined.
 #[tactic(auto, unfolding(crate::specs::Cases::other_line))]
-fn other_line(lines: &[SourceLine], label: &[u8]) -> Option<u32>
-    ensures { result ≡ spec.other_line lines.now label.now }
+fn other_line(survey: &Survey, label: &[u8]) -> Option<u32>
+    ensures { result ≡ spec.other_line survey.now label.now }
 {
-    match lines.iter().find(|line| line_differs(lines, label, line)) {
-        Some(line) => Some(line.number),
+    let lines = survey.lines.as_slice();
+    let uses = survey.uses.as_slice();
+    match uses.iter().find(|it| differs_from(lines, label, it)) {
+        Some(it) => Some(it.line),
         None => None,
     }
 }
 
 /// A label that is not used, if a name that differs from it in case alone is used and not defined.
-fn label_case(lines: &[SourceLine], label: &Piece) -> Option<Mark>
-    ensures { result ≡ spec.label_case lines.now (Some label.now) }
+fn label_case(survey: &Survey, label: &Piece) -> Option<Mark>
+    ensures { result ≡ spec.label_case survey.now (Some label.now) }
 {
     let text = label.text.as_slice();
-    if !is_unused(lines, text) {
+    if !is_unused(survey.uses.as_slice(), text) {
         return None;
     }
-    match other_line(lines, text) {
+    match other_line(survey, text) {
         Some(number) => Some(mark_of(label.from, text, number)),
         None => None,
     }
@@ -161,11 +140,11 @@ fn label_case(lines: &[SourceLine], label: &Piece) -> Option<Mark>
 /// The label of a statement, if it is not used, and a name that differs from it in case
 /// alone is used and not defined.
 #[tactic(auto, unfolding(crate::specs::Cases::other_case))]
-pub fn other_case(lines: &[SourceLine], statement: &Statement) -> Option<Mark>
-    ensures { result ≡ spec.other_case lines.now statement.now }
+pub fn find_other_case(survey: &Survey, statement: &Statement) -> Option<Mark>
+    ensures { result ≡ spec.other_case survey.now statement.now }
 {
     match &statement.label {
         None => None,
-        Some(label) => label_case(lines, label),
+        Some(label) => label_case(survey, label),
     }
 }

@@ -5,24 +5,26 @@ mod afters;
 mod backslashes;
 mod bases;
 mod cases;
-mod locals;
 mod marks;
 mod operations;
 mod pieces;
 mod returns;
 mod sources;
+mod surveys;
 mod tetras;
 mod tokens;
 
-pub use afters::{begins_with, operator_after_blank};
-pub use backslashes::backslash_in_string;
-pub use bases::{greg_of_zero, is_greg};
-pub use cases::other_case;
-pub use locals::no_label_before;
+pub use afters::{find_operator_after_blank, starts_with_byte};
+pub use backslashes::find_backslash;
+pub use bases::{find_zero_greg, is_greg};
+pub use cases::find_other_case;
 pub use marks::{Mark, mark_of};
 pub use operations::is_data_operation;
-pub use pieces::{Piece, front};
-pub use returns::{Place, lost_return, place_after};
-pub use sources::{SourceLine, SourceLines, Statement, Statements, source_lines};
-pub use tetras::loads_in;
+pub use pieces::{Piece, take_front};
+pub use returns::{Place, find_lost_return, place_after};
+pub use sources::{
+    SourceLine, SourceLines, Statement, Statements, collect_lines, collect_lines_of, read_lines,
+};
+pub use surveys::{Survey, Use, Uses, survey_lines};
+pub use tetras::is_accepted;
 pub use tokens::{Token, Tokens};

@@ -3,7 +3,7 @@
 ghost use Rattle.std.specs.Prelude.{◌≡◌};
 ghost use Rattle.mx_slips.specs.Marks as spec;
 
-/// A part of a line that a warning is about: how many bytes of the line are in front of it, how many bytes it has, and
+/// A part of a line that a warning is about: how many bytes of the line are before it, how many bytes it has, and
 /// the number of another line that the warning is about, or 0.
 #[derive(Clone, Copy, Debug, PartialEq, Eq)]
 pub struct Mark {

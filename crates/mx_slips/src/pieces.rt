@@ -7,7 +7,7 @@ use mx_line::Span;
 use mx_word::{Bytes, NoMemory};
 use std::alloc::Global;
 
-/// Bytes of a line, and how many bytes of the line are in front of them.
+/// Bytes of a line, and how many bytes of the line are before them.
 #[derive(Drop)]
 pub struct Piece {
     pub from: usize,
@@ -16,7 +16,7 @@ pub struct Piece {
 
 /// A text without its first bytes, this many or all.
 #[tactic(auto, using(crate::proofs::TokenTurns::parts))]
-pub(crate) fn behind(text: &[u8], count: usize) -> &[u8]
+pub(crate) fn drop_front(text: &[u8], count: usize) -> &[u8]
     ensures { result.now ≡ drop count text.now }
 {
     if count < text.len() {
@@ -28,7 +28,7 @@ pub(crate) fn behind(text: &[u8], count: usize) -> &[u8]
 
 /// The first bytes of a text, this many or all.
 #[tactic(auto, using(crate::proofs::TokenTurns::parts))]
-pub fn front(text: &[u8], count: usize) -> &[u8]
+pub fn take_front(text: &[u8], count: usize) -> &[u8]
     ensures { result.now ≡ take count text.now }
 {
     if count < text.len() {
@@ -42,7 +42,10 @@ pub fn front(text: &[u8], count: usize) -> &[u8]
 pub(crate) fn piece_at(alloc: Global, line: &[u8], span: Span) -> Result<Piece, NoMemory>
     ensures { IfOk result (λ piece. piece ≡ spec.piece_at line.now span) }
 {
-    let text = front(behind(line, span.from), span.to.saturating_sub(span.from));
+    let text = take_front(
+        drop_front(line, span.from),
+        span.to.saturating_sub(span.from),
+    );
     Ok(Piece {
         from: span.from,
         text: Bytes::copy(alloc, text)?,

@@ -4,24 +4,25 @@ ghost use Rattle.std.specs.Prelude.{◌≡◌};
 ghost use Rattle.std.specs.List.{list_any};
 ghost use Rattle.mx_slips.specs.Returns as spec;
 
-use crate::cases::{begins_letter, ends_with};
+use crate::cases::{ends_with, starts_with_letter};
 use crate::marks::{Mark, mark_of};
 use crate::pieces::Piece;
 use crate::sources::{SourceLine, Statement};
+use crate::surveys::{Survey, Use};
 use crate::tokens::Token;
 
-/// Where a statement stands.
+/// Where a statement is.
 #[derive(Clone, Copy, Debug, PartialEq, Eq)]
 pub enum Place {
     /// In no subroutine of which something can be said.
     Outside,
-    /// In a subroutine, in front of the calls that it makes.
+    /// In a subroutine, before the calls that it makes.
     Inside,
     /// In a subroutine, after a call on this line.
-    Behind(u32),
+    After(u32),
 }
 
-/// A name without the colon in front of it.
+/// A name without the colon before it.
 fn without_colon(name: &[u8]) -> &[u8]
     ensures { result.now ≡ spec.without_colon name.now }
 {
@@ -38,41 +39,25 @@ fn is_name_of(label: &[u8], token: &Token) -> bool
     without_colon(token.text.as_slice()) == without_colon(label)
 }
 
-/// Whether one of these tokens is the name of a label.
-fn has_name(label: &[u8], tokens: &[Token]) -> bool
-    ensures { result ≡ list_any (spec.is_name_of label.now) tokens.now }
+/// Whether a name is that of a label, and PUSHJ has it.
+fn is_call_of(label: &[u8], it: &Use) -> bool
+    ensures { result ≡ spec.is_call_of label.now it.now }
 {
-    tokens.iter().any(|token| is_name_of(label, token))
+    it.is_call && is_name_of(label, &it.token)
 }
 
-/// Whether a statement calls a label.
-fn calls(label: &[u8], statement: &Statement) -> bool
-    ensures { result ≡ spec.calls label.now statement.now }
+/// Whether PUSHJ has one of these names, and it is that of a label.
+fn has_call(uses: &[Use], label: &[u8]) -> bool
+    ensures { result ≡ list_any (spec.is_call_of label.now) uses.now }
 {
-    statement.op.text.as_slice() == b"PUSHJ".as_slice()
-        && has_name(label, statement.tokens.as_slice())
-}
-
-/// Whether a line calls a label.
-fn line_calls(label: &[u8], line: &SourceLine) -> bool
-    ensures { result ≡ spec.line_calls label.now line.now }
-{
-    let statements = line.statements.as_slice();
-    statements.iter().any(|statement| calls(label, statement))
-}
-
-/// Whether one of these lines calls a label.
-fn lines_call(lines: &[SourceLine], label: &[u8]) -> bool
-    ensures { result ≡ list_any (spec.line_calls label.now) lines.now }
-{
-    lines.iter().any(|line| line_calls(label, line))
+    uses.iter().any(|it| is_call_of(label, it))
 }
 
 /// Whether a label is a name that is called.
-fn is_called(lines: &[SourceLine], label: &[u8]) -> bool
-    ensures { result ≡ spec.is_called lines.now label.now }
+fn is_called(uses: &[Use], label: &[u8]) -> bool
+    ensures { result ≡ spec.is_called uses.now label.now }
 {
-    begins_letter(label) && lines_call(lines, label)
+    starts_with_letter(label) && has_call(uses, label)
 }
 
 /// Whether an operation calls a subroutine.
@@ -129,18 +114,18 @@ fn is_halt(statement: &Statement) -> bool
 }
 
 /// Whether a statement leads away for good, or may.
-fn leads_away(statement: &Statement) -> bool
+fn may_lead_away(statement: &Statement) -> bool
     ensures { result ≡ spec.leads_away statement.now }
 {
     statement.op.text.as_slice() == b"JMP".as_slice() || is_halt(statement)
 }
 
 /// The place at a label: where it is called, a subroutine begins.
-fn place_at_label(lines: &[SourceLine], label: &Option<Piece>, place: Place) -> Place
-    ensures { result ≡ spec.place_at_label lines.now label.now place }
+fn place_at_label(uses: &[Use], label: &Option<Piece>, place: Place) -> Place
+    ensures { result ≡ spec.place_at_label uses.now label.now place }
 {
     match label {
-        Some(label) if is_called(lines, label.text.as_slice()) => Place::Inside,
+        Some(label) if is_called(uses, label.text.as_slice()) => Place::Inside,
         _ => place,
     }
 }
@@ -150,7 +135,7 @@ fn place_after_call(number: u32, place: Place) -> Place
     ensures { result ≡ spec.place_after_call number place }
 {
     match place {
-        Place::Inside => Place::Behind(number),
+        Place::Inside => Place::After(number),
         other => other,
     }
 }
@@ -160,7 +145,7 @@ fn place_after_jump(place: Place) -> Place
     ensures { result ≡ spec.place_after_jump place }
 {
     match place {
-        Place::Behind(_) => Place::Outside,
+        Place::After(_) => Place::Outside,
         other => other,
     }
 }
@@ -174,7 +159,7 @@ fn place_by(number: u32, statement: &Statement, place: Place) -> Place
         Place::Outside
     } else if is_call(op) {
         place_after_call(number, place)
-    } else if leads_away(statement) {
+    } else if may_lead_away(statement) {
         place_after_jump(place)
     } else {
         place
@@ -183,13 +168,13 @@ fn place_by(number: u32, statement: &Statement, place: Place) -> Place
 
 /// The place after a statement of the line with this number.
 #[tactic(auto, unfolding(crate::specs::Returns::place_after))]
-pub fn place_after(lines: &[SourceLine], number: u32, statement: &Statement, place: Place) -> Place
-    ensures { result ≡ spec.place_after lines.now number statement.now place }
+pub fn place_after(uses: &[Use], number: u32, statement: &Statement, place: Place) -> Place
+    ensures { result ≡ spec.place_after uses.now number statement.now place }
 {
     place_by(
         number,
         statement,
-        place_at_label(lines, &statement.label, place),
+        place_at_label(uses, &statement.label, place),
     )
 }
 
@@ -201,7 +186,7 @@ fn is_unsave(statement: &Statement) -> bool
 }
 
 /// Whether a line has UNSAVE.
-fn line_unsaves(line: &SourceLine) -> bool
+fn has_unsave(line: &SourceLine) -> bool
     ensures { result ≡ spec.line_unsaves line.now }
 {
     let statements = line.statements.as_slice();
@@ -209,31 +194,36 @@ fn line_unsaves(line: &SourceLine) -> bool
 }
 
 /// Whether one of these lines has UNSAVE.
-fn lines_unsave(lines: &[SourceLine]) -> bool
+fn have_unsave(lines: &[SourceLine]) -> bool
     ensures { result ≡ list_any spec.line_unsaves lines.now }
 {
-    lines.iter().any(|line| line_unsaves(line))
+    lines.iter().any(|line| has_unsave(line))
 }
 
-/// A POP after a call, with the line of this.
-fn pop_mark(statement: &Statement, place: Place) -> Option<Mark>
-    ensures { result ≡ spec.pop_mark statement.now place }
+/// The operation of a statement that comes after a call, with the line of this.
+fn call_mark(statement: &Statement, place: Place) -> Option<Mark>
+    ensures { result ≡ spec.call_mark statement.now place }
 {
-    let op = statement.op.text.as_slice();
     match place {
-        Place::Behind(number) if is_pop(op) => Some(mark_of(statement.op.from, op, number)),
+        Place::After(number) => {
+            let op = &statement.op;
+            Some(mark_of(op.from, op.text.as_slice(), number))
+        }
         _ => None,
     }
 }
 
 /// A POP of a subroutine that calls another one and does not save rJ, with the line of the call.
 #[tactic(auto, unfolding(crate::specs::Returns::lost_return))]
-pub fn lost_return(lines: &[SourceLine], statement: &Statement, place: Place) -> Option<Mark>
-    ensures { result ≡ spec.lost_return lines.now statement.now place }
+pub fn find_lost_return(survey: &Survey, statement: &Statement, place: Place) -> Option<Mark>
+    ensures { result ≡ spec.lost_return survey.now statement.now place }
 {
-    let place = place_at_label(lines, &statement.label, place);
-    match pop_mark(statement, place) {
-        Some(mark) if !lines_unsave(lines) => Some(mark),
+    if !is_pop(statement.op.text.as_slice()) {
+        return None;
+    }
+    let place = place_at_label(survey.uses.as_slice(), &statement.label, place);
+    match call_mark(statement, place) {
+        Some(mark) if !have_unsave(survey.lines.as_slice()) => Some(mark),
         _ => None,
     }
 }

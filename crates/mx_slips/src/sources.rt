@@ -1,13 +1,15 @@
 //! A source as its warnings see it: its lines and their statements.
 
 ghost use Rattle.std.specs.Prelude.{◌≡◌, ◌+◌, option_map, IfOk};
+ghost use Rattle.std.specs.Result.{is_ok};
+ghost use Rattle.mx_files.specs.Sources.{source_meaning};
 ghost use Rattle.mx_line.specs.Cutting.{cuts_from};
 ghost use Rattle.mx_line.specs.Lines.{lines_of};
 ghost use Rattle.mx_slips.specs.Sources as spec;
 ghost use Rattle.mx_slips.specs.Tokens.{piece_at};
 
-use crate::pieces::{Piece, behind, front, piece_at};
-use crate::tetras::{copy_cells, first_cells, later_cells, loads_in};
+use crate::pieces::{Piece, drop_front, piece_at, take_front};
+use crate::tetras::{copy_cells, first_cells, is_accepted, later_cells, loads_if};
 use crate::tokens::{Tokens, tokens_of};
 use mx_line::{Cut, Span, cut_line, next_statement};
 use mx_view::Cell;
@@ -54,11 +56,11 @@ fn label_at(alloc: Global, line: &[u8], span: Option<Span>) -> Result<Option<Pie
 fn tokens_at(alloc: Global, line: &[u8], span: Span) -> Result<Tokens, NoMemory>
     ensures { IfOk result (λ tokens. tokens ≡ spec.tokens_at line.now span) }
 {
-    let field = behind(line, span.from);
+    let field = drop_front(line, span.from);
     tokens_of(
         alloc,
         span.to,
-        front(field, span.to.saturating_sub(span.from)),
+        take_front(field, span.to.saturating_sub(span.from)),
     )
 }
 
@@ -71,7 +73,7 @@ fn statement_at(alloc: Global, line: &[u8], cut: &Cut) -> Result<Statement, NoMe
     let tokens = tokens_at(alloc, line, cut.operands)?;
     let rest = Piece {
         from: cut.operands.to,
-        text: Bytes::copy(alloc, behind(line, cut.operands.to))?,
+        text: Bytes::copy(alloc, drop_front(line, cut.operands.to))?,
     };
     Ok(Statement {
         label,
@@ -155,10 +157,30 @@ fn loaded_lines(
     Ok(lines)
 }
 
-/// The lines of a source.
-pub fn source_lines(alloc: Global, source: &[u8]) -> Result<SourceLines, NoMemory>
+/// The lines of a source with their statements, as if they loaded nothing: no source is assembled for them.
+pub fn read_lines(alloc: Global, source: &[u8]) -> Result<SourceLines, NoMemory>
+    ensures { IfOk result (λ lines. lines ≡ spec.unloaded_lines source.now) }
+{
+    loaded_lines(alloc, &[], source)
+}
+
+/// The lines of a source of which it is known whether it is refused.
+pub fn collect_lines_of(
+    alloc: Global,
+    is_accepted: bool,
+    source: &[u8],
+) -> Result<SourceLines, NoMemory>
+    requires { is_accepted ≡ is_ok (source_meaning source.now) }
     ensures { IfOk result (λ lines. lines ≡ spec.source_lines source.now) }
 {
-    let loads = loads_in(alloc, source)?;
+    let loads = loads_if(alloc, is_accepted, source)?;
     loaded_lines(alloc, loads.as_slice(), source)
+}
+
+/// The lines of a source.
+pub fn collect_lines(alloc: Global, source: &[u8]) -> Result<SourceLines, NoMemory>
+    ensures { IfOk result (λ lines. lines ≡ spec.source_lines source.now) }
+{
+    let is_accepted = is_accepted(alloc, source)?;
+    collect_lines_of(alloc, is_accepted, source)
 }

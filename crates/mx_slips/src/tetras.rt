@@ -11,7 +11,7 @@ use mx_word::{NoMemory, Sequence};
 use std::alloc::Global;
 
 /// Whether a source is not refused.
-fn is_accepted(alloc: Global, source: &[u8]) -> Result<bool, NoMemory>
+pub fn is_accepted(alloc: Global, source: &[u8]) -> Result<bool, NoMemory>
     ensures { IfOk result (λ is. is ≡ is_ok (source_meaning source.now)) }
 {
     match load_source(alloc, source) {
@@ -21,12 +21,17 @@ fn is_accepted(alloc: Global, source: &[u8]) -> Result<bool, NoMemory>
     }
 }
 
-/// The tetras of the lines of a source; of one that is refused, none.
+/// The tetras of the lines of a source of which it is known whether it is refused; then there are none.
 #[tactic(auto, using(crate::proofs::LoadTurns::loads))]
-pub fn loads_in(alloc: Global, source: &[u8]) -> Result<LineCells, NoMemory>
+pub(crate) fn loads_if(
+    alloc: Global,
+    is_accepted: bool,
+    source: &[u8],
+) -> Result<LineCells, NoMemory>
+    requires { is_accepted ≡ is_ok (source_meaning source.now) }
     ensures { IfOk result (λ loads. loads ≡ spec.loads_in source.now) }
 {
-    if is_accepted(alloc, source)? {
+    if is_accepted {
         cells_by_line(alloc, source)
     } else {
         Ok(LineCells::new(alloc))

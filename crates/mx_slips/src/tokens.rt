@@ -6,13 +6,13 @@ ghost use Rattle.mx_word.specs.Kinds as kinds;
 ghost use Rattle.mx_line.specs.Bytes.{run};
 ghost use Rattle.mx_slips.specs.Tokens as spec;
 
-use crate::pieces::{behind, front};
+use crate::pieces::{drop_front, take_front};
 use mx_ops::predefined;
 use mx_word::{Bytes, NoMemory, Sequence, is_hexadecimal, is_name_byte};
 use std::alloc::Global;
 
 /// A string, a character constant, a number, a name or another byte of an operand field: its bytes, how many bytes of the
-/// line are in front of it, and whether it is the name of a predefined symbol.
+/// line are before it, and whether it is the name of a predefined symbol.
 #[derive(Drop)]
 pub struct Token {
     pub from: usize,
@@ -30,7 +30,7 @@ fn quote_place(text: &[u8]) -> Option<usize>
     text.iter().position(|b| *b == b'"')
 }
 
-/// How many bytes a string has with both quotes, which opens in front of these bytes.
+/// How many bytes a string has with both quotes, which opens before these bytes.
 fn string_length(bytes: &[u8]) -> usize
     ensures { result ≡ spec.string_length bytes.now (position (λ c. c == 34) bytes.now) }
 {
@@ -84,7 +84,7 @@ fn is_predefined(alloc: Global, name: &[u8]) -> Result<bool, NoMemory>
 fn token_at(alloc: Global, end: usize, text: &[u8]) -> Result<Token, NoMemory>
     ensures { IfOk result (λ token. token ≡ spec.token_at end text.now) }
 {
-    let token = front(text, token_length(text));
+    let token = take_front(text, token_length(text));
     Ok(Token {
         from: end.saturating_sub(text.len()),
         text: Bytes::copy(alloc, token)?,
@@ -102,7 +102,7 @@ pub(crate) fn tokens_of(alloc: Global, end: usize, text: &[u8]) -> Result<Tokens
     while let [_, more @ ..] = rest {
         let token = token_at(alloc, end, rest)?;
         tokens.push(token)?;
-        rest = behind(more, token_length(rest).saturating_sub(1));
+        rest = drop_front(more, token_length(rest).saturating_sub(1));
     }
     Ok(tokens)
 }

@@ -1,6 +1,6 @@
 -- Numbers, and how many digits they take.
 use Rattle.std.proofs.Common.{◌≡◌, ℕ, suc, ◌+◌, ◌*◌, ◌^◌, ◌<◌, ◌≤◌, ◌==◌, Bool, true, false, cond, List, [], ◌∷◌, ◌++◌, length, arith, refl, sym, ap, ◌∙◌, subst, inl, inr, rules}
-use Rattle.mx_stab.proofs.Words.{add-mul, mul_assoc, mul_comm, mul-le-mul_right, pow-le-pow_right, pow-zero, cases_lt, eqb-true, eqb-false, pow_more, AreBytes, AreBelow, number, number_behind, fewest_digits, nat_tests, common_steps}
+use Rattle.mx_stab.proofs.Words.{add-mul, mul_assoc, mul_comm, mul-le-mul_right, pow-le-pow_right, pow-zero, cases_lt, eqb-true, eqb-false, pow_more, AreBytes, AreBelow, number, number_after, fewest_digits, nat_tests, common_steps}
 
 one-more : (base x p : ℕ) → x * (p * base) ≡ x * base * p
 one-more base x p = ap (λ n. x * n) (mul_comm p base) ∙ sym (mul_assoc x base p)
@@ -12,12 +12,12 @@ power : (base : ℕ) (n : ℕ) → base ^ suc n ≡ base ^ n * base
 power base n = ap (λ m. base ^ m) (omega arith) ∙ pow_more base n
 
 -- digits after a number tell no less than that number with as many zeros
-pub number-least : (base x : ℕ) (ds : List ℕ) → x * base ^ length ds ≤ number_behind base x ds
+pub number-least : (base x : ℕ) (ds : List ℕ) → x * base ^ length ds ≤ number_after base x ds
 number-least base x [] = omega (arith, no-digits base x)
 number-least base x (d ∷ more) = search (rules, mul-le-mul_right, power, one-more, number-least base (x * base + d) more)
 
 -- and less than the next number with as many zeros
-pub number-most : (base x : ℕ) (ds : List ℕ) → AreBelow base ds → number_behind base x ds < (x + 1) * base ^ length ds
+pub number-most : (base x : ℕ) (ds : List ℕ) → AreBelow base ds → number_after base x ds < (x + 1) * base ^ length ds
 number-most base x [] b = omega (arith, no-digits base (x + 1))
 number-most base x (d ∷ more) b = grind (arith, nat_tests, add-mul, mul-le-mul_right, power, one-more, number-most base (x * base + d) more b.1)
 
@@ -30,7 +30,7 @@ number-below bytes i j b l p = search (rules, pow-le-pow_right, number-power)
 
 -- the zeros in front tell nothing
 pub number-zero : (base e : ℕ) (more : List ℕ) → number base (e ∷ more) ≡ number base (0 ∷ e ∷ more)
-number-zero base e more = ap (λ x. number_behind base x more) (grind (arith))
+number-zero base e more = ap (λ x. number_after base x more) (grind (arith))
 
 -- a number that n digits tell is written in no more than n
 pub fewest-least : (base : ℕ) (ds : List ℕ) (n : ℕ) → 1 ≤ base → 1 ≤ n → number base ds < base ^ n → length (fewest_digits ds) ≤ n

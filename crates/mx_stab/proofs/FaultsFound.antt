@@ -1,6 +1,6 @@
 -- The fault that is read is in the table.
 use Rattle.std.proofs.Common.{◌≡◌, ◌≢◌, ℕ, zero, suc, ◌+◌, ◌-◌, ◌*◌, ◌^◌, ◌≤◌, ◌<◌, ◌==◌, ◌%◌, ◌/◌, Bool, true, false, cond, ◌||◌, List, [], ◌∷◌, ◌++◌, length, take, drop, Option, Some, None, Ok, Err, Result, arith, refl, sym, ap, ◌∙◌, subst, length-append, append_assoc, append-nil, nat_le, nat_lt, bytes_eq}
-use Rattle.mx_stab.proofs.Words.{encode_utf8, cond_both, eqb-true, eqb-false, leb-true, leb-false, ltb-true, ltb-false, length-take-le, take-append-drop, bytes_eq-Decides, AreBytes, Symbol, Value, StabFault, Truncated, Padding, Wide, Twice, TooLong, BadSerial, wide_number, is_wide_character, CountsTooFar, EndsWithin, FaultOf, HasCharacter, IsDue, IsTooDeep, IsWideBare, LacksWide, NamesAgain, UpToCharacter, UpToLeft, UpToSymbol, AreBelow, AreDistinct, IsSubtrie, SpellsCharacter, SpellsSerial, SpellsValue, Reading, Answer, Character, and_then, part_if, is_among, value_size, value_of, serial_behind, symbol_with, symbol, has, has_character, is_wide_bare, character_of, character_part, with_character, node_rest, node, subtrie, next_subtrie, is_padding, symbols_at_end, start, trie_answer, nat_tests}
+use Rattle.mx_stab.proofs.Words.{encode_utf8, cond_both, eqb-true, eqb-false, leb-true, leb-false, ltb-true, ltb-false, length-take-le, take-append-drop, bytes_eq-Decides, AreBytes, Symbol, Value, StabFault, Truncated, Padding, Wide, Twice, TooLong, BadSerial, wide_number, is_wide_character, CountsTooFar, EndsWithin, FaultOf, HasCharacter, IsDue, IsTooDeep, IsWideBare, LacksWide, NamesAgain, UpToCharacter, UpToLeft, UpToSymbol, AreBelow, AreDistinct, IsSubtrie, SpellsCharacter, SpellsSerial, SpellsValue, Reading, Answer, Character, and_then, part_if, is_among, value_size, value_of, serial_after, symbol_with, symbol, has, has_character, is_wide_bare, character_of, character_part, with_character, node_rest, node, subtrie, next_subtrie, is_padding, symbols_at_end, start, trie_answer, nat_tests}
 use Rattle.mx_stab.specs.FaultTable as table
 use Rattle.mx_stab.specs.Reading as reading
 use Rattle.mx_stab.proofs.Distinct.{distinct-front}
@@ -76,7 +76,7 @@ placed : (kind : ℕ → StabFault) (bytes front rest : List ℕ) (at : ℕ) →
 placed kind bytes front rest at e p h = subst (λ b. FaultOf b (kind at)) (sym e) (subst (λ n. FaultOf (front ++ rest) (kind n)) (sym p) h)
 
 -- the serial number of a node
-no-end : (x : ℕ) (bytes : List ℕ) → serial_behind x bytes ≡ None → AreBelow 128 bytes
+no-end : (x : ℕ) (bytes : List ℕ) → serial_after x bytes ≡ None → AreBelow 128 bytes
 no-end x [] h = tt
 no-end x (b ∷ more) h = grind (arith, nat_tests, no-end (x * 128 + b) more)
 
@@ -106,7 +106,7 @@ again path before m node name found value serial told counted rest h hv hs e =
     (subst (λ n. UpToCharacter path before m node n (r.earlier ++ r.s ∷ r.later)) (sym r.same) (subst (λ f. UpToCharacter path before m node name f) r.all h)) hv hs
 
 serial-found : (bytes : List ℕ) (k : ℕ) (front path : List ℕ) (before : List Symbol) (at m : ℕ) (node name : List ℕ) (s : Reading) (value : Value) (told left : List ℕ) (r : Option (ℕ × List ℕ)) → 0 < length bytes →
-    InNode bytes k front path before at node s → UpToCharacter path before m node name s.found → SpellsValue (m % 16) value told → s.rest ≡ told ++ left → AreBytes left → serial_behind 0 left ≡ r →
+    InNode bytes k front path before at node s → UpToCharacter path before m node name s.found → SpellsValue (m % 16) value told → s.rest ≡ told ++ left → AreBytes left → serial_after 0 left ≡ r →
     InTable bytes (symbol_with at name value s r)
 serial-found bytes k front path before at m node name s value told left None some n h hv e b is =
     let whole = node-split bytes k front path before at node s n ∙ ap (λ r. front ++ (node ++ r)) e ∙ ap (λ r. front ++ r) (sym (append_assoc node told left)) in
@@ -140,7 +140,7 @@ symbol-found bytes k front path before at m node name s some n h = one (m % 16 =
     size = value_size (m % 16)
 
     one : (b : Bool) → (b ≡ false → m % 16 ≢ 0) → InTable bytes (cond b (Ok s) (cond (nat_lt (length s.rest) (value_size (m % 16))) (Err (Truncated (s.at + length s.rest)))
-        (symbol_with at name (value_of (m % 16) (take (value_size (m % 16)) s.rest)) s (serial_behind 0 (drop (value_size (m % 16)) s.rest)))))
+        (symbol_with at name (value_of (m % 16) (take (value_size (m % 16)) s.rest)) s (serial_after 0 (drop (value_size (m % 16)) s.rest)))))
     one true e = tt
     one false e =
         let told = take size s.rest in
@@ -150,7 +150,7 @@ symbol-found bytes k front path before at m node name s some n h = one (m % 16 =
         table-cond bytes (nat_lt (length s.rest) size) (Truncated (s.at + length s.rest)) _
         (λ few. cut bytes front path (node ++ s.rest) before _ (node-split bytes k front path before at node s n) n.due
         (EndsWithin.at_value m node name s.rest s.found h (e refl) (ltb-true (length s.rest) size few)) some (end-is bytes k (front ++ node) s n.behind))
-        (λ fits. let kind = e refl in serial-found bytes k front path before at m node name s (value_of (m % 16) told) told left (serial_behind 0 left) some n h
+        (λ fits. let kind = e refl in serial-found bytes k front path before at m node name s (value_of (m % 16) told) told left (serial_after 0 left) some n h
         (value-spelt (m % 16) told (omega (arith, kind)) (omega arith) (length-take-le size s.rest (ltb-false (length s.rest) size fits)) (all-front (λ d. d < 256) told left all))
         both (all-back (λ d. d < 256) told left all) refl)
 

@@ -1,6 +1,6 @@
 -- The fault that the table has is met by the reader.
 use Rattle.std.proofs.Common.{◌≡◌, ◌≢◌, ℕ, ◌+◌, ◌*◌, ◌%◌, ◌^◌, ◌≤◌, ◌<◌, ◌==◌, true, false, ◌||◌, List, [], ◌∷◌, ◌++◌, length, replicate, None, Err, arith, refl, sym, ap, ◌∙◌, append_assoc, length-append, zero-add, nat_le, nat_lt, IfSome, rules}
-use Rattle.mx_stab.proofs.Words.{cond-false, cond-true, lt-ltb, lt-leb, le-leb, bytes_eq-Decides, Symbol, StabFault, Truncated, Padding, Wide, Twice, TooLong, BadSerial, CountsTooFar, EndsWithin, FaultOf, HasCharacter, IsDue, IsTooDeep, LacksWide, NamesAgain, UpToCharacter, UpToLeft, flag, AreBelow, AreDistinct, IsSubtrie, number, Reading, Answer, and_then, part_if, is_among, value_size, serial_behind, symbol_with, symbol, has, is_wide_bare, character_of, character_part, with_character, node_rest, next_subtrie, is_padding, symbols_at_end, start, trie_answer, nat_tests}
+use Rattle.mx_stab.proofs.Words.{cond-false, cond-true, lt-ltb, lt-leb, le-leb, bytes_eq-Decides, Symbol, StabFault, Truncated, Padding, Wide, Twice, TooLong, BadSerial, CountsTooFar, EndsWithin, FaultOf, HasCharacter, IsDue, IsTooDeep, LacksWide, NamesAgain, UpToCharacter, UpToLeft, flag, AreBelow, AreDistinct, IsSubtrie, number, Reading, Answer, and_then, part_if, is_among, value_size, serial_after, symbol_with, symbol, has, is_wide_bare, character_of, character_part, with_character, node_rest, next_subtrie, is_padding, symbols_at_end, start, trie_answer, nat_tests}
 use Rattle.mx_stab.specs.Faults.{place_of}
 use Rattle.mx_stab.specs.Reading as reading
 use Rattle.mx_stab.proofs.NodeParts.{behind-character, behind-left, behind-symbol, character-none, character-there, not-bare, there, wide-bare}
@@ -52,7 +52,7 @@ marked m h = ap (λ n. n == 1) h
 cut-character : (node m at : ℕ) (found : List Symbol) (rest : List ℕ) → length rest < 1 + flag 0x80 m → character_of node m (due_at at rest found) ≡ Err (Truncated (at + length rest))
 cut-character node m at found rest h = grind arith
 
-no-serial : (x : ℕ) (digits : List ℕ) → AreBelow 128 digits → serial_behind x digits ≡ None
+no-serial : (x : ℕ) (digits : List ℕ) → AreBelow 128 digits → serial_after x digits ≡ None
 no-serial x [] h = refl
 no-serial x (d ∷ more) h = cond-true (nat_lt d 128) _ _ (lt-ltb d 128 h.0) ∙ no-serial (x * 128 + d) more h.1
 

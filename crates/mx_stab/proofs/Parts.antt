@@ -1,6 +1,6 @@
 -- The meaning of a subtrie does not hang on the bound of its nodes.
 use Rattle.std.proofs.Common.{◌≡◌, ℕ, zero, suc, ◌+◌, ◌-◌, ◌*◌, ◌^◌, ◌≤◌, ◌==◌, ◌%◌, Bool, cond, List, [], ◌∷◌, ◌++◌, length, Option, Some, None, Result, Ok, Err, arith, refl, sym, ap, ◌∙◌, length-drop, rules}
-use Rattle.mx_stab.proofs.Words.{cond_both, Symbol, Value, StabFault, Truncated, Wide, Reading, Answer, Character, and_then, part_if, serial_behind, symbol_with, symbol, has, has_character, is_wide_bare, two_bytes, character_of, character_part, with_character, character, node_rest, node, subtrie, next_subtrie, nat_tests}
+use Rattle.mx_stab.proofs.Words.{cond_both, Symbol, Value, StabFault, Truncated, Wide, Reading, Answer, Character, and_then, part_if, serial_after, symbol_with, symbol, has, has_character, is_wide_bare, two_bytes, character_of, character_part, with_character, character, node_rest, node, subtrie, next_subtrie, nat_tests}
 use Rattle.mx_stab.specs.Reading.{one_byte}
 
 -- no more than this many bytes are left
@@ -32,7 +32,7 @@ LeavesBehind n (Some (serial, more)) = length more ≤ n
 pub behind-more : (n m : ℕ) (r : Option (ℕ × List ℕ)) → n ≤ m → LeavesBehind n r → LeavesBehind m r
 behind-more n m r h1 h2 = grind arith
 
-pub serial-leaves : (x : ℕ) (bytes : List ℕ) → LeavesBehind (length bytes) (serial_behind x bytes)
+pub serial-leaves : (x : ℕ) (bytes : List ℕ) → LeavesBehind (length bytes) (serial_after x bytes)
 serial-leaves x [] = tt
 serial-leaves x (b ∷ more) = grind (arith, nat_tests, serial-leaves (x * 128 + b) more)
 

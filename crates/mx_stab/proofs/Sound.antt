@@ -1,6 +1,6 @@
 -- What is read is in the grammar.
 use Rattle.std.proofs.Common.{◌≡◌, ◌≢◌, ℕ, zero, suc, ◌+◌, ◌-◌, ◌*◌, ◌/◌, ◌%◌, ◌^◌, ◌≤◌, ◌<◌, ◌==◌, Bool, true, false, cond, ◌||◌, not, List, [], ◌∷◌, ◌++◌, length, take, drop, replicate, Option, Some, None, Result, Ok, Err, arith, refl, sym, ap, ◌∙◌, subst, append_assoc, append-nil, length-append, nat_le, nat_lt, slice_index, ◌&&◌, rules}
-use Rattle.mx_stab.proofs.Words.{encode_utf8, leb-false, leb-true, ltb-true, ltb-false, eqb-true, eqb-false, and_parts, length-take-le, take-append-drop, AreBytes, Symbol, Value, Pure, Reg, StabFault, Padding, Truncated, Wide, wide_number, is_wide_character, Reading, Answer, Character, and_then, part_if, is_among, value_size, value_of, serial_behind, symbol_with, symbol, has, has_character, is_wide_bare, character_of, character_part, with_character, node_rest, node, subtrie, next_subtrie, are_zeros, is_padding, symbols_at_end, start, trie_answer, AreBelow, AreDistinct, IsSubtrie, IsTrie, SpellsCharacter, SpellsValue, SpellsSerial, number_behind, number}
+use Rattle.mx_stab.proofs.Words.{encode_utf8, leb-false, leb-true, ltb-true, ltb-false, eqb-true, eqb-false, and_parts, length-take-le, take-append-drop, AreBytes, Symbol, Value, Pure, Reg, StabFault, Padding, Truncated, Wide, wide_number, is_wide_character, Reading, Answer, Character, and_then, part_if, is_among, value_size, value_of, serial_after, symbol_with, symbol, has, has_character, is_wide_bare, character_of, character_part, with_character, node_rest, node, subtrie, next_subtrie, are_zeros, is_padding, symbols_at_end, start, trie_answer, AreBelow, AreDistinct, IsSubtrie, IsTrie, SpellsCharacter, SpellsValue, SpellsSerial, number_after, number}
 use Rattle.mx_stab.specs.Reading as reading
 use Rattle.mx_stab.specs.Grammar as grammar
 use Rattle.mx_stab.proofs.Distinct.{distinct-push}
@@ -55,14 +55,14 @@ pub record SerialCut (x serial : ℕ) (bytes more : List ℕ) : Type 0 where
   pub split : bytes ≡ (front ++ (last + 128) ∷ []) ++ more
   pub below : AreBelow 128 front
   pub small : last < 128
-  pub same : serial ≡ number_behind 128 x (front ++ last ∷ [])
+  pub same : serial ≡ number_after 128 x (front ++ last ∷ [])
 
-pub serial-cut : (x serial : ℕ) (bytes more : List ℕ) → AreBytes bytes → serial_behind x bytes ≡ Some (serial, more) → SerialCut x serial bytes more
+pub serial-cut : (x serial : ℕ) (bytes more : List ℕ) → AreBytes bytes → serial_after x bytes ≡ Some (serial, more) → SerialCut x serial bytes more
 serial-cut x serial [] more b h = absurd (cc)
 serial-cut x serial (d ∷ bytes) more b h = one (nat_lt d 128) (ltb-true d 128) (ltb-false d 128) h (serial-cut (x * 128 + d) serial bytes more b.1)
   where
-    one : (t : Bool) → (t ≡ true → d < 128) → (t ≡ false → 128 ≤ d) → cond t (serial_behind (x * 128 + d) bytes) (Some (x * 128 + (d - 128), bytes)) ≡ Some (serial, more) →
-        (serial_behind (x * 128 + d) bytes ≡ Some (serial, more) → SerialCut (x * 128 + d) serial bytes more) → SerialCut x serial (d ∷ bytes) more
+    one : (t : Bool) → (t ≡ true → d < 128) → (t ≡ false → 128 ≤ d) → cond t (serial_after (x * 128 + d) bytes) (Some (x * 128 + (d - 128), bytes)) ≡ Some (serial, more) →
+        (serial_after (x * 128 + d) bytes ≡ Some (serial, more) → SerialCut (x * 128 + d) serial bytes more) → SerialCut x serial (d ∷ bytes) more
     one true l g h k =
         let c = k h in
         record { front = d ∷ c.front; last = c.last; split = ap (λ r. d ∷ r) c.split; below = (l refl, c.below); small = c.small; same = c.same }
@@ -121,14 +121,14 @@ pub data SymbolRead (kind : ℕ) (name : List ℕ) (s t : Reading) : Type 0 wher
       Between s t (told ++ counted) (record { name = name; value = value; serial = serial } ∷ []) → SymbolRead kind name s t
 
 symbol-whole : (kind node : ℕ) (name : List ℕ) (s t : Reading) → kind < 16 → kind ≢ 0 → AreBytes s.rest → value_size kind ≤ length s.rest →
-    symbol_with node name (value_of kind (take (value_size kind) s.rest)) s (serial_behind 0 (drop (value_size kind) s.rest)) ≡ Ok t → SymbolRead kind name s t
+    symbol_with node name (value_of kind (take (value_size kind) s.rest)) s (serial_after 0 (drop (value_size kind) s.rest)) ≡ Ok t → SymbolRead kind name s t
 symbol-whole kind node name s t most some b fits h =
     let told = take (value_size kind) s.rest in
     let left = drop (value_size kind) s.rest in
     let value = value_of kind told in
     let both : s.rest ≡ told ++ left = sym (take-append-drop (value_size kind) s.rest) in
     let bytes : AreBytes (told ++ left) = subst (AreBytes) both b in
-    let c = symbol_with-read node name value s t (serial_behind 0 left) h in
+    let c = symbol_with-read node name value s t (serial_after 0 left) h in
     let cut = serial-cut 0 c.serial left c.more (all-back (λ d. d < 256) told left bytes) c.is in
     let digits = cut.front ++ (cut.last + 128) ∷ [] in
     let long : length told ≡ value_size kind = length-take-le (value_size kind) s.rest fits in
@@ -147,7 +147,7 @@ pub symbol-read : (kind node : ℕ) (name : List ℕ) (s t : Reading) → kind <
 symbol-read kind node name s t most b h = one (kind == 0) (eqb-true kind 0) (eqb-false kind 0) h
   where
     one : (p : Bool) → (p ≡ true → kind ≡ 0) → (p ≡ false → kind ≢ 0) →
-        cond p (Ok s) (cond (nat_lt (length s.rest) (value_size kind)) (Err (Truncated (s.at + length s.rest))) (symbol_with node name (value_of kind (take (value_size kind) s.rest)) s (serial_behind 0 (drop (value_size kind) s.rest)))) ≡ Ok t →
+        cond p (Ok s) (cond (nat_lt (length s.rest) (value_size kind)) (Err (Truncated (s.at + length s.rest))) (symbol_with node name (value_of kind (take (value_size kind) s.rest)) s (serial_after 0 (drop (value_size kind) s.rest)))) ≡ Ok t →
         SymbolRead kind name s t
     one true is other h = no-symbol (is refl) (subst (λ u. Between s u [] []) (same-reading s t h) (between-none s))
     one false is other h =

@@ -1,6 +1,6 @@
 -- Numbers from their digits.
 use Rattle.std.proofs.Common.{◌≡◌, ◌≢◌, ◌==◌, ℕ, ◌+◌, ◌-◌, ◌*◌, ◌^◌, ◌<◌, ◌≤◌, Bool, true, false, cond, List, [], ◌∷◌, Option, Some, arith, refl, sym, ap, ◌∙◌, min, nat_lt, nat_le, rules}
-use Rattle.mx_stab.proofs.Words.{pow-le-pow_right, eqb-true, lt-leb, lt-ltb, serial_behind, value_size, cap, serial_cap, nat_tests, common_steps}
+use Rattle.mx_stab.proofs.Words.{pow-le-pow_right, eqb-true, lt-leb, lt-ltb, serial_after, value_size, cap, serial_cap, nat_tests, common_steps}
 
 -- fewer digits tell less
 pub digits-below : (x i j : ℕ) → i ≤ j → x < 256 ^ i → x < 256 ^ j
@@ -16,16 +16,16 @@ cap-more x b = omega arith
 cap-digit : (x y b : ℕ) → cap x ≡ cap y → cap (x * 128 + b) ≡ cap (y * 128 + b)
 cap-digit x y b h = sym (cap-more x b) ∙ ap (λ z. min (z * 128 + b) (2 ^ 32)) h ∙ cap-more y b
 
-serial-step : (t : Bool) (x y b : ℕ) (more : List ℕ) → cap x ≡ cap y → serial_cap (serial_behind (x * 128 + b) more) ≡ serial_cap (serial_behind (y * 128 + b) more) →
-    serial_cap (cond t (serial_behind (x * 128 + b) more) (Some (x * 128 + (b - 128), more))) ≡ serial_cap (cond t (serial_behind (y * 128 + b) more) (Some (y * 128 + (b - 128), more)))
+serial-step : (t : Bool) (x y b : ℕ) (more : List ℕ) → cap x ≡ cap y → serial_cap (serial_after (x * 128 + b) more) ≡ serial_cap (serial_after (y * 128 + b) more) →
+    serial_cap (cond t (serial_after (x * 128 + b) more) (Some (x * 128 + (b - 128), more))) ≡ serial_cap (cond t (serial_after (y * 128 + b) more) (Some (y * 128 + (b - 128), more)))
 serial-step t x y b more h1 h2 = grind arith
 
-pub serial-cap : (x y : ℕ) (rest : List ℕ) → cap x ≡ cap y → serial_cap (serial_behind x rest) ≡ serial_cap (serial_behind y rest)
+pub serial-cap : (x y : ℕ) (rest : List ℕ) → cap x ≡ cap y → serial_cap (serial_after x rest) ≡ serial_cap (serial_after y rest)
 serial-cap x y [] h = refl
 serial-cap x y (b ∷ more) h = serial-step (nat_lt b 128) x y b more h (serial-cap (x * 128 + b) (y * 128 + b) more (cap-digit x y b h))
 
-pub serial-more : (x y b : ℕ) (rest : List ℕ) (all : Option (ℕ × List ℕ)) → y ≡ min (x * 128 + b) (2 ^ 32) → b < 128 → serial_cap (serial_behind x (b ∷ rest)) ≡ all →
-    serial_cap (serial_behind y rest) ≡ all
+pub serial-more : (x y b : ℕ) (rest : List ℕ) (all : Option (ℕ × List ℕ)) → y ≡ min (x * 128 + b) (2 ^ 32) → b < 128 → serial_cap (serial_after x (b ∷ rest)) ≡ all →
+    serial_cap (serial_after y rest) ≡ all
 serial-more x y b rest all e l h = search (rules, serial-cap, lt-ltb)
 
 -- the digit that was read makes the number larger by one digit

@@ -1,6 +1,6 @@
 -- What is in the grammar is read.
 use Rattle.std.proofs.Common.{◌≡◌, ℕ, suc, ◌+◌, ◌-◌, ◌*◌, ◌/◌, ◌%◌, ◌^◌, ◌≤◌, ◌<◌, ◌==◌, Bool, true, false, cond, ◌&&◌, ◌||◌, not, List, [], ◌∷◌, ◌++◌, length, replicate, Some, Ok, Err, arith, refl, sym, ap, ◌∙◌, subst, append_assoc, append-nil, length-append, nat_le, nat_lt, rules}
-use Rattle.mx_stab.proofs.Words.{and-false, cond-false, lt-leb, lt-ltb, le-ltb, ne_eqb, take_at, drop_at, Symbol, Value, Padding, Wide, wide_number, Reading, Answer, and_then, part_if, is_among, value_size, value_of, serial_behind, symbol_with, symbol, has, has_character, is_wide_bare, character_of, character_part, with_character, node_rest, node, next_subtrie, is_padding, symbols_at_end, start, trie_answer, encode_utf8, AreBelow, AreDistinct, IsSubtrie, IsTrie, SpellsCharacter, SpellsValue, SpellsSerial, number_behind, number}
+use Rattle.mx_stab.proofs.Words.{and-false, cond-false, lt-leb, lt-ltb, le-ltb, ne_eqb, take_at, drop_at, Symbol, Value, Padding, Wide, wide_number, Reading, Answer, and_then, part_if, is_among, value_size, value_of, serial_after, symbol_with, symbol, has, has_character, is_wide_bare, character_of, character_part, with_character, node_rest, node, next_subtrie, is_padding, symbols_at_end, start, trie_answer, encode_utf8, AreBelow, AreDistinct, IsSubtrie, IsTrie, SpellsCharacter, SpellsValue, SpellsSerial, number_after, number}
 use Rattle.mx_stab.specs.Reading as reading
 use Rattle.mx_stab.specs.Grammar as grammar
 use Rattle.mx_stab.proofs.Distinct.{distinct-front}
@@ -8,12 +8,12 @@ use Rattle.mx_stab.proofs.NameSets.{not-among}
 use Rattle.mx_stab.proofs.Parts.{next-node}
 
 -- the reading after some bytes with their symbols
-abbrev pub reading_behind : Reading → List ℕ → List ℕ → List Symbol → Reading
-reading_behind s bytes more symbols = record { at = s.at + length bytes; rest = more; found = s.found ++ symbols }
+abbrev pub reading_after : Reading → List ℕ → List ℕ → List Symbol → Reading
+reading_after s bytes more symbols = record { at = s.at + length bytes; rest = more; found = s.found ++ symbols }
 
 -- a part that reads these bytes and tells these symbols, where no name comes twice
 abbrev pub Tells : (Reading → Answer) → List ℕ → List Symbol → Type 0
-Tells part bytes symbols = (s : Reading) (more : List ℕ) → s.rest ≡ bytes ++ more → AreDistinct (s.found ++ symbols) → part s ≡ Ok (reading_behind s bytes more symbols)
+Tells part bytes symbols = (s : Reading) (more : List ℕ) → s.rest ≡ bytes ++ more → AreDistinct (s.found ++ symbols) → part s ≡ Ok (reading_after s bytes more symbols)
 
 abbrev read-to : Reading → Answer
 read-to s = Ok s
@@ -64,11 +64,11 @@ tells-no-symbol kind node name k s more e d = ap (λ n. symbol n node name s) k 
 
 -- the digits of a serial number
 pub serial-spelt : (x : ℕ) (front : List ℕ) (last : ℕ) (more : List ℕ) → AreBelow 128 front → last < 128 →
-    serial_behind x (front ++ (last + 128) ∷ more) ≡ Some (number_behind 128 x (front ++ last ∷ []), more)
+    serial_after x (front ++ (last + 128) ∷ more) ≡ Some (number_after 128 x (front ++ last ∷ []), more)
 serial-spelt x [] last more h l = search (rules, cond-false, le-ltb)
 serial-spelt x (b ∷ front) last more h l = search (rules, lt-ltb, serial-spelt (x * 128 + b) front last more h.1 l)
 
-pub serial-told : (serial : ℕ) (spelt more : List ℕ) → SpellsSerial serial spelt → serial_behind 0 (spelt ++ more) ≡ Some (serial, more)
+pub serial-told : (serial : ℕ) (spelt more : List ℕ) → SpellsSerial serial spelt → serial_after 0 (spelt ++ more) ≡ Some (serial, more)
 serial-told serial spelt more h1 = search (rules, append_assoc, serial-spelt)
 
 pub serial-fits : (serial : ℕ) (spelt : List ℕ) → SpellsSerial serial spelt → serial < 2 ^ 32
@@ -91,7 +91,7 @@ symbol_with-is node name value s serial more l a = cond-false (nat_le (2 ^ 32) s
 
 -- a value that is told, before its serial number
 pub symbol-valued : (kind node : ℕ) (name : List ℕ) (value : Value) (told more : List ℕ) (s : Reading) → SpellsValue kind value told → s.rest ≡ told ++ more →
-    symbol kind node name s ≡ symbol_with node name value s (serial_behind 0 more)
+    symbol kind node name s ≡ symbol_with node name value s (serial_after 0 more)
 symbol-valued kind node name value told more s h1 h2 =
     search (rules, value-spelt, take_at, drop_at, length-append, cond-false, ne_eqb, le-ltb)
 

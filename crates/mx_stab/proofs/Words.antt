@@ -21,10 +21,10 @@ pub use Rattle.mx_word.specs.declared.symbols.Value.TheVariants.{Pure, Reg}
 pub use Rattle.mx_stab.specs.Characters.{is_wide_character, wide_number}
 pub use Rattle.mx_stab.specs.Due.{Point, Progress, after_all, after_character, after_due, all_weight, and_next, cap, due_if, due_weight, longer_path, next_point, node_due, reading_of, serial_cap, symbol_due, weight, with_path}
 pub use Rattle.mx_stab.specs.FaultTable.{CountsTooFar, EndsWithin, FaultOf, HasCharacter, IsDue, IsTooDeep, IsWideBare, LacksWide, NamesAgain, UpToCharacter, UpToLeft, UpToSymbol, flag}
-pub use Rattle.mx_stab.specs.Grammar.{AreBelow, AreDistinct, IsSubtrie, IsTrie, SpellsCharacter, SpellsSerial, SpellsValue, number, number_behind}
+pub use Rattle.mx_stab.specs.Grammar.{AreBelow, AreDistinct, IsSubtrie, IsTrie, SpellsCharacter, SpellsSerial, SpellsValue, number, number_after}
 pub use Rattle.mx_stab.specs.Names.{HasNames, is_above, is_key}
 pub use Rattle.mx_stab.specs.Numbers.{fewest_digits, is_offset, kind, octa_digits, serial_bytes, value_bytes}
-pub use Rattle.mx_stab.specs.Reading.{Answer, Character, Reading, and_then, are_zeros, character, character_of, character_part, fault_in, has, has_character, is_among, is_padding, is_wide_bare, next_subtrie, node, node_rest, part_if, serial_behind, start, symbol, symbol_with, symbols_at_end, trie_answer, two_bytes, value_of, value_size, with_character}
+pub use Rattle.mx_stab.specs.Reading.{Answer, Character, Reading, and_then, are_zeros, character, character_of, character_part, fault_in, has, has_character, is_among, is_padding, is_wide_bare, next_subtrie, node, node_rest, part_if, serial_after, start, symbol, symbol_with, symbols_at_end, trie_answer, two_bytes, value_of, value_size, with_character}
 unfoldable pub use Rattle.mx_stab.specs.Reading.{subtrie}
 pub use Rattle.mx_stab.specs.Trie.{bit, groups_of, groups_with, has_symbols, is_last_byte, longest, next_byte, node_front, nodes, symbols_below, trie_from, trie_of}
 unfoldable pub use Rattle.mx_stab.specs.Trie.{trie}

@@ -14,13 +14,13 @@ abbrev pub AreBelow : ℕ → List ℕ → Type 0
 AreBelow bound digits = AllByRecursion (λ d. d < bound) digits
 
 -- the number of digits of a base that follow those of a number, from the high end
-abbrev pub number_behind : ℕ → ℕ → List ℕ → ℕ
-number_behind base x [] = x
-number_behind base x (d ∷ more) = number_behind base (x * base + d) more
+abbrev pub number_after : ℕ → ℕ → List ℕ → ℕ
+number_after base x [] = x
+number_after base x (d ∷ more) = number_after base (x * base + d) more
 
 -- the number of digits of a base, from the high end
 abbrev pub number : ℕ → List ℕ → ℕ
-number base digits = number_behind base 0 digits
+number base digits = number_after base 0 digits
 
 -- a value of a kind: 1 to 8 are pure in this many bytes, 9 to 14 are pure and 2^61 more than what 1 to 6
 -- bytes tell, 15 is a register

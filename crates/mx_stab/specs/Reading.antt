@@ -48,9 +48,9 @@ value_of kind bytes =
     else Pure (2 ^ 61 + number 256 bytes)
 
 -- a serial number, of which the digits so far tell x, with the bytes after it; none where the bytes end within it
-abbrev pub serial_behind : ℕ → List ℕ → Option (ℕ × List ℕ)
-serial_behind x [] = None
-serial_behind x (b ∷ more) = if nat_lt b 128 then serial_behind (x * 128 + b) more else Some (x * 128 + (b - 128), more)
+abbrev pub serial_after : ℕ → List ℕ → Option (ℕ × List ℕ)
+serial_after x [] = None
+serial_after x (b ∷ more) = if nat_lt b 128 then serial_after (x * 128 + b) more else Some (x * 128 + (b - 128), more)
 
 -- the symbol of a node, which is whole at the end of its serial number
 abbrev pub symbol_with : ℕ → List ℕ → Value → Reading → Option (ℕ × List ℕ) → Answer
@@ -70,7 +70,7 @@ symbol kind node name s =
     if kind == 0 then Ok s
     else if nat_lt (length s.rest) (value_size kind) then Err (Truncated (end_of s))
     else symbol_with node name (value_of kind (take (value_size kind) s.rest)) s
-    (serial_behind 0 (drop (value_size kind) s.rest))
+    (serial_after 0 (drop (value_size kind) s.rest))
 
 -- whether a byte m has a bit
 abbrev pub has : ℕ → ℕ → Bool

@@ -16,7 +16,7 @@ ghost use Rattle.mx_stab.specs.Reading as spec;
 use crate::StabFault;
 use crate::due::{Due, has, has_character, note_node, note_subtrie, note_symbol};
 use crate::found::Found;
-use crate::values::{TOO_LARGE, serial, value, value_size};
+use crate::values::{TOO_LARGE, split_serial, value_of_kind, value_size};
 use mx_word::{Symbols, Value};
 use std::alloc::Global;
 use std::marker::Model;
@@ -233,9 +233,9 @@ impl<'a> Reader<'a> {
             return Err(StabFault::Truncated(self.end()));
         }
         let (told, more) = bytes.split_at(size);
-        match serial(more) {
+        match split_serial(more) {
             None => Err(StabFault::Truncated(self.end())),
-            Some((serial, rest)) => self.add(node, value(kind, told), serial, rest),
+            Some((serial, rest)) => self.add(node, value_of_kind(kind, told), serial, rest),
         }
     }
 

@@ -36,7 +36,7 @@ fn with_byte(x: u64, b: u8) -> u64
 }
 
 /// The number that bytes tell.
-fn number(bytes: &[u8]) -> u64
+fn number_of_bytes(bytes: &[u8]) -> u64
     requires { length bytes.now ≤ 8 }
     ensures value { result ≡ grammar.number 256 bytes.now }
     ensures most { result < 256 ^ length bytes.now }
@@ -51,7 +51,7 @@ fn number(bytes: &[u8]) -> u64
 }
 
 /// The value of a kind that these bytes tell.
-pub fn value(kind: u8, bytes: &[u8]) -> Value
+pub fn value_of_kind(kind: u8, bytes: &[u8]) -> Value
     requires kind { kind < 16 }
     requires size { length bytes.now ≡ spec.value_size kind }
     ensures { result ≡ spec.value_of kind bytes.now }
@@ -59,15 +59,15 @@ pub fn value(kind: u8, bytes: &[u8]) -> Value
     if kind == 15 {
         Value::Reg(bytes[0])
     } else if kind <= 8 {
-        Value::Pure(number(bytes))
+        Value::Pure(number_of_bytes(bytes))
     } else {
-        Value::Pure(0x2000_0000_0000_0000 + number(bytes))
+        Value::Pure(0x2000_0000_0000_0000 + number_of_bytes(bytes))
     }
 }
 
 /// A serial number at the front of bytes, and the bytes after it. One from 2^32 on counts as 2^32.
-pub fn serial(bytes: &[u8]) -> Option<(u64, &[u8])>
-    ensures value { option_map (λ r. (r.0, r.1.now)) result ≡ notes.serial_cap (spec.serial_behind 0 bytes.now) }
+pub fn split_serial(bytes: &[u8]) -> Option<(u64, &[u8])>
+    ensures value { option_map (λ r. (r.0, r.1.now)) result ≡ notes.serial_cap (spec.serial_after 0 bytes.now) }
     ensures fewer { IfSome result (λ r. length r.1.now ≤ length bytes.now) }
 {
     let mut x: u64 = 0;

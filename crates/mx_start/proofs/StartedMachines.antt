@@ -12,7 +12,7 @@ use Rattle.mx_ring.specs.Stack.{windowed, stack_address}
 use Rattle.mx_ring.specs.Window.{window_at_start}
 use Rattle.mx_core.specs.Machines.{IsOverWindow}
 use Rattle.mx_core.specs.Bare.{special_at_start}
-use Rattle.mx_core.specs.Changes.{allowed_unless}
+use Rattle.mx_core.specs.UserChanges.{allowed_unless}
 use Rattle.mx_start.specs.Images.{IsImage}
 use Rattle.mx_start.specs.Start.{pool, pool_octas, with_octas, loaded, start, registers_of, text_size, text_octas, texts_end, text_addresses, first_text}
 use Rattle.mx_core.specs.State.{State, with_octa, is_negative, is_page_refused}

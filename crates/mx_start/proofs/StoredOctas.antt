@@ -5,7 +5,7 @@ use Rattle.std.proofs.lemmas.Bool.Decides.{nat_tests}
 use Rattle.std.proofs.lemmas.Grind.{common_steps}
 use Rattle.std.proofs.lemmas.List.{length-replicate}
 use Rattle.mx_core.specs.Way.Changed.{left_changed}
-use Rattle.mx_core.specs.Changes.{octa_changed}
+use Rattle.mx_core.specs.UserChanges.{octa_changed}
 use Rattle.mx_core.specs.declared.changes.SetFault.{SetFault}
 use Rattle.mx_core.specs.declared.changes.SetFault.TheVariants.{NotAllowed}
 use Rattle.mx_start.specs.Pool.{pool_list}

@@ -13,7 +13,7 @@ use std::alloc::Global;
 ///
 /// Errors: out of memory.
 #[tactic(auto, using(crate::proofs::BuiltGlobals::growing))]
-pub fn globals_in(alloc: Global, image: &Image) -> Result<Octas, NoMemory>
+pub fn collect_globals(alloc: Global, image: &Image) -> Result<Octas, NoMemory>
     ensures value { IfOk result (λ octas. octas ≡ globals_of (image_of image.now)) }
     ensures count { IfOk result (λ octas. length octas + image.now.g ≡ 256) }
 {

@@ -10,7 +10,7 @@ mod pool;
 mod starts;
 
 pub use fault::StartFault;
-pub use globals::globals_in;
+pub use globals::collect_globals;
 pub use laws::{
     arguments_stand_in_the_pool, bare_machines_start_as_others, starts_are_machines,
     starts_go_as_lists,

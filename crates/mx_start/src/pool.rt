@@ -74,7 +74,7 @@ fn append_octas(octas: &mut Octas, bytes: &[u8]) -> Result<(), NoMemory>
 }
 
 /// A text with a zero byte after it, and more zeros up to a whole octa.
-fn padded(alloc: Global, text: &[u8]) -> Result<Bytes, NoMemory>
+fn pad_to_octa(alloc: Global, text: &[u8]) -> Result<Bytes, NoMemory>
     ensures { IfOk result (λ bytes. bytes ≡ text.now ++ replicate (spec.text_size text.now - length text.now) 0) }
 {
     let zeros = [0; 8];
@@ -87,7 +87,7 @@ fn padded(alloc: Global, text: &[u8]) -> Result<Bytes, NoMemory>
 fn append_text(alloc: Global, octas: &mut Octas, text: &[u8]) -> Result<(), NoMemory>
     ensures { OnOk result (octas.new ≡ octas.old ++ spec.text_octas text.now) }
 {
-    let bytes = padded(alloc, text)?;
+    let bytes = pad_to_octa(alloc, text)?;
     append_octas(octas, bytes.as_slice())
 }
 

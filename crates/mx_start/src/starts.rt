@@ -12,7 +12,7 @@ ghost use Rattle.mx_start.specs.Start as spec;
 ghost use Rattle.mx_start.specs.Started.{begun, stored, stored_by};
 
 use crate::StartFault;
-use crate::globals::globals_in;
+use crate::globals::collect_globals;
 use crate::pool::{POOL, pool_octas};
 use mx_core::{Machine, SetFault};
 use mx_load::Image;
@@ -36,14 +36,14 @@ pub fn start(
     ensures { result ≢ Err StartFault.OutOfMemory → map_ok state_of result
         ≡ begun (spec.start (image_of image) args.now (windowed (window_at_start r))) }
 {
-    match loaded(alloc, image, args.len() as u64, r) {
+    match load_machine(alloc, image, args.len() as u64, r) {
         Ok(machine) => with_arguments(alloc, machine, args),
         Err(_) => Err(StartFault::OutOfMemory),
     }
 }
 
 /// The machine with an image and this many arguments, which are not in the pool yet.
-fn loaded(alloc: Global, image: Image, count: u64, r: RingSize) -> Result<Machine, NoMemory>
+fn load_machine(alloc: Global, image: Image, count: u64, r: RingSize) -> Result<Machine, NoMemory>
     ensures { IfOk result (λ m. state_of m ≡ spec.loaded (image_of image) count (windowed (window_at_start r))) }
 {
     let g = image.g();
@@ -66,7 +66,7 @@ fn without_memory(
     ensures { let kept = image_of image.now in IfOk result (λ m. state_of m
         ≡ bare kept.g (globals_of kept) count (spec.pool + 8) (windowed (window_at_start r))) }
 {
-    match globals_in(alloc, image) {
+    match collect_globals(alloc, image) {
         Ok(globals) => Machine::bare(alloc, g, &globals, count, POOL + 8, r),
         Err(fault) => Err(fault),
     }

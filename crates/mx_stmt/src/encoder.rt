@@ -11,7 +11,7 @@ ghost use Rattle.mx_stmt.specs.Steps.{Answers};
 use crate::data::{Data, Size, data_form};
 use crate::forms::Tetra;
 use crate::pseudo::{one_operand, with_bytes};
-use crate::shapes::{coded, instruction, set_form};
+use crate::shapes::{encode_instruction, instruction, set_form};
 use crate::{Env, Label, Placed, Statement, StmtFault};
 use mx_expr::Expr;
 use mx_ops::{Op, Pseudo, Shape};
@@ -111,7 +111,7 @@ fn op_form(
 {
     let tetra = match op {
         Op::Pseudo(pseudo) => return pseudo_form(env, line, label, pseudo, operands),
-        Op::Code(code) => coded(env, code, operands)?,
+        Op::Code(code) => encode_instruction(env, code, operands)?,
         Op::Lda => instruction(env, Shape::Mem, 0x22, operands)?,
         Op::Set => set_form(env, operands)?,
     };

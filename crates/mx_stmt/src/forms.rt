@@ -77,8 +77,8 @@ pub(crate) fn last_register(env: &Env, code: u8, x: u8, y: u8, z: &Expr) -> Resu
 
 /// `$Y,$Z|n`.
 pub(crate) fn last_two(env: &Env, code: u8, x: u8, y: &Expr, z: &Expr) -> Result<Tetra, StmtFault>
-    requires y { HasDigits (tree_of y.now) }
-    requires z { HasDigits (tree_of z.now) }
+    requires digits_y { HasDigits (tree_of y.now) }
+    requires digits_z { HasDigits (tree_of z.now) }
     requires second { code < 255 }
     ensures { Answers result (spec.last_two (known_of env.now) code x (tree_of y.now) (tree_of z.now)) }
 {
@@ -87,7 +87,13 @@ pub(crate) fn last_two(env: &Env, code: u8, x: u8, y: &Expr, z: &Expr) -> Result
 }
 
 /// The last operand after a rounding mode: `$Z|n` of FLOT and its like, `$Z` of FIX and its like.
-pub(crate) fn rounded_last(env: &Env, code: u8, x: u8, y: u8, z: &Expr) -> Result<Tetra, StmtFault>
+pub(crate) fn last_after_mode(
+    env: &Env,
+    code: u8,
+    x: u8,
+    y: u8,
+    z: &Expr,
+) -> Result<Tetra, StmtFault>
     requires { HasDigits (tree_of z.now) }
     ensures { Answers result (spec.rounded_last (known_of env.now) code x y (tree_of z.now)) }
 {
@@ -215,9 +221,9 @@ pub(crate) fn free_form(
     y: &Expr,
     z: &Expr,
 ) -> Result<Tetra, StmtFault>
-    requires x { HasDigits (tree_of x.now) }
-    requires y { HasDigits (tree_of y.now) }
-    requires z { HasDigits (tree_of z.now) }
+    requires digits_x { HasDigits (tree_of x.now) }
+    requires digits_y { HasDigits (tree_of y.now) }
+    requires digits_z { HasDigits (tree_of z.now) }
     ensures { Answers result (spec.free_form (known_of env.now) code (tree_of x.now) (tree_of y.now) (tree_of z.now)) }
 {
     let x = free_at(env, x)?;

@@ -121,14 +121,14 @@ fn reference_of(env: &Env, e: &Expr) -> Result<Option<Awaited>, StmtFault>
     ensures { Answers result (Ok (spec.reference_of (known_of env.now) (tree_of e.now))) }
 {
     match e {
-        Expr::Name(text) => awaited_name(env, text.as_slice()),
+        Expr::Name(text) => find_awaited_name(env, text.as_slice()),
         Expr::Ahead(d) => Ok(Some(Awaited::Local(*d))),
         _ => Ok(None),
     }
 }
 
 /// The complete name that a symbol waits for, if it is not known.
-fn awaited_name(env: &Env, text: &[u8]) -> Result<Option<Awaited>, StmtFault>
+fn find_awaited_name(env: &Env, text: &[u8]) -> Result<Option<Awaited>, StmtFault>
     ensures { Answers result (Ok (spec.awaited_name env.now.names.now.names (spec.symbol_form env.now.names.now.names text.now))) }
 {
     match env.names.resolve(text) {

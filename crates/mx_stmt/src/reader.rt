@@ -8,7 +8,7 @@ ghost use Rattle.mx_stmt.specs.declared.faults.StmtFault.{StmtFault};
 
 use crate::{Label, Statement, StmtFault};
 use mx_expr::parse_list;
-use mx_line::{Cut, Span, part};
+use mx_line::{Cut, Span, slice_span};
 use mx_ops::{Op, Pseudo, find};
 use mx_word::{Bytes, NoMemory, is_digit};
 use std::alloc::Global;
@@ -32,12 +32,12 @@ fn label_at(alloc: Global, text: &[u8], span: Option<Span>) -> Result<Option<Lab
 {
     match span {
         None => Ok(None),
-        Some(span) => Ok(Some(label_of(alloc, part(text, span))?)),
+        Some(span) => Ok(Some(label_of(alloc, slice_span(text, span))?)),
     }
 }
 
 /// Whether an operation takes a label.
-fn takes_label(op: Op) -> bool
+fn is_label_allowed(op: Op) -> bool
     ensures { result ≡ spec.takes_label op }
 {
     !matches!(op, Op::Pseudo(Pseudo::Prefix) | Op::Pseudo(Pseudo::Local))
@@ -50,7 +50,7 @@ fn operation_for(labelled: bool, name: &[u8]) -> Result<Op, StmtFault>
     match find(name) {
         None => Err(StmtFault::UnknownOpcode),
         Some(op) => {
-            if labelled && !takes_label(op) {
+            if labelled && !is_label_allowed(op) {
                 Err(StmtFault::LabelNotAllowed)
             } else {
                 Ok(op)
@@ -79,8 +79,8 @@ pub fn read_statement(
         result ≢ Err StmtFault.OutOfMemory → map_ok statement_tree result ≡ Err fault }
     ensures digits { IfOk result spec.StatementHasDigits }
 {
-    let op = operation_for(cut.label.is_some(), part(text, cut.op))?;
-    let operands = match parse_list(alloc, part(text, cut.operands)) {
+    let op = operation_for(cut.label.is_some(), slice_span(text, cut.op))?;
+    let operands = match parse_list(alloc, slice_span(text, cut.operands)) {
         Ok(operands) => operands,
         Err(fault) => return Err(StmtFault::of(fault)),
     };

@@ -9,8 +9,8 @@ ghost use Rattle.mx_stmt.specs.Reading.{OperandsHaveDigits};
 ghost use Rattle.mx_stmt.specs.Steps.{Answers};
 
 use crate::forms::{
-    Tetra, address_form, branch_form, byte_form, free_at, free_form, jump_form, last_form,
-    last_register, last_two, rounded_last, set_to, whole_form, wyde_form,
+    Tetra, address_form, branch_form, byte_form, free_at, free_form, jump_form, last_after_mode,
+    last_form, last_register, last_two, set_to, whole_form, wyde_form,
 };
 use crate::operands::{byte_at, register_at};
 use crate::{Env, StmtFault};
@@ -40,8 +40,8 @@ fn two_operands(
     first: &Expr,
     last: &Expr,
 ) -> Result<Tetra, StmtFault>
-    requires first { HasDigits (tree_of first.now) }
-    requires last { HasDigits (tree_of last.now) }
+    requires digits_first { HasDigits (tree_of first.now) }
+    requires digits_last { HasDigits (tree_of last.now) }
     requires second { IsTrue (spec.has_second shape) → code < 254 }
     ensures { Answers result (
         spec.form no_targets (known_of env.now) shape code (tree_of first.now ∷ tree_of last.now ∷ [])) }
@@ -49,7 +49,7 @@ fn two_operands(
     match shape {
         Shape::Round => {
             let x = register_at(env, first)?;
-            rounded_last(env, code, x, 0, last)
+            last_after_mode(env, code, x, 0, last)
         }
         Shape::Neg => {
             let x = register_at(env, first)?;
@@ -104,9 +104,9 @@ fn three_operands(
     y: &Expr,
     z: &Expr,
 ) -> Result<Tetra, StmtFault>
-    requires x { HasDigits (tree_of x.now) }
-    requires y { HasDigits (tree_of y.now) }
-    requires z { HasDigits (tree_of z.now) }
+    requires digits_x { HasDigits (tree_of x.now) }
+    requires digits_y { HasDigits (tree_of y.now) }
+    requires digits_z { HasDigits (tree_of z.now) }
     requires second { IsTrue (spec.has_second shape) → code < 254 }
     ensures { Answers result (
         spec.form no_targets (known_of env.now) shape code (tree_of x.now ∷ tree_of y.now ∷ tree_of z.now ∷ [])) }
@@ -128,7 +128,7 @@ fn three_operands(
         Shape::Round => {
             let x = register_at(env, x)?;
             let y = byte_at(env, y)?;
-            rounded_last(env, code, x, y, z)
+            last_after_mode(env, code, x, y, z)
         }
         Shape::Neg => {
             let x = register_at(env, x)?;
@@ -161,7 +161,7 @@ pub(crate) fn instruction(
 }
 
 /// An instruction by its code.
-pub(crate) fn coded(env: &Env, code: u8, operands: &[Expr]) -> Result<Tetra, StmtFault>
+pub(crate) fn encode_instruction(env: &Env, code: u8, operands: &[Expr]) -> Result<Tetra, StmtFault>
     requires { OperandsHaveDigits operands.now }
     ensures { Answers result (
         spec.form_by no_targets (known_of env.now) (shapes_of code) code (trees_of operands.now)) }

@@ -126,12 +126,12 @@ fn add_held(text: &mut Bytes, book: &Book, machine: &Machine, k: u8) -> Result<(
 }
 
 /// Whether a step came to other registers: by a call, or a return.
-fn moves(before: &Before, machine: &Machine) -> bool {
+fn has_moved_registers(before: &Before, machine: &Machine) -> bool {
     before.special[usize::from(HIDDEN)] != machine.special(HIDDEN)
 }
 
 /// The first register that a call or a return has given a value: of a return the first result, of a call the first argument.
-fn first_given(before: &Before, trace: &Trace, machine: &Machine) -> u8 {
+fn first_given_register(before: &Before, trace: &Trace, machine: &Machine) -> u8 {
     if trace.word >> 24 != POP {
         return 0;
     }
@@ -149,7 +149,7 @@ fn add_given(
     trace: &Trace,
     machine: &Machine,
 ) -> Result<(), NoMemory> {
-    let first = first_given(before, trace, machine);
+    let first = first_given_register(before, trace, machine);
     for k in first..machine.l() {
         if u64::from(k.saturating_sub(first)) < TOLD {
             add_held(text, book, machine, k)?;
@@ -228,7 +228,7 @@ pub fn add_changes(
     trace: &Trace,
     machine: &Machine,
 ) -> Result<(), NoMemory> {
-    if moves(before, machine) {
+    if has_moved_registers(before, machine) {
         add_given(text, book, before, trace, machine)?;
     } else {
         add_registers(text, book, before, trace.dest, machine)?;

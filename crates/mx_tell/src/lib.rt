@@ -19,7 +19,7 @@ mod values;
 pub use calls::{Call, add_backtrace};
 pub use changes::{Before, add_changes};
 pub use ends::add_end;
-pub use lines::{add_instructions, add_lines, around};
+pub use lines::{add_instructions, add_lines, first_line_around};
 pub use memory::add_memory;
 pub use mx_pieces::add_output;
 pub use names::{add_label, add_place};

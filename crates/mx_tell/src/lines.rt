@@ -14,7 +14,7 @@ const COUNT: usize = 10;
 const HEAD: usize = 32;
 
 /// The first of ten lines around one.
-pub fn around(line: u32) -> u32 {
+pub fn first_line_around(line: u32) -> u32 {
     if line > 5 { line - 5 } else { 1 }
 }
 

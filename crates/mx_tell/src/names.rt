@@ -32,7 +32,7 @@ pub(crate) fn add_name(text: &mut Bytes, name: &[u8]) -> Result<(), NoMemory> {
 
 /// The label that is near an address, if one is.
 fn near(book: &Book, address: u64) -> Option<&Label> {
-    match book.nearest(address) {
+    match book.nearest_label(address) {
         Some(label) if address.wrapping_sub(label.address) < FAR => Some(label),
         _ => None,
     }

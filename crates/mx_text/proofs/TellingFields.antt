@@ -3,8 +3,8 @@ use Rattle.std.proofs.Common.{◌≡◌, ℕ, ◌<◌, ◌≤◌, ◌+◌, ◌-�
 use Rattle.mx_text.proofs.Words.{mod-lt, opcode_kind, is_immediate, is_backward, Shape, Three, Regs, Round, Neg, Rel, Mem, MemPure, Wyde, Jump, Put, Get, Pop, One, Save, Unsave, Free, field_code, field_x, field_y, field_z, field_yz, field_xyz, operands, hides_y, Operand, Register, Number, Address}
 
 -- the part of a tetra after its code that is shown
-abbrev pub behind_code : Shape → ℕ → ℕ
-behind_code s w = cond (hides_y s) (2 ^ 16 * field_x w + field_z w) (w % 2 ^ 24)
+abbrev pub after_code : Shape → ℕ → ℕ
+after_code s w = cond (hides_y s) (2 ^ 16 * field_x w + field_z w) (w % 2 ^ 24)
 
 -- shapes with `$Z|n`, and those with an address
 abbrev pub ends_in_z : Shape → Bool
@@ -97,7 +97,7 @@ not-both false false ha hb = refl
 pub record Told (s : Shape) (w v : ℕ) : Type 0 where
   pub immediate : is_immediate (opcode_kind (field_code w)) ≡ is_immediate (opcode_kind (field_code v))
   pub backward : is_backward (opcode_kind (field_code w)) ≡ is_backward (opcode_kind (field_code v))
-  pub rest : behind_code s w ≡ behind_code s v
+  pub rest : after_code s w ≡ after_code s v
 
 -- the codes of a shape are immediate only where it has `$Z|n`, and backward only where it has an address
 pub record KindFits (s : Shape) (w : ℕ) : Type 0 where

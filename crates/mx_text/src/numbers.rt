@@ -198,13 +198,13 @@ fn chars(alloc: Global, x: u64) -> Result<Bytes, NoMemory>
     ensures { IfOk result (λ text. text ≡ spec.chars_text x) }
 {
     let mut text = Bytes::copy(alloc, b"\"")?;
-    text.extend(&octa_bytes(x).map(shown_byte))?;
+    text.extend(&octa_bytes(x).map(printable_byte))?;
     text.push(b'"')?;
     Ok(text)
 }
 
 /// A byte as it is shown: itself from 32 to 126, otherwise a dot.
-fn shown_byte(b: u8) -> u8
+fn printable_byte(b: u8) -> u8
     ensures { result ≡ spec.shown_byte b }
 {
     if 32 <= b && b <= 126 { b } else { b'.' }

@@ -35,15 +35,16 @@ written-plan a b k m outcome other lines r well is w = λ t. record {
   stopping = λ o. stops_first host (λ (x : Result (Unit {0}) Outcome). returns (written_with outcome x)) (lines_plan lines) (contents b) (contents a) ((w.told t).stopping (lacked outcome r well (sym is ∙ o)));
 }
 
--- ---- the dump
+-- where none are told
+pub unsaid-plan : (a : Option HostModel) (outcome : Outcome) (p : HostPlan Outcome) (b : Bool) → b ≡ false → outcome ≢ OutOfMemory → CarriesOut a a OutOfMemory outcome (cond b p (returns outcome))
+unsaid-plan a outcome p true e ne = absurd (cc)
+unsaid-plan a outcome p false e ne = λ t. record { ending = λ no. sym (end_returns host outcome (contents a)); stopping = λ o. absurd (ne o) }
 
-undumped-by : (a : Option HostModel) (outcome : Outcome) (p : HostPlan Outcome) (b : Bool) → b ≡ false → outcome ≢ OutOfMemory → CarriesOut a a OutOfMemory outcome (cond b p (returns outcome))
-undumped-by a outcome p true e ne = absurd (cc)
-undumped-by a outcome p false e ne = λ t. record { ending = λ no. sym (end_returns host outcome (contents a)); stopping = λ o. absurd (ne o) }
+-- ---- the dump
 
 pub undumped-plan : (a : Option HostModel) (wanted : Bool) (outcome : Outcome) (s : State) → (wanted && leaves_machine outcome) ≡ false → outcome ≢ OutOfMemory → CarriesOut a a OutOfMemory outcome (dumped_plan wanted outcome s)
 unfolding dumped_plan
-undumped-plan a wanted outcome s e ne = undumped-by a outcome (telling outcome (dump_lines s)) (wanted && leaves_machine outcome) e ne
+undumped-plan a wanted outcome s e ne = unsaid-plan a outcome (telling outcome (dump_lines s)) (wanted && leaves_machine outcome) e ne
 
 pub dumped-plan : (a b : Option HostModel) (k m : ℕ) (wanted : Bool) (outcome other : Outcome) (s : State) (r : Result (Unit {0}) Outcome) → (wanted && leaves_machine outcome) ≡ true → outcome ≢ OutOfMemory →
     other ≡ written_with outcome r → WorksBetween a b k m r (lines_plan (dump_lines s)) → CarriesOut a b OutOfMemory other (dumped_plan wanted outcome s)

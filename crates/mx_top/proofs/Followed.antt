@@ -7,18 +7,20 @@ use Rattle.mx_plan.specs.Plan.{returns, calls, bind, end_of, Stops, Comes}
 use Rattle.mx_plan.specs.Wild.{Course, ends, meets_wild, then_on, course}
 use Rattle.mx_code.specs.declared.trace.Trace.{Trace}
 use Rattle.mx_core.specs.State.{State}
+use Rattle.mx_ring.specs.Stack.{register}
 use Rattle.mx_run.specs.WildRuns.{MachineKind, window_machine}
 use Rattle.mx_words.specs.declared.order.Order.{Order}
 use Rattle.mx_outcome.specs.Kinds.{leaves_machine}
 use Rattle.mx_outcome.specs.declared.outcome.Outcome.{Outcome}
-use Rattle.mx_outcome.specs.declared.outcome.Outcome.TheVariants.{Done, Usage, NoFile, HostFault, Refused, BadObject, BadSchedule, Stopped, StepsSpent, Quit, ConsoleLimit, OutOfMemory}
+use Rattle.mx_outcome.specs.declared.outcome.Outcome.TheVariants.{Done, OutOfMemory}
 use Rattle.mx_files.specs.FilePlans.{lines_plan}
-use Rattle.mx_dump.specs.Dump.{dump_lines}
+use Rattle.law_gen.specs.Generator.{summary}
+use Rattle.mx_dump.specs.Dump.{Line, dump_lines}
 use Rattle.mx_top.specs.Endings as end
 use Rattle.mx_top.specs.MachineWork as work
-use Rattle.mx_top.specs.MachineWork.{Work, WorkPlan, WorkStops, working, work_goes, calling, going_back, dumping}
+use Rattle.mx_top.specs.MachineWork.{Work, WorkPlan, WorkStops, working, work_goes, calling, going_back, dumping, summing}
 use Rattle.mx_top.specs.Product.{ProgramWorld, worked}
-use Rattle.mx_top.specs.Runs.{takes_back, state_lines, reached}
+use Rattle.mx_top.specs.Runs.{is_done, takes_back, state_lines, reached}
 use Rattle.mx_top.specs.Telling.{telling}
 use Rattle.mx_top.specs.WorkClauses.{WorkComes, left_of}
 use Rattle.mx_top.proofs.WindowCourses.{work-window}
@@ -133,15 +135,11 @@ to-back o outcome w = by (takes_back outcome)
 
 pub to-summed : (blocks size : ℕ) (outcome : Outcome) (w : Work) → ComesTo (work.summed_plan blocks size outcome) w (end.summed_plan blocks size outcome w.machine)
 unfolding working
-to-summed blocks size (Done status) w = to-look _ (work.summing blocks size) (λ line. work.on_host (telling (Done 0) (line ∷ []))) w w _ (λ kind. refl) refl refl refl (to-host (telling (Done 0) _) w)
-to-summed blocks size (Usage fault) w = to-returns (Usage fault) w
-to-summed blocks size NoFile w = to-returns NoFile w
-to-summed blocks size HostFault w = to-returns HostFault w
-to-summed blocks size (Refused line fault from_line) w = to-returns (Refused line fault from_line) w
-to-summed blocks size (BadObject place fault) w = to-returns (BadObject place fault) w
-to-summed blocks size (BadSchedule place) w = to-returns (BadSchedule place) w
-to-summed blocks size (Stopped pc reason) w = to-returns (Stopped pc reason) w
-to-summed blocks size (StepsSpent steps) w = to-returns (StepsSpent steps) w
-to-summed blocks size Quit w = to-returns Quit w
-to-summed blocks size ConsoleLimit w = to-returns ConsoleLimit w
-to-summed blocks size OutOfMemory w = to-returns OutOfMemory w
+to-summed blocks size outcome w = by (is_done outcome)
+  where
+    line : Line
+    line = summary blocks size w.machine.steps (register w.machine.stack 255)
+
+    by : (b : Bool) → ComesTo (cond b (calling (summing blocks size) (λ told. work.on_host (telling (Done 0) (told ∷ [])))) (returns outcome)) w (cond b (telling (Done 0) (line ∷ [])) (returns outcome))
+    by true = to-look (telling (Done 0) (line ∷ [])) (summing blocks size) (λ told. work.on_host (telling (Done 0) (told ∷ []))) w w line (λ kind. refl) refl refl refl (to-host (telling (Done 0) (line ∷ [])) w)
+    by false = to-returns outcome w

@@ -1,5 +1,4 @@
 pub mod Answering
-pub mod BegunRuns
 pub mod SameDumps
 pub mod Dumped
 pub mod Generated
@@ -18,8 +17,6 @@ pub mod ListedPlans
 pub mod LastStates
 pub mod TakenBack
 pub mod WorkParts
-pub mod ProductEnds
-pub mod ProductCourses
 pub mod ProgramHeld
 pub mod Spoken
 pub mod Heard

@@ -21,7 +21,7 @@ use Rattle.mx_begin.specs.Begun.{started}
 use Rattle.mx_begin.specs.declared.images.Form.TheVariants.{Object}
 use Rattle.mx_top.specs.Endings as end
 use Rattle.mx_top.specs.MachineWork as work
-use Rattle.mx_top.specs.MachineWork.{WorkPlan, generated_work}
+use Rattle.mx_top.specs.MachineWork.{generated_work}
 use Rattle.mx_top.specs.Product.{ProgramPlan, on_host, on_part, taking, work_on, run_source, run_text, turns_on, turns_from, object_file, multi_file, told_of}
 use Rattle.mx_top.specs.Runs.{generator_steps}
 use Rattle.mx_top.specs.WorkClauses.{told_by}

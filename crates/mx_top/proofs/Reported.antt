@@ -3,6 +3,7 @@ use Rattle.std.proofs.Common.{◌≡◌, ℕ, Bool, true, false, cond, List, [],
 use Rattle.std.specs.Prelude.{IsTrue, Option, Result}
 use Rattle.mx_host.specs.HostModel.{HostModel}
 use Rattle.mx_host.proofs.Keeping.{keeps-then}
+use Rattle.mx_plan.specs.Plan.{end_of}
 use Rattle.mx_run.specs.WildRuns.{MachineKind}
 use Rattle.mx_code.specs.declared.trace.Trace.{Trace}
 use Rattle.mx_watch.specs.Watching.{Watching}
@@ -12,13 +13,12 @@ use Rattle.mx_words.specs.Orders.{order_of}
 use Rattle.mx_words.specs.declared.order.Order.{Order}
 use Rattle.mx_words.specs.declared.order.WordsFault.{WordsFault}
 use Rattle.mx_files.specs.Answers.{Answer, answered, wild, GoesAs}
-use Rattle.mx_outcome.specs.Messages.{message_of}
 use Rattle.mx_outcome.specs.declared.outcome.Outcome.{Outcome}
 use Rattle.mx_begin.specs.Arguments.{Word}
-use Rattle.mx_top.specs.Commands.{message_told, with_message}
 use Rattle.mx_top.specs.Product.{ProgramPlan, work_plan, product, product_traces}
 use Rattle.mx_top.proofs.Spoken.{product-is-said}
-use Rattle.mx_top.specs.Reports.{UnlessWild, due_reports, reports_put, with_reports, watched_product}
+use Rattle.mx_top.specs.Reports.{UnlessWild, due_reports, watched_product}
+use Rattle.mx_top.specs.Telling.{reports_plan, with_message, with_reports}
 use Rattle.mx_top.specs.WorkClauses.{Doing, KeepsSaying, answer_by}
 use Rattle.mx_top.proofs.Answering.{goes-as}
 
@@ -34,16 +34,16 @@ saying-then told faults a b c first second = record {
 -- ---- after the message
 
 pub reported : (outcome result : Outcome) (here new : HostModel) (due : Answer) (texts dues : List (List ℕ)) → answered outcome here ≡ due → texts ≡ dues →
-    answered result new ≡ with_reports texts (message_told outcome (message_of outcome) here) → answered result new ≡ with_reports dues (with_message due)
+    answered result new ≡ with_reports texts (with_message (answered outcome here)) → answered result new ≡ with_reports dues (with_message due)
 reported outcome result here new due texts dues e same said =
-    said ∙ ap (λ ts. with_reports ts (message_told outcome (message_of outcome) here)) same ∙ ap (λ a. with_reports dues (with_message a)) e
+    said ∙ ap (λ ts. with_reports ts (with_message (answered outcome here))) same ∙ ap (λ a. with_reports dues (with_message a)) e
 
 pub reported-goes : (outcome result : Outcome) (here new : HostModel) (due : Answer) (texts dues : List (List ℕ)) → GoesAs due outcome here → UnlessWild due (texts ≡ dues) →
-    answered result new ≡ with_reports texts (message_told outcome (message_of outcome) here) → IsFront here.output new.output → GoesAs (with_reports dues (with_message due)) result new
+    answered result new ≡ with_reports texts (with_message (answered outcome here)) → IsFront here.output new.output → GoesAs (with_reports dues (with_message due)) result new
 reported-goes outcome result here new (answered o m) texts dues e same said grows =
     goes-as (with_reports dues (with_message (answered o m))) result new
-    (said ∙ ap (λ ts. with_reports ts (message_told outcome (message_of outcome) here)) same ∙ ap (λ p. with_reports dues (message_told p (message_of p) here)) e.0
-    ∙ ap (λ n. with_reports dues (message_told o (message_of o) n)) e.1)
+    (said ∙ ap (λ ts. with_reports ts (with_message (answered outcome here))) same ∙ ap (λ p. with_reports dues (with_message (answered p here))) e.0
+    ∙ ap (λ n. with_reports dues (with_message (answered o n))) e.1)
 reported-goes outcome result here new (wild m) texts dues e same said grows = front-through m.output here.output new.output e grows
 
 -- what is told of the work, with its message and the reports after it, is what the program comes to
@@ -65,7 +65,7 @@ pub none-ever : (r : Result Order WordsFault) → due_reports r [] ≡ (λ told.
 none-ever r = λ i told. none-due r told i
 
 none-written : (a : Answer) → with_reports [] a ≡ a
-unfolding reports_put
+unfolding reports_plan end_of
 none-written (answered outcome m) = refl
 none-written (wild m) = refl
 

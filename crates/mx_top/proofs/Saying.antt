@@ -14,11 +14,8 @@ use Rattle.mx_outcome.specs.Messages.{message_of}
 use Rattle.mx_outcome.specs.declared.outcome.Outcome.{Outcome}
 use Rattle.mx_outcome.specs.declared.outcome.Outcome.TheVariants.{OutOfMemory}
 use Rattle.mx_files.specs.Answers.{answered, plainly}
-use Rattle.mx_top.specs.Commands.{message_told}
-use Rattle.mx_top.specs.Telling.{said_plan, message_if, message_plan, report_plan, reports_plan}
-use Rattle.mx_top.specs.Reports.{reports_put, with_reports}
+use Rattle.mx_top.specs.Telling.{said_plan, message_if, message_plan, report_plan, reports_plan, with_message, with_reports}
 use Rattle.mx_top.specs.WorkClauses.{Tells, TellsBy, Telling, is_lacking}
-use Rattle.mx_top.proofs.ProductEnds.{message-end, reports-end}
 
 -- ---- a line that is written, if there is one
 
@@ -127,20 +124,20 @@ reports-done old here outcome texts i over rest = λ t.
 
 -- ---- both
 
-spoken-answer : (result spoken : Outcome) (m n : HostModel) (texts : List (List ℕ)) → (result, n) ≡ end_of host (reports_plan spoken texts) m → answered result n ≡ answered spoken (reports_put texts m)
-spoken-answer result spoken m n texts e = ap plainly e ∙ reports-end spoken texts m
+-- reports change no outcome
+pub reports-said : (outcome : Outcome) (texts : List (List ℕ)) (m : HostModel) → (end_of host (reports_plan outcome texts) m).0 ≡ outcome
+unfolding reports_plan
+reports-said outcome [] m = ap (λ (t : Outcome × HostModel). t.0) (end_returns host outcome m)
+reports-said outcome (text ∷ texts) m =
+    ap (λ (t : Outcome × HostModel). t.0) (end_bind host (λ (r : Result (Unit {0}) HostFault). reports_plan outcome texts) (report_plan text) m) ∙ reports-said outcome texts (end_of host (report_plan text) m).1
 
-same-outcome : (a b : Outcome) (m n : HostModel) → answered a m ≡ answered b n → a ≡ b
-same-outcome a b m n e = cc
-
-pub telling-told : (left new : HostModel) (result said : Outcome) (texts : List (List ℕ)) → Telling left new result said texts → result ≢ OutOfMemory → answered result new ≡ with_reports texts (message_told said (message_of said) left)
+pub telling-told : (left new : HostModel) (result said : Outcome) (texts : List (List ℕ)) → Telling left new result said texts → result ≢ OutOfMemory → answered result new ≡ with_reports texts (with_message (answered said left))
 telling-told left new result said texts h ne = by h.message h.behind
   where
-    by : Tells left h.between h.spoken (message_plan said) → Tells h.between new result (reports_plan h.spoken texts) → answered result new ≡ with_reports texts (message_told said (message_of said) left)
+    by : Tells left h.between h.spoken (message_plan said) → Tells h.between new result (reports_plan h.spoken texts) → answered result new ≡ with_reports texts (with_message (answered said left))
     by x (inr y) = absurd (ne y.0)
-    by (inl x) (inl y) =
-        spoken-answer result h.spoken h.between new texts y ∙ ap (with_reports texts) (ap plainly x ∙ message-end said left)
-    by (inr x) (inl y) = absurd (ne (same-outcome result h.spoken new (reports_put texts h.between) (spoken-answer result h.spoken h.between new texts y) ∙ x.0))
+    by (inl x) (inl y) = ap plainly y ∙ ap (with_reports texts) (ap plainly x)
+    by (inr x) (inl y) = absurd (ne (ap (λ (t : Outcome × HostModel). t.0) y ∙ reports-said h.spoken texts h.between ∙ x.0))
 
 -- no report
 pub alone : (r : Outcome) (m : HostModel) → (r, m) ≡ end_of host (reports_plan r []) m

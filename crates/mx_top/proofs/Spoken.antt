@@ -13,12 +13,10 @@ use Rattle.mx_files.specs.Answers.{answered, plainly, output_of}
 use Rattle.mx_outcome.specs.declared.outcome.Outcome.{Outcome}
 use Rattle.mx_outcome.specs.declared.outcome.Outcome.TheVariants.{OutOfMemory}
 use Rattle.mx_begin.specs.Arguments.{Word}
-use Rattle.mx_top.specs.Commands.{with_message}
 use Rattle.mx_top.specs.Product as page
 use Rattle.mx_top.specs.Product.{ProgramCall, ProgramPlan, ProgramWorld, program, program_goes, on_host, on_machine, taking_turns, work_plan, product_course, product, product_traces, answer_of, told_of}
-use Rattle.mx_top.specs.Telling.{message_plan}
+use Rattle.mx_top.specs.Telling.{message_plan, with_message}
 use Rattle.mx_top.specs.WorkClauses.{PlanComes, answer_by, told_by}
-use Rattle.mx_top.proofs.ProductEnds.{message-end}
 use Rattle.mx_top.proofs.ProgramHeld.{work-front}
 use Rattle.mx_top.proofs.WindowCourses.{program-window}
 use Rattle.mx_top.proofs.WorkPlans.{host-course}
@@ -28,11 +26,11 @@ use Rattle.mx_top.proofs.WorkPlans.{host-course}
 abbrev said-by : MachineKind → Course Outcome ProgramWorld → Course Outcome ProgramWorld
 said-by kind c = then_on (λ outcome w. course (program_goes kind) (on_host (message_plan outcome)) w) c
 
-plain-so : (t : Outcome × HostModel) → answered t.0 t.1 ≡ plainly t
+pub plain-so : (t : Outcome × HostModel) → answered t.0 t.1 ≡ plainly t
 plain-so (outcome, m) = refl
 
 said-answer : (kind : MachineKind) (c : Course Outcome ProgramWorld) → answer_of (said-by kind c) ≡ with_message (answer_of c)
-said-answer kind (ends outcome w) = ap answer_of (host-course kind (message_plan outcome) w) ∙ plain-so (end_of host (message_plan outcome) w.0) ∙ message-end outcome w.0
+said-answer kind (ends outcome w) = ap answer_of (host-course kind (message_plan outcome) w) ∙ plain-so (end_of host (message_plan outcome) w.0)
 said-answer kind (meets_wild w) = refl
 
 said-told : (kind : MachineKind) (c : Course Outcome ProgramWorld) → told_of (said-by kind c) ≡ told_of c

@@ -1,5 +1,5 @@
 -- What follows a run whose last steps are taken back.
-use Rattle.std.proofs.Common.{IsTrue, ◌≡◌, ℕ, List, [], Bool, true, false, cond, take, Ok, Err, refl, sym, ◌∙◌, ap, subst, ◌&&◌}
+use Rattle.std.proofs.Common.{IsTrue, ◌≡◌, ℕ, List, [], Bool, true, false, cond, take, Ok, Err, refl, sym, ◌∙◌, ap, subst}
 use Rattle.std.specs.Prelude.{Option, Result}
 use Rattle.std.proofs.lemmas.List.{take-map}
 use Rattle.mx_host.specs.HostModel.{HostModel, contents}
@@ -14,17 +14,13 @@ use Rattle.mx_core.specs.Bounds.{as_list_state}
 use Rattle.mx_core.specs.State.{State}
 use Rattle.mx_core.specs.Undoing.{StateWas}
 use Rattle.mx_run.specs.AccompaniedRuns.{list_run}
-use Rattle.mx_run.specs.WildRuns.{MachineKind}
-use Rattle.mx_words.specs.declared.order.Order.{Order}
-use Rattle.mx_files.specs.Answers.{answered, after_lines}
 use Rattle.mx_files.specs.Clauses.{WorksBetween}
 use Rattle.mx_files.specs.FilePlans.{lines_plan}
-use Rattle.mx_files.specs.Writing.{lines_put}
 use Rattle.mx_outcome.specs.declared.outcome.Outcome.{Outcome}
-use Rattle.mx_outcome.specs.declared.outcome.Outcome.TheVariants.{HostFault, OutOfMemory}
-use Rattle.mx_dump.specs.Dump.{Line, dump_lines}
+use Rattle.mx_outcome.specs.declared.outcome.Outcome.TheVariants.{OutOfMemory}
+use Rattle.mx_dump.specs.Dump.{Line}
 use Rattle.mx_top.specs.Endings.{then_dumped, dumped_plan, back_plan}
-use Rattle.mx_top.specs.Runs.{Ran, ran, ran_wild, machine_ran, session_ran, run_from, dumped, takes_back, state_lines, reached, lines_told, taken_back, run_back}
+use Rattle.mx_top.specs.Runs.{takes_back, state_lines, reached}
 use Rattle.mx_top.proofs.LastStates.{lines-listed, reached-listed, reached-untouched, take-untouched}
 use Rattle.mx_top.proofs.Dumped.{same-dumped}
 
@@ -87,33 +83,6 @@ pub same-back : (dump : Bool) (last : ℕ) (outcome : Outcome) (kept : List Stat
 same-back dump last outcome kept s u a =
     ap (λ states. back_plan dump outcome states (as_list_state s)) (take-map as_list_state last kept) ∙ same-states dump outcome (take last kept) s u (take-untouched last kept a)
 
--- where the host failed no machine is told
-no-dump : (b : Bool) → (b && false) ≡ false
-no-dump true = refl
-no-dump false = refl
-
-pub faulted : (dump : Bool) (s : State) (m : HostModel) → answered HostFault m ≡ dumped dump (ran HostFault s m)
-faulted dump s m = ap (λ (x : Bool). cond x (after_lines HostFault (lines_put (dump_lines s) m)) (answered HostFault m)) (sym (no-dump dump))
-
--- ---- where none is taken back
-
-none-back : (r : Ran) → taken_back [] r ≡ r
-unfolding state_lines reached lines_put lines_plan end_of
-none-back (ran_wild m) = refl
-none-back (ran outcome s m) = by (takes_back outcome)
-  where
-    by : (b : Bool) → cond b (lines_told outcome (reached s []) (lines_put (state_lines []) m)) (ran outcome s m) ≡ ran outcome s m
-    by true = refl
-    by false = refl
-
-pub no-last : (kind : MachineKind) (last steps : ℕ) (s : State) (m : HostModel) → last ≡ 0 → run_back kind last steps s m ≡ machine_ran kind steps s m
-no-last kind last steps s m e = ap (λ k. run_back kind k steps s m) e ∙ none-back (machine_ran kind steps s m)
-
--- what an order without the console, by which no step is taken back, makes of a machine
-pub forward-run : (kind : MachineKind) (o : Order) (s : State) (m : HostModel) → o.interactive ≡ false → o.last ≡ 0 → run_from kind o (Ok s) m ≡ dumped o.dump (machine_ran kind o.steps s m)
-forward-run kind o s m i none =
-    ap (λ (b : Bool). dumped o.dump (cond b (session_ran kind o.steps s m) (run_back kind o.last o.steps s m))) i ∙ ap (dumped o.dump) (no-last kind o.last o.steps s m none)
-
 -- ---- from no notes
 
 pub nothing-kept : (earlier later : List StateWas) (n : ℕ) (s t : State) (m : HostModel) → earlier ≡ [] → states_before later t ≡ states_kept (turns_of n s m) (states_before earlier s) → states_before later t ≡ states_kept (turns_of n s m) []
@@ -125,5 +94,3 @@ pub nothing-beside : (earlier later : List StateWas) (old : Option HostModel) (n
 unfolding states_before
 nothing-beside earlier later old n s t none h =
     subst (λ notes. AreUntouched (states_before notes s) → AreBeside (list_run old s n) (states_before later t) (list_kept old s n (states_before notes s))) none h tt
-
--- ---- the run of the list machine, whose states are beside those that are kept

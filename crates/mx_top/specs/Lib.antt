@@ -5,7 +5,6 @@ pub mod Telling
 pub mod Endings
 pub mod MachineWork
 pub mod Product
-pub mod Commands
 pub mod Reports
 pub mod Causes
 pub mod WorkClauses

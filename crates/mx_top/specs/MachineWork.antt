@@ -26,7 +26,7 @@ use Rattle.law_gen.specs.Generator.{summary}
 use Rattle.mx_files.specs.FilePlans.{lines_plan}
 use Rattle.mx_dump.specs.Dump.{Line, dump_lines}
 use Rattle.mx_top.specs.Telling.{telling}
-use Rattle.mx_top.specs.Runs.{generator_steps, outcome_of, session_outcome, takes_back, state_lines, reached}
+use Rattle.mx_top.specs.Runs.{generator_steps, outcome_of, session_outcome, is_done, takes_back, state_lines, reached}
 
 -- ---- the world and its calls
 
@@ -163,8 +163,7 @@ machine_plan o = if o.interactive then sitting_plan o else if not (o.last == 0) 
 -- ---- the work of `gen`: where the program halts, one line tells what came of it
 
 abbrev pub summed_plan : ℕ → ℕ → Outcome → WorkPlan Outcome
-summed_plan blocks size (Done status) = calling (summing blocks size) (λ line. on_host (telling (Done 0) (line ∷ [])))
-summed_plan blocks size outcome = returns outcome
+summed_plan blocks size outcome = if is_done outcome then calling (summing blocks size) (λ line. on_host (telling (Done 0) (line ∷ []))) else returns outcome
 
 abbrev pub generated_work : ℕ → ℕ → WorkPlan Outcome
 generated_work blocks size = calling (stepping generator_steps) (λ end. summed_plan blocks size (outcome_of generator_steps end))

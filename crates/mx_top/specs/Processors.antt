@@ -1,24 +1,15 @@
--- Several processors that run one object by a schedule: how many there are, what they come to, and the lines that tell it.
+-- Several processors that run one object by a schedule: how many there are, the lines that tell what became of them, and the outcome.
 use Rattle.std.specs.Prelude.{ℕ, ◌+◌, ◌%◌, ◌==◌, nat_le, Bool, if◌then◌else◌, List, [], ◌∷◌, ◌++◌, length, codes, decimal}
 use Rattle.std.specs.List.{flat_map, range_with_len}
-use Rattle.mx_host.specs.HostModel.{HostModel}
-use Rattle.mx_mmo.specs.Image.{Image}
 use Rattle.mx_ring.specs.Stack.{register}
 use Rattle.mx_core.specs.Bare.{Shared, with_shared}
 use Rattle.mx_core.specs.State.{State}
-use Rattle.mx_run.specs.WildRuns.{MachineKind}
 use Rattle.mx_multi.specs.Joint.{Joint, has_halted, no_processor, processor}
-use Rattle.mx_multi.specs.Joint as joint
-use Rattle.mx_multi.specs.Turns.{TurnsEnd, turns_ended, turns_wild, turns}
 use Rattle.mx_multi.specs.declared.end.MultiEnd.{MultiEnd}
 use Rattle.mx_multi.specs.declared.end.MultiEnd.TheVariants as turning
-use Rattle.mx_words.specs.declared.order.Order.{Order}
-use Rattle.mx_files.specs.Answers.{Answer, wild, after_lines}
-use Rattle.mx_files.specs.Writing.{lines_put}
 use Rattle.mx_outcome.specs.declared.outcome.Outcome.{Outcome}
 use Rattle.mx_outcome.specs.declared.outcome.Outcome.TheVariants.{Done, Stopped, StepsSpent, OutOfMemory}
 use Rattle.mx_dump.specs.Dump.{Line, octa_lines, octa_count}
-use Rattle.mx_begin.specs.Begun.{stack_at_start}
 
 -- as many processors as the greatest byte of a schedule and one
 abbrev pub with_named : ℕ → ℕ → ℕ
@@ -69,22 +60,10 @@ memory_if dump memory = if dump then memory_lines memory else []
 unfoldable pub multi_lines : Bool → MultiEnd → Joint → List Line
 multi_lines dump end j = processor_lines end j ++ memory_if dump j.memory
 
--- ---- what they come to
+-- ---- the outcome
 
 abbrev pub multi_outcome : ℕ → MultiEnd → Outcome
 multi_outcome steps turning.AllHalted = Done 0
 multi_outcome steps (turning.Stopped who pc reason) = Stopped pc reason
 multi_outcome steps turning.Spent = StepsSpent steps
 multi_outcome steps turning.OutOfMemory = OutOfMemory
-
-abbrev pub turns_told : Bool → ℕ → TurnsEnd → Answer
-turns_told dump steps (turns_wild m) = wild m
-turns_told dump steps (turns_ended end j m) = after_lines (multi_outcome steps end) (lines_put (multi_lines dump end j) m)
-
--- this many processors run an image by a schedule
-abbrev pub joint_run : MachineKind → Order → List ℕ → Joint → HostModel → Answer
-joint_run kind o schedule j m = turns_told o.dump o.steps (turns kind schedule o.steps schedule j m)
-
-abbrev pub image_turns : MachineKind → Order → List ℕ → Image → HostModel → Answer
-image_turns kind o schedule image m =
-    joint_run kind o schedule (joint.started image (processors_named schedule) (stack_at_start kind o.ring)) m

@@ -1,8 +1,7 @@
 -- The reports of watchers: what is written of the traces that those are told in a call of the program.
-use Rattle.std.specs.Prelude.{ℕ, ◌≡◌, ◌≢◌, IsTrue, true, if◌then◌else◌, List, [], ◌∷◌, Option, Result, Ok, Err}
+use Rattle.std.specs.Prelude.{ℕ, ◌≡◌, ◌≢◌, IsTrue, true, if◌then◌else◌, List, [], Option, Result, Ok, Err}
 use Rattle.std.specs.List.{range_with_len}
 use Rattle.mx_host.specs.HostModel.{HostModel, tells, contents}
-use Rattle.mx_host.specs.HostAnswer.{write_answer}
 use Rattle.mx_code.specs.declared.trace.Trace.{Trace}
 use Rattle.mx_run.specs.WildRuns.{MachineKind, window_machine, list_machine}
 use Rattle.mx_watch.specs.Hearing.{heard_by}
@@ -12,11 +11,12 @@ use Rattle.mx_watch.specs.declared.telling.Report.{Report}
 use Rattle.mx_words.specs.Orders.{order_of}
 use Rattle.mx_words.specs.declared.order.Order.{Order}
 use Rattle.mx_words.specs.declared.order.WordsFault.{WordsFault}
-use Rattle.mx_files.specs.Answers.{Answer, answered, wild, and_then}
+use Rattle.mx_files.specs.Answers.{Answer, answered, wild}
 use Rattle.mx_outcome.specs.declared.outcome.Outcome.{Outcome}
 use Rattle.mx_outcome.specs.declared.outcome.Outcome.TheVariants.{OutOfMemory}
 use Rattle.mx_begin.specs.Arguments.{Word}
 use Rattle.mx_top.specs.Product.{product, product_traces}
+use Rattle.mx_top.specs.Telling.{with_reports}
 
 -- ---- the reports
 
@@ -24,19 +24,6 @@ use Rattle.mx_top.specs.Product.{product, product_traces}
 abbrev pub due_reports : Result Order WordsFault → List Watching → List Trace → List (List ℕ)
 due_reports (Err fault) watchers told = []
 due_reports (Ok o) watchers told = if o.report then reports_on told watchers else []
-
--- each that is not empty goes to standard error by one write; one that is not written changes nothing else
-abbrev pub report_put : List ℕ → HostModel → HostModel
-report_put [] m = m
-report_put (b ∷ bs) m = (write_answer m 260 (b ∷ bs)).1
-
-unfoldable pub reports_put : List (List ℕ) → HostModel → HostModel
-reports_put [] m = m
-reports_put (text ∷ texts) m = reports_put texts (report_put text m)
-
--- they follow the message, and the outcome stays
-abbrev pub with_reports : List (List ℕ) → Answer → Answer
-with_reports texts = and_then (λ outcome m. answered outcome (reports_put texts m))
 
 -- what the program comes to with these watchers
 abbrev pub watched_product : MachineKind → List Word → List Watching → HostModel → Answer

@@ -1,8 +1,9 @@
 -- What is told after an outcome: lines, the message, and reports. A write that fails changes the outcome of lines, and nothing else.
 use Rattle.std.specs.Prelude.{ℕ, List, [], ◌∷◌, Result, Ok, Err}
 use Rattle.mx_host.specs.declared.faults.HostFault.{HostFault}
-use Rattle.mx_plan.specs.Plan.{returns, bind}
-use Rattle.mx_plan.specs.Calls.{HostPlan, need, write_plan}
+use Rattle.mx_plan.specs.Plan.{returns, bind, end_of}
+use Rattle.mx_plan.specs.Calls.{HostPlan, host, need, write_plan}
+use Rattle.mx_files.specs.Answers.{Answer, plainly, and_then}
 use Rattle.mx_files.specs.FilePlans.{lines_plan}
 use Rattle.mx_outcome.specs.Messages.{message_of}
 use Rattle.mx_outcome.specs.declared.outcome.Outcome.{Outcome}
@@ -39,3 +40,11 @@ report_plan (b ∷ bs) = write_plan 260 (b ∷ bs)
 unfoldable pub reports_plan : Outcome → List (List ℕ) → HostPlan Outcome
 reports_plan outcome [] = returns outcome
 reports_plan outcome (text ∷ texts) = bind (λ r. reports_plan outcome texts) (report_plan text)
+
+-- ---- what comes of an answer with them: they follow its outcome, unless it met something wild
+
+abbrev pub with_message : Answer → Answer
+with_message = and_then (λ outcome m. plainly (end_of host (message_plan outcome) m))
+
+abbrev pub with_reports : List (List ℕ) → Answer → Answer
+with_reports texts = and_then (λ outcome m. plainly (end_of host (reports_plan outcome texts) m))

@@ -17,7 +17,7 @@ use std::alloc::Global;
 fn is_dumped(wanted: bool, outcome: Outcome) -> bool
     ensures { result ≡ (wanted && leaves_machine outcome) }
 {
-    wanted && outcome.leaves_machine()
+    wanted && outcome.has_machine()
 }
 
 /// What follows a run: the dump, where it is asked for and the machine is left with something to show.

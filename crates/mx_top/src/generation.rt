@@ -11,12 +11,13 @@ ghost use Rattle.mx_top.specs.Causes.{IsOfMachine};
 ghost use Rattle.mx_top.specs.Endings as plans;
 ghost use Rattle.mx_top.specs.MachineWork as work;
 ghost use Rattle.mx_top.specs.Product as page;
+ghost use Rattle.mx_top.specs.Runs as spec;
 ghost use Rattle.mx_top.specs.WorkClauses.{Follows, Performs, PerformsWork};
 ghost use Rattle.mx_plan.specs.Clauses.{CarriesOut};
 
-use crate::generator::{generated, summary};
+use crate::generator::{format_summary, generate_source};
 use crate::run::outcome_of;
-use mx_begin::start;
+use mx_begin::start_machine;
 use mx_core::Machine;
 use mx_files::{SourceFault, load_source, write_line};
 use mx_host::Host;
@@ -42,7 +43,7 @@ fn put_summary<H: Host>(
         (plans.summed_plan blocks size (Outcome.Done 0) (state_of machine.now)) }
     ensures causes { FailsOnlyBy H.told H.faults host.old host.new result }
 {
-    let line = match summary(alloc, blocks, size, machine.steps(), machine.register(255)) {
+    let line = match format_summary(alloc, blocks, size, machine.steps(), machine.register(255)) {
         Ok(line) => line,
         Err(_) => return Outcome::OutOfMemory,
     };
@@ -54,7 +55,7 @@ fn put_summary<H: Host>(
 
 /// Whether a program halted.
 fn is_done(outcome: Outcome) -> bool
-    ensures { result ≡ plans.is_done outcome }
+    ensures { result ≡ spec.is_done outcome }
 {
     matches!(outcome, Outcome::Done(_))
 }
@@ -128,7 +129,7 @@ fn run_generated<H: Host>(
         Ok(arguments) => arguments,
         Err(_) => return Outcome::OutOfMemory,
     };
-    match start(alloc, image, arguments.as_slice(), order.ring) {
+    match start_machine(alloc, image, arguments.as_slice(), order.ring) {
         Ok(machine) => run_summed(alloc, host, order.number, size, machine),
         Err(outcome) => outcome,
     }
@@ -151,7 +152,7 @@ pub fn generate<H: Host>(alloc: Global, host: &mut H, order: &Order) -> Outcome
     ensures { Performs H.told H.faults host.old host.new result
         (page.taking (page.run_text order.now (generator.generated order.now.number))) }
 {
-    match generated(alloc, order.number) {
+    match generate_source(alloc, order.number) {
         Ok(text) => run_text(alloc, host, order, text.as_slice()),
         Err(_) => Outcome::OutOfMemory,
     }

@@ -47,7 +47,7 @@ fn add_blocks(text: &mut Bytes, n: u64) -> Result<(), NoMemory>
 
 /// The source with this many blocks.
 #[tactic(auto, unfolding(law_gen::specs::Generator::generated))]
-pub fn generated(alloc: Global, n: u64) -> Result<Bytes, NoMemory>
+pub fn generate_source(alloc: Global, n: u64) -> Result<Bytes, NoMemory>
     requires { n ≤ 10000 }
     ensures { IfOk result (λ text. text ≡ spec.generated n) }
 {
@@ -64,7 +64,7 @@ pub fn generated(alloc: Global, n: u64) -> Result<Bytes, NoMemory>
 
 /// The line that tells the blocks, the bytes of the source, the steps that were made, and $255 at the
 /// end.
-pub fn summary(
+pub fn format_summary(
     alloc: Global,
     blocks: u64,
     size: u64,

@@ -23,7 +23,7 @@ use mx_words::Order;
 use std::alloc::Global;
 
 /// Whether steps are taken back: where the machine stopped, or all its steps were made.
-fn takes_back(outcome: Outcome) -> bool
+fn is_taken_back(outcome: Outcome) -> bool
     ensures { result ≡ spec.takes_back outcome }
 {
     match outcome {
@@ -45,7 +45,7 @@ fn least(wanted: u64, kept: usize) -> usize
 
 /// Takes a step back, of which one is kept.
 fn step_back(machine: &mut Machine, back: &mut Back)
-    requires some { 1 ≤ length back.old }
+    requires not_empty { 1 ≤ length back.old }
     requires noted { AreNotesOf back.old (state_of machine.old) }
     ensures first { states_before back.old (state_of machine.old)
         ≡ state_of machine.new ∷ states_before back.new (state_of machine.new) }
@@ -109,7 +109,7 @@ fn tell_back<H: Host>(
         (plans.back_plan order.now.dump outcome (take order.now.last (states_before back.old (state_of machine.old)))
         (state_of machine.old)) }
 {
-    if !takes_back(outcome) {
+    if !is_taken_back(outcome) {
         return tell_end(alloc, host, order.dump, machine, outcome);
     }
     let count = least(order.last, back.kept());

@@ -13,6 +13,6 @@ mod run;
 mod schedules;
 mod top;
 
-pub use laws::{plans_stop_on_their_way, product_is_what_its_commands_come_to};
+pub use laws::plans_stop_on_their_way;
 pub use mx_outcome::{Outcome, fault_name, usage_name};
 pub use top::{mmixware, mmixware_watched};

@@ -12,7 +12,7 @@ ghost use Rattle.mx_top.specs.WorkClauses.{is_lacking as lacks_memory};
 
 use mx_host::{Host, HostFault};
 use mx_outcome::Outcome;
-use mx_watch::{Reports, Texts, Watcher, all_reports};
+use mx_watch::{Reports, Texts, Watcher, collect_reports};
 use mx_word::{Bytes, NoMemory};
 use mx_words::read;
 use std::alloc::Global;
@@ -34,7 +34,7 @@ fn asked_reports(
     match read(words) {
         Ok(order) => {
             if order.report {
-                all_reports(alloc, count, watchers, kept)
+                collect_reports(alloc, count, watchers, kept)
             } else {
                 Ok(Texts::new(alloc))
             }
@@ -48,7 +48,7 @@ fn asked_reports(
 ///
 /// Errors: out of memory, where there are some.
 #[tactic(auto, using(crate::proofs::Heard::unwatched_found))]
-pub fn found_reports(
+pub fn reports_after(
     alloc: Global,
     words: &[String],
     after: Outcome,

@@ -36,7 +36,7 @@ fn greatest(schedule: &[u8]) -> u8
 }
 
 /// As many processors as the greatest byte of a schedule and one.
-fn processors_named(schedule: &[u8]) -> u8
+fn count_processors(schedule: &[u8]) -> u8
     requires { AreEight schedule.now }
     ensures value { result ≡ spec.processors_named schedule.now }
     ensures least { 1 ≤ result }
@@ -115,7 +115,7 @@ fn run_image<H: Host>(
     ensures { Performs H.told H.faults host.old host.new result
         (page.turns_on order.now schedule.now (image_of image)) }
 {
-    let count = processors_named(schedule);
+    let count = count_processors(schedule);
     match Multi::start(alloc, image, count, order.ring) {
         Ok(multi) => run_started(alloc, host, order, schedule, multi, count),
         Err(_) => Outcome::OutOfMemory,
@@ -141,7 +141,7 @@ fn object_file<H: Host>(
 }
 
 /// Runs the object in a file by the schedule in another one, which is read first.
-pub fn multi_file<H: Host>(
+pub fn run_scheduled<H: Host>(
     alloc: Global,
     host: &mut H,
     order: &Order,

@@ -9,10 +9,10 @@ ghost use Rattle.mx_top.specs.Telling as tells;
 ghost use Rattle.mx_top.specs.WorkClauses.{CarriesOutBoth, HearsPlan, KeepsSaying, Performs, TellsAll, TellsBy};
 
 use crate::generation::generate;
-use crate::reports::{found_reports, is_lacking, put_reports, write_error};
+use crate::reports::{is_lacking, put_reports, reports_after, write_error};
 use crate::run::run_machine;
-use crate::schedules::multi_file;
-use mx_begin::{Form, begin, word};
+use crate::schedules::run_scheduled;
+use mx_begin::{Form, begin, word_bytes};
 use mx_files::{assemble_file, list_file};
 use mx_host::Host;
 use mx_outcome::{Outcome, message};
@@ -70,23 +70,23 @@ fn carry_order<H: Host>(
         Command::Asm => assemble_file(
             alloc,
             host,
-            word(words, order.file),
-            word(words, order.rest),
+            word_bytes(words, order.file),
+            word_bytes(words, order.rest),
         ),
         Command::Gen => generate(alloc, host, order),
-        Command::Show => list_file(alloc, host, word(words, order.file)),
-        Command::Multi => multi_file(
+        Command::Show => list_file(alloc, host, word_bytes(words, order.file)),
+        Command::Multi => run_scheduled(
             alloc,
             host,
             order,
-            word(words, order.schedule),
-            word(words, order.file),
+            word_bytes(words, order.schedule),
+            word_bytes(words, order.file),
         ),
     }
 }
 
 /// Does what the words order, if they order something, without the message.
-fn carry_out<H: Host>(
+fn do_command<H: Host>(
     alloc: Global,
     words: &[String],
     host: &mut H,
@@ -107,19 +107,19 @@ fn carry_out<H: Host>(
 
 /// Writes the message line of an outcome to the tool's standard error. A write that fails changes
 /// nothing; where there is no memory for the line or its write, that is the outcome.
-fn tell<H: Host>(alloc: Global, host: &mut H, outcome: Outcome) -> Outcome
+fn write_message<H: Host>(alloc: Global, host: &mut H, outcome: Outcome) -> Outcome
     ensures plan { TellsBy (H.told host.old) (H.told host.new) result (tells.message_plan outcome) }
     ensures same { result ≢ Outcome.OutOfMemory → result ≡ outcome }
     ensures keeps { KeepsSaying H.told H.faults host.old host.new }
 {
     match message(alloc, outcome) {
-        Ok(text) => say(host, outcome, text.as_slice()),
+        Ok(text) => write_line(host, outcome, text.as_slice()),
         Err(_) => Outcome::OutOfMemory,
     }
 }
 
 /// Writes a line to the tool's standard error, if there is something in it.
-fn say<H: Host>(host: &mut H, outcome: Outcome, text: &[u8]) -> Outcome
+fn write_line<H: Host>(host: &mut H, outcome: Outcome, text: &[u8]) -> Outcome
     ensures plan { TellsBy (H.told host.old) (H.told host.new) result (tells.said_plan outcome text.now) }
     ensures same { result ≢ Outcome.OutOfMemory → result ≡ outcome }
     ensures keeps { KeepsSaying H.told H.faults host.old host.new }
@@ -135,12 +135,12 @@ fn say<H: Host>(host: &mut H, outcome: Outcome, text: &[u8]) -> Outcome
 
 /// Writes the message line of an outcome to the tool's standard error, and reports after it. Writes that fail change
 /// nothing; where there is no memory, that is the outcome.
-fn finish<H: Host>(alloc: Global, host: &mut H, outcome: Outcome, texts: &[Bytes]) -> Outcome
+fn write_all<H: Host>(alloc: Global, host: &mut H, outcome: Outcome, texts: &[Bytes]) -> Outcome
     ensures plan { TellsAll (H.told host.old) (H.told host.new) result outcome texts.now }
     ensures same { result ≢ Outcome.OutOfMemory → result ≡ outcome }
     ensures keeps { KeepsSaying H.told H.faults host.old host.new }
 {
-    let told = tell(alloc, host, outcome);
+    let told = write_message(alloc, host, outcome);
     put_reports(host, texts, told)
 }
 
@@ -166,10 +166,10 @@ pub fn mmixware_watched<H: Host>(
 {
     let count = watchers.len();
     let mut kept = Reports::new(alloc);
-    let outcome = carry_out(alloc, words, host, watchers, &mut kept);
-    match found_reports(alloc, words, outcome, count, watchers, &kept) {
-        Ok(texts) => finish(alloc, host, outcome, texts.as_slice()),
-        Err(_) => tell(alloc, host, Outcome::OutOfMemory),
+    let outcome = do_command(alloc, words, host, watchers, &mut kept);
+    match reports_after(alloc, words, outcome, count, watchers, &kept) {
+        Ok(texts) => write_all(alloc, host, outcome, texts.as_slice()),
+        Err(_) => write_message(alloc, host, Outcome::OutOfMemory),
     }
 }
 

@@ -39,14 +39,14 @@ pub fn trap<M: Space, H: Host>(
 {
     let slot = (call.word % 256) as u16;
     match request_of(memory, call) {
-        Ok(request) => carry_out(alloc, memory, host, slot, request),
+        Ok(request) => do_request(alloc, memory, host, slot, request),
         Err(stop) => TrapAnswer::Stopped(stop),
     }
 }
 
 /// Carries out what is asked for.
 #[tactic(auto, using(mx_plan::proofs::Plans::plans, mx_plan::proofs::Plans::lifting))]
-fn carry_out<M: Space, H: Host>(
+fn do_request<M: Space, H: Host>(
     alloc: Global,
     memory: &mut M,
     host: &mut H,

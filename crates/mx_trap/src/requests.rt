@@ -52,7 +52,7 @@ fn request_by<M: Space>(memory: &M, service: Service, b: u64) -> Result<Request,
 {
     match service {
         Service::Halt => Ok(Request::Ending),
-        Service::Fopen => opening(memory, b),
+        Service::Fopen => open_request(memory, b),
         Service::Fclose => Ok(Request::Closing),
         Service::Fread => {
             let (at, size) = buffer(memory, b)?;
@@ -76,7 +76,7 @@ fn request_by<M: Space>(memory: &M, service: Service, b: u64) -> Result<Request,
 }
 
 /// The octas at b and b + 8.
-pub fn arguments<M: Space>(memory: &M, b: u64) -> Result<(u64, u64), TrapStop>
+pub fn read_arguments<M: Space>(memory: &M, b: u64) -> Result<(u64, u64), TrapStop>
     ensures { result ≡ spec.arguments (M.contents memory.now).bytes b }
 {
     let Ok(p) = memory.octa_at(b) else {
@@ -92,7 +92,7 @@ pub fn arguments<M: Space>(memory: &M, b: u64) -> Result<(u64, u64), TrapStop>
 fn buffer<M: Space>(memory: &M, b: u64) -> Result<(u64, u64), TrapStop>
     ensures { result ≡ spec.buffer (M.contents memory.now).bytes b }
 {
-    let (p, q) = arguments(memory, b)?;
+    let (p, q) = read_arguments(memory, b)?;
     if q > 1 << 24 {
         return Err(TrapStop::TransferTooLarge);
     }
@@ -103,11 +103,11 @@ fn buffer<M: Space>(memory: &M, b: u64) -> Result<(u64, u64), TrapStop>
 }
 
 /// What Fopen asks for.
-fn opening<M: Space>(memory: &M, b: u64) -> Result<Request, TrapStop>
+fn open_request<M: Space>(memory: &M, b: u64) -> Result<Request, TrapStop>
     ensures request { result ≡ spec.opening (M.contents memory.now).bytes b }
     ensures bounds { IfOk result spec.IsInBounds }
 {
-    let (at, mode) = arguments(memory, b)?;
+    let (at, mode) = read_arguments(memory, b)?;
     let size = text_length(memory, at)?;
     Ok(Request::Opening { at, size, mode })
 }

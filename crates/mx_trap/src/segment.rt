@@ -4,7 +4,7 @@ ghost use Rattle.std.specs.Prelude.{◌≡◌};
 ghost use Rattle.mx_trap.specs.Touches as spec;
 
 use crate::answer::TrapStop;
-use crate::requests::{arguments, text_length};
+use crate::requests::{read_arguments, text_length};
 use crate::service::{Service, service_of};
 use mx_alu::TrapCall;
 use mx_mem::Space;
@@ -45,8 +45,8 @@ fn buffer_touches<M: Space>(memory: &M, b: u64) -> bool
     if is_in_stack_segment(b) || is_in_stack_segment(b.wrapping_add(8)) {
         return true;
     }
-    match arguments(memory, b) {
-        Ok((p, q)) => meets_segment(p, q),
+    match read_arguments(memory, b) {
+        Ok((p, q)) => is_any_in_segment(p, q),
         Err(_) => false,
     }
 }
@@ -59,7 +59,7 @@ fn name_touches<M: Space>(memory: &M, b: u64) -> bool
     if is_in_stack_segment(b) || is_in_stack_segment(b.wrapping_add(8)) {
         return true;
     }
-    match arguments(memory, b) {
+    match read_arguments(memory, b) {
         Ok((p, _)) => text_touches(memory, p),
         Err(_) => false,
     }
@@ -75,8 +75,8 @@ fn text_touches<M: Space>(memory: &M, a: u64) -> bool
         return false;
     }
     match text_length(memory, a) {
-        Ok(length) => meets_segment(a, length + 1),
-        Err(stop) => meets_segment(a, stop_reach(a, stop)),
+        Ok(length) => is_any_in_segment(a, length + 1),
+        Err(stop) => is_any_in_segment(a, stop_reach(a, stop)),
     }
 }
 
@@ -92,7 +92,7 @@ fn stop_reach(a: u64, stop: TrapStop) -> u64
 }
 
 /// Whether one of n addresses from a on lies there.
-fn meets_segment(a: u64, n: u64) -> bool
+fn is_any_in_segment(a: u64, n: u64) -> bool
     ensures { result ≡ spec.meets_segment a n }
 {
     let end = u128::from(a) + u128::from(n);

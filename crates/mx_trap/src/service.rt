@@ -27,11 +27,11 @@ pub fn service_of(word: u32) -> Result<Service, TrapStop>
     if (word >> 16) % 256 != 0 {
         return Err(TrapStop::UnknownTrap);
     }
-    service_numbered(((word >> 8) % 256) as u8, (word % 256) as u8)
+    service_by_number(((word >> 8) % 256) as u8, (word % 256) as u8)
 }
 
 /// The service of this number Y, for the handle Z.
-fn service_numbered(y: u8, z: u8) -> Result<Service, TrapStop>
+fn service_by_number(y: u8, z: u8) -> Result<Service, TrapStop>
     ensures { result ≡ spec.service_numbered y z }
 {
     match y {

@@ -6,7 +6,7 @@ use Rattle.mx_asm.specs.Whole.{Line, lines_items, lines_taken}
 use Rattle.mx_asm.proofs.InTurn.{stands-at}
 use Rattle.mx_view.specs.declared.cells.Wanted.{Wanted}
 use Rattle.mx_view.specs.Cells.{cell_of, cells_of}
-use Rattle.mx_view.specs.Listing.{added_items, line_cells, cells_behind}
+use Rattle.mx_view.specs.Listing.{added_items, line_cells, cells_after}
 use Rattle.mx_view.proofs.Shown.{grown, added-is}
 
 pub cells-append : (w : Wanted) (lambda : ℕ) (items more : List Item) → cells_of w lambda (items ++ more) ≡ cells_of w lambda items ++ cells_of w (lambda_behind lambda items) more
@@ -26,16 +26,16 @@ items-grow before line =
 cells-grow : (w : Wanted) (before : List Line) (line : Line) → cells_of w 0 (lines_items (before ++ line ∷ [])) ≡ cells_of w 0 (lines_items before) ++ line_cells w before line
 cells-grow w before line = ap (cells_of w 0) (items-grow before line) ∙ cells-append w 0 (lines_items before) (added_items before line)
 
-cells-from : (w : Wanted) (later before : List Line) → cells_of w 0 (lines_items (before ++ later)) ≡ cells_of w 0 (lines_items before) ++ cells_behind w before later
-unfolding cells_behind
+cells-from : (w : Wanted) (later before : List Line) → cells_of w 0 (lines_items (before ++ later)) ≡ cells_of w 0 (lines_items before) ++ cells_after w before later
+unfolding cells_after
 cells-from w [] before = ap (λ l. cells_of w 0 (lines_items l)) (append-nil before) ∙ sym (append-nil _)
 cells-from w (line ∷ later) before =
     ap (λ l. cells_of w 0 (lines_items l)) (sym (append_assoc before (line ∷ []) later))
     ∙ cells-from w later (before ++ line ∷ [])
-    ∙ ap (λ x. x ++ cells_behind w (before ++ line ∷ []) later) (cells-grow w before line)
-    ∙ append_assoc (cells_of w 0 (lines_items before)) (line_cells w before line) (cells_behind w (before ++ line ∷ []) later)
+    ∙ ap (λ x. x ++ cells_after w (before ++ line ∷ []) later) (cells-grow w before line)
+    ∙ append_assoc (cells_of w 0 (lines_items before)) (line_cells w before line) (cells_after w (before ++ line ∷ []) later)
 
-pub every-cell : (w : Wanted) (lines : List Line) → cells_behind w [] lines ≡ cells_of w 0 (lines_items lines)
+pub every-cell : (w : Wanted) (lines : List Line) → cells_after w [] lines ≡ cells_of w 0 (lines_items lines)
 unfolding cells_of
 every-cell w lines = sym (cells-from w lines [])
 

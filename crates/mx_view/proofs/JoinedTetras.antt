@@ -33,8 +33,8 @@ use Rattle.mx_files.specs.Sources.{source_meaning}
 use Rattle.mx_view.specs.declared.cells.Cell.{Cell}
 use Rattle.mx_view.specs.declared.cells.Wanted.TheVariants.{All}
 unfoldable use Rattle.mx_view.specs.Cells.{cells_of}
-use Rattle.mx_view.specs.Joined.{lines_once, listed_tetra, tetras_listed}
-use Rattle.mx_view.specs.Listing.{cells_behind, line_cells, lines_listed}
+use Rattle.mx_view.specs.ListingParts.{each_line_once, tetra_shown_at, all_tetras}
+use Rattle.mx_view.specs.Listing.{cells_after, line_cells, lines_listed}
 use Rattle.mx_view.specs.Rows.{Meaning, is_loaded_at, listed_line, once, shown_cell}
 use Rattle.mx_type.specs.Lines.{tetra_address}
 use Rattle.mx_view.proofs.CoveredBytes.{covers}
@@ -107,12 +107,12 @@ lines-load (line ∷ lines) a = refl
 abbrev Shows : ℕ → ℕ → Cell → Type 0
 Shows a x c = c.address ≡ tetra_address a → c.tetra ≡ x
 
-listed-is : (a x : ℕ) (cells : List Cell) → AllByRecursion (Shows a x) cells → (has cells a ≡ false → x ≡ 0) → x ≡ listed_tetra cells a
-unfolding has listed_tetra
+listed-is : (a x : ℕ) (cells : List Cell) → AllByRecursion (Shows a x) cells → (has cells a ≡ false → x ≡ 0) → x ≡ tetra_shown_at cells a
+unfolding has tetra_shown_at
 listed-is a x [] here none = none refl
 listed-is a x (c ∷ cells) here none = by (c.address == tetra_address a) refl (λ out. listed-is a x cells here.1 out)
   where
-    by : (b : Bool) → (c.address == tetra_address a) ≡ b → ((has cells a ≡ false → x ≡ 0) → x ≡ listed_tetra cells a) → x ≡ cond b c.tetra (listed_tetra cells a)
+    by : (b : Bool) → (c.address == tetra_address a) ≡ b → ((has cells a ≡ false → x ≡ 0) → x ≡ tetra_shown_at cells a) → x ≡ cond b c.tetra (tetra_shown_at cells a)
     by true e rest = sym (here.0 (eqb-true c.address (tetra_address a) e))
     by false e rest = rest (λ out. none (ap (λ b. b || has cells a) e ∙ out))
 
@@ -122,15 +122,15 @@ unfolding has
 has-is [] a = refl
 has-is (c ∷ cells) a = ap (λ b. c.address == tetra_address a || b) (has-is cells a)
 
-lines-hold : (m : Meaning) (before later : List Line) (a : ℕ) → has (tetras_listed (lines_once m before later)) a ≡ has (cells_behind All before later) a
-unfolding lines_once cells_behind
+lines-hold : (m : Meaning) (before later : List Line) (a : ℕ) → has (all_tetras (each_line_once m before later)) a ≡ has (cells_after All before later) a
+unfolding each_line_once cells_after
 lines-hold m before [] a = refl
 lines-hold m before (line ∷ later) a =
     let cells = line_cells All before line in
     let shown : List Cell = (listed_line m (length before + 1) line cells).cells in
-    has-append shown (tetras_listed (lines_once m (before ++ line ∷ []) later)) a
+    has-append shown (all_tetras (each_line_once m (before ++ line ∷ []) later)) a
     ∙ (λ i. (has-is shown a ∙ shown-all m (length before + 1) line cells (tetra_address a) ∙ sym (has-is cells a)) i || lines-hold m (before ++ line ∷ []) later a i)
-    ∙ sym (has-append cells (cells_behind All (before ++ line ∷ []) later) a)
+    ∙ sym (has-append cells (cells_after All (before ++ line ∷ []) later) a)
 
 all-behind : (P : Cell → Type 0) (xs ys : List Cell) → AllByRecursion P xs → AllByRecursion P ys → AllByRecursion P (xs ++ ys)
 all-behind P [] ys h g = g
@@ -141,16 +141,16 @@ module _ (m : Meaning) (P : Cell → Type 0) (each : (c : Cell) → P (shown_cel
   cells-show [] = tt
   cells-show (c ∷ cells) = (each c, cells-show cells)
 
-  lines-show : (before later : List Line) → AllByRecursion P (tetras_listed (lines_once m before later))
-  unfolding lines_once
+  lines-show : (before later : List Line) → AllByRecursion P (all_tetras (each_line_once m before later))
+  unfolding each_line_once
   lines-show before [] = tt
   lines-show before (line ∷ later) =
-      all-behind P (listed_line m (length before + 1) line (line_cells All before line)).cells (tetras_listed (lines_once m (before ++ line ∷ []) later))
+      all-behind P (listed_line m (length before + 1) line (line_cells All before line)).cells (all_tetras (each_line_once m (before ++ line ∷ []) later))
       (cells-show (once (line_cells All before line))) (lines-show (before ++ line ∷ []) later)
 
 -- ---- the law
 
-unlisted-is-zero : (source : List ℕ) (a : ℕ) → AreBytes source → refusal source ≡ None → has (cells_behind All [] (lines_of source)) a ≡ false →
+unlisted-is-zero : (source : List ℕ) (a : ℕ) → AreBytes source → refusal source ≡ None → has (cells_after All [] (lines_of source)) a ≡ false →
     tetra_of ((image (statements_in (source_entries source))).memory a) a ≡ 0
 unlisted-is-zero source a bytes none out =
     let statements = statements_in (source_entries source) in
@@ -164,16 +164,16 @@ unlisted-is-zero source a bytes none out =
     (has-same (cells_of All 0 (items_from first_head [] (sights_of statements))) q a e ∙ loads))
 
 pub joined : (source : List ℕ) (a : ℕ) → AreBytes source → run_refusal source ≡ None → a < 2 ^ 63 →
-    tetra_of ((image (statements_in (source_entries source))).memory a) a ≡ listed_tetra (tetras_listed (lines_listed All source)) a
+    tetra_of ((image (statements_in (source_entries source))).memory a) a ≡ tetra_shown_at (all_tetras (lines_listed All source)) a
 joined source a bytes run low =
     let statements = statements_in (source_entries source) in
     let m = source_meaning source in
     let lines = lines_of source in
     let none : refusal source ≡ None = not-refused _ (refusal source) run in
     let x = tetra_of ((image statements).memory a) a in
-    listed-is a x (tetras_listed (lines_once m [] lines))
+    listed-is a x (all_tetras (each_line_once m [] lines))
     (lines-show m (Shows a x) (λ c e. tetra-shown source c run (omega (arith, e, low)) ∙ tetra-alike (placed (placements (pieces statements))) a c.address e) [] lines)
     (λ out. unlisted-is-zero source a bytes none (sym (lines-hold m [] lines a) ∙ out))
-    ∙ ap (λ l. listed_tetra (tetras_listed l) a) (sym (once-accepted source m none))
+    ∙ ap (λ l. tetra_shown_at (all_tetras l) a) (sym (once-accepted source m none))
 
 pub ruleset joining = (joined)

@@ -9,7 +9,7 @@ use Rattle.mx_view.specs.declared.cells.Cell.{Cell}
 use Rattle.mx_view.specs.declared.cells.Wanted.TheVariants.{All}
 use Rattle.mx_view.specs.InTurn.{items_at, standing_at}
 use Rattle.mx_view.specs.Listing.{line_cells}
-use Rattle.mx_view.specs.Loads.{load_at, loads_behind, loads_in_turn, loads_of}
+use Rattle.mx_view.specs.Loads.{load_at, loads_after, loads_in_turn, loads_of}
 use Rattle.mx_view.proofs.LineTurns.{no-lines}
 use Rattle.mx_view.proofs.Shown.{cells-are, lambda-is}
 
@@ -25,8 +25,8 @@ loads-none loads lambda a source e = rw (no-lines source e) (append-nil loads)
 
 pub ruleset turns = (loads-next, loads-none)
 
-loads-are : (later before : List Line) (a : Standing) → HasTaken before a → loads_in_turn (lambda_of (lines_items before)) a later ≡ loads_behind before later
-unfolding loads_behind loads_in_turn
+loads-are : (later before : List Line) (a : Standing) → HasTaken before a → loads_in_turn (lambda_of (lines_items before)) a later ≡ loads_after before later
+unfolding loads_after loads_in_turn
 loads-are [] before a h = refl
 loads-are (line ∷ later) before a h =
     (λ i. sym (cells-are All before line a h) i ∷ loads_in_turn (sym (lambda-is before line a h) i) (standing_at a line) later)

@@ -9,8 +9,8 @@ use Rattle.mx_asm.proofs.EndLaw.{both-none}
 use Rattle.mx_asm.proofs.InTurn.{stands-at, refusal-lasts}
 use Rattle.mx_view.specs.declared.cells.Cell.{Cell}
 use Rattle.mx_view.specs.declared.cells.Wanted.TheVariants.{All}
-use Rattle.mx_view.specs.Joined.{lines_once}
-use Rattle.mx_view.specs.Listing.{line_cells, line_listed, listed_behind, listed_unless}
+use Rattle.mx_view.specs.ListingParts.{each_line_once}
+use Rattle.mx_view.specs.Listing.{line_cells, line_listed, listed_after, listed_unless}
 use Rattle.mx_view.specs.Rows.{Meaning, listed, listed_line, once}
 
 -- no front of lines that are not refused is refused
@@ -45,8 +45,8 @@ open-line m before line none =
     ∙ listed-of m (length before + 1) line (line_cells All before line)
 
 -- lines after others, where none but the last may be refused
-pub once-behind : (m : Meaning) (before later : List Line) (line : Line) → lines_refusal (before ++ later) ≡ None → listed_behind m All before (later ++ line ∷ []) ≡ lines_once m before (later ++ line ∷ [])
-unfolding listed_behind lines_once
+pub once-behind : (m : Meaning) (before later : List Line) (line : Line) → lines_refusal (before ++ later) ≡ None → listed_after m All before (later ++ line ∷ []) ≡ each_line_once m before (later ++ line ∷ [])
+unfolding listed_after each_line_once
 once-behind m before [] line none =
     ap (λ lines. lines ++ []) (open-line m before line (ap lines_refusal (sym (append-nil before)) ∙ none))
 once-behind m before (next ∷ later) line none =
@@ -54,38 +54,38 @@ once-behind m before (next ∷ later) line none =
     (λ i. open-line m before next (open-front before (next ∷ later) none) i ++ once-behind m (before ++ next ∷ []) later line open_still i)
 
 -- nothing follows a refused line
-closed-lines : (m : Meaning) (before later : List Line) (r : Refused) → lines_refusal before ≡ Some r → listed_behind m All before later ≡ []
-unfolding listed_behind
+closed-lines : (m : Meaning) (before later : List Line) (r : Refused) → lines_refusal before ≡ Some r → listed_after m All before later ≡ []
+unfolding listed_after
 closed-lines m before [] r e = refl
 closed-lines m before (line ∷ later) r e =
     (λ i. listed_unless (e i) (listed m All (length before + 1) line (line_cells All before line)) ++ closed-lines m (before ++ line ∷ []) later r (lasting before (line ∷ []) r e) i)
 
-lines-append : (m : Meaning) (before lines later : List Line) → listed_behind m All before (lines ++ later) ≡ listed_behind m All before lines ++ listed_behind m All (before ++ lines) later
-unfolding listed_behind
-lines-append m before [] later = ap (λ l. listed_behind m All l later) (sym (append-nil before))
+lines-append : (m : Meaning) (before lines later : List Line) → listed_after m All before (lines ++ later) ≡ listed_after m All before lines ++ listed_after m All (before ++ lines) later
+unfolding listed_after
+lines-append m before [] later = ap (λ l. listed_after m All l later) (sym (append-nil before))
 lines-append m before (line ∷ lines) later =
     ap (λ more. line_listed m All before line ++ more) (lines-append m (before ++ line ∷ []) lines later)
-    ∙ sym (append_assoc (line_listed m All before line) (listed_behind m All (before ++ line ∷ []) lines) (listed_behind m All ((before ++ line ∷ []) ++ lines) later))
-    ∙ ap (λ l. (line_listed m All before line ++ listed_behind m All (before ++ line ∷ []) lines) ++ listed_behind m All l later) (append_assoc before (line ∷ []) lines)
+    ∙ sym (append_assoc (line_listed m All before line) (listed_after m All (before ++ line ∷ []) lines) (listed_after m All ((before ++ line ∷ []) ++ lines) later))
+    ∙ ap (λ l. (line_listed m All before line ++ listed_after m All (before ++ line ∷ []) lines) ++ listed_after m All l later) (append_assoc before (line ∷ []) lines)
 
 pub once-refused : (m : Meaning) (before later : List Line) (line : Line) (r : Refused) → lines_refusal before ≡ None → lines_refusal (before ++ line ∷ []) ≡ Some r →
-    listed_behind m All [] (before ++ line ∷ later) ≡ lines_once m [] (before ++ line ∷ [])
+    listed_after m All [] (before ++ line ∷ later) ≡ each_line_once m [] (before ++ line ∷ [])
 once-refused m before later line r none refused =
-    ap (listed_behind m All []) (sym (append_assoc before (line ∷ []) later))
+    ap (listed_after m All []) (sym (append_assoc before (line ∷ []) later))
     ∙ lines-append m [] (before ++ line ∷ []) later
-    ∙ ap (λ more. listed_behind m All [] (before ++ line ∷ []) ++ more) (closed-lines m (before ++ line ∷ []) later r refused)
-    ∙ append-nil (listed_behind m All [] (before ++ line ∷ []))
+    ∙ ap (λ more. listed_after m All [] (before ++ line ∷ []) ++ more) (closed-lines m (before ++ line ∷ []) later r refused)
+    ∙ append-nil (listed_after m All [] (before ++ line ∷ []))
     ∙ once-behind m [] before line none
 
 -- all lines, where none is refused
-all-once : (m : Meaning) (before later : List Line) → lines_refusal (before ++ later) ≡ None → listed_behind m All before later ≡ lines_once m before later
-unfolding listed_behind lines_once
+all-once : (m : Meaning) (before later : List Line) → lines_refusal (before ++ later) ≡ None → listed_after m All before later ≡ each_line_once m before later
+unfolding listed_after each_line_once
 all-once m before [] none = refl
 all-once m before (line ∷ later) none =
     let open_still : lines_refusal ((before ++ line ∷ []) ++ later) ≡ None = ap lines_refusal (append_assoc before (line ∷ []) later) ∙ none in
     (λ i. open-line m before line (open-front before (line ∷ later) none) i ++ all-once m (before ++ line ∷ []) later open_still i)
 
-pub once-accepted : (source : List ℕ) (m : Meaning) → refusal source ≡ None → listed_behind m All [] (lines_of source) ≡ lines_once m [] (lines_of source)
+pub once-accepted : (source : List ℕ) (m : Meaning) → refusal source ≡ None → listed_after m All [] (lines_of source) ≡ each_line_once m [] (lines_of source)
 once-accepted source m none = all-once m [] (lines_of source) (both-none (lines_refusal (lines_of source)) _ none).0
 
 pub ruleset each_once = (once-accepted, once-refused)

@@ -13,7 +13,7 @@ use Rattle.mx_files.specs.Sources.{source_meaning}
 use Rattle.mx_view.specs.declared.cells.Wanted.{Wanted}
 use Rattle.mx_view.specs.Cells.{cells_of}
 use Rattle.mx_view.specs.Rows.{Meaning, listed}
-use Rattle.mx_view.specs.Listing.{added_items, line_cells, line_listed, listed_unless, listed_behind, lines_listed}
+use Rattle.mx_view.specs.Listing.{added_items, line_cells, line_listed, listed_unless, listed_after, lines_listed}
 use Rattle.mx_view.specs.InTurn.{items_at, standing_at, listed_at, listed_in_turn, standing_behind, all_listed, end_of}
 use Rattle.mx_view.proofs.LineTurns.{listed-behind}
 
@@ -53,8 +53,8 @@ more-length : (before : List Line) (line : Line) → length (before ++ line ∷ 
 more-length before line = length-append before (line ∷ [])
 
 lines-are : (m : Meaning) (w : Wanted) (later before : List Line) (a : Standing) → HasTaken before a →
-    listed_behind m w before later ≡ listed_in_turn m w (length before + 1) (lambda_of (lines_items before)) a later
-unfolding listed_behind listed_in_turn
+    listed_after m w before later ≡ listed_in_turn m w (length before + 1) (lambda_of (lines_items before)) a later
+unfolding listed_after listed_in_turn
 lines-are m w [] before a h = refl
 lines-are m w (line ∷ later) before (Ok a) h =
     (λ i. open-line m w before line (Ok a) h (sym h.refusal) i

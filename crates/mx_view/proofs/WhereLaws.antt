@@ -18,9 +18,9 @@ use Rattle.mx_view.specs.declared.cells.Wanted.TheVariants.{All, Holding}
 use Rattle.mx_view.specs.declared.lines.ListedLine.{ListedLine}
 use Rattle.mx_view.specs.Cells.{cell_of}
 unfoldable use Rattle.mx_view.specs.Cells.{cells_of}
-use Rattle.mx_view.specs.Joined.{holds, kept_line, line_with, lines_with}
+use Rattle.mx_view.specs.ListingParts.{holds, kept_line, line_at_address, lines_at_address}
 use Rattle.mx_view.specs.Listing.{added_items, line_cells, line_listed, listed_unless, lines_listed}
-unfoldable use Rattle.mx_view.specs.Listing.{listed_behind}
+unfoldable use Rattle.mx_view.specs.Listing.{listed_after}
 use Rattle.mx_view.specs.Rows.{Meaning, is_loaded_at, joined_with, listed, listed_line, shown_cell, with_cell}
 unfoldable use Rattle.mx_view.specs.Rows.{once}
 use Rattle.mx_view.proofs.OnceLaws.{joined-stays}
@@ -130,7 +130,7 @@ module _ (a : ℕ) where
   some-kept l m [] h = absurd (omega (arith, h))
   some-kept l m (d ∷ cells) h = refl
 
-  line-kept : (m : Meaning) (number : ℕ) (line : Line) (cells : List Cell) → listed m (Holding a) number line (kept cells) ≡ lines_with a (listed m All number line cells)
+  line-kept : (m : Meaning) (number : ℕ) (line : Line) (cells : List Cell) → listed m (Holding a) number line (kept cells) ≡ lines_at_address a (listed m All number line cells)
   unfolding once
   line-kept m number line [] = refl
   line-kept m number line (c ∷ cells) =
@@ -142,31 +142,31 @@ module _ (a : ℕ) where
       are : kept whole.cells ≡ map (shown_cell m) (once (kept (c ∷ cells)))
       are = shown-kept m (once (c ∷ cells)) ∙ ap (map (shown_cell m)) (sym (once-kept (c ∷ cells)))
 
-      by : (left : List Cell) → kept (c ∷ cells) ≡ left → listed m (Holding a) number line left ≡ lines_with a (whole ∷ [])
+      by : (left : List Cell) → kept (c ∷ cells) ≡ left → listed m (Holding a) number line left ≡ lines_at_address a (whole ∷ [])
       by [] e = sym (ap (λ l. kept_line whole l ++ []) (are ∙ ap (λ l. map (shown_cell m) (once l)) e))
       by (d ∷ left) e =
           sym (some-kept whole m (once (d ∷ left)) (some-once d left))
           ∙ sym (ap (kept_line whole) (are ∙ ap (λ l. map (shown_cell m) (once l)) e))
-          ∙ sym (append-nil (line_with a whole))
+          ∙ sym (append-nil (line_at_address a whole))
 
-  unless-kept : (r : Option Refused) (l k : List ListedLine) → l ≡ lines_with a k → listed_unless r l ≡ lines_with a (listed_unless r k)
+  unless-kept : (r : Option Refused) (l k : List ListedLine) → l ≡ lines_at_address a k → listed_unless r l ≡ lines_at_address a (listed_unless r k)
   unless-kept None l k e = e
   unless-kept (Some r) l k e = refl
 
-  listed-kept : (m : Meaning) (before : List Line) (line : Line) → line_listed m (Holding a) before line ≡ lines_with a (line_listed m All before line)
+  listed-kept : (m : Meaning) (before : List Line) (line : Line) → line_listed m (Holding a) before line ≡ lines_at_address a (line_listed m All before line)
   listed-kept m before line =
       unless-kept (lines_refusal before) _ (listed m All (length before + 1) line (line_cells All before line))
       (ap (listed m (Holding a) (length before + 1) line) (cells-kept (lambda_of (lines_items before)) (added_items before line))
       ∙ line-kept m (length before + 1) line (line_cells All before line))
 
-  lines-kept : (m : Meaning) (later before : List Line) → listed_behind m (Holding a) before later ≡ lines_with a (listed_behind m All before later)
-  unfolding listed_behind
+  lines-kept : (m : Meaning) (later before : List Line) → listed_after m (Holding a) before later ≡ lines_at_address a (listed_after m All before later)
+  unfolding listed_after
   lines-kept m [] before = refl
   lines-kept m (line ∷ later) before =
       (λ i. listed-kept m before line i ++ lines-kept m later (before ++ line ∷ []) i)
-      ∙ sym (flat_map-append (line_with a) (line_listed m All before line) (listed_behind m All (before ++ line ∷ []) later))
+      ∙ sym (flat_map-append (line_at_address a) (line_listed m All before line) (listed_after m All (before ++ line ∷ []) later))
 
-pub where-shows : (source : List ℕ) (a : ℕ) → lines_listed (Holding a) source ≡ lines_with a (lines_listed All source)
+pub where-shows : (source : List ℕ) (a : ℕ) → lines_listed (Holding a) source ≡ lines_at_address a (lines_listed All source)
 where-shows source a = lines-kept a (source_meaning source) (lines_of source) []
 
 pub ruleset addresses = (where-shows)

@@ -6,4 +6,4 @@ pub mod Search
 pub mod Mending
 pub mod Refusals
 pub mod Loads
-pub mod Joined
+pub mod ListingParts

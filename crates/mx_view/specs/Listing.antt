@@ -41,15 +41,15 @@ line_listed m wanted before line =
     listed_unless (lines_refusal before) (listed m wanted (length before + 1) line (line_cells wanted before line))
 
 -- those of lines after others that are listed
-unfoldable pub listed_behind : Meaning → Wanted → List Line → List Line → List ListedLine
-listed_behind m wanted before [] = []
-listed_behind m wanted before (line ∷ later) =
-    line_listed m wanted before line ++ listed_behind m wanted (before ++ line ∷ []) later
+unfoldable pub listed_after : Meaning → Wanted → List Line → List Line → List ListedLine
+listed_after m wanted before [] = []
+listed_after m wanted before (line ∷ later) =
+    line_listed m wanted before line ++ listed_after m wanted (before ++ line ∷ []) later
 
 -- the tetras of lines that follow others, one after another
-unfoldable pub cells_behind : Wanted → List Line → List Line → List Cell
-cells_behind wanted before [] = []
-cells_behind wanted before (line ∷ later) = line_cells wanted before line ++ cells_behind wanted (before ++ line ∷ []) later
+unfoldable pub cells_after : Wanted → List Line → List Line → List Cell
+cells_after wanted before [] = []
+cells_after wanted before (line ∷ later) = line_cells wanted before line ++ cells_after wanted (before ++ line ∷ []) later
 
 -- ---- the end
 
@@ -76,7 +76,7 @@ symbols_text wanted refused symbols = []
 
 -- the lines of a source that are listed: all lines and tetras, or those of an address
 abbrev pub lines_listed : Wanted → List ℕ → List ListedLine
-lines_listed wanted source = listed_behind (source_meaning source) wanted [] (lines_of source)
+lines_listed wanted source = listed_after (source_meaning source) wanted [] (lines_of source)
 
 abbrev pub symbols_listed : List ℕ → List Symbol
 symbols_listed source = symbols_at_end (source_meaning source) (assembled_source source).1

@@ -11,12 +11,12 @@ use Rattle.mx_view.specs.InTurn.{items_at, standing_at}
 use Rattle.mx_view.specs.Listing.{line_cells}
 
 -- those of lines that follow others; a line after a faulty one loads none
-unfoldable pub loads_behind : List Line → List Line → List (List Cell)
-loads_behind before [] = []
-loads_behind before (line ∷ later) = line_cells All before line ∷ loads_behind (before ++ line ∷ []) later
+unfoldable pub loads_after : List Line → List Line → List (List Cell)
+loads_after before [] = []
+loads_after before (line ∷ later) = line_cells All before line ∷ loads_after (before ++ line ∷ []) later
 
 abbrev pub loads_of : List ℕ → List (List Cell)
-loads_of source = loads_behind [] (lines_of source)
+loads_of source = loads_after [] (lines_of source)
 
 -- ---- as the code finds them
 

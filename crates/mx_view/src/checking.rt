@@ -53,7 +53,7 @@ fn length_of(mark: Option<Mark>) -> usize
 }
 
 /// A refusal with what is said of it, and the line at fault, if there is one.
-fn told_with(refused: Refusal, at_line: u32, line: Option<Bytes>, remark: Remark) -> ToldFault
+fn make_fault(refused: Refusal, at_line: u32, line: Option<Bytes>, remark: Remark) -> ToldFault
     ensures { result ≡ spec.told_with refused at_line line remark }
 {
     ToldFault {
@@ -69,7 +69,7 @@ fn told_with(refused: Refusal, at_line: u32, line: Option<Bytes>, remark: Remark
 }
 
 /// A refusal at a line with this text.
-fn told_at(
+fn fault_of_line(
     alloc: Global,
     source: &[u8],
     refused: Refused,
@@ -80,15 +80,15 @@ fn told_at(
     let at_line = line_at_fault(refused);
     let remark = remark_on(alloc, refused.fault, at_line, source, line)?;
     let copy = Bytes::copy(alloc, line)?;
-    Ok(told_with(refusal_with(refused), at_line, Some(copy), remark))
+    Ok(make_fault(refusal_with(refused), at_line, Some(copy), remark))
 }
 
 /// A refusal of the source as a whole.
-fn told_whole(alloc: Global, source: &[u8], refused: Refusal) -> Result<ToldFault, NoMemory>
+fn fault_of_source(alloc: Global, source: &[u8], refused: Refusal) -> Result<ToldFault, NoMemory>
     ensures { IfOk result (λ fault. fault ≡ spec.told_whole source.now refused) }
 {
     let remark = remark_on_whole(alloc, refused.fault, source)?;
-    Ok(told_with(refused, refused.line, None, remark))
+    Ok(make_fault(refused, refused.line, None, remark))
 }
 
 /// Adds the fault of the source as a whole, if there is one.
@@ -102,12 +102,12 @@ fn add_whole(
 {
     match refused {
         None => Ok(()),
-        Some(refused) => faults.push(told_whole(alloc, source, refused)?),
+        Some(refused) => faults.push(fault_of_source(alloc, source, refused)?),
     }
 }
 
 /// The refusals of lines of a source, as faults that are told.
-fn told_lines(
+fn faults_of_lines(
     alloc: Global,
     source: &[u8],
     lines: &[Refused],
@@ -117,17 +117,17 @@ fn told_lines(
     let mut faults = Sequence::new(alloc);
     for refused in lines {
         let line = line_text(line_at_fault(*refused), source);
-        faults.push(told_at(alloc, source, *refused, line)?)?;
+        faults.push(fault_of_line(alloc, source, *refused, line)?)?;
     }
     Ok(faults)
 }
 
 /// What is found in a source that is refused so when it is run.
-fn told_found(alloc: Global, source: &[u8], refused: Refusal) -> Result<ToldFaults, NoMemory>
+fn faults_of_refusal(alloc: Global, source: &[u8], refused: Refusal) -> Result<ToldFaults, NoMemory>
     ensures { IfOk result (λ told. told ≡ spec.told_found source.now (Some refused) (found_in source.now)) }
 {
     let found = find_faults(alloc, source)?;
-    let mut faults = told_lines(alloc, source, found.lines.as_slice())?;
+    let mut faults = faults_of_lines(alloc, source, found.lines.as_slice())?;
     add_whole(alloc, &mut faults, source, found.whole)?;
     Ok(ToldFaults {
         refused: Some(refused),
@@ -137,7 +137,7 @@ fn told_found(alloc: Global, source: &[u8], refused: Refusal) -> Result<ToldFaul
 }
 
 /// The faults of a source whose lines have none.
-fn told_pages(
+fn faults_of_pages(
     alloc: Global,
     source: &[u8],
     refused: Option<Refusal>,
@@ -163,7 +163,7 @@ pub fn tell_faults(alloc: Global, source: &[u8]) -> Result<ToldFaults, NoMemory>
     ensures refused { IfOk result (λ told. told.refused ≡ refusal_in source.now) }
 {
     match run_refusal(alloc, source)? {
-        Some(refused) if refused.fault != PAGES_FULL => told_found(alloc, source, refused),
-        refused => told_pages(alloc, source, refused),
+        Some(refused) if refused.fault != PAGES_FULL => faults_of_refusal(alloc, source, refused),
+        refused => faults_of_pages(alloc, source, refused),
     }
 }

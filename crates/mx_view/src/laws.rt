@@ -14,8 +14,8 @@ ghost use Rattle.mx_asm.specs.declared.refused.Refused.{Refused};
 ghost use Rattle.mx_files.specs.Sources.{source_meaning};
 ghost use Rattle.mx_files.specs.declared.refusal.Refusal.{Refusal};
 ghost use Rattle.mx_view.specs.Cells.{cells_of};
-ghost use Rattle.mx_view.specs.Joined.{lines_once, lines_with, listed_tetra, tetras_listed};
-ghost use Rattle.mx_view.specs.Listing.{added_items, cells_behind, listed_behind, lines_listed, refusal_in, symbols_listed};
+ghost use Rattle.mx_view.specs.ListingParts.{each_line_once, lines_at_address, tetra_shown_at, all_tetras};
+ghost use Rattle.mx_view.specs.Listing.{added_items, cells_after, listed_after, lines_listed, refusal_in, symbols_listed};
 ghost use Rattle.mx_view.specs.Refusals.{IsEarlier, faults_in, refusals_of};
 ghost use Rattle.mx_view.specs.Rows.{Meaning, is_loaded_at, listed_line, shown};
 ghost use Rattle.mx_view.specs.declared.cells.Cell.{Cell};
@@ -28,7 +28,7 @@ ghost use Rattle.mx_view.specs.declared.cells.Wanted.TheVariants.{All, Holding};
 pub fn every_loaded_tetra_is_listed()
     ensures items { (before : List Line) (line : Line) →
         lines_items (before ++ line ∷ []) ≡ lines_items before ++ added_items before line }
-    ensures tetras { (lines : List Line) → cells_behind All [] lines ≡ cells_of All 0 (lines_items lines) }
+    ensures tetras { (lines : List Line) → cells_after All [] lines ≡ cells_of All 0 (lines_items lines) }
 {}
 
 /// A line that is listed shows the tetra of each address that it loads, and no address twice.
@@ -43,7 +43,7 @@ pub fn a_line_shows_each_tetra_once()
 #[tactic(auto, using(crate::proofs::WhereLaws::addresses))]
 pub fn the_listed_tetra_that_holds_an_address_is_shown()
     ensures { (source : List ℕ) (a : ℕ) →
-        lines_listed (Holding a) source ≡ lines_with a (lines_listed All source) }
+        lines_listed (Holding a) source ≡ lines_at_address a (lines_listed All source) }
 {}
 
 /// Of a source that is not refused when it is run, each tetra that is shown is the one that the image of the two
@@ -63,7 +63,7 @@ pub fn the_image_and_the_symbols_are_shown()
 pub fn the_listing_is_the_image()
     ensures { (source : List ℕ) (a : ℕ) → AreBytes source → run_refusal source ≡ None → a < 2 ^ 63 →
         tetra_of ((image (statements_in (source_entries source))).memory a) a
-        ≡ listed_tetra (tetras_listed (lines_listed All source)) a }
+        ≡ tetra_shown_at (all_tetras (lines_listed All source)) a }
 {}
 
 /// Each line of a source that is not refused is listed once, in order, with its number, its text and its tetras. Of a
@@ -71,10 +71,10 @@ pub fn the_listing_is_the_image()
 #[tactic(auto, using(crate::proofs::LinesOnce::each_once))]
 pub fn each_line_is_listed_once_in_order()
     ensures accepted { (source : List ℕ) (m : Meaning) → refusal source ≡ None →
-        listed_behind m All [] (lines_of source) ≡ lines_once m [] (lines_of source) }
+        listed_after m All [] (lines_of source) ≡ each_line_once m [] (lines_of source) }
     ensures refused { (m : Meaning) (before later : List Line) (line : Line) (r : Refused) →
         lines_refusal before ≡ None → lines_refusal (before ++ line ∷ []) ≡ Some r →
-        listed_behind m All [] (before ++ line ∷ later) ≡ lines_once m [] (before ++ line ∷ []) }
+        listed_after m All [] (before ++ line ∷ later) ≡ each_line_once m [] (before ++ line ∷ []) }
 {}
 
 /// Faults are told in the order of their lines, and no line is told twice: of any two faults of a source that each have a line, the

@@ -24,5 +24,5 @@ pub use laws::{
 pub use lines::{ListedLine, ListedLines};
 pub use loads::{LineCells, cells_by_line};
 pub use rows::add_numbered;
-pub use told::faults;
-pub use view::{Listed, Sheet, lines_holding, list_source, listing};
+pub use told::list_faults;
+pub use view::{Listed, Sheet, list_lines_at, list_source, listing};

@@ -28,7 +28,7 @@ pub(crate) type Meaning = Result<Image, Refusal>;
 const MEMORY_END: u64 = 1 << 63;
 
 /// The tetra that is shown.
-fn shown(meaning: &Meaning, cell: Cell) -> u32
+fn choose_tetra(meaning: &Meaning, cell: Cell) -> u32
     ensures { result ≡ spec.shown (spec.meaning_in meaning.now) cell }
 {
     match meaning {
@@ -43,7 +43,7 @@ fn shown_cell(meaning: &Meaning, cell: Cell) -> Cell
 {
     Cell {
         address: cell.address,
-        tetra: shown(meaning, cell),
+        tetra: choose_tetra(meaning, cell),
     }
 }
 
@@ -66,7 +66,7 @@ fn is_loaded_at(cells: &[Cell], address: u64) -> bool
 }
 
 /// A tetra, joined with another one that is loaded at its address.
-fn joined_with(cell: Cell, with: Cell) -> Cell
+fn join_cells(cell: Cell, with: Cell) -> Cell
     ensures { result ≡ spec.joined_with with cell }
 {
     if cell.address == with.address {
@@ -80,12 +80,12 @@ fn joined_with(cell: Cell, with: Cell) -> Cell
 }
 
 /// Tetras, each joined with one that is loaded at its address.
-fn all_joined(alloc: Global, cells: &[Cell], with: Cell) -> Result<Cells, NoMemory>
+fn join_all_cells(alloc: Global, cells: &[Cell], with: Cell) -> Result<Cells, NoMemory>
     ensures { IfOk result (λ joined. joined ≡ map (spec.joined_with with) cells.now) }
 {
     let mut joined = Cells::new(alloc);
     for cell in cells {
-        joined.push(joined_with(*cell, with))?;
+        joined.push(join_cells(*cell, with))?;
     }
     Ok(joined)
 }
@@ -95,7 +95,7 @@ fn join(alloc: Global, cells: &mut Cells, cell: Cell) -> Result<(), NoMemory>
     ensures { OnOk result (cells.new ≡ spec.with_cell cells.old cell) }
 {
     if is_loaded_at(cells.as_slice(), cell.address) {
-        *cells = all_joined(alloc, cells.as_slice(), cell)?;
+        *cells = join_all_cells(alloc, cells.as_slice(), cell)?;
         return Ok(());
     }
     cells.push(cell)

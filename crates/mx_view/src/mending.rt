@@ -12,7 +12,7 @@ use crate::search::{
 };
 use mx_asm::Refused;
 use mx_line::cut_line;
-use mx_walk::{Stop, Walk, label_of};
+use mx_walk::{Stop, Walk, strip_to_label};
 use mx_word::{Bytes, NoMemory};
 use std::alloc::Global;
 
@@ -33,7 +33,7 @@ fn add_found(alloc: Global, lines: &mut Vec<Refused>, s: &Stop) -> Result<Option
     match kind_of(lines.as_slice(), s.refused) {
         Finding::New => {
             insert_refusal(lines, s.refused)?;
-            Ok(Some(label_of(alloc, s.text.as_slice())?))
+            Ok(Some(strip_to_label(alloc, s.text.as_slice())?))
         }
         Finding::Again => Ok(Some(Bytes::copy(alloc, b" ")?)),
         Finding::Beyond | Finding::Whole => Ok(None),
@@ -112,7 +112,7 @@ fn finish(alloc: Global, s: &mut Search) -> Result<Looked, NoMemory>
     ensures looked { IfOk result (λ looked. spec.is_found s.old s.old.walk.front ≡ spec.is_found_by s.new looked) }
     ensures fewer { IfOk result (λ looked. (next : List ℕ) → looked ≡ Next next → s.new.left < s.old.left) }
 {
-    let source = Bytes::copy(alloc, s.walk.front())?;
+    let source = Bytes::copy(alloc, s.walk.taken_lines())?;
     match s.walk.finish(alloc)? {
         Some(refused) => look(alloc, s, source.as_slice(), refused),
         None if s.left == 0 => Ok(Looked::Ended(None, true)),
@@ -133,7 +133,9 @@ pub(crate) fn walk_on(alloc: Global, s: &mut Search, source: &[u8]) -> Result<Lo
     while !rest.is_empty() {
         let (line, others) = cut_line(rest);
         if let Some(stop) = take_or_mend(alloc, s, line)? {
-            let source = s.walk.source_with(alloc, stop.text.as_slice(), others)?;
+            let source = s
+                .walk
+                .source_with_line(alloc, stop.text.as_slice(), others)?;
             return look(alloc, s, source.as_slice(), stop.refused);
         }
         rest = others;

@@ -98,7 +98,7 @@ fn add_cut(text: &mut Bytes, is_cut: bool) -> Result<(), NoMemory>
 }
 
 /// The faults of a source as a text.
-fn told_text(alloc: Global, told: &ToldFaults) -> Result<Bytes, NoMemory>
+fn format_faults(alloc: Global, told: &ToldFaults) -> Result<Bytes, NoMemory>
     ensures { IfOk result (λ text. text ≡ spec.told_text told.now) }
 {
     let mut text = Bytes::new(alloc);
@@ -109,13 +109,13 @@ fn told_text(alloc: Global, told: &ToldFaults) -> Result<Bytes, NoMemory>
 
 /// All faults of a source as a text: each with its line, marks under what it is about, where that
 /// is known, what is wrong, and what mends it.
-pub fn faults(alloc: Global, source: &[u8]) -> Result<Sheet, NoMemory>
+pub fn list_faults(alloc: Global, source: &[u8]) -> Result<Sheet, NoMemory>
     ensures text { IfOk result (λ sheet. sheet.text ≡ spec.faults_of source.now) }
     ensures refused { IfOk result (λ sheet. sheet.refused ≡ refusal_in source.now) }
 {
     let told = tell_faults(alloc, source)?;
     Ok(Sheet {
-        text: told_text(alloc, &told)?,
+        text: format_faults(alloc, &told)?,
         refused: told.refused,
     })
 }

@@ -20,7 +20,7 @@ use mx_asm::{Assembler, Refused};
 use mx_files::{Refusal, SourceFault, load_source};
 use mx_stab::StabFault;
 use mx_type::Lister;
-use mx_walk::end;
+use mx_walk::finish_source;
 use mx_word::{Bytes, NoMemory, Symbol, Symbols};
 use std::alloc::Global;
 
@@ -64,7 +64,7 @@ fn walk(alloc: Global, meaning: &Meaning, wanted: Wanted, source: &[u8]) -> Resu
     };
     let mut lines = ListedLines::new(alloc);
     add_lines(alloc, &mut assembler, &mut lines, meaning, wanted, source)?;
-    let ended = end(alloc, &mut assembler)?;
+    let ended = finish_source(alloc, &mut assembler)?;
     Ok(Walked { lines, ended })
 }
 
@@ -156,7 +156,7 @@ pub struct Sheet {
 }
 
 /// What is shown of a source.
-fn shown(alloc: Global, wanted: Wanted, source: &[u8]) -> Result<Sheet, NoMemory>
+fn make_sheet(alloc: Global, wanted: Wanted, source: &[u8]) -> Result<Sheet, NoMemory>
     ensures text { IfOk result (λ shown. shown.text ≡ spec.shown_source wanted source.now) }
     ensures refused { IfOk result (λ shown. shown.refused ≡ spec.refusal_in source.now) }
 {
@@ -176,14 +176,14 @@ pub fn listing(alloc: Global, source: &[u8]) -> Result<Sheet, NoMemory>
     ensures text { IfOk result (λ shown. shown.text ≡ spec.listing_of source.now) }
     ensures refused { IfOk result (λ shown. shown.refused ≡ spec.refusal_in source.now) }
 {
-    shown(alloc, Wanted::All, source)
+    make_sheet(alloc, Wanted::All, source)
 }
 
 /// The lines of a source that load the tetra that holds an address, as they are listed, each with this tetra alone;
 /// no line where nothing is loaded there.
-pub fn lines_holding(alloc: Global, address: u64, source: &[u8]) -> Result<Sheet, NoMemory>
+pub fn list_lines_at(alloc: Global, address: u64, source: &[u8]) -> Result<Sheet, NoMemory>
     ensures text { IfOk result (λ shown. shown.text ≡ spec.lines_holding address source.now) }
     ensures refused { IfOk result (λ shown. shown.refused ≡ spec.refusal_in source.now) }
 {
-    shown(alloc, Wanted::Holding(address), source)
+    make_sheet(alloc, Wanted::Holding(address), source)
 }

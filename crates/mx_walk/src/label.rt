@@ -11,7 +11,7 @@ use std::alloc::Global;
 
 /// A line that does nothing but define the label of this line, which has no newline.
 #[tactic(auto, using(crate::proofs::PlainLines::labels))]
-pub fn label_of(alloc: Global, line: &[u8]) -> Result<Bytes, NoMemory>
+pub fn strip_to_label(alloc: Global, line: &[u8]) -> Result<Bytes, NoMemory>
     requires plain { IsPlain line.now }
     ensures { IfOk result (λ left. left ≡ label_alone line.now) }
 {

@@ -5,6 +5,6 @@ mod label;
 mod lines;
 mod walk;
 
-pub use label::label_of;
-pub use lines::{end, take_line, told};
+pub use label::strip_to_label;
+pub use lines::{finish_source, separate_no_memory, take_line};
 pub use walk::{Stop, Walk};

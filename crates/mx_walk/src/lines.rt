@@ -11,7 +11,7 @@ use mx_word::{Bytes, NoMemory};
 use std::alloc::Global;
 
 /// A refusal, unless there was no memory.
-pub fn told(refused: Refused) -> Result<Refused, NoMemory>
+pub fn separate_no_memory(refused: Refused) -> Result<Refused, NoMemory>
     ensures value { IfOk result (λ told. told ≡ refused) }
     ensures memory { OnOk result (refused ≢ no_memory) }
 {
@@ -32,7 +32,7 @@ pub fn take_line(
 {
     match assembler.line(line, items) {
         Ok(()) => Ok(true),
-        Err(refused) => match told(refused) {
+        Err(refused) => match separate_no_memory(refused) {
             Ok(_) => Ok(false),
             Err(e) => Err(e),
         },
@@ -40,13 +40,16 @@ pub fn take_line(
 }
 
 /// The end of a source: its trie or its refusal.
-pub fn end(alloc: Global, assembler: &mut Assembler) -> Result<Result<Bytes, Refused>, NoMemory>
+pub fn finish_source(
+    alloc: Global,
+    assembler: &mut Assembler,
+) -> Result<Result<Bytes, Refused>, NoMemory>
     ensures { IfOk result (λ ended. ended ≡ (end_behind [] assembler.old).1) }
 {
     let mut items = Items::new(alloc);
     match assembler.finish(&mut items) {
         Ok(trie) => Ok(Ok(trie)),
-        Err(refused) => match told(refused) {
+        Err(refused) => match separate_no_memory(refused) {
             Ok(refused) => Ok(Err(refused)),
             Err(e) => Err(e),
         },

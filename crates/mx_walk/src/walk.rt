@@ -6,7 +6,7 @@ ghost use Rattle.mx_line.specs.Lines.{lines_of};
 ghost use Rattle.mx_marks.specs.Mending.{with_newline};
 ghost use Rattle.mx_walk.specs.Walks as spec;
 
-use crate::lines::{end, told};
+use crate::lines::{finish_source, separate_no_memory};
 use mx_asm::{Assembler, Refused};
 use mx_mmo::Items;
 use mx_word::{Bytes, NoMemory};
@@ -22,11 +22,11 @@ pub struct Stop {
 }
 
 /// A text that is refused so.
-fn stopped(alloc: Global, text: &[u8], refused: Refused, is_kept: bool) -> Result<Stop, NoMemory>
+fn make_stop(alloc: Global, text: &[u8], refused: Refused, is_kept: bool) -> Result<Stop, NoMemory>
     ensures stop { IfOk result (λ s. s ≡ record { text = text.now; refused = refused; is_kept = is_kept }) }
     ensures memory { OnOk result (refused ≢ no_memory) }
 {
-    let refused = told(refused)?;
+    let refused = separate_no_memory(refused)?;
     let text = Bytes::copy(alloc, text)?;
     Ok(Stop {
         text,
@@ -77,7 +77,7 @@ impl Walk {
     }
 
     /// The lines that were taken, each with a newline.
-    pub fn front(&self) -> &[u8]
+    pub fn taken_lines(&self) -> &[u8]
         ensures { result.now ≡ self.now.front }
     {
         self.front.as_slice()
@@ -111,8 +111,8 @@ impl Walk {
                 self.add(line)?;
                 Ok(None)
             }
-            Ok(Err(refused)) => Ok(Some(stopped(alloc, line, refused, true)?)),
-            Err(refused) => Ok(Some(stopped(alloc, line, refused, false)?)),
+            Ok(Err(refused)) => Ok(Some(make_stop(alloc, line, refused, true)?)),
+            Err(refused) => Ok(Some(make_stop(alloc, line, refused, false)?)),
         }
     }
 
@@ -123,12 +123,17 @@ impl Walk {
         ensures refused { IfOk result (λ refused. refused ≡ spec.source_refusal self.old.front) }
         ensures front { self.new.front ≡ self.old.front }
     {
-        Ok(end(alloc, &mut self.assembler)?.err())
+        Ok(finish_source(alloc, &mut self.assembler)?.err())
     }
 
     /// A source of the lines that were taken, a text as the next line, and the lines of a rest.
     #[tactic(auto, using(crate::proofs::Turns::taking))]
-    pub fn source_with(&self, alloc: Global, text: &[u8], rest: &[u8]) -> Result<Bytes, NoMemory>
+    pub fn source_with_line(
+        &self,
+        alloc: Global,
+        text: &[u8],
+        rest: &[u8],
+    ) -> Result<Bytes, NoMemory>
         requires text { spec.IsText self.now.front }
         requires plain { spec.IsPlain text.now }
         ensures { IfOk result (λ source.

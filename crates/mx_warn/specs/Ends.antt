@@ -27,7 +27,7 @@ abbrev pub is_loaded_after : ℕ → List Cell → Bool
 is_loaded_after address cells = list_any (is_after address) cells
 
 abbrev pub is_data_after : ℕ → SourceLine → Bool
-is_data_after address line = not (has_instruction line) && is_loaded_after address line.cells
+is_data_after address line = is_loaded_after address line.cells && not (has_instruction line)
 
 -- the number of the first line with such data
 unfoldable pub data_line : List SourceLine → ℕ → Option ℕ

@@ -2,8 +2,11 @@
 -- instruction names its register, and none has it as a base. A source that names $250 to $254 by number is left alone.
 use Rattle.std.specs.Prelude.{ℕ, ◌==◌, ◌&&◌, ◌||◌, List, [], ◌∷◌, ◌++◌, length, Bool, true, false, not, codes, if◌then◌else◌, Option, None}
 use Rattle.std.specs.List.{flat_map, list_any}
+use Rattle.std.specs.Result.{is_ok}
 use Rattle.std.specs.Str.{bytes_eq}
 use Rattle.mx_word.specs.Kinds.{is_letter}
+use Rattle.mx_files.specs.Sources.{source_meaning}
+use Rattle.mx_view.specs.Loads.{loads_of}
 use Rattle.mx_view.specs.declared.cells.Cell.{Cell}
 use Rattle.mx_slips.specs.declared.sources.SourceLine.{SourceLine}
 use Rattle.mx_slips.specs.declared.sources.Statement.{Statement}
@@ -11,7 +14,6 @@ use Rattle.mx_slips.specs.declared.tokens.Token.{Token}
 use Rattle.mx_slips.specs.declared.marks.Mark.{Mark}
 use Rattle.mx_slips.specs.Afters.{begins_with}
 use Rattle.mx_slips.specs.Bases.{is_greg}
-use Rattle.mx_slips.specs.Loads.{loads_in}
 use Rattle.mx_warn.specs.Overlaps.{first_operation}
 
 -- ---- which GREG has an address
@@ -64,8 +66,12 @@ same_loads [] [] = true
 same_loads (cells ∷ loads) (line ∷ lines) = same_cells cells line.cells && same_loads loads lines
 same_loads loads lines = false
 
+-- whether a source is not refused, and each of its lines loads the tetras of one of these
+abbrev pub loads_same : List ℕ → List SourceLine → Bool
+loads_same source lines = same_loads (loads_of source) lines && is_ok (source_meaning source)
+
 abbrev pub is_idle : List SourceLine → ℕ → Bool
-is_idle lines number = same_loads (loads_in (without_line number lines)) lines
+is_idle lines number = loads_same (without_line number lines) lines
 
 abbrev pub may_be_idle : List SourceLine → List Statement → Bool
 may_be_idle lines statements =

@@ -10,12 +10,14 @@ use Rattle.mx_slips.specs.declared.marks.Mark.{Mark}
 use Rattle.mx_warn.specs.Cells.{has_instruction, overlap}
 use Rattle.mx_slips.specs.Marks.{line_number, mark_of}
 
--- those tetras of the earlier line that a line may not share
-abbrev pub kept_cells : SourceLine → SourceLine → List Cell
-kept_cells earlier line = if has_instruction earlier || has_instruction line then earlier.cells else drop 1 earlier.cells
+-- both place a byte; one of them has an instruction, or the byte is in a further tetra of the earlier line
+abbrev pub shares : SourceLine → SourceLine → Bool
+shares line earlier =
+    overlap earlier.cells line.cells
+    && (has_instruction earlier || has_instruction line || overlap (drop 1 earlier.cells) line.cells)
 
 abbrev pub is_placed_by : SourceLine → SourceLine → Bool
-is_placed_by line earlier = nat_lt earlier.number line.number && overlap (kept_cells earlier line) line.cells
+is_placed_by line earlier = nat_lt earlier.number line.number && shares line earlier
 
 -- the operation of the first statement
 abbrev pub first_operation : ℕ → List Statement → Option Mark

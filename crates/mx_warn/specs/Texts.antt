@@ -7,7 +7,7 @@ use Rattle.mx_warn.specs.declared.warnings.Warning.{Warning}
 use Rattle.mx_warn.specs.Kinds.{kind_name, kind_number, kind_sentence}
 use Rattle.mx_warn.specs.Warnings.{warnings_of}
 
--- Under a byte in front of the caret: a tab under a tab, nothing under a further byte of a character, and a blank under another one.
+-- Under a byte before the caret: a tab under a tab, nothing under a further byte of a character, and a blank under another one.
 abbrev pub under : ℕ → List ℕ
 under b = if b == 9 then 9 ∷ [] else if nat_le 128 b && nat_lt b 192 then [] else 32 ∷ []
 

@@ -9,7 +9,7 @@ use mx_slips::{Mark, SourceLine};
 use mx_view::Cell;
 
 /// Whether an instruction with this code leads away from the next tetra, or may.
-fn leads_away(code: u32) -> bool
+fn may_lead_away(code: u32) -> bool
     ensures { result ≡ spec.leads_away code }
 {
     matches!(code, 0x9e | 0x9f | 0xbe | 0xbf | 0xf0..=0xf3 | 0xf8 | 0xf9)
@@ -19,7 +19,7 @@ fn leads_away(code: u32) -> bool
 fn goes_on(tetra: u32) -> bool
     ensures { result ≡ spec.goes_on tetra }
 {
-    0x100 <= tetra && !leads_away(tetra / 0x100_0000)
+    0x100 <= tetra && !may_lead_away(tetra / 0x100_0000)
 }
 
 /// Whether a cell is the next one after an address.
@@ -40,7 +40,7 @@ fn is_loaded_after(address: u64, cells: &[Cell]) -> bool
 fn is_data_after(address: u64, line: &SourceLine) -> bool
     ensures { result ≡ spec.is_data_after address line.now }
 {
-    !has_instruction(line) && is_loaded_after(address, line.cells.as_slice())
+    is_loaded_after(address, line.cells.as_slice()) && !has_instruction(line)
 }
 
 /// The number of the first line with data in the tetra after an address.

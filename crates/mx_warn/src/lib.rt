@@ -2,13 +2,14 @@
 #![tactic(auto)]
 
 mod ends;
-mod idle;
 mod loaded;
+mod locals;
 mod overlaps;
 mod telling;
 mod texts;
+mod unused_bases;
 mod warnings;
 
-pub use telling::tell_warnings;
+pub use telling::{tell_warnings, tell_warnings_of};
 pub use texts::{add_other, warnings_text};
 pub use warnings::{Kind, Warning, Warnings};

@@ -51,7 +51,7 @@ fn share_byte(weight: u32, tetra: u32, other: u32) -> bool
 }
 
 /// Whether a byte is 0 in neither tetra.
-fn share_bytes(tetra: u32, other: u32) -> bool
+fn has_shared_byte(tetra: u32, other: u32) -> bool
     ensures { result ≡ spec.share_bytes tetra other }
 {
     share_byte(1, tetra, other)
@@ -61,21 +61,21 @@ fn share_bytes(tetra: u32, other: u32) -> bool
 }
 
 /// Whether a byte is placed by both cells.
-fn overlaps(cell: Cell, other: Cell) -> bool
+fn is_overlapping(cell: Cell, other: Cell) -> bool
     ensures { result ≡ spec.overlaps cell other }
 {
-    cell.address == other.address && share_bytes(cell.tetra, other.tetra)
+    cell.address == other.address && has_shared_byte(cell.tetra, other.tetra)
 }
 
 /// Whether a byte of a cell is placed by another one, too.
 fn is_overlapped(cell: Cell, others: &[Cell]) -> bool
     ensures { result ≡ list_any (spec.overlaps cell) others.now }
 {
-    others.iter().any(|other| overlaps(cell, *other))
+    others.iter().any(|other| is_overlapping(cell, *other))
 }
 
 /// Whether a byte is placed by cells of both lists.
-pub(crate) fn overlap(cells: &[Cell], others: &[Cell]) -> bool
+pub(crate) fn has_overlap(cells: &[Cell], others: &[Cell]) -> bool
     ensures { result ≡ spec.overlap cells.now others.now }
 {
     cells.iter().any(|cell| is_overlapped(*cell, others))

@@ -3,12 +3,12 @@
 ghost use Rattle.std.specs.Prelude.{◌≡◌, drop};
 ghost use Rattle.mx_warn.specs.Overlaps as spec;
 
-use crate::loaded::{has_instruction, overlap};
+use crate::loaded::{has_instruction, has_overlap};
 use mx_slips::{Mark, SourceLine, Statement, mark_of};
 use mx_view::Cell;
 
 /// Cells without the first one.
-fn behind_first(cells: &[Cell]) -> &[Cell]
+fn later_cells(cells: &[Cell]) -> &[Cell]
     ensures { result.now ≡ drop 1 cells.now }
 {
     match cells {
@@ -17,23 +17,23 @@ fn behind_first(cells: &[Cell]) -> &[Cell]
     }
 }
 
-/// Those tetras of an earlier line that a line may not share.
-fn kept_cells<'a>(earlier: &'a SourceLine, line: &SourceLine) -> &'a [Cell]
-    ensures { result.now ≡ spec.kept_cells earlier.now line.now }
+/// Whether a byte of a line is in a further tetra of an earlier line, or in any where one of them has an instruction.
+fn is_sharing(line: &SourceLine, earlier: &SourceLine) -> bool
+    ensures { result ≡ spec.shares line.now earlier.now }
 {
-    let cells = earlier.cells.as_slice();
-    if has_instruction(earlier) || has_instruction(line) {
-        cells
-    } else {
-        behind_first(cells)
-    }
+    let cells = line.cells.as_slice();
+    let placed = earlier.cells.as_slice();
+    has_overlap(placed, cells)
+        && (has_instruction(earlier)
+            || has_instruction(line)
+            || has_overlap(later_cells(placed), cells))
 }
 
 /// Whether an earlier line places a byte of a line.
 fn is_placed_by(line: &SourceLine, earlier: &SourceLine) -> bool
     ensures { result ≡ spec.is_placed_by line.now earlier.now }
 {
-    earlier.number < line.number && overlap(kept_cells(earlier, line), line.cells.as_slice())
+    earlier.number < line.number && is_sharing(line, earlier)
 }
 
 /// The operation of the first statement, with the number of another line.
@@ -59,7 +59,7 @@ fn earlier_line(lines: &[SourceLine], line: &SourceLine) -> Option<u32>
 
 /// The first operation of a line of which an earlier line places a byte, too.
 #[tactic(auto, unfolding(crate::specs::Overlaps::placed_twice))]
-pub(crate) fn placed_twice(lines: &[SourceLine], line: &SourceLine) -> Option<Mark>
+pub(crate) fn find_placed_twice(lines: &[SourceLine], line: &SourceLine) -> Option<Mark>
     ensures { result ≡ spec.placed_twice lines.now line.now }
 {
     match earlier_line(lines, line) {

@@ -6,12 +6,12 @@ ghost use Rattle.mx_warn.specs.Texts as spec;
 
 use crate::telling::tell_warnings;
 use crate::warnings::Warning;
-use mx_slips::front;
+use mx_slips::take_front;
 use mx_text::add_decimal;
 use mx_word::{Bytes, NoMemory};
 use std::alloc::Global;
 
-/// Adds what is under a byte in front of the caret.
+/// Adds what is under a byte before the caret.
 fn add_under(text: &mut Bytes, b: u8) -> Result<(), NoMemory>
     ensures { OnOk result (text.new ≡ text.old ++ spec.under b) }
 {
@@ -22,7 +22,7 @@ fn add_under(text: &mut Bytes, b: u8) -> Result<(), NoMemory>
     }
 }
 
-/// Adds what is under bytes in front of the caret.
+/// Adds what is under bytes before the caret.
 fn add_unders(text: &mut Bytes, front: &[u8]) -> Result<(), NoMemory>
     ensures { OnOk result (text.new ≡ text.old ++ flat_map spec.under front.now) }
 {
@@ -63,7 +63,7 @@ fn add_caret(text: &mut Bytes, front: &[u8]) -> Result<(), NoMemory>
     text.extend(b"^\n")
 }
 
-/// Adds the number of another line, if there is one: 0 stands for none.
+/// Adds the number of another line, if there is one: 0 is none.
 ///
 /// Errors: out of memory.
 pub fn add_other(text: &mut Bytes, line: u32) -> Result<(), NoMemory>
@@ -94,7 +94,7 @@ fn add_warning(text: &mut Bytes, warning: &Warning) -> Result<(), NoMemory>
     add_head(text, warning)?;
     let line = warning.text.as_slice();
     add_line(text, line)?;
-    add_caret(text, front(line, warning.place))?;
+    add_caret(text, take_front(line, warning.place))?;
     add_sentence(text, warning)
 }
 

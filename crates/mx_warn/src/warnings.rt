@@ -102,7 +102,7 @@ impl Kind {
 }
 
 /// A warning: the number of its line, which is counted from 1, what is odd, the text of the line without the newline, how
-/// many bytes of the line are in front of what is odd, how many bytes this has, and the number of another line that the
+/// many bytes of the line are before what is odd, how many bytes this has, and the number of another line that the
 /// warning is about, or 0.
 #[derive(Drop)]
 pub struct Warning {

@@ -18,7 +18,7 @@ pub use laws::{
     reports_are_on_what_was_heard, writes_stand_in_turn,
 };
 pub use profile::Profile;
-pub use reporting::{Texts, all_reports};
+pub use reporting::{Texts, collect_reports};
 pub use running::watched_run;
 pub use telling::{Report, Reports};
 pub use watcher::{Watcher, Wish};

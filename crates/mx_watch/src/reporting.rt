@@ -17,7 +17,7 @@ pub type Texts = Sequence<Bytes>;
 ///
 /// Errors: out of memory.
 #[tactic(auto, using(crate::proofs::AllReported::in_turn))]
-pub fn all_reports(
+pub fn collect_reports(
     alloc: Global,
     count: usize,
     watchers: &Vec<Box<dyn Watcher>>,
@@ -69,7 +69,7 @@ fn add_report(
         texts.old ++ kept_or_next (kept_at place kept.now) (drop next left.now)) }
     ensures next { IfOk result (λ n. drop n left.now ≡ next_behind (kept_at place kept.now) (drop next left.now)) }
 {
-    match kept_text(alloc, kept, place)? {
+    match find_kept_text(alloc, kept, place)? {
         Some(text) => {
             texts.push(text)?;
             Ok(next)
@@ -86,7 +86,7 @@ fn add_report(
 
 /// The report that is kept for a place, if there is one.
 #[tactic(auto, using(crate::proofs::AllReported::in_turn))]
-fn kept_text(alloc: Global, kept: &[Report], place: usize) -> Result<Option<Bytes>, NoMemory>
+fn find_kept_text(alloc: Global, kept: &[Report], place: usize) -> Result<Option<Bytes>, NoMemory>
     ensures { IfOk result (λ text. text ≡ kept_at place kept.now) }
 {
     for report in kept {

@@ -102,7 +102,7 @@ fn listen<H: Host>(
 #[tactic(auto, using(mx_run::proofs::FreeRuns::turned))]
 fn next_trace<H: Host>(alloc: Global, machine: &mut Machine, host: &mut H) -> Result<Trace, End>
     ensures told { StepsTo (H.told host.old) (H.told host.new) (state_of machine.old) (state_of machine.new) result }
-    ensures over { HasWindow (state_of machine.old) }
+    ensures has_window { HasWindow (state_of machine.old) }
     ensures bound { IsLater 1 (state_of machine.old) (state_of machine.new) }
     ensures keeps { Keeps (H.told host.old) (H.told host.new) (H.faults host.old) (H.faults host.new) }
 {

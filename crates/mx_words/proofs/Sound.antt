@@ -5,7 +5,7 @@ use Rattle.std.proofs.lemmas.Bool.{and_parts}
 use Rattle.std.proofs.lemmas.Bool.Decides.{nat_tests}
 use Rattle.std.specs.Prelude.{◌==◌, ◌||◌, not}
 use Rattle.mx_words.specs.Values.{Word, is_option, ring_value, steps_value, last_value, blocks_value}
-use Rattle.mx_words.specs.Orders.{Ordered, fault, runs_file, takes_ring, takes_steps, is_console, is_report, is_last, is_dump, is_ring, is_steps, defaults, with_console, with_report, with_last, with_dump, with_ring, with_steps, console_clashes, report_clashes, last_clashes, unless, valued, options_from, file_at, commanded, order_of, run_order, object_behind, processors_behind, none_behind, blocks_at}
+use Rattle.mx_words.specs.Orders.{Ordered, fault, runs_file, takes_ring, takes_steps, is_console, is_report, is_last, is_dump, is_ring, is_steps, defaults, with_console, with_report, with_last, with_dump, with_ring, with_steps, console_clashes, report_clashes, last_clashes, unless, valued, options_from, file_at, commanded, order_of, run_order, object_after, processors_after, none_after, blocks_at}
 use Rattle.mx_words.specs.Usage.{Options, Orders, none, console, report, last, dump, ring, steps, run, sim, asm, gen, list, multi}
 use Rattle.mx_words.specs.declared.order.Command.{Command}
 use Rattle.mx_words.specs.declared.order.Command.TheVariants.{Run, Sim, Asm, Gen, Show, Multi}
@@ -241,7 +241,7 @@ sim-order words o parts =
     let is : run_order Sim parts.after (1 + length parts.options) ≡ o = ok _ _ parts.ordered in
     rw (parts.whole, ← is) (sim parts.after parts.options parts.file parts.behind parts.set parts.no_dash)
 
-asm-from : (s : Settings) (file : Word) (behind : List Word) (o : Order) → is_option file ≡ false → defaults ≡ s → object_behind s 1 behind ≡ Ok o →
+asm-from : (s : Settings) (file : Word) (behind : List Word) (o : Order) → is_option file ≡ false → defaults ≡ s → object_after s 1 behind ≡ Ok o →
     Orders (codes "asm" ∷ file ∷ behind) o
 asm-from s file [] o dash is ordered = refused _ o ordered
 asm-from s file (object ∷ []) o dash is ordered = rw (← ok _ _ ordered, ← is) (asm file object dash)
@@ -251,10 +251,10 @@ asm-order : (words : List Word) (o : Order) → Parted Asm defaults 1 words o �
 asm-order words o parts =
     let none_set : (parts.options ≡ []) × (defaults ≡ parts.after) = bare Asm defaults parts.after parts.options refl refl refl parts.set in
     let whole : words ≡ parts.file ∷ parts.behind = parts.whole ∙ ap (λ l. l ++ parts.file ∷ parts.behind) none_set.0 in
-    let ordered : object_behind parts.after 1 parts.behind ≡ Ok o = ap (λ l. object_behind parts.after (1 + length l) parts.behind) (sym none_set.0) ∙ parts.ordered in
+    let ordered : object_after parts.after 1 parts.behind ≡ Ok o = ap (λ l. object_after parts.after (1 + length l) parts.behind) (sym none_set.0) ∙ parts.ordered in
     rw whole (asm-from parts.after parts.file parts.behind o parts.no_dash none_set.1 ordered)
 
-list-from : (s : Settings) (file : Word) (behind : List Word) (o : Order) → is_option file ≡ false → defaults ≡ s → none_behind (run_order Show s 1) 1 behind ≡ Ok o →
+list-from : (s : Settings) (file : Word) (behind : List Word) (o : Order) → is_option file ≡ false → defaults ≡ s → none_after (run_order Show s 1) 1 behind ≡ Ok o →
     Orders (codes "type" ∷ file ∷ behind) o
 list-from s file [] o dash is ordered = rw (← ok _ _ ordered, ← is) (list file dash)
 list-from s file (other ∷ others) o dash is ordered = refused _ o ordered
@@ -263,8 +263,8 @@ list-order : (words : List Word) (o : Order) → Parted Show defaults 1 words o 
 list-order words o parts =
     let none_set : (parts.options ≡ []) × (defaults ≡ parts.after) = bare Show defaults parts.after parts.options refl refl refl parts.set in
     let whole : words ≡ parts.file ∷ parts.behind = parts.whole ∙ ap (λ l. l ++ parts.file ∷ parts.behind) none_set.0 in
-    let ordered : none_behind (run_order Show parts.after 1) 1 parts.behind ≡ Ok o =
-    ap (λ l. none_behind (run_order Show parts.after (1 + length l)) (1 + length l) parts.behind) (sym none_set.0) ∙ parts.ordered in
+    let ordered : none_after (run_order Show parts.after 1) 1 parts.behind ≡ Ok o =
+    ap (λ l. none_after (run_order Show parts.after (1 + length l)) (1 + length l) parts.behind) (sym none_set.0) ∙ parts.ordered in
     rw whole (list-from parts.after parts.file parts.behind o parts.no_dash none_set.1 ordered)
 
 gen-order : (words : List Word) (o : Order) → Parted Gen defaults 1 words o → Orders (codes "gen" ∷ words) o
@@ -279,7 +279,7 @@ gen-order words o parts = from parts.behind (blocks_value parts.file) refl parts
 multi-order : (words : List Word) (o : Order) → Parted Multi defaults 1 words o → Orders (codes "multi" ∷ words) o
 multi-order words o parts = from parts.behind parts.whole parts.ordered
   where
-    from : (behind : List Word) → words ≡ parts.options ++ parts.file ∷ behind → processors_behind parts.after (1 + length parts.options) behind ≡ Ok o →
+    from : (behind : List Word) → words ≡ parts.options ++ parts.file ∷ behind → processors_after parts.after (1 + length parts.options) behind ≡ Ok o →
         Orders (codes "multi" ∷ words) o
     from [] whole ordered = refused _ o ordered
     from (object ∷ []) whole ordered = rw (whole, ← ok _ _ ordered) (multi parts.after parts.options parts.file object parts.set parts.no_dash)

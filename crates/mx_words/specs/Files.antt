@@ -11,6 +11,6 @@ behind c s place [] = Err (fault 7 place)
 behind c s place (word ∷ words) = file_at c s place word words
 
 -- the N of `gen`, which begins the words from a place on
-abbrev pub blocks_behind : Settings → ℕ → List Word → Ordered
-blocks_behind s place [] = Err (fault 7 place)
-blocks_behind s place (word ∷ words) = blocks_at s place (blocks_value word) words
+abbrev pub blocks_after : Settings → ℕ → List Word → Ordered
+blocks_after s place [] = Err (fault 7 place)
+blocks_after s place (word ∷ words) = blocks_at s place (blocks_value word) words

@@ -116,35 +116,35 @@ gen_order s n =
     record { command = Gen; ring = s.ring; steps = s.steps; interactive = s.interactive; dump = s.dump; file = 0; rest = 0; number = n; report = s.report; last = s.last; schedule = 0 }
 
 -- the words after the source of `asm`: one object, and no other word
-abbrev pub object_behind : Settings → ℕ → List Word → Ordered
-object_behind s place [] = Err (fault 7 (place + 1))
-object_behind s place (object ∷ []) = Ok (asm_order s place)
-object_behind s place (object ∷ other ∷ others) = Err (fault 8 (place + 2))
+abbrev pub object_after : Settings → ℕ → List Word → Ordered
+object_after s place [] = Err (fault 7 (place + 1))
+object_after s place (object ∷ []) = Ok (asm_order s place)
+object_after s place (object ∷ other ∷ others) = Err (fault 8 (place + 2))
 
 -- the words after the schedule of `multi`: one object, and no other word
-abbrev pub processors_behind : Settings → ℕ → List Word → Ordered
-processors_behind s place [] = Err (fault 7 (place + 1))
-processors_behind s place (object ∷ []) = Ok (multi_order s place)
-processors_behind s place (object ∷ other ∷ others) = Err (fault 8 (place + 2))
+abbrev pub processors_after : Settings → ℕ → List Word → Ordered
+processors_after s place [] = Err (fault 7 (place + 1))
+processors_after s place (object ∷ []) = Ok (multi_order s place)
+processors_after s place (object ∷ other ∷ others) = Err (fault 8 (place + 2))
 
 -- the words after the last one of an order, which is at a place: none
-abbrev pub none_behind : Order → ℕ → List Word → Ordered
-none_behind o place [] = Ok o
-none_behind o place (other ∷ others) = Err (fault 8 (place + 1))
+abbrev pub none_after : Order → ℕ → List Word → Ordered
+none_after o place [] = Ok o
+none_after o place (other ∷ others) = Err (fault 8 (place + 1))
 
 -- the N of `gen` at a place, with the words after it
 abbrev pub blocks_at : Settings → ℕ → Result ℕ ℕ → List Word → Ordered
 blocks_at s place (Err kind) words = Err (fault kind place)
-blocks_at s place (Ok n) words = none_behind (gen_order s n) place words
+blocks_at s place (Ok n) words = none_after (gen_order s n) place words
 
 -- a word at a place that is no option, with the words after it: a file, the N of `gen`, or the schedule of `multi`
 abbrev pub file_at : Command → Settings → ℕ → Word → List Word → Ordered
 file_at Run s place word words = Ok (run_order Run s place)
 file_at Sim s place word words = Ok (run_order Sim s place)
-file_at Asm s place word words = object_behind s place words
+file_at Asm s place word words = object_after s place words
 file_at Gen s place word words = blocks_at s place (blocks_value word) words
-file_at Show s place word words = none_behind (run_order Show s place) place words
-file_at Multi s place word words = processors_behind s place words
+file_at Show s place word words = none_after (run_order Show s place) place words
+file_at Multi s place word words = processors_after s place words
 
 -- a value at a place, and what follows it
 abbrev pub valued : Result ℕ ℕ → ℕ → (ℕ → Ordered) → Ordered

@@ -9,21 +9,21 @@ use crate::settings::Settings;
 use crate::values::{last_value, ring_value, steps_value};
 
 /// Whether a command runs a file that the words name.
-fn runs_file(command: Command) -> bool
+fn is_file_command(command: Command) -> bool
     ensures { result ≡ orders.runs_file command }
 {
     matches!(command, Command::Run | Command::Sim)
 }
 
 /// Whether a command makes steps of an image up to a number, and may show memory at the end.
-fn takes_steps(command: Command) -> bool
+fn has_step_options(command: Command) -> bool
     ensures { result ≡ orders.takes_steps command }
 {
     matches!(command, Command::Run | Command::Sim | Command::Multi)
 }
 
 /// Whether a command runs a program on a ring.
-fn takes_ring(command: Command) -> bool
+fn has_ring_option(command: Command) -> bool
     ensures { result ≡ orders.takes_ring command }
 {
     matches!(
@@ -36,42 +36,42 @@ fn takes_ring(command: Command) -> bool
 fn is_console(command: Command, word: &String) -> bool
     ensures { result ≡ orders.is_console command (string_bytes word.now) }
 {
-    runs_file(command) && word.as_str() == "-i"
+    is_file_command(command) && word.as_str() == "-i"
 }
 
 /// Whether a word is `--report`, where the command takes it.
 fn is_report(command: Command, word: &String) -> bool
     ensures { result ≡ orders.is_report command (string_bytes word.now) }
 {
-    runs_file(command) && word.as_str() == "--report"
+    is_file_command(command) && word.as_str() == "--report"
 }
 
 /// Whether a word is `--last`, where the command takes it.
 fn is_last(command: Command, word: &String) -> bool
     ensures { result ≡ orders.is_last command (string_bytes word.now) }
 {
-    runs_file(command) && word.as_str() == "--last"
+    is_file_command(command) && word.as_str() == "--last"
 }
 
 /// Whether a word is `--dump`, where the command takes it.
 fn is_dump(command: Command, word: &String) -> bool
     ensures { result ≡ orders.is_dump command (string_bytes word.now) }
 {
-    takes_steps(command) && word.as_str() == "--dump"
+    has_step_options(command) && word.as_str() == "--dump"
 }
 
 /// Whether a word is `--steps`, where the command takes it.
 fn is_steps(command: Command, word: &String) -> bool
     ensures { result ≡ orders.is_steps command (string_bytes word.now) }
 {
-    takes_steps(command) && word.as_str() == "--steps"
+    has_step_options(command) && word.as_str() == "--steps"
 }
 
 /// Whether a word is `--ring`, where the command takes it.
 fn is_ring(command: Command, word: &String) -> bool
     ensures { result ≡ orders.is_ring command (string_bytes word.now) }
 {
-    takes_ring(command) && word.as_str() == "--ring"
+    has_ring_option(command) && word.as_str() == "--ring"
 }
 
 /// `-i` at a place: not after `--report` or `--last`.
@@ -112,7 +112,7 @@ fn with_report(settings: Settings, at: usize) -> Result<(Settings, usize), Words
 
 /// The option at a place: what is set then, and the place of the next word. A fault is 3, 4, 5, 6 or 10.
 #[tactic(auto, using(crate::proofs::Places::places))]
-pub(crate) fn option(
+pub(crate) fn read_option(
     command: Command,
     settings: Settings,
     words: &[String],

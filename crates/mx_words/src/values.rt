@@ -31,7 +31,7 @@ fn is_number(bytes: &[u8]) -> bool
 
 /// The number that a word writes in 1 to 13 decimal digits.
 #[tactic(auto, using(crate::proofs::Parsed::parsing))]
-fn number(word: &String) -> Option<u64>
+fn parse_number(word: &String) -> Option<u64>
     ensures { result ≡ spec.number_of (string_bytes word.now) }
 {
     if is_number(word.as_bytes()) {
@@ -44,7 +44,7 @@ fn number(word: &String) -> Option<u64>
 pub(crate) fn ring_value(word: &String) -> Result<RingSize, u16>
     ensures { result ≡ spec.ring_value (string_bytes word.now) }
 {
-    let Some(n) = number(word) else {
+    let Some(n) = parse_number(word) else {
         return Err(5);
     };
     let Ok(n) = u32::try_from(n) else {
@@ -58,7 +58,7 @@ fn up_to(most: u64, word: &String) -> Result<u64, u16>
     ensures value { result ≡ spec.up_to most (spec.number_of (string_bytes word.now)) }
     ensures range { IfOk result (λ n. n ≤ most) }
 {
-    match number(word) {
+    match parse_number(word) {
         Some(n) if 1 <= n && n <= most => Ok(n),
         _ => Err(5),
     }

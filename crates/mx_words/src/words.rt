@@ -4,7 +4,7 @@ ghost use Rattle.std.specs.Prelude.{IfOk, ◌≡◌, ◌<◌, ◌≤◌, ◌+◌
 ghost use Rattle.mx_words.specs.Files as files;
 ghost use Rattle.mx_words.specs.Orders as spec;
 
-use crate::options::option;
+use crate::options::read_option;
 use crate::order::{Command, Order, WordsFault};
 use crate::settings::Settings;
 use crate::values::{blocks_value, is_option};
@@ -31,7 +31,7 @@ pub fn read(words: &[String]) -> Result<Order, WordsFault>
         return Err(WordsFault { kind: 1, word: 0 });
     }
     match command_of(&words[0]) {
-        Some(command) => commanded(command, words),
+        Some(command) => read_command(command, words),
         None => Err(WordsFault { kind: 2, word: 0 }),
     }
 }
@@ -78,7 +78,7 @@ fn defaults() -> Settings
 
 /// What the words after a command order.
 #[tactic(auto, using(crate::proofs::ReadOptions::reading))]
-fn commanded(command: Command, words: &[String]) -> Result<Order, WordsFault>
+fn read_command(command: Command, words: &[String]) -> Result<Order, WordsFault>
     requires { 0 < length words.now }
     ensures value { result ≡ spec.options_from command spec.defaults 1 (drop 1 (map string_bytes words.now)) }
     ensures places { IfOk result (λ o. (o.file < length words.now) × (o.rest ≤ length words.now)) }
@@ -89,7 +89,7 @@ fn commanded(command: Command, words: &[String]) -> Result<Order, WordsFault>
     let mut settings = defaults();
     let mut at = 1;
     while at < words.len() && is_option(&words[at]) {
-        match option(command, settings, words, at) {
+        match read_option(command, settings, words, at) {
             Ok((set, next)) => {
                 settings = set;
                 at = next;
@@ -150,7 +150,7 @@ fn run_order(command: Command, settings: Settings, at: usize) -> Order
 #[tactic(auto, using(crate::proofs::Behind::behinds))]
 fn show_order(settings: Settings, words: &[String], at: usize) -> Result<Order, WordsFault>
     requires { at < length words.now }
-    ensures value { result ≡ spec.none_behind (spec.run_order Command.Show settings at) at
+    ensures value { result ≡ spec.none_after (spec.run_order Command.Show settings at) at
         (drop (at + 1) (map string_bytes words.now)) }
     ensures places { IfOk result (λ o. (o.file < length words.now) × (o.rest ≤ length words.now)) }
     ensures schedule { IfOk result (λ o. o.schedule < length words.now) }
@@ -170,7 +170,7 @@ fn show_order(settings: Settings, words: &[String], at: usize) -> Result<Order, 
 #[tactic(auto, using(crate::proofs::Behind::behinds))]
 fn asm_order(settings: Settings, words: &[String], at: usize) -> Result<Order, WordsFault>
     requires { at < length words.now }
-    ensures value { result ≡ spec.object_behind settings at (drop (at + 1) (map string_bytes words.now)) }
+    ensures value { result ≡ spec.object_after settings at (drop (at + 1) (map string_bytes words.now)) }
     ensures places { IfOk result (λ o. (o.file < length words.now) × (o.rest ≤ length words.now)) }
     ensures schedule { IfOk result (λ o. o.schedule < length words.now) }
     ensures object { IfOk result (λ o. o.command ≡ Command.Asm → o.rest < length words.now) }
@@ -207,7 +207,7 @@ fn asm_order(settings: Settings, words: &[String], at: usize) -> Result<Order, W
 #[tactic(auto, using(crate::proofs::Behind::behinds))]
 fn multi_order(settings: Settings, words: &[String], at: usize) -> Result<Order, WordsFault>
     requires { at < length words.now }
-    ensures value { result ≡ spec.processors_behind settings at (drop (at + 1) (map string_bytes words.now)) }
+    ensures value { result ≡ spec.processors_after settings at (drop (at + 1) (map string_bytes words.now)) }
     ensures places { IfOk result (λ o. (o.file < length words.now) × (o.rest ≤ length words.now)) }
     ensures schedule { IfOk result (λ o. o.schedule < length words.now) }
     ensures object { IfOk result (λ o. o.command ≡ Command.Asm → o.rest < length words.now) }
@@ -244,7 +244,7 @@ fn multi_order(settings: Settings, words: &[String], at: usize) -> Result<Order,
 #[tactic(auto, using(crate::proofs::Behind::behinds))]
 fn gen_order(settings: Settings, words: &[String], at: usize) -> Result<Order, WordsFault>
     requires { at < length words.now }
-    ensures value { result ≡ files.blocks_behind settings at (drop at (map string_bytes words.now)) }
+    ensures value { result ≡ files.blocks_after settings at (drop at (map string_bytes words.now)) }
     ensures places { IfOk result (λ o. (o.file < length words.now) × (o.rest ≤ length words.now)) }
     ensures schedule { IfOk result (λ o. o.schedule < length words.now) }
     ensures object { IfOk result (λ o. o.command ≡ Command.Asm → o.rest < length words.now) }

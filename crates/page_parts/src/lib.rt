@@ -4,11 +4,11 @@
 mod parts;
 
 /// What comes before the data.
-pub fn front() -> &'static str {
+pub fn page_head() -> &'static str {
     parts::FRONT
 }
 
 /// What comes after it.
-pub fn end() -> &'static str {
+pub fn page_tail() -> &'static str {
     parts::END
 }

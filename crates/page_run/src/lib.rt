@@ -6,6 +6,6 @@ mod program;
 mod records;
 mod words;
 
-pub use made::{Ending, Made, of_memory, record_run, refused};
+pub use made::{Ending, Made, make_refused, of_memory, record_run};
 pub use program::{host_of, program_of};
-pub use words::order_in;
+pub use words::read_order;

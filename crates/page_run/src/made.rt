@@ -166,7 +166,7 @@ fn record_begun(
 }
 
 /// What was made of a run that has begun, or the outcome where memory runs out.
-fn made_of(
+fn make_rest(
     alloc: Global,
     recorder: &mut Recorder,
     first: &Record,
@@ -209,13 +209,13 @@ pub fn record_run(alloc: Global, program: Program, most: u64) -> Result<Made, Ou
     ensures { IfErr result IsOfView }
 {
     match begin(alloc, program) {
-        Ok((mut recorder, first)) => made_of(alloc, &mut recorder, &first, most),
+        Ok((mut recorder, first)) => make_rest(alloc, &mut recorder, &first, most),
         Err(outcome) => Err(outcome),
     }
 }
 
 /// Nothing was run, where a source or an object is refused.
-pub fn refused(alloc: Global, outcome: Outcome) -> Option<Made> {
+pub fn make_refused(alloc: Global, outcome: Outcome) -> Option<Made> {
     match outcome {
         Outcome::Refused { .. } | Outcome::BadObject { .. } => {
             let mut made = Made::new(alloc);

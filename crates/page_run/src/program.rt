@@ -3,7 +3,7 @@
 ghost use Rattle.std.specs.Prelude.{◌≡◌, ◌<◌, ◌≤◌, IfOk, length};
 ghost use Rattle.mx_replay.specs.Programs.{NamesFile};
 
-use mx_begin::{Form, word};
+use mx_begin::{Form, word_bytes};
 use mx_host::{MemHost, StoredFile};
 use mx_inputs::Gathered;
 use mx_replay::Program;
@@ -12,7 +12,7 @@ use mx_words::Order;
 use std::alloc::Global;
 
 /// The same words once more.
-fn copied_words(alloc: Global, words: &[String]) -> Result<Vec<String>, NoMemory>
+fn copy_words(alloc: Global, words: &[String]) -> Result<Vec<String>, NoMemory>
     ensures { IfOk result (λ copy. length copy.items ≡ length words.now) }
 {
     let mut copy = Vec::new(alloc);
@@ -23,7 +23,7 @@ fn copied_words(alloc: Global, words: &[String]) -> Result<Vec<String>, NoMemory
 }
 
 /// The same files once more.
-fn copied_files(alloc: Global, files: &[StoredFile]) -> Result<Sequence<StoredFile>, NoMemory> {
+fn copy_files(alloc: Global, files: &[StoredFile]) -> Result<Sequence<StoredFile>, NoMemory> {
     let mut copy = Sequence::new(alloc);
     for file in files {
         copy.push(StoredFile {
@@ -46,10 +46,10 @@ pub fn program_of(
     requires rest { order.now.rest ≤ length words.now }
     ensures { IfOk result NamesFile }
 {
-    let copy = copied_words(alloc, words)?;
-    let mut files = copied_files(alloc, gathered.files.as_slice())?;
+    let copy = copy_words(alloc, words)?;
+    let mut files = copy_files(alloc, gathered.files.as_slice())?;
     files.push(StoredFile {
-        name: Bytes::copy(alloc, word(words, order.file))?,
+        name: Bytes::copy(alloc, word_bytes(words, order.file))?,
         bytes: Bytes::copy(alloc, gathered.source.as_slice())?,
     })?;
     let input = Bytes::copy(alloc, gathered.input.as_slice())?;

@@ -28,14 +28,14 @@ fn steps_of(named: &Named, steps: u64) -> Result<u64, Unread> {
 }
 
 /// What the words after `page` order.
-pub fn order_in(alloc: Global, words: &[String]) -> Result<Ordered, Unread>
+pub fn read_order(alloc: Global, words: &[String]) -> Result<Ordered, Unread>
     ensures { IfOk result (λ o. (o.order.file < length o.named.words.items) × (o.order.rest ≤ length o.named.words.items)) }
 {
     let own = OwnOption {
         name: "--json",
         has_value: false,
     };
-    let Ordered { named, order } = mx_inputs::order_in(alloc, own, words)?;
+    let Ordered { named, order } = mx_inputs::read_order(alloc, own, words)?;
     let steps = steps_of(&named, order.steps)?;
     Ok(Ordered {
         named,

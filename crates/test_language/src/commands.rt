@@ -1,6 +1,6 @@
 //! Lines of the console: what they ask for.
 
-use mx_cmd::{Breaks, Command, Subject, command_of};
+use mx_cmd::{Breaks, Command, Subject, parse_command};
 use mx_text::Form;
 
 const BASE: u64 = 0x6000_0000_0000_0000;
@@ -119,6 +119,6 @@ static LINES: [(&str, Option<Command>); 40] = [
 #[test]
 fn lines_are_commands(rt: HostRuntime) {
     for (line, command) in &LINES {
-        assert_eq!(rt; command_of(line.as_bytes()), *command, "{line}");
+        assert_eq!(rt; parse_command(line.as_bytes()), *command, "{line}");
     }
 }

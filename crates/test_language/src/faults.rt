@@ -1,6 +1,6 @@
 //! Words that are no orders, row by row.
 
-use crate::orders::told;
+use crate::orders::read_order;
 
 /// Words with one blank between two of them, and their fault.
 static FAULTS: [(&str, u16, usize); 79] = [
@@ -97,6 +97,6 @@ static FAULTS: [(&str, u16, usize); 79] = [
 #[test]
 fn faults(rt: HostRuntime) {
     for (line, kind, word) in &FAULTS {
-        assert_eq!(rt; told(rt.alloc(), line), Err((*kind, *word)), "{line}");
+        assert_eq!(rt; read_order(rt.alloc(), line), Err((*kind, *word)), "{line}");
     }
 }

@@ -1,6 +1,6 @@
 //! Rows from the rules of the language.
 
-use mx_line::{Cut, LineFault, Span, cut_line, next_statement, one_list, part};
+use mx_line::{Cut, LineFault, Span, cut_line, next_statement, one_list, slice_span};
 use std::alloc::Global;
 
 /// A span, by its two places.
@@ -32,7 +32,7 @@ fn lines_and_parts(rt: HostRuntime) {
     for (text, line, rest) in &TEXTS {
         assert!(rt; begins_with(text, line, rest), "{text}");
     }
-    let operation = part(b"Main BYTE 1", Span { from: 5, to: 9 });
+    let operation = slice_span(b"Main BYTE 1", Span { from: 5, to: 9 });
     assert_eq!(rt; operation, b"BYTE".as_slice());
 }
 

@@ -64,7 +64,7 @@ fn are_named(code: u8, each: u8, text: &str) -> bool {
 }
 
 /// The code after those of a row, or its first name that is not that of its codes.
-fn code_behind(row: &Row) -> Result<u8, &'static str> {
+fn code_after(row: &Row) -> Result<u8, &'static str> {
     let (first, each, names) = row;
     let mut code = *first;
     for text in names.split(' ') {
@@ -77,13 +77,13 @@ fn code_behind(row: &Row) -> Result<u8, &'static str> {
 }
 
 /// The code after those of all rows, or the first name that is out of its place.
-fn code_behind_all() -> Result<u8, &'static str> {
+fn code_after_all() -> Result<u8, &'static str> {
     let mut code = 0;
     for row in &ROWS {
         if row.0 != code {
             return Err(row.2);
         }
-        code = code_behind(row)?;
+        code = code_after(row)?;
     }
     Ok(code)
 }
@@ -91,7 +91,7 @@ fn code_behind_all() -> Result<u8, &'static str> {
 #[test]
 fn names_and_codes(rt: HostRuntime) {
     // there are 256 codes
-    assert_eq!(rt; code_behind_all(), Ok(0));
+    assert_eq!(rt; code_after_all(), Ok(0));
 }
 
 #[test]

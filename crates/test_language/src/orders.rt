@@ -398,7 +398,7 @@ fn fields(order: &Order) -> Fields {
 }
 
 /// What the words of a line order, or the kind and the word of their fault; 0 where there is no memory.
-pub fn told(alloc: Global, line: &str) -> Result<Fields, (u16, usize)> {
+pub fn read_order(alloc: Global, line: &str) -> Result<Fields, (u16, usize)> {
     let Ok(words) = words(alloc, line) else {
         return Err((0, 0));
     };
@@ -411,6 +411,6 @@ pub fn told(alloc: Global, line: &str) -> Result<Fields, (u16, usize)> {
 #[test]
 fn orders(rt: HostRuntime) {
     for (line, order) in &ORDERS {
-        assert_eq!(rt; told(rt.alloc(), line), Ok(*order), "{line}");
+        assert_eq!(rt; read_order(rt.alloc(), line), Ok(*order), "{line}");
     }
 }

@@ -48,7 +48,7 @@ fn placed(
 }
 
 /// The names after a prefix, where the last 2H was at 4.
-fn names_behind(alloc: Global, prefix: &str) -> Result<Names, NameFault> {
+fn names_after(alloc: Global, prefix: &str) -> Result<Names, NameFault> {
     let mut names = Names::new(alloc)?;
     names.set_prefix(prefix.as_bytes())?;
     names.define_local(2, Value::Pure(4));
@@ -56,14 +56,14 @@ fn names_behind(alloc: Global, prefix: &str) -> Result<Names, NameFault> {
 }
 
 /// What the first statement of a line comes to at a place after a prefix, or the number of its fault.
-fn placed_behind(
+fn placed_after(
     alloc: Global,
     prefix: &str,
     gregs: &Gregs,
     at: u64,
     text: &str,
 ) -> Result<Placed, u16> {
-    match names_behind(alloc, prefix) {
+    match names_after(alloc, prefix) {
         Ok(names) => placed(alloc, &names, gregs, at, text.as_bytes()),
         Err(fault) => Err(fault.number()),
     }
@@ -79,7 +79,7 @@ fn tetra(bytes: &[u8]) -> Result<u32, u16> {
 
 /// The tetra of an instruction at a place after a prefix, or the number of its fault.
 fn word(alloc: Global, prefix: &str, gregs: &Gregs, at: u64, text: &str) -> Result<u32, u16> {
-    let placed = placed_behind(alloc, prefix, gregs, at, text)?;
+    let placed = placed_after(alloc, prefix, gregs, at, text)?;
     tetra(placed.bytes.as_slice())
 }
 
@@ -136,7 +136,7 @@ fn nearest_bases(rt: HostRuntime) {
 
 /// What a statement at #101 comes to, or the number of its fault.
 fn outline(alloc: Global, gregs: &Gregs, text: &str) -> Result<Outline, u16> {
-    let placed = placed_behind(alloc, ":", gregs, 0x101, text)?;
+    let placed = placed_after(alloc, ":", gregs, 0x101, text)?;
     Ok((
         placed.start,
         placed.bytes.as_slice().len(),
@@ -178,7 +178,7 @@ fn waits_are(waits: &[Wait], want: &[(Target, u64, WaitKind)]) -> bool {
 /// Whether the statement of a row comes to its bytes, and whether it waits for its references.
 fn comes_to(alloc: Global, row: &Referring) -> Result<(bool, bool), u16> {
     let (at, text, bytes, waits) = row;
-    let placed = placed_behind(alloc, ":", &Gregs::new(), *at, text)?;
+    let placed = placed_after(alloc, ":", &Gregs::new(), *at, text)?;
     Ok((
         placed.bytes.as_slice() == *bytes,
         waits_are(placed.waits.as_slice(), waits),
@@ -204,7 +204,7 @@ fn told(effect: &Effect) -> (&'static str, usize) {
 
 /// The effect of a statement after the prefix `:p:`, or the number of its fault.
 fn effect_of(alloc: Global, text: &str) -> Result<(&'static str, usize), u16> {
-    let placed = placed_behind(alloc, ":p:", &Gregs::new(), 0, text)?;
+    let placed = placed_after(alloc, ":p:", &Gregs::new(), 0, text)?;
     Ok(told(&placed.effect))
 }
 
@@ -217,7 +217,7 @@ fn effects_of_statements(rt: HostRuntime) {
 
 /// The start of a statement and the place after it, or the number of its fault.
 fn places(alloc: Global, at: u64, text: &str) -> Result<(u64, u64), u16> {
-    let placed = placed_behind(alloc, ":", &Gregs::new(), at, text)?;
+    let placed = placed_after(alloc, ":", &Gregs::new(), at, text)?;
     Ok((placed.start, placed.after))
 }
 
@@ -286,7 +286,7 @@ fn each_code(rt: HostRuntime) {
 
 /// The label of a GREG with these registers, or the number of its fault.
 fn greg(alloc: Global, gregs: &Gregs, text: &str) -> Result<Option<Value>, u16> {
-    let placed = placed_behind(alloc, ":", gregs, 0, text)?;
+    let placed = placed_after(alloc, ":", gregs, 0, text)?;
     Ok(placed.label)
 }
 

@@ -1,6 +1,6 @@
 //! Sessions of the console.
 
-use crate::row::comes;
+use crate::row::check_outcome;
 use mx_top::Outcome;
 use std::alloc::Global;
 use std::test::Fail;
@@ -21,7 +21,7 @@ fn all_come(alloc: Global, name: &str, sessions: &[Session]) -> Result<(), Fail>
             output,
             errors: b"",
         };
-        comes(alloc, given, &["run", "-i", name], due, *source)?;
+        check_outcome(alloc, given, &["run", "-i", name], due, *source)?;
     }
     Ok(())
 }
@@ -141,7 +141,7 @@ fn sessions_make_at_most_so_many_steps(rt: HostRuntime) -> Result<(), Fail> {
             ..file("first.mms", FIRST.as_bytes())
         };
         let words = &["run", "--steps", "1", "-i", "first.mms"];
-        comes(rt.alloc(), given, words, due, *input)?;
+        check_outcome(rt.alloc(), given, words, due, *input)?;
     }
     Ok(())
 }
@@ -182,7 +182,7 @@ fn failing_calls_of_a_session(rt: HostRuntime) -> Result<(), Fail> {
             output,
             errors,
         };
-        comes(rt.alloc(), given, &["run", "-i", "first.mms"], due, *call)?;
+        check_outcome(rt.alloc(), given, &["run", "-i", "first.mms"], due, *call)?;
     }
     Ok(())
 }

@@ -1,10 +1,10 @@
 //! Calls of the host that fail.
 
-use crate::row::{comes, see};
+use crate::row::{check_outcome, see};
 use mx_top::Outcome;
 use std::alloc::Global;
 use std::test::Fail;
-use test_rows::{Due, Given, HELLO, comes_to, done, file, host};
+use test_rows::{Due, Given, HELLO, comes_to, due_done, file, host};
 
 /// The call of a run that fails, the outcome, and what is written on standard output and standard error.
 static RUNS: [(u64, Outcome, &[u8], &[u8]); 6] = [
@@ -30,7 +30,7 @@ fn failing_calls_of_a_run(rt: HostRuntime) -> Result<(), Fail> {
             output,
             errors,
         };
-        comes(rt.alloc(), given, &["run", "hello.mms"], due, *call)?;
+        check_outcome(rt.alloc(), given, &["run", "hello.mms"], due, *call)?;
     }
     Ok(())
 }
@@ -100,11 +100,11 @@ fn failing_calls_of_a_program(rt: HostRuntime) -> Result<(), Fail> {
             failing: &[*call],
             ..file("a.mms", FILES.as_bytes())
         };
-        comes(
+        check_outcome(
             rt.alloc(),
             given,
             &["run", "a.mms"],
-            done(*status, b""),
+            due_done(*status, b""),
             *call,
         )?;
     }

@@ -1,7 +1,7 @@
 //! Programs whose instructions are changed from outside while they run, by a file trap and at the console: each
 //! instruction is read when it is reached.
 
-use crate::row::comes;
+use crate::row::check_outcome;
 use mx_top::Outcome;
 use std::alloc::Global;
 use std::test::Fail;
@@ -22,7 +22,7 @@ fn all_halt(alloc: Global, words: &[&str], rows: &[Patched]) -> Result<(), Fail>
             output,
             errors: b"",
         };
-        comes(alloc, given, words, due, *source)?;
+        check_outcome(alloc, given, words, due, *source)?;
     }
     Ok(())
 }

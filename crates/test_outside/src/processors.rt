@@ -3,7 +3,7 @@
 use mx_top::Outcome;
 use std::alloc::Global;
 use std::test::Fail;
-use test_rows::{Due, comes_to, done, file, host, outcome_over};
+use test_rows::{Due, comes_to, due_done, file, host, outcome_over};
 
 /// Each processor adds 1 to one octa of memory, and begins anew where another one changed it in between.
 const COUNTER: &str =
@@ -83,7 +83,7 @@ static COUNTED: [Row; 5] = [
 #[test]
 fn counters(rt: HostRuntime) -> Result<(), Fail> {
     for (all, schedule, output) in &COUNTED {
-        assert!(rt; runs(rt.alloc(), COUNTER, schedule, all, done(0, output))?);
+        assert!(rt; runs(rt.alloc(), COUNTER, schedule, all, due_done(0, output))?);
     }
     Ok(())
 }
@@ -137,7 +137,7 @@ fn a_stop_ends_all(rt: HostRuntime) -> Result<(), Fail> {
 
 #[test]
 fn each_halts_with_its_own_status(rt: HostRuntime) -> Result<(), Fail> {
-    let due = done(
+    let due = due_done(
         0,
         b"processor 0 halted 0 steps 2\nprocessor 1 halted 1 steps 2\nprocessor 2 halted 2 steps 2\n",
     );

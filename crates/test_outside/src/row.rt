@@ -6,7 +6,7 @@ use std::test::Fail;
 use test_rows::{Due, Given, comes_from};
 
 /// Checks that words come to what is due over a host that has what is given; a failure tells the row.
-pub fn comes<D: Debug + Drop>(
+pub fn check_outcome<D: Debug + Drop>(
     alloc: Global,
     given: Given,
     words: &[&str],

@@ -1,6 +1,6 @@
 //! The words of the command line, names and statuses.
 
-use crate::row::comes;
+use crate::row::check_outcome;
 use mx_top::{Outcome, fault_name, usage_name};
 use mx_words::WordsFault;
 use std::test::Fail;
@@ -74,7 +74,7 @@ fn faulty_words(rt: HostRuntime) -> Result<(), Fail> {
             errors,
         };
         let given = file("a.mms", FIRST.as_bytes());
-        comes(rt.alloc(), given, all, due, *kind)?;
+        check_outcome(rt.alloc(), given, all, due, *kind)?;
     }
     Ok(())
 }
@@ -95,7 +95,7 @@ fn missing_files(rt: HostRuntime) -> Result<(), Fail> {
             output: b"",
             errors: b"no file\n",
         };
-        comes(rt.alloc(), file("a.mms", b""), all, due, *all)?;
+        check_outcome(rt.alloc(), file("a.mms", b""), all, due, *all)?;
     }
     Ok(())
 }

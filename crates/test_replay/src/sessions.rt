@@ -91,7 +91,7 @@ fn is_so(alloc: Global, source: &str, start: &str, row: &Row) -> Option<bool> {
 }
 
 /// The lines of the first row that is not as it says.
-pub fn first_wrong(
+pub fn find_mismatch(
     alloc: Global,
     source: &str,
     start: &str,

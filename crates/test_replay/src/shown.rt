@@ -22,8 +22,8 @@ fn wrong_of(alloc: Global, book: &Book) -> Option<Wrong> {
 
 /// The same of its run, which is at its start.
 fn wrong_along(alloc: Global, book: &Book, replay: &mut Replay) -> Wrong {
-    let step = steps::first_wrong(alloc, book, replay);
-    let state = states::first_wrong(alloc, book, replay);
+    let step = steps::find_step_mismatch(alloc, book, replay);
+    let state = states::find_state_mismatch(alloc, book, replay);
     (step, state, texts::wrong_value(alloc, book))
 }
 

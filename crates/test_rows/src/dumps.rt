@@ -1,7 +1,7 @@
 //! Dumps.
 
-use crate::rows::{FIRST, comes_from, done, file, host, outcome_over};
-use crate::shown::holds;
+use crate::rows::{FIRST, comes_from, due_done, file, host, outcome_over};
+use crate::shown::has_part;
 use std::alloc::Global;
 use std::test::Fail;
 
@@ -53,7 +53,7 @@ M#4000000000000018=#6669727374000000
 fn the_first_program_is_dumped(rt: HostRuntime) -> Result<(), Fail> {
     let alloc = rt.alloc();
     let given = file("first.mms", FIRST.as_bytes());
-    let due = done(3, DUMPED.as_bytes());
+    let due = due_done(3, DUMPED.as_bytes());
     assert!(rt; comes_from(alloc, given, &["run", "--dump", "first.mms"], due)?);
     Ok(())
 }
@@ -62,7 +62,7 @@ fn the_first_program_is_dumped(rt: HostRuntime) -> Result<(), Fail> {
 fn shows(alloc: Global, source: &str, line: &str) -> Result<bool, Fail> {
     let mut host = host(alloc, file("a.mms", source.as_bytes()))?;
     outcome_over(alloc, &mut host, &["run", "--dump", "a.mms"])?;
-    Ok(holds(host.output(), line.as_bytes()))
+    Ok(has_part(host.output(), line.as_bytes()))
 }
 
 /// Three calls that hide 100 registers each, and a look at rS.

@@ -19,7 +19,9 @@ mod sources;
 mod taken_back;
 
 pub use rows::{
-    Due, FIRST, Given, HELLO, comes_from, comes_to, done, file, host, outcome_over, refused,
-    stopped, words,
+    Due, FIRST, Given, HELLO, comes_from, comes_to, due_done, due_refused, due_stopped, file, host,
+    outcome_over, words,
 };
-pub use shown::{End, Row, SIZES, first_other, gives, holds, holds_all, shows, shows_on};
+pub use shown::{
+    End, Row, SIZES, find_mismatch, has_all_lines, has_part, is_run_to, shows, shows_on,
+};

@@ -2,7 +2,7 @@
 //! their lines from that of the lines.
 
 use crate::objects::{bad, bytes};
-use crate::rows::{Due, Given, comes_from, comes_to, done, file, host};
+use crate::rows::{Due, Given, comes_from, comes_to, due_done, file, host};
 use mx_top::Outcome;
 use std::alloc::Global;
 use std::test::Fail;
@@ -122,7 +122,7 @@ fn lists(alloc: Global, object: &[u8], due: Due) -> Result<bool, Fail> {
 fn objects_are_listed(rt: HostRuntime) -> Result<(), Fail> {
     for (tetras, lines) in &LISTED {
         let object = bytes(rt.alloc(), tetras, b"")?;
-        assert!(rt; lists(rt.alloc(), object.as_slice(), done(0, lines.as_bytes()))?);
+        assert!(rt; lists(rt.alloc(), object.as_slice(), due_done(0, lines.as_bytes()))?);
     }
     Ok(())
 }
@@ -135,7 +135,7 @@ fn calls(alloc: Global, tetras: &[u32], lines: &str) -> Result<Option<u64>, Fail
         alloc,
         &mut host,
         &["type", "a.mmo"],
-        done(0, lines.as_bytes()),
+        due_done(0, lines.as_bytes()),
     )?;
     Ok(if is_due { Some(host.calls()) } else { None })
 }

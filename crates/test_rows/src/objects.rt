@@ -2,7 +2,8 @@
 //! format.
 
 use crate::rows::{
-    Due, FIRST, HELLO, comes_from, comes_to, done, file, host, outcome_over, refused, stopped,
+    Due, FIRST, HELLO, comes_from, comes_to, due_done, due_refused, due_stopped, file, host,
+    outcome_over,
 };
 use mx_top::Outcome;
 use std::alloc::Global;
@@ -117,7 +118,7 @@ static ASSEMBLED: [(&str, &[u32]); 3] = [
 #[test]
 fn sources_become_objects(rt: HostRuntime) -> Result<(), Fail> {
     for (source, tetras) in &ASSEMBLED {
-        assert!(rt; assembles(rt.alloc(), source, done(0, b""), tetras)?);
+        assert!(rt; assembles(rt.alloc(), source, due_done(0, b""), tetras)?);
     }
     Ok(())
 }
@@ -127,7 +128,7 @@ fn objects_run_as_their_sources(rt: HostRuntime) -> Result<(), Fail> {
     let alloc = rt.alloc();
     let object = bytes(alloc, &HELLO_OBJECT, b"")?;
     let given = file("hello.mmo", object.as_slice());
-    let due = done(8, b"hello, world\n");
+    let due = due_done(8, b"hello, world\n");
     assert!(rt; comes_from(alloc, given, &["sim", "hello.mmo"], due)?);
     Ok(())
 }
@@ -146,7 +147,7 @@ static BEFORE: [u32; 8] = [
 
 #[test]
 fn refused_sources_leave_what_stood_before(rt: HostRuntime) -> Result<(), Fail> {
-    let due = refused(3, 39, 0, b"line 3: 39 UnknownOpcode\n");
+    let due = due_refused(3, 39, 0, b"line 3: 39 UnknownOpcode\n");
     assert!(rt; assembles(rt.alloc(), " LOC #100\nMain SWYM\n FROB", due, &BEFORE)?);
     Ok(())
 }
@@ -163,7 +164,12 @@ fn two_thousand(alloc: Global) -> Result<Vec<u8>, Fail> {
 /// How many calls of its host assembling a source takes, if it is assembled.
 fn calls(alloc: Global, source: &[u8]) -> Result<Option<u64>, Fail> {
     let mut host = host(alloc, file("b.mms", source))?;
-    let is_done = comes_to(alloc, &mut host, &["asm", "b.mms", "b.mmo"], done(0, b""))?;
+    let is_done = comes_to(
+        alloc,
+        &mut host,
+        &["asm", "b.mms", "b.mmo"],
+        due_done(0, b""),
+    )?;
     Ok(if is_done { Some(host.calls()) } else { None })
 }
 
@@ -345,7 +351,7 @@ static HALTING: [&[u32]; 2] = [
 fn objects_that_are_run(rt: HostRuntime) -> Result<(), Fail> {
     for tetras in &HALTING {
         let object = bytes(rt.alloc(), tetras, b"")?;
-        assert!(rt; sim(rt.alloc(), object.as_slice(), done(0, b""))?);
+        assert!(rt; sim(rt.alloc(), object.as_slice(), due_done(0, b""))?);
     }
     Ok(())
 }
@@ -381,9 +387,9 @@ fn pages_give(alloc: Global, pages: u32, due: Due) -> Result<bool, Fail> {
 #[test]
 fn full_pages(rt: HostRuntime) -> Result<(), Fail> {
     // with 65,535 pages the arguments have the last one
-    assert!(rt; pages_give(rt.alloc(), 65535, done(0, b""))?);
+    assert!(rt; pages_give(rt.alloc(), 65535, due_done(0, b""))?);
     // with 65,536 there is none for them
-    let due = stopped(0x100, 118, b"#0000000000000100: 118 PagesFull\n");
+    let due = due_stopped(0x100, 118, b"#0000000000000100: 118 PagesFull\n");
     assert!(rt; pages_give(rt.alloc(), 65536, due)?);
     // one more is a fault of the object, at the tetra that needs it
     let due = bad(786_448, 90, b"byte 786448: 90 PagesFull\n");

@@ -1,6 +1,6 @@
 //! The ring of registers: what does not depend on its size, and what does where a program looks.
 
-use crate::rows::{Due, Given, comes_from, done, file, stopped};
+use crate::rows::{Due, Given, comes_from, due_done, due_stopped, file};
 use mx_top::Outcome;
 use std::alloc::Global;
 use std::test::Fail;
@@ -21,7 +21,10 @@ const DEEP: &str =
 fn calls_go_deeper_than_the_ring(rt: HostRuntime) -> Result<(), Fail> {
     for ring in &RINGS {
         // 45,150 modulo 256
-        assert!(rt; gives_on(rt.alloc(), ring, DEEP, done(94, b""))?, "{ring}");
+        assert!(rt;
+            gives_on(rt.alloc(), ring, DEEP, due_done(94, b""))?,
+            "{ring}"
+        );
     }
     Ok(())
 }
@@ -29,7 +32,7 @@ fn calls_go_deeper_than_the_ring(rt: HostRuntime) -> Result<(), Fail> {
 #[test]
 fn the_stack_overfills_at_one_depth(rt: HostRuntime) -> Result<(), Fail> {
     for ring in &RINGS {
-        let due = stopped(0, 114, b"#0000000000000000: 114 StackFull\n");
+        let due = due_stopped(0, 114, b"#0000000000000000: 114 StackFull\n");
         assert!(rt;
             gives_on(rt.alloc(), ring, "Main PUSHJ $255,Main", due)?,
             "{ring}"
@@ -50,7 +53,7 @@ fn sums_up(alloc: Global, blocks: &str, summary: &[u8]) -> Result<bool, Fail> {
     let mut is_due = true;
     for ring in &RINGS {
         let words = &["gen", "--ring", ring, blocks];
-        is_due = is_due && comes_from(alloc, file("a", b""), words, done(0, summary))?;
+        is_due = is_due && comes_from(alloc, file("a", b""), words, due_done(0, summary))?;
     }
     Ok(is_due)
 }

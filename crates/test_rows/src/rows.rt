@@ -69,7 +69,7 @@ pub fn comes_from(alloc: Global, given: Given, all: &[&str], due: Due) -> Result
 }
 
 /// What is due of a program that halts.
-pub fn done<'a>(status: u8, output: &'a [u8]) -> Due<'a> {
+pub fn due_done<'a>(status: u8, output: &'a [u8]) -> Due<'a> {
     Due {
         outcome: Outcome::Done(status),
         output,
@@ -78,7 +78,7 @@ pub fn done<'a>(status: u8, output: &'a [u8]) -> Due<'a> {
 }
 
 /// What is due of a program that stops.
-pub fn stopped<'a>(pc: u64, reason: u16, errors: &'a [u8]) -> Due<'a> {
+pub fn due_stopped<'a>(pc: u64, reason: u16, errors: &'a [u8]) -> Due<'a> {
     Due {
         outcome: Outcome::Stopped { pc, reason },
         output: b"",
@@ -87,7 +87,7 @@ pub fn stopped<'a>(pc: u64, reason: u16, errors: &'a [u8]) -> Due<'a> {
 }
 
 /// What is due of a source that is refused.
-pub fn refused<'a>(line: u32, fault: u16, from_line: u32, errors: &'a [u8]) -> Due<'a> {
+pub fn due_refused<'a>(line: u32, fault: u16, from_line: u32, errors: &'a [u8]) -> Due<'a> {
     Due {
         outcome: Outcome::Refused {
             line,

@@ -26,7 +26,7 @@ fn outcome(end: End) -> Outcome {
 }
 
 /// Whether `run hello.mms` comes to what is due of a source on each ring.
-pub fn gives(alloc: Global, source: &str, due: Due) -> Result<bool, Fail> {
+pub fn is_run_to(alloc: Global, source: &str, due: Due) -> Result<bool, Fail> {
     let given = file("hello.mms", source.as_bytes());
     let mut is_due = true;
     for ring in SIZES {
@@ -46,7 +46,7 @@ pub fn shows(alloc: Global, source: &str, end: End, lines: &[&str]) -> Result<bo
 
 /// The source of the first row that does not end and dump as it says, if there is one. Each source follows the
 /// same text.
-pub fn first_other(
+pub fn find_mismatch(
     alloc: Global,
     before: &str,
     rows: &[Row],
@@ -72,13 +72,13 @@ pub fn shows_on(
     let mut host = host(alloc, file("a.mms", source.as_bytes()))?;
     let words = &["run", "--dump", "--ring", ring, "a.mms"];
     let ended = outcome_over(alloc, &mut host, words)?;
-    Ok(ended == outcome(end) && holds_all(host.output(), lines))
+    Ok(ended == outcome(end) && has_all_lines(host.output(), lines))
 }
 
 /// Whether all these lines are in a text.
-pub fn holds_all(text: &[u8], lines: &[&str]) -> bool {
+pub fn has_all_lines(text: &[u8], lines: &[&str]) -> bool {
     for line in lines {
-        if !holds(text, line.as_bytes()) {
+        if !has_part(text, line.as_bytes()) {
             return false;
         }
     }
@@ -86,7 +86,7 @@ pub fn holds_all(text: &[u8], lines: &[&str]) -> bool {
 }
 
 /// Whether a part is in a text.
-pub fn holds(text: &[u8], part: &[u8]) -> bool {
+pub fn has_part(text: &[u8], part: &[u8]) -> bool {
     for at in 0..text.len() {
         if text[at..].starts_with(part) {
             return true;

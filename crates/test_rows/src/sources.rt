@@ -1,6 +1,6 @@
 //! Sources that are refused.
 
-use crate::rows::{Due, comes_from, done, file, refused};
+use crate::rows::{Due, comes_from, due_done, due_refused, file};
 use std::alloc::Global;
 use std::test::Fail;
 
@@ -89,7 +89,7 @@ static REFUSED: [(&str, u32, u16, u32, &[u8]); 17] = [
 #[test]
 fn refusals_name_the_first_faulty_line(rt: HostRuntime) -> Result<(), Fail> {
     for (source, line, fault, from_line, told) in &REFUSED {
-        let due = refused(*line, *fault, *from_line, told);
+        let due = due_refused(*line, *fault, *from_line, told);
         assert!(rt; gives(rt.alloc(), source, due)?, "{source}");
     }
     Ok(())
@@ -170,8 +170,8 @@ fn is_kept(alloc: Global, limit: &Limit) -> Result<bool, Fail> {
     push_times(&mut source, text, *count)?;
     source.push_str(behind)?;
     let due = match over {
-        None => done(0, b""),
-        Some((line, fault, told)) => refused(*line, *fault, 0, told),
+        None => due_done(0, b""),
+        Some((line, fault, told)) => due_refused(*line, *fault, 0, told),
     };
     gives(alloc, source.as_str(), due)
 }
@@ -201,7 +201,7 @@ fn too_long(alloc: Global) -> Result<String, Fail> {
 fn one_line_too_far(rt: HostRuntime) -> Result<(), Fail> {
     let source = too_long(rt.alloc())?;
     // it comes before its own fault
-    let due = refused(4_194_291, 88, 0, b"line 4194291: 88 SourceTooLong\n");
+    let due = due_refused(4_194_291, 88, 0, b"line 4194291: 88 SourceTooLong\n");
     assert!(rt; gives(rt.alloc(), source.as_str(), due)?);
     Ok(())
 }
@@ -241,8 +241,8 @@ fn names_give(alloc: Global, names: u32, due: Due) -> Result<bool, Fail> {
 #[test]
 fn symbols_of_an_object(rt: HostRuntime) -> Result<(), Fail> {
     // each name takes 2,000 bytes of the trie for its last 1,000, and 12 more at most; there are 262,140
-    assert!(rt; names_give(rt.alloc(), 130, done(0, b""))?);
-    let many = refused(141, 86, 0, b"line 141: 86 SymbolsTooMany\n");
+    assert!(rt; names_give(rt.alloc(), 130, due_done(0, b""))?);
+    let many = due_refused(141, 86, 0, b"line 141: 86 SymbolsTooMany\n");
     assert!(rt; names_give(rt.alloc(), 140, many)?);
     Ok(())
 }
@@ -263,6 +263,6 @@ fn labels_in_a_row(alloc: Global) -> Result<String, Fail> {
 #[test]
 fn labels_wait_for_one_another(rt: HostRuntime) -> Result<(), Fail> {
     let source = labels_in_a_row(rt.alloc())?;
-    assert!(rt; gives(rt.alloc(), source.as_str(), done(0, b""))?);
+    assert!(rt; gives(rt.alloc(), source.as_str(), due_done(0, b""))?);
     Ok(())
 }

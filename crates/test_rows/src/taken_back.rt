@@ -1,7 +1,7 @@
 //! The last steps of a run, taken back: their lines, and the dump of where the machine comes to.
 
 use crate::rows::{Due, FIRST, Given, comes_from, file, host, outcome_over};
-use crate::shown::{holds, holds_all};
+use crate::shown::{has_all_lines, has_part};
 use mx_top::Outcome;
 use std::alloc::Global;
 use std::test::Fail;
@@ -249,7 +249,9 @@ static DUMPS: [Shown; 7] = [
 fn first_unshown(alloc: Global, rows: &[Shown]) -> Result<Option<&'static str>, Fail> {
     for (source, last, lines, absent) in rows {
         let output = output(alloc, source, &["run", "--dump", "--last", last, "a.mms"])?;
-        if !holds_all(output.as_slice(), lines) || holds(output.as_slice(), absent.as_bytes()) {
+        if !has_all_lines(output.as_slice(), lines)
+            || has_part(output.as_slice(), absent.as_bytes())
+        {
             return Ok(Some(*source));
         }
     }

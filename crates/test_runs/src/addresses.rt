@@ -2,7 +2,7 @@
 
 use std::test::Fail;
 use test_rows::End::{Done, Stop};
-use test_rows::{Row, first_other, shows};
+use test_rows::{Row, find_mismatch, shows};
 
 /// What loads and stores, with its first operand.
 static ACCESSES: [&str; 22] = [
@@ -31,7 +31,7 @@ static HINTS_DO_NOTHING_AT_NEGATIVE_ADDRESSES: [Row; 2] = [
 #[test]
 fn hints_do_nothing_at_negative_addresses(rt: HostRuntime) -> Result<(), Fail> {
     assert_eq!(rt;
-        first_other(rt.alloc(), "", &HINTS_DO_NOTHING_AT_NEGATIVE_ADDRESSES)?,
+        find_mismatch(rt.alloc(), "", &HINTS_DO_NOTHING_AT_NEGATIVE_ADDRESSES)?,
         None
     );
     Ok(())
@@ -90,7 +90,7 @@ static FILE_TRAPS_AT_NEGATIVE_ADDRESSES: [Row; 8] = [
 #[test]
 fn file_traps_at_negative_addresses(rt: HostRuntime) -> Result<(), Fail> {
     assert_eq!(rt;
-        first_other(rt.alloc(), "", &FILE_TRAPS_AT_NEGATIVE_ADDRESSES)?,
+        find_mismatch(rt.alloc(), "", &FILE_TRAPS_AT_NEGATIVE_ADDRESSES)?,
         None
     );
     Ok(())

@@ -2,7 +2,7 @@
 
 use std::test::Fail;
 use test_rows::End::{Done, Stop};
-use test_rows::{Row, first_other, shows_on};
+use test_rows::{Row, find_mismatch, shows_on};
 
 /// Hides 2^20 octas; the next instruction is at #110.
 static FULL: &str =
@@ -69,7 +69,7 @@ static NO_ROOM_FOR_REGISTERS: [Row; 14] = [
 #[test]
 fn no_room_for_registers(rt: HostRuntime) -> Result<(), Fail> {
     assert_eq!(rt;
-        first_other(rt.alloc(), FULL, &NO_ROOM_FOR_REGISTERS)?,
+        find_mismatch(rt.alloc(), FULL, &NO_ROOM_FOR_REGISTERS)?,
         None
     );
     Ok(())
@@ -115,7 +115,7 @@ static SAVE_NEEDS_ROOM: [Row; 6] = [
 #[test]
 fn save_needs_room(rt: HostRuntime) -> Result<(), Fail> {
     assert_eq!(rt;
-        first_other(rt.alloc(), NEARLY_FULL, &SAVE_NEEDS_ROOM)?,
+        find_mismatch(rt.alloc(), NEARLY_FULL, &SAVE_NEEDS_ROOM)?,
         None
     );
     Ok(())

@@ -2,7 +2,7 @@
 
 use std::test::Fail;
 use test_rows::End::{Done, Stop};
-use test_rows::{Row, first_other, shows};
+use test_rows::{Row, find_mismatch, shows};
 
 /// The first and the last codes for which RESUME takes no operands from rY and rZ.
 static CODES: [&str; 8] = ["40", "5f", "80", "9f", "a0", "bf", "f0", "ff"];
@@ -53,7 +53,7 @@ static TRIPS_WITHIN_RESUME: [Row; 3] = [
 
 #[test]
 fn trips_within_resume(rt: HostRuntime) -> Result<(), Fail> {
-    assert_eq!(rt; first_other(rt.alloc(), "", &TRIPS_WITHIN_RESUME)?, None);
+    assert_eq!(rt; find_mismatch(rt.alloc(), "", &TRIPS_WITHIN_RESUME)?, None);
     Ok(())
 }
 
@@ -91,7 +91,7 @@ static PLACES_OF_INSERTED_INSTRUCTIONS: [Row; 4] = [
 #[test]
 fn places_of_inserted_instructions(rt: HostRuntime) -> Result<(), Fail> {
     assert_eq!(rt;
-        first_other(rt.alloc(), "", &PLACES_OF_INSERTED_INSTRUCTIONS)?,
+        find_mismatch(rt.alloc(), "", &PLACES_OF_INSERTED_INSTRUCTIONS)?,
         None
     );
     Ok(())
@@ -152,7 +152,7 @@ static WHAT_RESUME_REFUSES: [Row; 9] = [
 
 #[test]
 fn what_resume_refuses(rt: HostRuntime) -> Result<(), Fail> {
-    assert_eq!(rt; first_other(rt.alloc(), "", &WHAT_RESUME_REFUSES)?, None);
+    assert_eq!(rt; find_mismatch(rt.alloc(), "", &WHAT_RESUME_REFUSES)?, None);
     Ok(())
 }
 

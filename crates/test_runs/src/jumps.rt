@@ -2,7 +2,7 @@
 
 use std::test::Fail;
 use test_rows::End::{Done, Stop};
-use test_rows::{Row, first_other, shows_on};
+use test_rows::{Row, find_mismatch, shows_on};
 
 /// Hides 251 registers, and then loads the first octa of the stack area into $4.
 static SPILLING: &str =
@@ -47,7 +47,7 @@ static JUMPS_LOWER_THEIR_ADDRESSES: [Row; 5] = [
 #[test]
 fn jumps_lower_their_addresses(rt: HostRuntime) -> Result<(), Fail> {
     assert_eq!(rt;
-        first_other(rt.alloc(), "", &JUMPS_LOWER_THEIR_ADDRESSES)?,
+        find_mismatch(rt.alloc(), "", &JUMPS_LOWER_THEIR_ADDRESSES)?,
         None
     );
     Ok(())
@@ -92,7 +92,7 @@ static JUMPS_TO_NEGATIVE_ADDRESSES_COMPLETE: [Row; 4] = [
 #[test]
 fn jumps_to_negative_addresses_complete(rt: HostRuntime) -> Result<(), Fail> {
     assert_eq!(rt;
-        first_other(rt.alloc(), "", &JUMPS_TO_NEGATIVE_ADDRESSES_COMPLETE)?,
+        find_mismatch(rt.alloc(), "", &JUMPS_TO_NEGATIVE_ADDRESSES_COMPLETE)?,
         None
     );
     Ok(())
@@ -139,7 +139,7 @@ static DESTINATIONS_ARE_LOCAL_FIRST: [Row; 5] = [
 #[test]
 fn destinations_are_local_first(rt: HostRuntime) -> Result<(), Fail> {
     assert_eq!(rt;
-        first_other(rt.alloc(), "", &DESTINATIONS_ARE_LOCAL_FIRST)?,
+        find_mismatch(rt.alloc(), "", &DESTINATIONS_ARE_LOCAL_FIRST)?,
         None
     );
     Ok(())

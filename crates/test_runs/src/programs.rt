@@ -3,7 +3,10 @@
 use mx_top::Outcome;
 use std::alloc::Global;
 use std::test::Fail;
-use test_rows::{Due, FIRST, Given, HELLO, SIZES, comes_from, done, file, gives, refused, stopped};
+use test_rows::{
+    Due, FIRST, Given, HELLO, SIZES, comes_from, due_done, due_refused, due_stopped, file,
+    is_run_to,
+};
 
 /// Programs, the status that they halt with, and what they print.
 static HALTING: [(&str, u8, &[u8]); 13] = [
@@ -65,7 +68,7 @@ static HALTING: [(&str, u8, &[u8]); 13] = [
 fn programs_print_and_halt(rt: HostRuntime) -> Result<(), Fail> {
     for (source, status, output) in &HALTING {
         assert!(rt;
-            gives(rt.alloc(), source, done(*status, output))?,
+            is_run_to(rt.alloc(), source, due_done(*status, output))?,
             "{source}"
         );
     }
@@ -159,7 +162,7 @@ static STOPPING: [(&str, u64, u16, &[u8]); 12] = [
 fn programs_stop(rt: HostRuntime) -> Result<(), Fail> {
     for (source, pc, reason, told) in &STOPPING {
         assert!(rt;
-            gives(rt.alloc(), source, stopped(*pc, *reason, told))?,
+            is_run_to(rt.alloc(), source, due_stopped(*pc, *reason, told))?,
             "{source}"
         );
     }
@@ -195,7 +198,7 @@ fn reads(
     let mut is_due = true;
     for ring in SIZES {
         let words = &["run", "--ring", ring, "a.mms"];
-        is_due = is_due && comes_from(alloc, given, words, done(status, b""))?;
+        is_due = is_due && comes_from(alloc, given, words, due_done(status, b""))?;
     }
     Ok(is_due)
 }
@@ -243,16 +246,19 @@ static INSERTING: [(&str, u8); 3] = [
 fn inserts(alloc: Global, front: &str, due: Due) -> Result<bool, Fail> {
     let mut source = String::from_str(alloc, front)?;
     source.push_str(RESUMED)?;
-    gives(alloc, source.as_str(), due)
+    is_run_to(alloc, source.as_str(), due)
 }
 
 #[test]
 fn resume_inserts_an_instruction(rt: HostRuntime) -> Result<(), Fail> {
     for (front, status) in &INSERTING {
-        assert!(rt; inserts(rt.alloc(), front, done(*status, b""))?, "{front}");
+        assert!(rt;
+            inserts(rt.alloc(), front, due_done(*status, b""))?,
+            "{front}"
+        );
     }
     // a kind that does not exist
-    let illegal = stopped(16, 111, b"#0000000000000010: 111 Illegal\n");
+    let illegal = due_stopped(16, 111, b"#0000000000000010: 111 Illegal\n");
     assert!(rt; inserts(rt.alloc(), "Main SETH $2,#0300\n PUT rX,$2", illegal)?);
     Ok(())
 }
@@ -277,7 +283,7 @@ fn steps_are_bounded(rt: HostRuntime) -> Result<(), Fail> {
     };
     assert!(rt; gives_within(rt.alloc(), "10", "Main SWYM\n2H JMP 2F\n2H JMP 2B", spent)?);
     // Halt is the last step that is allowed
-    assert!(rt; gives_within(rt.alloc(), "1", "Main TRAP 0,Halt,0", done(0, b""))?);
+    assert!(rt; gives_within(rt.alloc(), "1", "Main TRAP 0,Halt,0", due_done(0, b""))?);
     Ok(())
 }
 
@@ -304,7 +310,7 @@ static ARGUMENTS: [(&[&str], &str, u8, &[u8]); 7] = [
 fn arguments_are_handed_on(rt: HostRuntime) -> Result<(), Fail> {
     for (words, source, status, output) in &ARGUMENTS {
         let given = file(name_in(words), source.as_bytes());
-        let is_due = comes_from(rt.alloc(), given, words, done(*status, output))?;
+        let is_due = comes_from(rt.alloc(), given, words, due_done(*status, output))?;
         assert!(rt; is_due, "{}", name_in(words));
     }
     Ok(())
@@ -321,7 +327,7 @@ fn name_in<'a>(words: &[&'a str]) -> &'a str {
 #[test]
 fn references_reach_no_farther(rt: HostRuntime) -> Result<(), Fail> {
     let beyond = "Main BZ $0,x\n LOC Main+4*65536\nx TRAP 0,Halt,0";
-    let due = refused(3, 85, 1, b"line 3: 85 FutureTooFar from line 1\n");
-    assert!(rt; gives(rt.alloc(), beyond, due)?);
+    let due = due_refused(3, 85, 1, b"line 3: 85 FutureTooFar from line 1\n");
+    assert!(rt; is_run_to(rt.alloc(), beyond, due)?);
     Ok(())
 }

@@ -2,7 +2,7 @@
 
 use std::test::Fail;
 use test_rows::End::{Done, Stop};
-use test_rows::{Row, first_other};
+use test_rows::{Row, find_mismatch};
 
 static CALLS_AND_RESULTS: [Row; 7] = [
     // the last of two results is in the hole, and the first after it
@@ -65,7 +65,7 @@ static CALLS_AND_RESULTS: [Row; 7] = [
 
 #[test]
 fn calls_and_results(rt: HostRuntime) -> Result<(), Fail> {
-    assert_eq!(rt; first_other(rt.alloc(), "", &CALLS_AND_RESULTS)?, None);
+    assert_eq!(rt; find_mismatch(rt.alloc(), "", &CALLS_AND_RESULTS)?, None);
     Ok(())
 }
 
@@ -101,7 +101,7 @@ static RESULTS_WHERE_G_IS_LOWER: [Row; 4] = [
 #[test]
 fn results_where_g_is_lower(rt: HostRuntime) -> Result<(), Fail> {
     assert_eq!(rt;
-        first_other(rt.alloc(), "", &RESULTS_WHERE_G_IS_LOWER)?,
+        find_mismatch(rt.alloc(), "", &RESULTS_WHERE_G_IS_LOWER)?,
         None
     );
     Ok(())
@@ -153,7 +153,7 @@ static NUMBERS_OF_FORGED_FRAMES: [Row; 5] = [
 #[test]
 fn numbers_of_forged_frames(rt: HostRuntime) -> Result<(), Fail> {
     assert_eq!(rt;
-        first_other(rt.alloc(), "", &NUMBERS_OF_FORGED_FRAMES)?,
+        find_mismatch(rt.alloc(), "", &NUMBERS_OF_FORGED_FRAMES)?,
         None
     );
     Ok(())
@@ -231,6 +231,6 @@ static FRAMES_THAT_ARE_NONE: [Row; 11] = [
 
 #[test]
 fn frames_that_are_none(rt: HostRuntime) -> Result<(), Fail> {
-    assert_eq!(rt; first_other(rt.alloc(), "", &FRAMES_THAT_ARE_NONE)?, None);
+    assert_eq!(rt; find_mismatch(rt.alloc(), "", &FRAMES_THAT_ARE_NONE)?, None);
     Ok(())
 }

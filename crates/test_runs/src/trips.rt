@@ -2,7 +2,7 @@
 
 use std::test::Fail;
 use test_rows::End::{Done, Stop};
-use test_rows::{Row, first_other};
+use test_rows::{Row, find_mismatch};
 
 static TRIPS_TELL_WHAT_HAPPENED: [Row; 6] = [
     // the destination is $255: rB is the result, $255 what rJ was; no bit of rA is set
@@ -86,7 +86,7 @@ static TRIPS_TELL_WHAT_HAPPENED: [Row; 6] = [
 #[test]
 fn trips_tell_what_happened(rt: HostRuntime) -> Result<(), Fail> {
     assert_eq!(rt;
-        first_other(rt.alloc(), "", &TRIPS_TELL_WHAT_HAPPENED)?,
+        find_mismatch(rt.alloc(), "", &TRIPS_TELL_WHAT_HAPPENED)?,
         None
     );
     Ok(())
@@ -128,7 +128,10 @@ static HANDLERS_THAT_ARE_NONE: [Row; 5] = [
 
 #[test]
 fn handlers_that_are_none(rt: HostRuntime) -> Result<(), Fail> {
-    assert_eq!(rt; first_other(rt.alloc(), "", &HANDLERS_THAT_ARE_NONE)?, None);
+    assert_eq!(rt;
+        find_mismatch(rt.alloc(), "", &HANDLERS_THAT_ARE_NONE)?,
+        None
+    );
     Ok(())
 }
 
@@ -193,6 +196,6 @@ static SHIFTS_TO_THE_LEFT: [Row; 9] = [
 
 #[test]
 fn shifts_to_the_left(rt: HostRuntime) -> Result<(), Fail> {
-    assert_eq!(rt; first_other(rt.alloc(), "", &SHIFTS_TO_THE_LEFT)?, None);
+    assert_eq!(rt; find_mismatch(rt.alloc(), "", &SHIFTS_TO_THE_LEFT)?, None);
     Ok(())
 }

@@ -5,8 +5,8 @@ use std::alloc::Global;
 use std::test::Fail;
 use test_rows::End::{Done, Stop};
 use test_rows::{
-    Due, FIRST, Given, HELLO, Row, SIZES, comes_from, comes_to, done, file, first_other, holds,
-    holds_all, host, outcome_over, shows_on,
+    Due, FIRST, Given, HELLO, Row, SIZES, comes_from, comes_to, due_done, file, find_mismatch,
+    has_all_lines, has_part, host, outcome_over, shows_on,
 };
 
 static TETRAS: [Row; 8] = [
@@ -70,7 +70,7 @@ static TETRAS: [Row; 8] = [
 
 #[test]
 fn programs_have_their_tetras(rt: HostRuntime) -> Result<(), Fail> {
-    assert_eq!(rt; first_other(rt.alloc(), "", &TETRAS)?, None);
+    assert_eq!(rt; find_mismatch(rt.alloc(), "", &TETRAS)?, None);
     Ok(())
 }
 
@@ -181,7 +181,7 @@ static VALUES: [Row; 11] = [
 
 #[test]
 fn programs_leave_their_values(rt: HostRuntime) -> Result<(), Fail> {
-    assert_eq!(rt; first_other(rt.alloc(), "", &VALUES)?, None);
+    assert_eq!(rt; find_mismatch(rt.alloc(), "", &VALUES)?, None);
     Ok(())
 }
 
@@ -223,7 +223,7 @@ fn has_pool(alloc: Global, ring: &str) -> Result<bool, Fail> {
         "M#4000000000000028=#6162000000000000\n",
     ];
     let outcome = outcome_over(alloc, &mut host, words)?;
-    Ok(outcome == Outcome::Done(0) && holds_all(host.output(), &lines))
+    Ok(outcome == Outcome::Done(0) && has_all_lines(host.output(), &lines))
 }
 
 #[test]
@@ -241,7 +241,7 @@ fn spends(alloc: Global, ring: &str) -> Result<bool, Fail> {
     let lines = ["M#0000000000000000=#fd000000f0000001\nM#0000000000000008=#f1ffffff00000000\n"];
     let outcome = outcome_over(alloc, &mut host, words)?;
     let is_spent = outcome == Outcome::StepsSpent { steps: 10 };
-    Ok(is_spent && holds_all(host.output(), &lines))
+    Ok(is_spent && has_all_lines(host.output(), &lines))
 }
 
 /// Whether the first program fails on a ring where its file can't be read.
@@ -265,10 +265,10 @@ fn prints(alloc: Global, ring: &str) -> Result<bool, Fail> {
         alloc,
         &mut host,
         &["asm", "hello.mms", "hello.mmo"],
-        done(0, b""),
+        due_done(0, b""),
     )?;
     let words = &["sim", "--ring", ring, "hello.mmo"];
-    Ok(is_assembled && comes_to(alloc, &mut host, words, done(8, b"hello, world\n"))?)
+    Ok(is_assembled && comes_to(alloc, &mut host, words, due_done(8, b"hello, world\n"))?)
 }
 
 /// An object of another tool: the halt at #100. Its last byte, the count of the trie's tetras, is to follow.
@@ -300,7 +300,7 @@ fn objects_and_bounded_runs_on_rings(rt: HostRuntime) -> Result<(), Fail> {
         assert!(rt; spends(alloc, ring)?, "{ring}");
         assert!(rt; fails(alloc, ring)?, "{ring}");
         assert!(rt; prints(alloc, ring)?, "{ring}");
-        assert!(rt; halts(alloc, ring, 5, done(0, b""))?, "{ring}");
+        assert!(rt; halts(alloc, ring, 5, due_done(0, b""))?, "{ring}");
         assert!(rt; halts(alloc, ring, 4, wrong_count)?, "{ring}");
     }
     Ok(())
@@ -309,9 +309,14 @@ fn objects_and_bounded_runs_on_rings(rt: HostRuntime) -> Result<(), Fail> {
 /// Whether the object of a source has these bytes.
 fn object_holds(alloc: Global, source: &str, part: &[u8]) -> Result<bool, Fail> {
     let mut host = host(alloc, file("a.mms", source.as_bytes()))?;
-    let is_done = comes_to(alloc, &mut host, &["asm", "a.mms", "a.mmo"], done(0, b""))?;
+    let is_done = comes_to(
+        alloc,
+        &mut host,
+        &["asm", "a.mms", "a.mmo"],
+        due_done(0, b""),
+    )?;
     match host.file(b"a.mmo") {
-        Some(object) => Ok(is_done && holds(object, part)),
+        Some(object) => Ok(is_done && has_part(object, part)),
         None => Ok(false),
     }
 }

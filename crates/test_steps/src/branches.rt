@@ -1,6 +1,6 @@
 //! Branches and conditional sets: where each condition holds, and where not.
 
-use crate::row::{Due, GOES_ON, Given, NEXT, PLAIN, goes, sets};
+use crate::row::{Due, GOES_ON, Given, NEXT, PLAIN, check_goes_on, due_value};
 use std::alloc::Global;
 use std::test::Fail;
 
@@ -125,7 +125,7 @@ fn branches(alloc: Global, word: u32, to: u64, holds: &Holds) -> Result<(), Fail
             register: (9, x),
             ..GOES_ON
         };
-        goes(alloc, &Given { word, x, ..PLAIN }, &due)?;
+        check_goes_on(alloc, &Given { word, x, ..PLAIN }, &due)?;
     }
     Ok(())
 }
@@ -141,7 +141,7 @@ fn chooses(alloc: Global, word: u32, set: u64, other: u64, holds: &Holds) -> Res
             ..PLAIN
         };
         let value = if holds[k] { set } else { other };
-        goes(alloc, &given, &sets(value))?;
+        check_goes_on(alloc, &given, &due_value(value))?;
     }
     Ok(())
 }

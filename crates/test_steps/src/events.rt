@@ -2,7 +2,7 @@
 
 use crate::row::{
     Computed, DATA, Due, GOES_ON, Given, NEXT, PLAIN, RA, RB, RR, RW, RX, RY, RZ, TOP, all_compute,
-    answers, goes, sets,
+    check_answer, check_goes_on, due_value,
 };
 use mx_core::{Reason, Step, Touch};
 use std::alloc::Global;
@@ -169,7 +169,7 @@ fn trips(alloc: Global, given: &Given, due: &Due, (y, z): (u64, u64)) -> Result<
             other: *other,
             ..*due
         };
-        goes(alloc, given, &due)?;
+        check_goes_on(alloc, given, &due)?;
     }
     gives_rj(alloc, given, due)?;
     stops(alloc, given)
@@ -181,7 +181,7 @@ fn gives_rj(alloc: Global, given: &Given, due: &Due) -> Result<(), Fail> {
         special: (RA, ENABLED),
         ..*due
     };
-    goes(alloc, given, &due)
+    check_goes_on(alloc, given, &due)
 }
 
 fn stops(alloc: Global, given: &Given) -> Result<(), Fail> {
@@ -189,7 +189,7 @@ fn stops(alloc: Global, given: &Given) -> Result<(), Fail> {
         handler: 0,
         ..*given
     };
-    answers(alloc, &given, Step::Stopped(Reason::UnhandledTrip))
+    check_answer(alloc, &given, Step::Stopped(Reason::UnhandledTrip))
 }
 
 #[test]
@@ -215,9 +215,9 @@ fn events_go_by_their_own_bits(rt: HostRuntime) -> Result<(), Fail> {
         };
         let due = Due {
             special: (RA, after),
-            ..sets(value)
+            ..due_value(value)
         };
-        goes(rt.alloc(), &given, &due)?;
+        check_goes_on(rt.alloc(), &given, &due)?;
     }
     Ok(())
 }
@@ -234,7 +234,7 @@ fn numbers_trip(rt: HostRuntime) -> Result<(), Fail> {
         };
         let due = Due {
             next,
-            ..sets(value)
+            ..due_value(value)
         };
         trips(rt.alloc(), &given, &due, operands)?;
     }

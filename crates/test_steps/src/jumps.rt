@@ -4,7 +4,8 @@
 //! local registers, of which there are ten, are 0.
 
 use crate::row::{
-    AT, BASE, DATA, Due, GOES_ON, Given, Going, NEXT, PLAIN, RJ, RO, RS, RW, RX, TOP, all_go, goes,
+    AT, BASE, DATA, Due, GOES_ON, Given, Going, NEXT, PLAIN, RJ, RO, RS, RW, RX, TOP, all_go,
+    check_goes_on,
 };
 use std::test::Fail;
 
@@ -180,7 +181,7 @@ fn insertions(rt: HostRuntime) -> Result<(), Fail> {
             other: (RW, 0x3000_0006),
             ..GOES_ON
         };
-        goes(rt.alloc(), &given, &due)?;
+        check_goes_on(rt.alloc(), &given, &due)?;
     }
     Ok(())
 }

@@ -3,7 +3,9 @@
 //! A is #..e with the register $3 and #..7 with the byte 3. So the parts that hold it lie at the end of
 //! the octa, and the low bits of A are to be ignored.
 
-use crate::row::{DATA, Due, GOES_ON, Given, PLAIN, RA, RP, all_idle, all_stop, goes, sets};
+use crate::row::{
+    DATA, Due, GOES_ON, Given, PLAIN, RA, RP, all_idle, all_stop, check_goes_on, due_value,
+};
 use mx_core::{Reason, Touch};
 use std::alloc::Global;
 use std::test::Fail;
@@ -306,9 +308,9 @@ fn all_load(alloc: Global, given: &Given, rows: &[Load]) -> Result<(), Fail> {
         let due = Due {
             reads: touch(place, size),
             octa: (DATA, given.octas.0),
-            ..sets(value)
+            ..due_value(value)
         };
-        goes(alloc, &Given { word, ..*given }, &due)?;
+        check_goes_on(alloc, &Given { word, ..*given }, &due)?;
     }
     Ok(())
 }
@@ -323,7 +325,7 @@ fn all_store(alloc: Global, rows: &[Store]) -> Result<(), Fail> {
             special: (RA, a),
             ..GOES_ON
         };
-        goes(alloc, &Given { word, x, ..PLACES }, &due)?;
+        check_goes_on(alloc, &Given { word, x, ..PLACES }, &due)?;
     }
     Ok(())
 }
@@ -362,9 +364,9 @@ fn swaps(rt: HostRuntime) -> Result<(), Fail> {
             writes,
             octa: (octa_at(place), octa),
             special: (RP, after),
-            ..sets(value)
+            ..due_value(value)
         };
-        goes(rt.alloc(), &given, &due)?;
+        check_goes_on(rt.alloc(), &given, &due)?;
     }
     Ok(())
 }

@@ -1,7 +1,7 @@
 //! Programs that change their own instructions, and what they come to: each instruction is read when it is reached.
 
 use crate::programs::{Program, Run, all_come_out, begin};
-use crate::row::started;
+use crate::row::start_one;
 use mx_core::Advance;
 use std::alloc::Global;
 use std::test::Fail;
@@ -47,7 +47,7 @@ static PATCHES: [Run; 4] = [
 /// Whether a run comes to its value by one call for all its steps.
 fn comes_out_at_once(alloc: Global, run: &Run) -> Result<bool, Fail> {
     let (size, octas, main, steps, register, value, next) = *run;
-    let mut machine = started(alloc, size)?;
+    let mut machine = start_one(alloc, size)?;
     begin(&mut machine, 0, octas, main)?;
     let done = machine.advance_many(1000);
     Ok(done.made == u64::from(steps) && done.last == next && machine.register(register) == value)

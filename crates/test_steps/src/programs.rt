@@ -1,6 +1,6 @@
 //! Programs of a few tetras, and what they come to, worked out by hand from the rules of the simulator.
 
-use crate::row::{BASE, set_octas, started};
+use crate::row::{BASE, set_octas, start_one};
 use mx_core::{Advance, Machine, Reason, SetFault, Step, Touch, Trace};
 use std::alloc::Global;
 use std::test::Fail;
@@ -189,7 +189,7 @@ fn makes(machine: &mut Machine, steps: u32) -> bool {
 /// Whether a run comes to its value, with an octa at the handler of overflows.
 fn comes_out(alloc: Global, handler: u64, run: &Run) -> Result<bool, Fail> {
     let (size, octas, main, steps, register, value, next) = *run;
-    let mut machine = started(alloc, size)?;
+    let mut machine = start_one(alloc, size)?;
     begin(&mut machine, handler, octas, main)?;
     Ok(
         makes(&mut machine, steps)
@@ -248,7 +248,7 @@ fn exchanges(machine: &mut Machine, pc: u64, writes: Option<Touch>, value: u64) 
 
 /// What the first step of EXCHANGES answers, and whether CSWAP writes, and then does not.
 fn exchange(alloc: Global) -> Result<(Advance, bool, bool), Fail> {
-    let mut machine = started(alloc, 256)?;
+    let mut machine = start_one(alloc, 256)?;
     begin(&mut machine, 0, &EXCHANGES, 0)?;
     let first = machine.advance();
     let is_written = exchanges(&mut machine, 4, Some(PLACE), 1);

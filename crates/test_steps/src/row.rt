@@ -138,7 +138,7 @@ pub const GOES_ON: Due = Due {
 };
 
 /// The same, where the destination is $9, which gets a value.
-pub fn sets(value: u64) -> Due {
+pub fn due_value(value: u64) -> Due {
     Due {
         dest: Some(9),
         register: (9, value),
@@ -147,7 +147,7 @@ pub fn sets(value: u64) -> Due {
 }
 
 /// A machine with arguments and a ring of this many registers, before any step.
-pub fn started_with(alloc: Global, registers: u32, args: &[Bytes]) -> Result<Machine, Fail> {
+pub fn start_with(alloc: Global, registers: u32, args: &[Bytes]) -> Result<Machine, Fail> {
     let Some(size) = RingSize::of(registers) else {
         return Err(Fail::new("no size of a ring"));
     };
@@ -159,8 +159,8 @@ pub fn started_with(alloc: Global, registers: u32, args: &[Bytes]) -> Result<Mac
 }
 
 /// The same with the argument `p`.
-pub fn started(alloc: Global, registers: u32) -> Result<Machine, Fail> {
-    started_with(alloc, registers, &[Bytes::copy(alloc, b"p")?])
+pub fn start_one(alloc: Global, registers: u32) -> Result<Machine, Fail> {
+    start_with(alloc, registers, &[Bytes::copy(alloc, b"p")?])
 }
 
 /// Gives special registers values, by their codes.
@@ -217,7 +217,7 @@ fn prepare_memory(machine: &mut Machine, given: &Given) -> Result<(), SetFault> 
 
 /// A machine that has what is given, before its step.
 fn machine(alloc: Global, given: &Given) -> Result<Machine, Fail> {
-    let mut machine = started(alloc, 256)?;
+    let mut machine = start_one(alloc, 256)?;
     prepare_registers(&mut machine, given)?;
     prepare_memory(&mut machine, given)?;
     machine.set_pc(AT - 4);
@@ -264,7 +264,7 @@ fn see(given: &Given, is_due: bool) -> Result<(), Fail> {
 }
 
 /// Checks that the step goes on, and comes to what is due.
-pub fn goes(alloc: Global, given: &Given, due: &Due) -> Result<(), Fail> {
+pub fn check_goes_on(alloc: Global, given: &Given, due: &Due) -> Result<(), Fail> {
     let trace = Trace {
         pc: AT,
         word: given.word,
@@ -277,7 +277,7 @@ pub fn goes(alloc: Global, given: &Given, due: &Due) -> Result<(), Fail> {
 }
 
 /// Checks that the step answers this without going on, and leaves the machine as it was.
-pub fn answers(alloc: Global, given: &Given, answer: Step) -> Result<(), Fail> {
+pub fn check_answer(alloc: Global, given: &Given, answer: Step) -> Result<(), Fail> {
     let due = Due {
         next: AT,
         special: given.special,
@@ -294,7 +294,7 @@ pub fn all_set(alloc: Global, given: &Given, rows: &[(u32, u64)]) -> Result<(), 
             word: *word,
             ..*given
         };
-        goes(alloc, &given, &sets(*value))?;
+        check_goes_on(alloc, &given, &due_value(*value))?;
     }
     Ok(())
 }
@@ -308,9 +308,9 @@ pub fn all_compute(alloc: Global, given: &Given, rows: &[Computed]) -> Result<()
         let (word, y, z, value, special) = *row;
         let due = Due {
             special,
-            ..sets(value)
+            ..due_value(value)
         };
-        goes(
+        check_goes_on(
             alloc,
             &Given {
                 word,
@@ -339,7 +339,7 @@ pub fn all_go(alloc: Global, given: &Given, rows: &[Going]) -> Result<(), Fail> 
             l,
             ..GOES_ON
         };
-        goes(alloc, &Given { word, ..*given }, &due)?;
+        check_goes_on(alloc, &Given { word, ..*given }, &due)?;
     }
     Ok(())
 }
@@ -351,7 +351,7 @@ pub fn all_idle(alloc: Global, given: &Given, words: &[u32]) -> Result<(), Fail>
             word: *word,
             ..*given
         };
-        goes(alloc, &given, &GOES_ON)?;
+        check_goes_on(alloc, &given, &GOES_ON)?;
     }
     Ok(())
 }
@@ -363,7 +363,7 @@ pub fn all_stop(alloc: Global, given: &Given, words: &[u32], reason: Reason) -> 
             word: *word,
             ..*given
         };
-        answers(alloc, &given, Step::Stopped(reason))?;
+        check_answer(alloc, &given, Step::Stopped(reason))?;
     }
     Ok(())
 }

@@ -1,6 +1,6 @@
 //! The special registers, by GET and PUT, and SYNC.
 
-use crate::row::{BASE, Due, GOES_ON, Given, PLAIN, all_idle, all_set, goes};
+use crate::row::{BASE, Due, GOES_ON, Given, PLAIN, all_idle, all_set, check_goes_on};
 use std::test::Fail;
 
 /// GET of each special register by its code, and what $9 gets.
@@ -103,7 +103,7 @@ fn puts(rt: HostRuntime) -> Result<(), Fail> {
             l,
             ..GOES_ON
         };
-        goes(rt.alloc(), &Given { word, z, ..PLAIN }, &due)?;
+        check_goes_on(rt.alloc(), &Given { word, z, ..PLAIN }, &due)?;
     }
     Ok(())
 }

@@ -1,6 +1,6 @@
 //! A program that starts with the arguments `p` and `ab`, by the rules of the simulator.
 
-use crate::row::{has_octa, has_special, started_with};
+use crate::row::{has_octa, has_special, start_with};
 use mx_core::Machine;
 use mx_start::StartFault;
 use mx_word::Bytes;
@@ -36,7 +36,7 @@ static SPECIALS: [(u8, u64); 8] = [
 /// The machine at the start.
 fn machine(alloc: Global) -> Result<Machine, Fail> {
     let args = [Bytes::copy(alloc, b"p")?, Bytes::copy(alloc, b"ab")?];
-    started_with(alloc, 256, &args)
+    start_with(alloc, 256, &args)
 }
 
 /// Checks that a machine has the octas.

@@ -1,7 +1,7 @@
 //! What stops the machine whatever its memory has, and TRAP, which waits for its result. The machine is
 //! as it was then.
 
-use crate::row::{AT, Given, PLAIN, RX, TOP, all_stop, answers};
+use crate::row::{AT, Given, PLAIN, RX, TOP, all_stop, check_answer};
 use mx_alu::TrapCall;
 use mx_core::{Reason, Step};
 use std::test::Fail;
@@ -156,7 +156,7 @@ fn what_is_not_inserted(rt: HostRuntime) -> Result<(), Fail> {
             special: (RX, *rx),
             ..PLAIN
         };
-        answers(rt.alloc(), &given, Step::Stopped(*reason))?;
+        check_answer(rt.alloc(), &given, Step::Stopped(*reason))?;
     }
     Ok(())
 }
@@ -174,7 +174,7 @@ fn traps_wait(rt: HostRuntime) -> Result<(), Fail> {
             word: *word,
             ..PLAIN
         };
-        answers(rt.alloc(), &given, Step::Trap(call))?;
+        check_answer(rt.alloc(), &given, Step::Trap(call))?;
     }
     Ok(())
 }

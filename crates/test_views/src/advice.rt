@@ -1,7 +1,7 @@
 //! What mends a fault, row by row: slips of readers who come from other machines, each with the lines that are to be said of it. The
 //! operations are those of TAOCP 1, Fascicle 1.
 
-use mx_view::faults;
+use mx_view::list_faults;
 use mx_word::NoMemory;
 use std::alloc::Global;
 
@@ -105,7 +105,10 @@ fn has(text: &[u8], part: &str) -> bool {
 
 /// Whether lines are said of the faults of a source.
 fn is_said(alloc: Global, source: &str, lines: &str) -> Result<bool, NoMemory> {
-    Ok(has(faults(alloc, source.as_bytes())?.text.as_slice(), lines))
+    Ok(has(
+        list_faults(alloc, source.as_bytes())?.text.as_slice(),
+        lines,
+    ))
 }
 
 #[test]

@@ -88,7 +88,7 @@ fn is_cost(alloc: Global, row: &Row) -> bool {
 }
 
 /// The first row whose cost is another one.
-fn first_wrong(alloc: Global, rows: &[Row]) -> Option<u32> {
+fn find_cost_mismatch(alloc: Global, rows: &[Row]) -> Option<u32> {
     for row in rows {
         if !is_cost(alloc, row) {
             return Some(row.0);
@@ -99,10 +99,10 @@ fn first_wrong(alloc: Global, rows: &[Row]) -> Option<u32> {
 
 #[test]
 fn costs_are_those_of_the_table(rt: HostRuntime) {
-    assert_eq!(rt; first_wrong(rt.alloc(), &COSTS), None);
+    assert_eq!(rt; find_cost_mismatch(rt.alloc(), &COSTS), None);
 }
 
 #[test]
 fn branches_cost_by_their_way(rt: HostRuntime) {
-    assert_eq!(rt; first_wrong(rt.alloc(), &WAYS), None);
+    assert_eq!(rt; find_cost_mismatch(rt.alloc(), &WAYS), None);
 }

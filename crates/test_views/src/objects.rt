@@ -1,11 +1,11 @@
 //! Objects that are listed, asked for an address, and counted. The tetras of the first two are those of docs/OBJECTS.md, the rows
 //! and the sums are worked out by hand.
 
-use mx_begin::arguments;
+use mx_begin::collect_arguments;
 use mx_host::MemHost;
 use mx_load::ObjectFault;
 use mx_object::{
-    count_object, find_tetra, found_text, is_object, list_object, listing_text, sheet_text,
+    count_object, find_tetra, format_found, format_listing, format_sheet, is_object, list_object,
 };
 use mx_outcome::Outcome;
 use mx_word::{Bytes, tetra_bytes};
@@ -98,7 +98,7 @@ pub fn bytes_of(alloc: Global, tetras: &[u32], end: Option<u32>) -> Option<Bytes
 fn is_listed(alloc: Global, tetras: &[u32], end: Option<u32>, due: &str) -> Option<bool> {
     let bytes = bytes_of(alloc, tetras, end)?;
     let listed = list_object(alloc, bytes.as_slice()).ok()?;
-    let text = listing_text(alloc, &listed).ok()?;
+    let text = format_listing(alloc, &listed).ok()?;
     Some(text.as_slice() == due.as_bytes())
 }
 
@@ -146,7 +146,7 @@ symbol :Text #0000000000000182 1
 fn listed_jumps(alloc: Global) -> Option<Bytes> {
     let bytes = bytes_of(alloc, &JUMPS, Some(0x980c_0004))?;
     let listed = list_object(alloc, bytes.as_slice()).ok()?;
-    listing_text(alloc, &listed).ok()
+    format_listing(alloc, &listed).ok()
 }
 
 /// Why an object is refused.
@@ -178,7 +178,7 @@ fn objects_begin_with_pre(rt: HostRuntime) {
 fn found(alloc: Global, address: u64) -> Option<Bytes> {
     let bytes = bytes_of(alloc, &PRINTS, None)?;
     let found = find_tetra(alloc, bytes.as_slice(), address).ok()?;
-    found_text(alloc, &found).ok()
+    format_found(alloc, &found).ok()
 }
 
 /// Whether this is told of an address of the first object.
@@ -216,7 +216,7 @@ fn counted(alloc: Global, object: &Bytes) -> Option<(Outcome, Bytes)> {
     let mut host = MemHost::new(alloc, Vec::new(alloc), Vec::new(alloc)).ok()?;
     let words = words(alloc)?;
     let order = read(words.as_slice()).ok()?;
-    let given = arguments(alloc, words.as_slice(), &order).ok()?;
+    let given = collect_arguments(alloc, words.as_slice(), &order).ok()?;
     let counted = count_object(
         alloc,
         &mut host,
@@ -225,7 +225,7 @@ fn counted(alloc: Global, object: &Bytes) -> Option<(Outcome, Bytes)> {
         given.as_slice(),
     );
     match &counted.sheet {
-        Some(sheet) => Some((counted.outcome, sheet_text(alloc, sheet).ok()?)),
+        Some(sheet) => Some((counted.outcome, format_sheet(alloc, sheet).ok()?)),
         None => Some((counted.outcome, Bytes::new(alloc))),
     }
 }

@@ -337,7 +337,7 @@ fn is_so(alloc: Global, row: &Row) -> Option<bool> {
 }
 
 /// The first row that is not as it says.
-fn first_wrong(alloc: Global, rows: &'static [Row]) -> Option<&'static str> {
+fn find_page_mismatch(alloc: Global, rows: &'static [Row]) -> Option<&'static str> {
     for row in rows {
         if is_so(alloc, row) != Some(true) {
             return Some(row.shows);
@@ -348,10 +348,10 @@ fn first_wrong(alloc: Global, rows: &'static [Row]) -> Option<&'static str> {
 
 #[test]
 fn faces_over_a_host(rt: HostRuntime) {
-    assert_eq!(rt; first_wrong(rt.alloc(), &ROWS), None);
+    assert_eq!(rt; find_page_mismatch(rt.alloc(), &ROWS), None);
 }
 
 #[test]
 fn objects_over_a_host(rt: HostRuntime) {
-    assert_eq!(rt; first_wrong(rt.alloc(), &OBJECTS), None);
+    assert_eq!(rt; find_page_mismatch(rt.alloc(), &OBJECTS), None);
 }

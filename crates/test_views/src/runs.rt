@@ -1,6 +1,6 @@
 //! Runs that are counted, over the host in memory: what is on standard output, the outcome, and the sheet.
 
-use mx_begin::arguments;
+use mx_begin::collect_arguments;
 use mx_count::{Counted, CountedLines, LineSheet, Tally, count_lines, count_source};
 use mx_host::MemHost;
 use mx_outcome::Outcome;
@@ -30,7 +30,7 @@ fn counted(alloc: Global, host: &mut MemHost, source: &str, words: &[&str]) -> O
         all.push(String::from_str(alloc, word).ok()?).ok()?;
     }
     let order = read(all.as_slice()).ok()?;
-    let given = arguments(alloc, all.as_slice(), &order).ok()?;
+    let given = collect_arguments(alloc, all.as_slice(), &order).ok()?;
     Some(count_source(alloc, host, &order, source.as_bytes(), given.as_slice()))
 }
 
@@ -88,7 +88,7 @@ fn counted_lines(alloc: Global, host: &mut MemHost) -> Option<CountedLines> {
     all.push(String::from_str(alloc, "run").ok()?).ok()?;
     all.push(String::from_str(alloc, "a.mms").ok()?).ok()?;
     let order = read(all.as_slice()).ok()?;
-    let given = arguments(alloc, all.as_slice(), &order).ok()?;
+    let given = collect_arguments(alloc, all.as_slice(), &order).ok()?;
     Some(count_lines(alloc, host, &order, PRINTS.as_bytes(), given.as_slice()))
 }
 

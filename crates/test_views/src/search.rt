@@ -104,7 +104,7 @@ fn places(alloc: Global, source: &str) -> Option<[(u32, u16); 4]> {
 }
 
 /// What the first row shows that is not so.
-fn first_wrong(alloc: Global, rows: &'static [Row]) -> Option<&'static str> {
+fn find_search_mismatch(alloc: Global, rows: &'static [Row]) -> Option<&'static str> {
     for row in rows {
         if places(alloc, row.source) != Some(row.faults) {
             return Some(row.shows);
@@ -115,5 +115,5 @@ fn first_wrong(alloc: Global, rows: &'static [Row]) -> Option<&'static str> {
 
 #[test]
 fn faults_are_found_one_after_another(rt: HostRuntime) {
-    assert_eq!(rt; first_wrong(rt.alloc(), &ROWS), None);
+    assert_eq!(rt; find_search_mismatch(rt.alloc(), &ROWS), None);
 }

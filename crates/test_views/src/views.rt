@@ -1,6 +1,6 @@
 //! Views, row by row. The tetras are worked out by hand from the tables of the book's codes (TAOCP 1, Fascicle 1).
 
-use mx_view::{Sheet, faults, lines_holding, listing};
+use mx_view::{Sheet, list_faults, list_lines_at, listing};
 use mx_word::NoMemory;
 
 /// A source with a jump to a later label, and its listing.
@@ -301,7 +301,7 @@ fn listed_up_to_the_fault(rt: HostRuntime) {
 fn lines_of_an_address(rt: HostRuntime) {
     assert!(rt;
         is_shown(
-            lines_holding(rt.alloc(), 0x103, SHARED.as_bytes()),
+            list_lines_at(rt.alloc(), 0x103, SHARED.as_bytes()),
             SHARED_FOUND,
             true
         )
@@ -312,7 +312,7 @@ fn lines_of_an_address(rt: HostRuntime) {
 fn no_line_of_an_address(rt: HostRuntime) {
     assert!(rt;
         is_shown(
-            lines_holding(rt.alloc(), 0x108, SHARED.as_bytes()),
+            list_lines_at(rt.alloc(), 0x108, SHARED.as_bytes()),
             "",
             true
         )
@@ -321,19 +321,31 @@ fn no_line_of_an_address(rt: HostRuntime) {
 
 #[test]
 fn all_faults(rt: HostRuntime) {
-    assert!(rt; is_shown(faults(rt.alloc(), FAULTY.as_bytes()), FAULTY_TOLD, false));
+    assert!(rt;
+        is_shown(
+            list_faults(rt.alloc(), FAULTY.as_bytes()),
+            FAULTY_TOLD,
+            false
+        )
+    );
 }
 
 #[test]
 fn faults_with_places(rt: HostRuntime) {
-    assert!(rt; is_shown(faults(rt.alloc(), PLACED.as_bytes()), PLACED_TOLD, false));
+    assert!(rt;
+        is_shown(
+            list_faults(rt.alloc(), PLACED.as_bytes()),
+            PLACED_TOLD,
+            false
+        )
+    );
 }
 
 #[test]
 fn labels_of_faulty_lines_stay(rt: HostRuntime) {
     assert!(rt;
         is_shown(
-            faults(rt.alloc(), LABELLED.as_bytes()),
+            list_faults(rt.alloc(), LABELLED.as_bytes()),
             LABELLED_TOLD,
             false
         )
@@ -344,7 +356,7 @@ fn labels_of_faulty_lines_stay(rt: HostRuntime) {
 fn a_reference_is_at_fault(rt: HostRuntime) {
     assert!(rt;
         is_shown(
-            faults(rt.alloc(), REFERRED.as_bytes()),
+            list_faults(rt.alloc(), REFERRED.as_bytes()),
             REFERRED_TOLD,
             false
         )
@@ -353,12 +365,18 @@ fn a_reference_is_at_fault(rt: HostRuntime) {
 
 #[test]
 fn parts_are_marked_and_near_names_named(rt: HostRuntime) {
-    assert!(rt; is_shown(faults(rt.alloc(), MARKED.as_bytes()), MARKED_TOLD, false));
+    assert!(rt;
+        is_shown(
+            list_faults(rt.alloc(), MARKED.as_bytes()),
+            MARKED_TOLD,
+            false
+        )
+    );
 }
 
 #[test]
 fn no_faults(rt: HostRuntime) {
-    assert!(rt; is_shown(faults(rt.alloc(), AHEAD.as_bytes()), "", true));
+    assert!(rt; is_shown(list_faults(rt.alloc(), AHEAD.as_bytes()), "", true));
 }
 
 #[test]
@@ -376,7 +394,7 @@ fn a_tetra_of_a_line_is_shown_once(rt: HostRuntime) {
 fn a_tetra_of_a_line_is_found_once(rt: HostRuntime) {
     assert!(rt;
         is_shown(
-            lines_holding(rt.alloc(), 0x101, ONE_TETRA.as_bytes()),
+            list_lines_at(rt.alloc(), 0x101, ONE_TETRA.as_bytes()),
             ONE_TETRA_FOUND,
             true
         )
@@ -396,5 +414,5 @@ fn a_tetra_of_a_refused_line_is_joined(rt: HostRuntime) {
 
 #[test]
 fn carets_behind_characters(rt: HostRuntime) {
-    assert!(rt; are_told(faults(rt.alloc(), CHARACTERS), CHARACTERS_TOLD));
+    assert!(rt; are_told(list_faults(rt.alloc(), CHARACTERS), CHARACTERS_TOLD));
 }

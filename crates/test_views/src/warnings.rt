@@ -190,51 +190,51 @@ fn is_told(alloc: Global, row: &Row) -> bool {
 }
 
 /// The first row whose source has other warnings.
-fn first_wrong(alloc: Global, rows: &[Row]) -> Option<usize> {
+fn find_warning_mismatch(alloc: Global, rows: &[Row]) -> Option<usize> {
     rows.iter().position(|row| !is_told(alloc, row))
 }
 
 #[test]
 fn operators_after_a_blank(rt: HostRuntime) {
-    assert_eq!(rt; first_wrong(rt.alloc(), &OPERATORS), None);
+    assert_eq!(rt; find_warning_mismatch(rt.alloc(), &OPERATORS), None);
 }
 
 #[test]
 fn backslashes_in_strings(rt: HostRuntime) {
-    assert_eq!(rt; first_wrong(rt.alloc(), &BACKSLASHES), None);
+    assert_eq!(rt; find_warning_mismatch(rt.alloc(), &BACKSLASHES), None);
 }
 
 #[test]
 fn local_labels_with_none_before(rt: HostRuntime) {
-    assert_eq!(rt; first_wrong(rt.alloc(), &LOCALS), None);
+    assert_eq!(rt; find_warning_mismatch(rt.alloc(), &LOCALS), None);
 }
 
 #[test]
 fn bytes_that_are_placed_twice(rt: HostRuntime) {
-    assert_eq!(rt; first_wrong(rt.alloc(), &OVERLAPS), None);
+    assert_eq!(rt; find_warning_mismatch(rt.alloc(), &OVERLAPS), None);
 }
 
 #[test]
 fn registers_of_zero_before_data(rt: HostRuntime) {
-    assert_eq!(rt; first_wrong(rt.alloc(), &GREGS), None);
+    assert_eq!(rt; find_warning_mismatch(rt.alloc(), &GREGS), None);
 }
 
 #[test]
 fn bases_that_nothing_uses(rt: HostRuntime) {
-    assert_eq!(rt; first_wrong(rt.alloc(), &BASES), None);
+    assert_eq!(rt; find_warning_mismatch(rt.alloc(), &BASES), None);
 }
 
 #[test]
 fn data_after_code(rt: HostRuntime) {
-    assert_eq!(rt; first_wrong(rt.alloc(), &ENDS), None);
+    assert_eq!(rt; find_warning_mismatch(rt.alloc(), &ENDS), None);
 }
 
 #[test]
 fn labels_in_another_case(rt: HostRuntime) {
-    assert_eq!(rt; first_wrong(rt.alloc(), &CASES), None);
+    assert_eq!(rt; find_warning_mismatch(rt.alloc(), &CASES), None);
 }
 
 #[test]
 fn subroutines_that_lose_their_return(rt: HostRuntime) {
-    assert_eq!(rt; first_wrong(rt.alloc(), &RETURNS), None);
+    assert_eq!(rt; find_warning_mismatch(rt.alloc(), &RETURNS), None);
 }

@@ -12,7 +12,7 @@ use Rattle.mx_code.specs.declared.put.Put.{Put}
 use Rattle.mx_code.specs.declared.put.Put.TheVariants as put
 use Rattle.mx_alu.specs.declared.call.TrapCall.{TrapCall}
 use Rattle.mx_core.specs.Bounds.{IsMachine, as_list_state}
-use Rattle.mx_core.specs.Changes.{allowed_unless, register_changed, with_put, put_changed, special_changed, octa_changed, at_address}
+use Rattle.mx_core.specs.UserChanges.{allowed_unless, register_changed, with_put, put_by_user, special_changed, octa_changed, at_address}
 use Rattle.mx_core.specs.Deeds.{with_specials, onward}
 use Rattle.mx_core.specs.State.{State, global_start, locals, with_value_in, with_special, with_octa, is_page_refused}
 use Rattle.mx_core.specs.Traps.{trap_specials, trapped, halted, with_touch}
@@ -39,7 +39,7 @@ pub register-listed : (s : State) (w : Window) (k value : ℕ) → IsMachine s w
 register-listed s w k value m =
     ap (λ b. allowed_unless b (with_value_in (as_list_state s) k value)) (same-overfills s.stack k) ∙ allowed-listed (set_overfills s.stack k) _ (with_value_in s k value) (value-listed s k value (ring-of s w m))
 
-put-listed : (s : State) (w : Window) (code : ℕ) (p : Put) → IsMachine s w → put_changed (as_list_state s) code p ≡ map_ok as_list_state (put_changed s code p)
+put-listed : (s : State) (w : Window) (code : ℕ) (p : Put) → IsMachine s w → put_by_user (as_list_state s) code p ≡ map_ok as_list_state (put_by_user s code p)
 put-listed s w code (put.Store value) m = ap (λ (u : State). Ok u) (by-code (code == rL) (code == rG))
   where
     by-code : (a b : Bool) → cond a (record s { stack = cut_to (as_listed s.stack) value }) (cond b (record s { stack = with_global_start (as_listed s.stack) value }) (with_special (as_list_state s) code value)) ≡ as_list_state (cond a (record s { stack = cut_to s.stack value }) (cond b (record s { stack = with_global_start s.stack value }) (with_special s code value)))
@@ -51,7 +51,7 @@ put-listed s w code put.Privileged m = refl
 
 pub special-listed : (s : State) (w : Window) (code value : ℕ) → IsMachine s w → special_changed (as_list_state s) code value ≡ map_ok as_list_state (special_changed s code value)
 special-listed s w code value m =
-    ap (λ (v : Registers). put_changed (as_list_state s) code (put_of code value v.first_global (length v.locals))) (same-visible s.stack) ∙ put-listed s w code (put_of code value (global_start s) (locals s)) m
+    ap (λ (v : Registers). put_by_user (as_list_state s) code (put_of code value v.first_global (length v.locals))) (same-visible s.stack) ∙ put-listed s w code (put_of code value (global_start s) (locals s)) m
 
 pub octa-changed-listed : (s : State) (a x : ℕ) → in_stack_area a ≡ false → octa_changed (as_list_state s) a x ≡ map_ok as_list_state (octa_changed s a x)
 octa-changed-listed s a x e = allowed-listed (is_page_refused s a) _ (with_octa s a x) (octa-listed s a x e)
@@ -94,7 +94,7 @@ put-keeps s w code value m l g =
 
 pub special-keeps : (s t : State) (w : Window) (code value : ℕ) → IsMachine s w → special_changed s code value ≡ Ok t → HasMachine t
 special-keeps s t w code value m e =
-    ok-is HasMachine _ t (put-cases (λ (p : Put). OfOk HasMachine (put_changed s code p)) code value (global_start s) (locals s) tt tt (λ v b. put-keeps s w code v m b.local b.global)) e
+    ok-is HasMachine _ t (put-cases (λ (p : Put). OfOk HasMachine (put_by_user s code p)) code value (global_start s) (locals s) tt tt (λ v b. put-keeps s w code v m b.local b.global)) e
 
 same-touched : (s : State) (a x : ℕ) → (with_octa s a x).touched ≡ s.touched
 unfolding with_octa

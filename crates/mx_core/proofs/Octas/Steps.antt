@@ -12,7 +12,7 @@ use Rattle.mx_alu.specs.declared.insertion.Insert.TheVariants as insert
 use Rattle.mx_alu.specs.declared.insertion.Kind.{Kind}
 use Rattle.mx_alu.specs.declared.insertion.Kind.TheVariants.{Again, Continue, Set}
 use Rattle.mx_core.specs.Bounds.{IsMachine}
-use Rattle.mx_core.specs.Changes.{register_changed, with_put, put_changed, special_changed, octa_changed, at_address}
+use Rattle.mx_core.specs.UserChanges.{register_changed, with_put, put_by_user, special_changed, octa_changed, at_address}
 use Rattle.mx_code.specs.Instructions.{instruction, operation_in, x_of, xyz_of, destination_of}
 use Rattle.mx_code.specs.declared.instruction.Instruction.{Instruction}
 use Rattle.mx_core.specs.Deeds.{deed_for, Deed, deed_of, plain_deed, given_instruction, inserted, resumed, applied, address_after, with_destination, with_specials, moved}
@@ -163,7 +163,7 @@ put-octas s code value o f =
 
 pub special-over : (s t : State) (code value : ℕ) → IsOverWindow s → value < 2 ^ 64 → special_changed s code value ≡ Ok t → IsOverWindow t
 special-over s t code value h f e =
-    over-window t (special-keeps s t h.window code value h.machine e) (ok-is OctaState _ t (put-cases (λ (p : Put). OfOk OctaState (put_changed s code p)) code value (global_start s) (locals s) tt tt (λ v b. put-octas s code v (octas-of s h) (stored-special code value (locals s) v f b))) e)
+    over-window t (special-keeps s t h.window code value h.machine e) (ok-is OctaState _ t (put-cases (λ (p : Put). OfOk OctaState (put_by_user s code p)) code value (global_start s) (locals s) tt tt (λ v b. put-octas s code v (octas-of s h) (stored-special code value (locals s) v f b))) e)
 
 pub octa-over : (s t : State) (a x : ℕ) → IsOverWindow s → x < 2 ^ 64 → octa_changed s a x ≡ Ok t → IsOverWindow t
 octa-over s t a x h f e =

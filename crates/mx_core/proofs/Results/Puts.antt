@@ -6,7 +6,7 @@ use Rattle.mx_code.specs.SpecialRegisters.{rG, rL, rJ}
 use Rattle.mx_code.specs.declared.put.Put.{Put}
 use Rattle.mx_code.specs.declared.put.Put.TheVariants as put
 use Rattle.mx_core.specs.Way.Calls.{put_outcome, put_done}
-use Rattle.mx_core.specs.Changes.{with_put}
+use Rattle.mx_core.specs.UserChanges.{with_put}
 use Rattle.mx_core.specs.Deeds.{applied, onward, outcome, deed_of, unless_refused, is_absent, loads_in_segment, stores_in_segment}
 use Rattle.mx_core.specs.Effects.{Effect, effect_of, z_operand, putting}
 use Rattle.mx_code.specs.Instructions.{x_of, y_of, next_of}

@@ -5,7 +5,7 @@ use Rattle.mx_alu.specs.declared.answer.Event.{Event}
 use Rattle.mx_code.specs.Puts.{put_of}
 use Rattle.mx_code.specs.declared.put.Put.{Put}
 use Rattle.mx_code.specs.declared.put.Put.TheVariants as put
-use Rattle.mx_core.specs.Changes.{with_put}
+use Rattle.mx_core.specs.UserChanges.{with_put}
 use Rattle.mx_code.specs.SpecialRegisters.{rA, rH, rR, rJ, rP, rS}
 use Rattle.mx_alu.specs.Insertions.{is_marginal}
 use Rattle.mx_alu.specs.Trips.{decided}

@@ -4,7 +4,7 @@ ghost use Rattle.std.specs.Prelude.{Some};
 ghost use Rattle.mx_host.specs.HostModel.{fault_count};
 
 use super::MemHost;
-use super::files::{opened, place_sought};
+use super::files::{place_sought, slot_at_start};
 use crate::faults::{HostFault, OpenFault};
 use crate::host::Host;
 use crate::slots::{Lead, Mode, Slot};
@@ -16,7 +16,7 @@ impl Host for MemHost {
     ghost faults = { λ h. fault_count h.calls h.failing };
 
     fn open_file(&mut self, slot: u16, name: &[u8], mode: Mode) -> Result<(), OpenFault> {
-        if self.next_call() {
+        if self.count_call() {
             return Err(OpenFault::Failed);
         }
         match self.find(name) {
@@ -29,10 +29,10 @@ impl Host for MemHost {
             }
             Some(at) => {
                 if mode.is_read_only() {
-                    self.set_slot(slot, opened(at, mode));
+                    self.set_slot(slot, slot_at_start(at, mode));
                 } else {
                     self.empty(at);
-                    self.set_slot(slot, opened(at, mode));
+                    self.set_slot(slot, slot_at_start(at, mode));
                 }
                 Ok(())
             }
@@ -40,7 +40,7 @@ impl Host for MemHost {
     }
 
     fn close_slot(&mut self, slot: u16) -> Result<(), HostFault> {
-        if self.next_call() {
+        if self.count_call() {
             return Err(HostFault::Failed);
         }
         if self.slot(slot) == Slot::Closed {
@@ -51,7 +51,7 @@ impl Host for MemHost {
     }
 
     fn read_slot(&mut self, slot: u16, into: &mut [u8]) -> Result<usize, HostFault> {
-        if self.next_call() {
+        if self.count_call() {
             return Err(HostFault::Failed);
         }
         match self.slot(slot) {
@@ -81,7 +81,7 @@ impl Host for MemHost {
     }
 
     fn write_slot(&mut self, slot: u16, from: &[u8]) -> Result<(), HostFault> {
-        if self.next_call() {
+        if self.count_call() {
             return Err(HostFault::Failed);
         }
         match self.slot(slot) {
@@ -101,7 +101,7 @@ impl Host for MemHost {
     }
 
     fn seek_slot(&mut self, slot: u16, to: i64) -> Result<(), HostFault> {
-        if self.next_call() {
+        if self.count_call() {
             return Err(HostFault::Failed);
         }
         match self.slot(slot) {
@@ -129,7 +129,7 @@ impl Host for MemHost {
     }
 
     fn tell_slot(&mut self, slot: u16) -> Result<u64, HostFault> {
-        if self.next_call() {
+        if self.count_call() {
             return Err(HostFault::Failed);
         }
         match self.slot(slot) {

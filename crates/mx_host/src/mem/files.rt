@@ -138,13 +138,13 @@ impl MemHost {
         let at = self.files.len();
         let none = Bytes::new(self.alloc);
         self.add_file(name, none)?;
-        self.set_slot(slot, opened(at, mode));
+        self.set_slot(slot, slot_at_start(at, mode));
         Ok(())
     }
 }
 
 /// A slot on the beginning of a file.
-pub(super) fn opened(at: usize, mode: Mode) -> Slot
+pub(super) fn slot_at_start(at: usize, mode: Mode) -> Slot
     ensures { result ≡ Slot.Open (Lead.File at) mode 0 }
 {
     Slot::Open {

@@ -12,7 +12,7 @@ impl Hidden {
     /// The octas of the stack area after the spilled ones: this many, or as many as there are.
     ///
     /// Errors: `OutOfMemory` alone.
-    pub fn behind(&mut self, count: usize) -> Result<Vec<u64>, RingFault>
+    pub fn copy_after_spilled(&mut self, count: usize) -> Result<Vec<u64>, RingFault>
         ensures same { self.new ≡ self.old }
         ensures octas { IfOk result (λ list. list.items ≡ take count (drop self.old.spilled self.old.stack)) }
         ensures memory { OnErr result (result ≡ Err RingFault.OutOfMemory) }
@@ -27,7 +27,7 @@ impl Hidden {
     /// The hidden octas in the ring without the first `stays`.
     ///
     /// Errors: `OutOfMemory` alone.
-    pub fn residents_from(&self, stays: usize) -> Result<Vec<u64>, RingFault>
+    pub fn copy_residents_from(&self, stays: usize) -> Result<Vec<u64>, RingFault>
         ensures octas { IfOk result (λ list. list.items ≡ drop stays self.now.resident) }
         ensures memory { OnErr result (result ≡ Err RingFault.OutOfMemory) }
     {

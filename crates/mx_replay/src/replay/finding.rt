@@ -10,7 +10,7 @@ ghost use Rattle.mx_replay.specs.Searches.{FoundAt, IsLast, IsLastBefore, IsLeft
 use super::Replay;
 use super::visiting::start_again;
 use crate::frames::{Frame, find_frames};
-use crate::marks::{Place, Sought, marks_start};
+use crate::marks::{Place, Sought, has_mark_at_start};
 use crate::searches::{find_last, find_next};
 use crate::stops::{Break, Watch};
 use mx_core::Machine;
@@ -144,21 +144,21 @@ impl Replay {
     /// The last step before this one whose turn comes to a flag: the greatest. It stays where it is.
     ///
     /// Errors: out of memory.
-    pub fn last_hit(&mut self, flags: &FlagMap) -> Result<Option<u64>, NoMemory>
+    pub fn find_last_hit(&mut self, flags: &FlagMap) -> Result<Option<u64>, NoMemory>
         ensures same { self.new ≡ self.old }
         ensures last { IfOk result (IsLast self.old.program (comes_to_flag (flags_at flags.now)) (self.old.at - 1)) }
     {
-        self.last_marked(Sought::Flags(flags), self.here.at.saturating_sub(1))
+        self.find_last_marked(Sought::Flags(flags), self.here.at.saturating_sub(1))
     }
 
     /// The last step before this one whose turn changed the value at a place: the greatest. It stays where it is.
     ///
     /// Errors: out of memory.
-    pub fn last_change(&mut self, place: Place) -> Result<Option<u64>, NoMemory>
+    pub fn find_last_change(&mut self, place: Place) -> Result<Option<u64>, NoMemory>
         ensures same { self.new ≡ self.old }
         ensures last { IfOk result (IsLast self.old.program (changes place) (self.old.at - 1)) }
     {
-        self.last_marked(Sought::Change(place), self.here.at.saturating_sub(1))
+        self.find_last_marked(Sought::Change(place), self.here.at.saturating_sub(1))
     }
 
     /// The last step before this one whose turn comes to one of these breaks, changes the value at a place that is watched, or
@@ -166,7 +166,7 @@ impl Replay {
     ///
     /// Errors: out of memory.
     #[tactic(auto, using(crate::proofs::Unmarked::unmarking))]
-    pub fn last_stop(
+    pub fn find_last_stop(
         &mut self,
         breaks: &[Break],
         watches: &[Watch],
@@ -178,7 +178,7 @@ impl Replay {
         if is_nothing(breaks, watches, most) {
             return Ok(None);
         }
-        self.last_marked(
+        self.find_last_marked(
             Sought::Stops(breaks, watches, most),
             self.here.at.saturating_sub(1),
         )
@@ -188,11 +188,11 @@ impl Replay {
     /// Nothing where it never changed. It stays where it is.
     ///
     /// Errors: out of memory.
-    pub fn maker(&mut self, place: Place) -> Result<Option<u64>, NoMemory>
+    pub fn find_maker(&mut self, place: Place) -> Result<Option<u64>, NoMemory>
         ensures same { self.new ≡ self.old }
         ensures last { IfOk result (IsLast self.old.program (changes place) self.old.at) }
     {
-        self.last_marked(Sought::Change(place), self.here.at)
+        self.find_last_marked(Sought::Change(place), self.here.at)
     }
 
     /// The last step before this one at which at most this many registers are hidden: the greatest, and the start too may be
@@ -200,14 +200,14 @@ impl Replay {
     /// the step that called. It stays where it is.
     ///
     /// Errors: out of memory.
-    pub fn last_shallow(&mut self, at_most: u64) -> Result<Option<u64>, NoMemory>
+    pub fn find_last_shallow(&mut self, at_most: u64) -> Result<Option<u64>, NoMemory>
         ensures same { self.new ≡ self.old }
         ensures last { IfOk result (IsLastBefore self.old.program (is_shallow at_most) self.old.at) }
     {
         if self.here.at == 0 {
             return Ok(None);
         }
-        self.last_marked(Sought::Shallow(at_most), self.here.at - 1)
+        self.find_last_marked(Sought::Shallow(at_most), self.here.at - 1)
     }
 
     /// The calls that have not returned at this step, the outermost first. SAVE and UNSAVE leave none.
@@ -234,7 +234,7 @@ impl Replay {
     }
 
     /// The greatest step up to `until` that has a mark. Looked for from one step that is kept to the next, backwards.
-    fn last_marked(&mut self, sought: Sought<'_>, until: u64) -> Result<Option<u64>, NoMemory>
+    fn find_last_marked(&mut self, sought: Sought<'_>, until: u64) -> Result<Option<u64>, NoMemory>
         ensures same { self.new ≡ self.old }
         ensures last { IfOk result (IsLast self.old.program (mark_of sought.entry) until) }
     {
@@ -249,7 +249,7 @@ impl Replay {
             end = from;
         }
         let start = self.visit_start()?;
-        if marks_start(&start.machine, sought) {
+        if has_mark_at_start(&start.machine, sought) {
             Ok(Some(0))
         } else {
             Ok(None)

@@ -8,7 +8,7 @@ ghost use Rattle.mx_replay.specs.Visits.{IsStart, IsStep};
 use super::Replay;
 use crate::kept::go_near;
 use crate::program::Program;
-use crate::visit::{Visit, start};
+use crate::visit::{Visit, start_visit};
 use mx_word::NoMemory;
 use std::alloc::Global;
 
@@ -24,7 +24,7 @@ pub(super) fn start_again(
 {
     match kept {
         Some(visit) => Ok(visit),
-        None => match start(alloc, program) {
+        None => match start_visit(alloc, program) {
             Ok(visit) => Ok(visit),
             Err(_) => Err(NoMemory),
         },

@@ -29,7 +29,7 @@ impl Ring {
         ensures err { OnErr result (self.new ≡ self.old) }
     {
         match self.note(work) {
-            Ok(note) => match self.work(work) {
+            Ok(note) => match self.perform(work) {
                 Ok(specials) => Ok((note, specials)),
                 Err(fault) => Err(fault),
             },
@@ -59,14 +59,14 @@ impl Ring {
         ensures memory { OnErr result (result ≡ Err RingFault.OutOfMemory) }
     {
         let registers = note_registers(self.alloc, work, &self.visible)?;
-        let count = self.spilled_by(work);
-        let stays = self.staying(work);
-        let octa = self.octa_noted(work);
-        let over = self.hidden.behind(count)?;
-        let gone = self.hidden.residents_from(stays)?;
+        let count = self.count_spilled_by(work);
+        let stays = self.count_staying(work);
+        let octa = self.overwritten_octa(work);
+        let over = self.hidden.copy_after_spilled(count)?;
+        let gone = self.hidden.copy_residents_from(stays)?;
         Ok(RingNote {
             registers,
-            spilled: self.hidden.spilled(),
+            spilled: self.hidden.spilled_count(),
             over,
             stays,
             gone,
@@ -86,7 +86,7 @@ impl Ring {
         ensures memory { OnErr result (result ≡ Err RingFault.OutOfMemory) }
     {
         let work = RingWork::Set(k, 0);
-        let count = self.spilled_by(work);
+        let count = self.count_spilled_by(work);
         let octa = self.octa_after_spill(count, i as usize);
         let mut note = self.note(work)?;
         note.octa = Some((i, octa));
@@ -99,7 +99,7 @@ impl Ring {
         requires inside { i < 2 ^ 20 }
         ensures { result ≡ octa_after_spill self.now.hidden count i }
     {
-        if i < self.hidden.spilled() + count {
+        if i < self.hidden.spilled_count() + count {
             self.hidden.octas()[i]
         } else {
             self.hidden.octa(i)
@@ -108,7 +108,7 @@ impl Ring {
 
     /// Does the call that `work` names.
     #[tactic(auto, unfolding(crate::specs::Notes::WorkNeeds, crate::specs::Notes::worked, crate::specs::Notes::work_answer))]
-    fn work(&mut self, work: RingWork) -> Result<Option<Saved>, RingFault>
+    fn perform(&mut self, work: RingWork) -> Result<Option<Saved>, RingFault>
         requires { WorkNeeds work self.old }
         ensures answer { result ≡ work_answer work (windowed self.old) }
         ensures ok { OnOk result (windowed self.new ≡ worked work (windowed self.old)) }
@@ -137,11 +137,11 @@ impl Ring {
 
     /// How many octas the call spills.
     #[tactic(auto, unfolding(crate::specs::Notes::spilled_by))]
-    fn spilled_by(&self, work: RingWork) -> usize
+    fn count_spilled_by(&self, work: RingWork) -> usize
         ensures value { result ≡ spilled_by work self.now }
         ensures bounds { IsRing self.now }
     {
-        let resident = self.hidden.len() - self.hidden.spilled();
+        let resident = self.hidden.len() - self.hidden.spilled_count();
         match work {
             RingWork::Set(k, _) => {
                 if self.visible.is_marginal(k) {
@@ -162,38 +162,40 @@ impl Ring {
         requires { number ≤ 255 }
         ensures { result ≡ push_spills self.now number }
     {
-        let resident = self.hidden.len() - self.hidden.spilled();
+        let resident = self.hidden.len() - self.hidden.spilled_count();
         let locals = self.visible.local_count().saturating_sub(number + 1);
         above_room(resident + (number + 1) + locals, self.size)
     }
 
     /// How many of the hidden octas in the ring are hidden still after the call.
     #[tactic(auto, unfolding(crate::specs::Notes::staying))]
-    fn staying(&self, work: RingWork) -> usize
+    fn count_staying(&self, work: RingWork) -> usize
         ensures { result ≡ staying work self.now }
     {
-        let resident = self.hidden.len() - self.hidden.spilled();
+        let resident = self.hidden.len() - self.hidden.spilled_count();
         match work {
-            RingWork::Pop(_) => self.staying_at_pop(),
+            RingWork::Pop(_) => self.count_staying_at_pop(),
             RingWork::Unsave(_) => 0,
             _ => resident,
         }
     }
 
     /// How many of them are hidden still after POP.
-    fn staying_at_pop(&self) -> usize
+    fn count_staying_at_pop(&self) -> usize
         ensures { result ≡ length (octas_of self.now.hidden)
             - (hole_in (octas_of self.now.hidden) + 1) - self.now.hidden.spilled }
     {
         match hole(self.hidden.octas()) {
-            Some(hole) => (self.hidden.len() - (hole + 1)).saturating_sub(self.hidden.spilled()),
+            Some(hole) => (self.hidden.len() - (hole + 1)).saturating_sub(
+                self.hidden.spilled_count(),
+            ),
             None => 0,
         }
     }
 
     /// The octa of the stack area that the call overwrites.
     #[tactic(auto, unfolding(crate::specs::Notes::WorkNeeds, crate::specs::Notes::octa_noted))]
-    fn octa_noted(&self, work: RingWork) -> Option<(u32, u64)>
+    fn overwritten_octa(&self, work: RingWork) -> Option<(u32, u64)>
         requires { WorkNeeds work self.now }
         ensures { result ≡ octa_noted work self.now.hidden.stack }
     {

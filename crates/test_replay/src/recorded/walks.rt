@@ -78,7 +78,7 @@ fn walk(alloc: Global, source: &str) -> Option<usize> {
 }
 
 /// The number of the first program whose run is not told by its records, and how many turns it has.
-fn first_wrong(alloc: Global) -> Option<(usize, Option<usize>)> {
+fn find_recording_mismatch(alloc: Global) -> Option<(usize, Option<usize>)> {
     let runs = [
         (ECHOES, 21),
         (SUMS, 22),
@@ -97,6 +97,6 @@ fn first_wrong(alloc: Global) -> Option<(usize, Option<usize>)> {
 
 #[test]
 fn records_lead_along_the_run_and_back(rt: HostRuntime) {
-    let wrong = first_wrong(rt.alloc());
+    let wrong = find_recording_mismatch(rt.alloc());
     assert_eq!(rt; wrong, None);
 }

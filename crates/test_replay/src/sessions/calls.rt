@@ -1,7 +1,7 @@
 //! Calls that are gone over, out of and back to.
 
 use crate::programs::CALLS;
-use crate::sessions::{CALLS_START, Row, first_wrong};
+use crate::sessions::{CALLS_START, Row, find_mismatch};
 
 static ROWS: [Row; 11] = [
     Row {
@@ -107,5 +107,5 @@ $0 = 5  (was 0)
 
 #[test]
 fn calls_are_gone_over_and_out_of(rt: HostRuntime) {
-    assert_eq!(rt; first_wrong(rt.alloc(), CALLS, CALLS_START, &ROWS), None);
+    assert_eq!(rt; find_mismatch(rt.alloc(), CALLS, CALLS_START, &ROWS), None);
 }

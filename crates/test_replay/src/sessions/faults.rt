@@ -134,7 +134,7 @@ fn is_so(alloc: Global, row: &Row) -> Option<bool> {
 }
 
 /// The number of the first row that is not as it says.
-fn first_wrong(alloc: Global) -> Option<usize> {
+fn find_fault_mismatch(alloc: Global) -> Option<usize> {
     for (number, row) in ROWS.iter().enumerate() {
         if is_so(alloc, row) != Some(true) {
             return Some(number);
@@ -145,7 +145,7 @@ fn first_wrong(alloc: Global) -> Option<usize> {
 
 #[test]
 fn words_order_a_session_or_are_refused(rt: HostRuntime) {
-    assert_eq!(rt; first_wrong(rt.alloc()), None);
+    assert_eq!(rt; find_fault_mismatch(rt.alloc()), None);
 }
 
 /// What the program wrote that reads its input and a file.

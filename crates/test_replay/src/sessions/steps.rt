@@ -1,6 +1,6 @@
 //! Steps, back and forth, and what stops a run.
 
-use crate::sessions::{Row, SUM, SUM_START, first_wrong};
+use crate::sessions::{Row, SUM, SUM_START, find_mismatch};
 
 static STEPS: [Row; 14] = [
     Row {
@@ -241,10 +241,10 @@ deleted
 
 #[test]
 fn steps_are_gone_to(rt: HostRuntime) {
-    assert_eq!(rt; first_wrong(rt.alloc(), SUM, SUM_START, &STEPS), None);
+    assert_eq!(rt; find_mismatch(rt.alloc(), SUM, SUM_START, &STEPS), None);
 }
 
 #[test]
 fn breaks_and_watches_stop_a_run(rt: HostRuntime) {
-    assert_eq!(rt; first_wrong(rt.alloc(), SUM, SUM_START, &STOPS), None);
+    assert_eq!(rt; find_mismatch(rt.alloc(), SUM, SUM_START, &STOPS), None);
 }

@@ -1,6 +1,6 @@
 //! What is shown of a step.
 
-use crate::sessions::{Row, SUM, SUM_START, first_wrong};
+use crate::sessions::{Row, SUM, SUM_START, find_mismatch};
 
 static VALUES: [Row; 17] = [
     Row {
@@ -181,5 +181,5 @@ halted with status 12
 
 #[test]
 fn values_lines_and_words_are_shown(rt: HostRuntime) {
-    assert_eq!(rt; first_wrong(rt.alloc(), SUM, SUM_START, &VALUES), None);
+    assert_eq!(rt; find_mismatch(rt.alloc(), SUM, SUM_START, &VALUES), None);
 }

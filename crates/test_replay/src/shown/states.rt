@@ -8,7 +8,7 @@ use mx_replay::Replay;
 use mx_run::End;
 use mx_tell::{
     Call, add_backtrace, add_break_row, add_end, add_instructions, add_lines, add_memory, add_ring,
-    add_shown, add_symbols, add_watch_row, add_watched, around,
+    add_shown, add_symbols, add_watch_row, add_watched, first_line_around,
 };
 use mx_text::Form;
 use mx_word::{Bytes, NoMemory, Sequence};
@@ -192,7 +192,7 @@ fn add_known(alloc: Global, text: &mut Bytes, book: &Book, what: What) -> Result
             add_watched(text, book, 2, Thing::Register(1), old, u64::MAX)
         }
         What::Lines => {
-            add_lines(text, book, around(12), 0x114)?;
+            add_lines(text, book, first_line_around(12), 0x114)?;
             Ok(())
         }
         What::Ended(end) => add_end(text, book, end),
@@ -217,7 +217,7 @@ fn wrong_row(alloc: Global, book: &Book, machine: &Machine) -> Option<usize> {
 }
 
 /// The same of the state after step 4, to which the run is taken.
-pub fn first_wrong(alloc: Global, book: &Book, replay: &mut Replay) -> Option<usize> {
+pub fn find_state_mismatch(alloc: Global, book: &Book, replay: &mut Replay) -> Option<usize> {
     match replay.go_to(4) {
         Ok(_) => wrong_row(alloc, book, replay.machine()),
         Err(_) => Some(SHOWN.len()),

@@ -28,7 +28,7 @@ rJ = #110 <Main+16>  (was #0)
 
 /// Adds where a run is, and what its next step changes.
 fn add_step(text: &mut Bytes, book: &Book, replay: &mut Replay) -> Result<(), NoMemory> {
-    add_stop(text, book, replay.at(), replay.machine())?;
+    add_stop(text, book, replay.step_number(), replay.machine())?;
     let before = Before::of(replay.machine());
     match replay.step()? {
         Some(trace) => add_changes(text, book, &before, &trace, replay.machine()),
@@ -43,7 +43,7 @@ fn shows(alloc: Global, book: &Book, replay: &mut Replay, due: &str) -> bool {
 }
 
 /// The number of the first step that shows something else.
-pub fn first_wrong(alloc: Global, book: &Book, replay: &mut Replay) -> Option<usize> {
+pub fn find_step_mismatch(alloc: Global, book: &Book, replay: &mut Replay) -> Option<usize> {
     for (number, due) in SHOWN.iter().enumerate() {
         if !shows(alloc, book, replay, due) {
             return Some(number);

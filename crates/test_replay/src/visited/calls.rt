@@ -41,7 +41,7 @@ fn shows(replay: &mut Replay, k: u64, due: &[Frame]) -> bool {
 }
 
 /// The number of the first step that shows other calls.
-fn first_wrong(replay: &mut Replay) -> Option<usize> {
+fn find_call_mismatch(replay: &mut Replay) -> Option<usize> {
     for (number, (k, due)) in CALLED.iter().enumerate() {
         if !shows(replay, *k, due) {
             return Some(number);
@@ -53,7 +53,7 @@ fn first_wrong(replay: &mut Replay) -> Option<usize> {
 /// The same of the run of the program; the number after the last where it does not begin.
 fn wrong(alloc: Global) -> Option<usize> {
     match replay(alloc, CALLS, "") {
-        Some(mut replay) => first_wrong(&mut replay),
+        Some(mut replay) => find_call_mismatch(&mut replay),
         None => Some(CALLED.len()),
     }
 }

@@ -11,17 +11,17 @@ static STEPS: [u64; 7] = [
 
 /// Whether half of the step is in `$1` there.
 fn shows(replay: &mut Replay, k: u64) -> bool {
-    replay.go_to(k).is_ok() && replay.at() == k && replay.machine().register(1) == k / 2
+    replay.go_to(k).is_ok() && replay.step_number() == k && replay.machine().register(1) == k / 2
 }
 
 /// The first step that shows something else; 0 where another turn than the last one made `$1`.
-fn first_wrong(replay: &mut Replay) -> Option<u64> {
+fn find_far_mismatch(replay: &mut Replay) -> Option<u64> {
     for k in &STEPS {
         if !shows(replay, *k) {
             return Some(*k);
         }
     }
-    match replay.maker(Place::Register(1)) {
+    match replay.find_maker(Place::Register(1)) {
         Ok(Some(1_099_998)) => None,
         _ => Some(0),
     }
@@ -30,7 +30,7 @@ fn first_wrong(replay: &mut Replay) -> Option<u64> {
 /// The same of the run of the program; 0 where it does not begin.
 fn wrong(alloc: Global) -> Option<u64> {
     match replay(alloc, COUNTS, "") {
-        Some(mut replay) => first_wrong(&mut replay),
+        Some(mut replay) => find_far_mismatch(&mut replay),
         None => Some(0),
     }
 }

@@ -94,15 +94,15 @@ fn found(
     replay.go_to(at).ok()?;
     let found = match sought {
         Sought::Next(until) => replay.next_hit(flags, until).ok()?,
-        Sought::Last => replay.last_hit(flags).ok()?,
-        Sought::Register(k) => replay.maker(Place::Register(k)).ok()?,
-        Sought::Octa(a) => replay.maker(Place::Octa(a)).ok()?,
+        Sought::Last => replay.find_last_hit(flags).ok()?,
+        Sought::Register(k) => replay.find_maker(Place::Register(k)).ok()?,
+        Sought::Octa(a) => replay.find_maker(Place::Octa(a)).ok()?,
         Sought::NextChange(a, until) => replay.next_change(Place::Octa(a), until).ok()?,
-        Sought::LastChange(a) => replay.last_change(Place::Octa(a)).ok()?,
+        Sought::LastChange(a) => replay.find_last_change(Place::Octa(a)).ok()?,
         Sought::NextShallow(most, until) => replay.next_shallow(most, until).ok()?,
-        Sought::LastShallow(most) => replay.last_shallow(most).ok()?,
+        Sought::LastShallow(most) => replay.find_last_shallow(most).ok()?,
     };
-    Some((found, replay.at()))
+    Some((found, replay.step_number()))
 }
 
 /// Where one is who looked from a step, and found this, in a run of this many turns.
@@ -116,7 +116,12 @@ fn place(at: u64, sought: Sought, found: Option<u64>, last: u64) -> u64 {
 }
 
 /// The number of the first search that finds something else, in a run of this many turns.
-fn first_wrong(replay: &mut Replay, flags: &FlagMap, rows: &[Search], last: u64) -> Option<usize> {
+fn find_search_mismatch(
+    replay: &mut Replay,
+    flags: &FlagMap,
+    rows: &[Search],
+    last: u64,
+) -> Option<usize> {
     for (number, (at, sought, due)) in rows.iter().enumerate() {
         if found(replay, flags, *at, *sought) != Some((*due, place(*at, *sought, *due, last))) {
             return Some(number);
@@ -144,7 +149,7 @@ fn wrong_of(
         return Some(rows.len());
     };
     match replay(alloc, source, "abc") {
-        Some(mut replay) => first_wrong(&mut replay, &map, rows, last),
+        Some(mut replay) => find_search_mismatch(&mut replay, &map, rows, last),
         None => Some(rows.len()),
     }
 }

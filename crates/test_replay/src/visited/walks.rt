@@ -62,7 +62,7 @@ static SUMMED: [Visit; 4] = [
 /// Whether a replay shows what is due.
 fn shows(replay: &Replay, due: (u64, u64, u64, &str, End)) -> bool {
     let machine = replay.machine();
-    replay.at() == due.0
+    replay.step_number() == due.0
         && machine.register(1) == due.1
         && machine.octa(LETTER) == due.2
         && replay.host().output() == due.3.as_bytes()
@@ -70,7 +70,7 @@ fn shows(replay: &Replay, due: (u64, u64, u64, &str, End)) -> bool {
 }
 
 /// The number of the first visit that shows something else.
-fn first_wrong(replay: &mut Replay, visits: &[Visit]) -> Option<usize> {
+fn find_walk_mismatch(replay: &mut Replay, visits: &[Visit]) -> Option<usize> {
     for (at, (k, due)) in visits.iter().enumerate() {
         if replay.go_to(*k).is_err() || !shows(replay, *due) {
             return Some(at);
@@ -82,7 +82,7 @@ fn first_wrong(replay: &mut Replay, visits: &[Visit]) -> Option<usize> {
 /// The same of a source with this input; the number after the last where it does not begin.
 fn wrong_of(alloc: Global, source: &str, input: &str, visits: &[Visit]) -> Option<usize> {
     match replay(alloc, source, input) {
-        Some(mut replay) => first_wrong(&mut replay, visits),
+        Some(mut replay) => find_walk_mismatch(&mut replay, visits),
         None => Some(visits.len()),
     }
 }

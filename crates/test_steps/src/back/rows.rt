@@ -1,7 +1,7 @@
 //! Programs that are stepped up and back.
 
 use crate::back::digest::digest_of;
-use crate::back::walk::{Program, come_back, machine_with, step_back, step_up};
+use crate::back::walk::{Program, count_returns, machine_with, step_back, step_up};
 use mx_back::{Back, BackFault};
 use mx_core::Step;
 use mx_mmo::Octas;
@@ -117,10 +117,10 @@ type Row = (Program, usize);
 
 fn see(alloc: Global, rows: &[Row]) -> Result<(), Fail> {
     for (at, (program, steps)) in rows.iter().enumerate() {
-        if come_back(alloc, program, *steps, false)? != *steps {
+        if count_returns(alloc, program, *steps, false)? != *steps {
             return Err(Fail::new(format_args!("row {at}")));
         }
-        if come_back(alloc, program, *steps, true)? != *steps {
+        if count_returns(alloc, program, *steps, true)? != *steps {
             return Err(Fail::new(format_args!("row {at}, usual steps as such")));
         }
     }

@@ -105,7 +105,7 @@ pub fn step_back(back: &mut Back, machine: &mut Machine, seen: &[u64]) -> usize
 }
 
 /// How many steps of a program go on and come back, of this many; with `quick` usual ones are made as such.
-pub fn come_back(
+pub fn count_returns(
     alloc: Global,
     program: Program,
     steps: usize,

@@ -11,7 +11,7 @@ returns-in-Ok-clause-told g c = λ o is plain. ordered-shown _ _ _ c.args.is_jso
 pub returns-in-Err-clause-told : goal.returns-in-Err-clause-told
 returns-in-Err-clause-told g c = λ o is plain.
     let words : List Word = map string_bytes c.args.words.now in
-    usage-shown _ _ _ _ (λ kind m. shown_count c.args.is_json kind o (word_at words o.file) (arguments words o) m) c.misordered.ensures.usage c.tell.ensures.same plain
+    usage-shown _ _ _ _ (λ kind m. shown_count c.args.is_json kind o (word_at words o.file) (arguments words o) m) c.refuse_words.ensures.usage c.tell.ensures.same plain
 
 pub returns-in-Err-clause-causes : goal.returns-in-Err-clause-causes
-returns-in-Err-clause-causes g c = faults-said _ _ _ _ _ _ c.misordered.ensures.view c.tell.ensures.keeps c.tell.ensures.same
+returns-in-Err-clause-causes g c = faults-said _ _ _ _ _ _ c.refuse_words.ensures.view c.tell.ensures.keeps c.tell.ensures.same

@@ -30,13 +30,13 @@ returns-in-Trap g c =
     let e = c.trap_kept.ensures in
     let answer = c.in-Trap.ensures.answer (λ e. absurd (cc)) in
     record {
-      told = λ t. subst (ComesStep _ _) (sym c.ended_at.ensures) (called-step _ _ _ _ _ _ _ _ c.pc-pc.ensures.value answer (e.told t));
+      told = λ t. subst (ComesStep _ _) (sym c.check_turn_end.ensures) (called-step _ _ _ _ _ _ _ _ c.pc-pc.ensures.value answer (e.told t));
       over = has-window _ _ c.machines_keep_the_invariant.ensures c.machines_are_whole.ensures;
       bound = called-later _ _ _ _ answer e.bound;
       keeps = turn-keeps _ _ _ _ _ _ _ _ e.told e.stands;
       fits = e.fits;
-      kept = λ t ne. called-keeps _ _ _ _ _ _ _ _ _ _ answer (e.told t) (λ o. ne (c.ended_at.ensures ∙ ap (ended_at _) o)) e.kept c.in-Trap.ensures.kept;
-      lacking = λ t o. call-lacks _ _ _ _ _ _ _ _ _ _ _ _ answer (e.told t) e.kept c.ended_at.ensures o;
+      kept = λ t ne. called-keeps _ _ _ _ _ _ _ _ _ _ answer (e.told t) (λ o. ne (c.check_turn_end.ensures ∙ ap (ended_at _) o)) e.kept c.in-Trap.ensures.kept;
+      lacking = λ t o. call-lacks _ _ _ _ _ _ _ _ _ _ _ _ answer (e.told t) e.kept c.check_turn_end.ensures o;
     }
 
 pub returns-in-Stopped : goal.returns-in-Stopped

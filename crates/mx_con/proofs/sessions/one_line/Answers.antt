@@ -11,9 +11,9 @@ returns-in-Ok-clause-part g c =
     let read = c.as_slice.ensures in
     let view = c.line.view_is in
     let seen : c.as_slice.result.now ≡ c.in-Ok.line = cc in
-    part-behind c.in-Ok.ensures.stands c.carry_out.ensures.part (mapped-again _ _ c.carry_out.result)
-    (λ t h. line-carried c.args.steps _ _ _ _ _ c.command_of-command.result _ _ _ _ _ c.carry_out.result (c.in-Ok.ensures.told t)
-    (c.command_of-command.ensures ∙ ap command_of (c.without_return.ensures ∙ ap without_return seen)) h)
+    part-behind c.in-Ok.ensures.stands c.obey_line.ensures.part (mapped-again _ _ c.obey_line.result)
+    (λ t h. line-carried c.args.steps _ _ _ _ _ c.parse_command-command.result _ _ _ _ _ c.obey_line.result (c.in-Ok.ensures.told t)
+    (c.parse_command-command.ensures ∙ ap command_of (c.without_return.ensures ∙ ap without_return seen)) h)
 
 pub returns-in-Err-clause-part : goal.returns-in-Err-clause-part
 returns-in-Err-clause-part g c = part-behind (stands-all _ _) c.in-Err.ensures (λ e. cc) (λ t h. line-over c.args.steps _ _ c.in-Err.end _ _ _ _ h)

@@ -16,7 +16,7 @@ pub returns-in-Err-clause-told : goal.returns-in-Err-clause-told
 returns-in-Err-clause-told g c =
     let counts = c.args.counts in
     unstarted-told _ _ _ _ c.args.order.now c.args.arguments.now (reporting (counting_as counts.form counts.source counts.loads counts.table).text) _ c.in-Err.outcome refl
-    (ap (λ (r : Counted). r.outcome) c.uncounted.ensures) c.uncounted.ensures (λ ne. c.in-Err.ensures.window (λ e. ne (cc e))) (λ ne. c.in-Err.ensures.list (λ e. ne (cc e)))
+    (ap (λ (r : Counted). r.outcome) c.without_sheet.ensures) c.without_sheet.ensures (λ ne. c.in-Err.ensures.window (λ e. ne (cc e))) (λ ne. c.in-Err.ensures.list (λ e. ne (cc e)))
 
 pub returns-in-Ok-clause-left : goal.returns-in-Ok-clause-left
 returns-in-Ok-clause-left g c = λ t. started-left _ _ _ _ _ (c.in-Ok.ensures.window (λ e. absurd (cc))) (c.count_machine.ensures.left t)

@@ -11,7 +11,7 @@ returns-in-Ok-clause-told g c =
 pub returns-in-Err-Refused-clause-told : goal.returns-in-Err-Refused-clause-told
 returns-in-Err-Refused-clause-told g c =
     refused-told _ _ _ _ c.args.order.now c.args.arguments.now (in_form c.args.form c.args.source.now) c.args.source.now _ refl ((rw c.in-Err-Refused.field-0-is at c.in-Err-Refused.ensures) (λ e. absurd (cc)))
-    (c.uncounted.ensures ∙ ap uncounted (rw c.in-Err-Refused.field-0-is at c.outcome.ensures))
+    (c.without_sheet.ensures ∙ ap uncounted (rw c.in-Err-Refused.field-0-is at c.outcome.ensures))
 
 pub returns-in-Ok-clause-left : goal.returns-in-Ok-clause-left
 returns-in-Ok-clause-left g c = λ t. meant-left c.args.order.now c.args.arguments.now _ _ _ _ (c.in-Ok.ensures (λ e. absurd (cc))) (c.count_meaning.ensures.left t)

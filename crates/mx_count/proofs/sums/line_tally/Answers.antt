@@ -3,7 +3,7 @@ use Rattle.mx_count.proofs.Summing.{none-seen, unseen-all, unseen-next}
 use Rattle.mx_count.proofs.sums.line_tally.Goals as goal
 
 pub loop-cell-init : goal.loop-cell-init
-loop-cell-init c = none-seen c.new-seen.result (sum_at c.args.sums.now) _ c.args.cells.now c.new-seen.ensures.empty c.nothing-tally.ensures
+loop-cell-init c = none-seen c.new-seen.result (sum_at c.args.sums.now) _ c.args.cells.now c.new-seen.ensures.empty c.empty_tally-tally.ensures
 
 pub loop-cell-preserved : goal.loop-cell-preserved
 loop-cell-preserved c =

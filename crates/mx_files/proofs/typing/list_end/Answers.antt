@@ -9,7 +9,7 @@ returns-in-Ok g c =
 
 pub returns-in-Err : goal.returns-in-Err
 returns-in-Err g c =
-    let said = c.unread.ensures in
-    refused-works _ _ c.unread.result _ (end-lacks (Ok (left_of c.args.reader.now))) said.end said.well said.present
+    let said = c.refuse_bytes.ensures in
+    refused-works _ _ c.refuse_bytes.result _ (end-lacks (Ok (left_of c.args.reader.now))) said.end said.no_host_fault said.no_missing_file
     (λ ne. end-fault c.args.reader.now c.finish.new.self c.in-Err.fault c.requires (c.in-Err.ensures.answers (λ e. ne (said.memory (cc))))
     ∙ ap (λ o. ([], o)) (sym (said.value ne)))

@@ -19,8 +19,8 @@ returns-in-Ok-Some-clause-ends g c =
 
 pub returns-clause-ends : goal.returns-clause-ends
 returns-clause-ends g c =
-    let said = c.unread.ensures in
+    let said = c.refuse_bytes.ensures in
     let m = c.args.reader.now in
-    refused-works _ _ c.unread.result _ (walk-lacks c.args.lister.now (items_of m.phase m.at m.rest)) said.end said.well said.present
+    refused-works _ _ c.refuse_bytes.result _ (walk-lacks c.args.lister.now (items_of m.phase m.at m.rest)) said.end said.no_host_fault said.no_missing_file
     (λ ne. still-fault c.args.lister.now c.args.reader.now c.next.new.self c.in-Err.fault c.requires (c.in-Err.ensures.answers (λ e. ne (said.memory (cc))))
     ∙ ap (λ o. ([], o)) (sym (said.value ne)))

@@ -10,7 +10,7 @@ returns-in-Ok g c = works-named _ _ _ _ _ _ _ (fed-typed c.args.bytes.now _ (rw 
 
 pub returns : goal.returns
 returns g c =
-    let said = c.unread.ensures in
-    refused-works _ _ c.unread.result _ (typed-lacks c.args.bytes.now) said.end said.well said.present
+    let said = c.refuse_bytes.ensures in
+    refused-works _ _ c.refuse_bytes.result _ (typed-lacks c.args.bytes.now) said.end said.no_host_fault said.no_missing_file
     (λ ne. fed-fault c.args.bytes.now c.in-Err.fault _ (rw c.new-reader.ensures at (c.in-Err.ensures.answers (λ e. ne (said.memory (cc)))))
     ∙ ap (λ o. ([], o)) (sym (said.value ne)))

@@ -10,8 +10,8 @@ returns-in-Ok g c =
 
 pub returns-in-Err : goal.returns-in-Err
 returns-in-Err g c =
-    let said = c.unread_trie.ensures in
-    refused-works _ _ c.unread_trie.result _ (tail-lacks (Ok c.args.tail.now)) said.end said.well said.present
+    let said = c.refuse_trie.ensures in
+    refused-works _ _ c.refuse_trie.result _ (tail-lacks (Ok c.args.tail.now)) said.end said.no_host_fault said.no_missing_file
     (λ ne. ap (trie_typed c.args.tail.now.place c.args.tail.now.trie)
     (sym (c.in-Err.ensures.answer (λ e. ne (said.memory (cc))) ∙ ap trie_answer c.as_slice.ensures))
     ∙ ap (λ o. ([], o)) (sym (said.value ne)))

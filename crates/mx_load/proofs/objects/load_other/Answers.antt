@@ -20,7 +20,7 @@ returns-in-Ok-Some-clause-fault c =
 
 pub returns-in-Err-clause-fault : goal.returns-in-Err-clause-fault
 returns-in-Err-clause-fault c = λ ne n.
-    let same = c.unread.ensures in
+    let same = c.fault_of_bytes.ensures in
     let known : unread c.in-Err.fault ≢ OutOfMemory = λ e. ne (ap Err (same ∙ e)) in
     let found : c.in-Err.fault ≢ NoBytes = λ e. known (ap unread e) in
     next-fault n c.args.progress.now c.args.reader.now c.next.new.self c.in-Err.fault c.requires (c.in-Err.ensures.answers (λ e. found (cc))) known

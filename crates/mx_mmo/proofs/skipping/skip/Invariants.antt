@@ -7,7 +7,7 @@ abbrev pub invariant-loop-rest : goal.invariant-loop-rest
 invariant-loop-rest l = record {
   rest : l.rest ≡ drop l.scan.size l.more;
   within : l.scan.size ≤ length l.more;
-  looked : spec.quoted_behind false (take l.scan.size l.more) ≡ Some l.scan.quoted;
+  looked : spec.quoted_after false (take l.scan.size l.more) ≡ Some l.scan.quoted;
 }
 
 abbrev pub decreases-loop-rest : goal.decreases-loop-rest

@@ -32,7 +32,7 @@ pub loop-piece-preserved : goal.loop-piece-preserved
 loop-piece-preserved c =
     let is = c.as_slice.ensures ∙ c.piece-item.is in
     record {
-      well = c.in-Ok.ensures.well;
+      well = c.in-Ok.ensures.no_fault;
       same = items-of-piece c.args.pieces.now c.loop-piece.piece-index c.as_slice.result.now c.piece-item.result c.loop-piece.items c.take_piece.new.items c.loop-piece.reader
           c.take_piece.new.reader c.loop-piece-test.true is c.loop-piece.invariant.same c.in-Ok.ensures.last;
       end = c.in-Ok.ensures.end ∙ ap (λ n. n + length c.as_slice.result.now) c.loop-piece.invariant.end

@@ -29,7 +29,7 @@ pub returns-in-OutOfMemory : goal.returns-in-OutOfMemory
 returns-in-OutOfMemory g c =
     let same = c.in-OutOfMemory.ensures.memory refl in
     record {
-      told = lacking-makes _ _ _ same (c.in-OutOfMemory.ensures.there refl);
+      told = lacking-makes _ _ _ same (c.in-OutOfMemory.ensures.lacks_memory refl);
       over = has-window _ _ c.machines_keep_the_invariant.ensures c.machines_are_whole.ensures;
       bound = unmade-later _ _ same;
       keeps = keeps-all _ _;

@@ -8,7 +8,7 @@ returns-in-Ok-clause-told g c =
 
 pub returns-in-Err-Bad-clause-told : goal.returns-in-Err-Bad-clause-told
 returns-in-Err-Bad-clause-told g c =
-    refused-told _ _ c.args.order.now c.args.arguments.now c.args.bytes.now c.in-Err-Bad.place c.in-Err-Bad.fault ((rw c.in-Err-Bad.field-0-is at c.in-Err-Bad.ensures) (λ e. absurd (cc))) (rw c.in-Err-Bad.field-0-is at c.uncounted.ensures)
+    refused-told _ _ c.args.order.now c.args.arguments.now c.args.bytes.now c.in-Err-Bad.place c.in-Err-Bad.fault ((rw c.in-Err-Bad.field-0-is at c.in-Err-Bad.ensures) (λ e. absurd (cc))) (rw c.in-Err-Bad.field-0-is at c.without_sheet.ensures)
 
 pub returns-in-Ok-clause-left : goal.returns-in-Ok-clause-left
 returns-in-Ok-clause-left g c = λ t. loaded-left c.args.order.now c.args.arguments.now _ _ _ _ _ (c.in-Ok.ensures (λ e. absurd (cc))) (c.count_loaded.ensures.left t)

@@ -11,4 +11,4 @@ on-err (Ok x) P p = tt
 on-err (Err e) P p = p
 
 pub returns-in-StepsSpent-clause-memory : goal.returns-in-StepsSpent-clause-memory
-returns-in-StepsSpent-clause-memory c = rw c.in-StepsSpent.is (on-err c.spent_text.result (decimal c.in-StepsSpent.steps ++ codes " steps spent\n" ≢ []) (never-empty (decimal c.in-StepsSpent.steps) 32 (codes "steps spent\n")))
+returns-in-StepsSpent-clause-memory c = rw c.in-StepsSpent.is (on-err c.format_spent.result (decimal c.in-StepsSpent.steps ++ codes " steps spent\n" ≢ []) (never-empty (decimal c.in-StepsSpent.steps) 32 (codes "steps spent\n")))

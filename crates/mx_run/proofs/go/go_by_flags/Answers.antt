@@ -20,7 +20,7 @@ loop-turn-init g c = record {
 pub loop-turn-preserved : goal.loop-turn-preserved
 loop-turn-preserved g c = record {
   both = λ t.
-      rest-went-both _ _ _ _ _ _ _ _ _ _ _ c.loop-turn-test.true (list-window _ c.in-Ok.ensures.over) (c.in-Ok.ensures.step.told (subst IsTrue (sym c.loop-turn.invariant.stands.0) t))
+      rest-went-both _ _ _ _ _ _ _ _ _ _ _ c.loop-turn-test.true (list-window _ c.in-Ok.ensures.has_window) (c.in-Ok.ensures.step.told (subst IsTrue (sym c.loop-turn.invariant.stands.0) t))
       (c.loop-turn.invariant.both t);
   spared = λ h. spares-went _ _ _ _ _ c.loop-turn-test.true c.in-Ok.ensures.step.spared (c.loop-turn.invariant.spared h);
   bound = turned-later _ _ _ _ c.loop-turn.invariant.bound c.run_step.ensures.step.bound;
@@ -32,7 +32,7 @@ returns-in-Err g c =
     let was = c.loop-turn.invariant in
     let e = c.in-Err.ensures in
     record {
-      both = λ t. rest-ended-both _ _ _ _ _ _ _ _ _ _ _ c.loop-turn-test.true (list-window _ e.over) (e.step.told (subst IsTrue (sym was.stands.0) t)) (was.both t);
+      both = λ t. rest-ended-both _ _ _ _ _ _ _ _ _ _ _ c.loop-turn-test.true (list-window _ e.has_window) (e.step.told (subst IsTrue (sym was.stands.0) t)) (was.both t);
       spared = λ h. spares-ended _ _ _ _ _ c.loop-turn-test.true e.step.spared (was.spared h);
       bound = last-later _ _ _ _ _ c.loop-turn-test.true was.bound e.step.bound;
       stands = stands-then _ _ _ _ _ _ was.stands e.step.stands;

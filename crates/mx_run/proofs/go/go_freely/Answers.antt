@@ -21,7 +21,7 @@ loop-left-preserved g c =
     let walk = c.advance_many-walk.ensures.goes in
     let e = c.in-Ok.ensures in
     record {
-      both = λ t. walk-goes-on _ _ _ _ _ _ _ _ _ _ _ c.requires some walk e.over (was.both t) (e.step.told (subst IsTrue (sym was.stands.0) t));
+      both = λ t. walk-goes-on _ _ _ _ _ _ _ _ _ _ _ c.requires some walk e.has_window (was.both t) (e.step.told (subst IsTrue (sym was.stands.0) t));
       spared = λ h. walk-spares-on _ _ _ _ _ _ some walk e.step.spared (was.spared h);
       few = fewer-left _ _ _ was.few;
       bound = walk-later-on _ _ _ _ _ _ _ was.few some was.bound walk e.step.bound;
@@ -35,7 +35,7 @@ returns-in-Err g c =
     let walk = c.advance_many-walk.ensures.goes in
     let e = c.in-Err.ensures in
     record {
-      both = λ t. walk-ends _ _ _ _ _ _ _ _ _ _ _ c.requires some walk e.over (was.both t) (e.step.told (subst IsTrue (sym was.stands.0) t));
+      both = λ t. walk-ends _ _ _ _ _ _ _ _ _ _ _ c.requires some walk e.has_window (was.both t) (e.step.told (subst IsTrue (sym was.stands.0) t));
       spared = λ h. walk-spares-end _ _ _ _ _ _ some walk e.step.spared (was.spared h);
       bound = walk-later-end _ _ _ _ _ _ _ was.few some was.bound walk e.step.bound;
       stands = stands-then _ _ _ _ _ _ was.stands e.step.stands;

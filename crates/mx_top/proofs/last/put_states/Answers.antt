@@ -12,7 +12,7 @@ loop-taken-init g c = record { written = writes-none _ _; left = refl; reached =
 
 pub step_back-requires : goal.step_back-requires
 step_back-requires g c = record {
-  some =
+  not_empty =
       some-left c.args.back.now c.loop-taken.back (state_of c.args.machine.now) (state_of c.loop-taken.machine) c.loop-taken._taken c.args.count c.requires.few c.loop-taken-test.true
       c.loop-taken.invariant.left;
   noted = c.loop-taken.invariant.fits;

@@ -7,17 +7,17 @@ use Rattle.mx_top.proofs.TakenBack.{unbacked-plan, backed-plan, broken-plan, unt
 use Rattle.mx_top.proofs.Caused.{fails-behind, fails-lines}
 use Rattle.mx_top.proofs.last.tell_back.Goals as goal
 
-pub returns-then-not-takes_back : goal.returns-then-not-takes_back
-returns-then-not-takes_back g c = record {
+pub returns-then-not-is_taken_back : goal.returns-then-not-is_taken_back
+returns-then-not-is_taken_back g c = record {
   lacked = c.tell_end.ensures.lacked;
-  plan = λ ne. unbacked-plan _ _ _ _ _ _ _ (sym c.takes_back.ensures ∙ c.if-not-takes_back.true) (c.tell_end.ensures.plan ne);
+  plan = λ ne. unbacked-plan _ _ _ _ _ _ _ (sym c.is_taken_back.ensures ∙ c.if-not-is_taken_back.true) (c.tell_end.ensures.plan ne);
   causes = c.tell_end.ensures.causes;
 }
 
 pub returns-in-Ok : goal.returns-in-Ok
 returns-in-Ok g c =
     let all = count-taken c.args.order.now.last c.least-count.result c.kept.result c.args.back.now (state_of c.args.machine.now) c.least-count.ensures c.kept.ensures.count in
-    let taken = sym c.takes_back.ensures ∙ c.if-not-takes_back.false in
+    let taken = sym c.is_taken_back.ensures ∙ c.if-not-is_taken_back.false in
     record {
       lacked = λ e. absurd (untaken _ e taken);
       plan = λ ne.
@@ -28,7 +28,7 @@ returns-in-Ok g c =
 pub returns-in-Err : goal.returns-in-Err
 returns-in-Err g c =
     let all = count-taken c.args.order.now.last c.least-count.result c.kept.result c.args.back.now (state_of c.args.machine.now) c.least-count.ensures c.kept.ensures.count in
-    let taken = sym c.takes_back.ensures ∙ c.if-not-takes_back.false in
+    let taken = sym c.is_taken_back.ensures ∙ c.if-not-is_taken_back.false in
     record {
       lacked = λ e. absurd (untaken _ e taken);
       plan = λ ne. broken-plan _ _ _ _ _ _ _ _ _ taken (works-taken _ _ _ _ _ _ _ all c.in-Err.ensures.written);

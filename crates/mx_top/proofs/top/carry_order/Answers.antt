@@ -9,16 +9,16 @@ pub returns-in-Sim-clause-part : goal.returns-in-Sim-clause-part
 returns-in-Sim-clause-part g c = record { both = sim-ordered _ _ _ _ _ c.in-Sim.is c.run_ordered-in-Sim.ensures.part.both; causes = c.run_ordered-in-Sim.ensures.part.causes }
 
 pub returns-in-Asm-clause-part : goal.returns-in-Asm-clause-part
-returns-in-Asm-clause-part g c = record { both = asm-ordered _ _ _ _ _ _ _ c.in-Asm.is c.word.ensures c.word-in-Asm.ensures c.assemble_file.ensures.plan; causes = c.assemble_file.ensures.causes }
+returns-in-Asm-clause-part g c = record { both = asm-ordered _ _ _ _ _ _ _ c.in-Asm.is c.word_bytes.ensures c.word_bytes-in-Asm.ensures c.assemble_file.ensures.plan; causes = c.assemble_file.ensures.causes }
 
 pub returns-in-Gen-clause-part : goal.returns-in-Gen-clause-part
 returns-in-Gen-clause-part g c = record { both = gen-ordered _ _ _ _ _ c.in-Gen.is c.generate.ensures.both; causes = c.generate.ensures.causes }
 
 pub returns-in-Show-clause-part : goal.returns-in-Show-clause-part
-returns-in-Show-clause-part g c = record { both = show-ordered _ _ _ _ _ _ c.in-Show.is c.word-in-Show.ensures c.list_file.ensures.plan; causes = c.list_file.ensures.causes }
+returns-in-Show-clause-part g c = record { both = show-ordered _ _ _ _ _ _ c.in-Show.is c.word_bytes-in-Show.ensures c.list_file.ensures.plan; causes = c.list_file.ensures.causes }
 
 pub returns-in-Multi-clause-part : goal.returns-in-Multi-clause-part
-returns-in-Multi-clause-part g c = record { both = multi-ordered _ _ _ _ _ _ _ c.in-Multi.is c.word-in-Multi.ensures c.word-in-Multi-2.ensures c.multi_file.ensures.both; causes = c.multi_file.ensures.causes }
+returns-in-Multi-clause-part g c = record { both = multi-ordered _ _ _ _ _ _ _ c.in-Multi.is c.word_bytes-in-Multi.ensures c.word_bytes-in-Multi-2.ensures c.run_scheduled.ensures.both; causes = c.run_scheduled.ensures.causes }
 
 pub returns-in-Run-clause-heard : goal.returns-in-Run-clause-heard
 returns-in-Run-clause-heard g c = run-heard _ _ _ _ _ _ _ _ c.in-Run.is c.run_ordered.ensures.heard

@@ -1,21 +1,21 @@
 use Rattle.std.proofs.Common.{◌++◌, ◌-◌, length, take, drop, sym, ◌∙◌, arith}
-use Rattle.mx_warn.specs.Warnings.{place_behind, statements_warnings}
+use Rattle.mx_warn.specs.Warnings.{place_through, statements_warnings}
 use Rattle.mx_warn.proofs.WarningTurns.{place-at, place-none, statement-at, statement-none}
 use Rattle.mx_warn.proofs.telling.add_statements.Goals as goal
 
 pub loop-rest-preserved : goal.loop-rest-preserved
 loop-rest-preserved c =
     let l = c.loop-rest in
-    let lines = c.args.lines.now in
+    let survey = c.args.survey.now in
     let line = c.args.line.now in
     let later = take (length l.rest.now - 1) (drop 1 l.rest.now) in
     record {
       told = l.invariant.told
-          ∙ statement-at l.told lines line l.current l.rest.now c.statement-item.result c.statement-item.is c.in-len1-up.len_at_least
-          ∙ (λ i. sym c.in_ok-add_statement.ensures i ++ statements_warnings lines line (sym c.place_after-current.ensures i) later);
+          ∙ statement-at l.told survey line l.current l.rest.now c.statement-item.result c.statement-item.is c.in-len1-up.len_at_least
+          ∙ (λ i. sym c.in_ok-add_statement.ensures i ++ statements_warnings survey line (sym c.next_place-current.ensures i) later);
       place = l.invariant.place
-          ∙ place-at lines line.number l.current l.rest.now c.statement-item.result c.statement-item.is c.in-len1-up.len_at_least
-          ∙ (λ i. place_behind lines line.number (sym c.place_after-current.ensures i) later);
+          ∙ place-at survey line.number l.current l.rest.now c.statement-item.result c.statement-item.is c.in-len1-up.len_at_least
+          ∙ (λ i. place_through survey line.number (sym c.next_place-current.ensures i) later);
     }
 
 pub returns-clause-told : goal.returns-clause-told

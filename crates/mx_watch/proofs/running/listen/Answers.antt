@@ -35,11 +35,11 @@ loop-made-preserved g c =
     let inside = c.loop-made-test.true in
     let e = c.in-Ok.ensures in
     record {
-      told = λ t. went-rest _ _ tt _ _ _ _ _ inside e.over (goes-on _ _ _ _ _ (e.told (subst IsTrue (sym was.stands.0) t))) (was.told t);
+      told = λ t. went-rest _ _ tt _ _ _ _ _ inside e.has_window (goes-on _ _ _ _ _ (e.told (subst IsTrue (sym was.stands.0) t))) (was.told t);
       made = λ t. went-made _ tt _ _ _ (goes-on _ _ _ _ _ (e.told (subst IsTrue (sym was.stands.0) t))) (was.made t);
       so_far = λ t. went-told _ _ _ _ _ _ _ _ _ _ _ (e.told (subst IsTrue (sym was.stands.0) t)) (was.made t) c.in-Ok-tell_all.ensures.told (was.so_far t);
       heard = λ t. went-heard _ _ _ _ _ _ _ _ _ _ inside (e.told (subst IsTrue (sym was.stands.0) t)) c.in-Ok-tell_all.ensures.told (was.heard t);
-      list_heard = λ t u. went-by-list _ _ _ _ _ _ _ _ _ _ _ inside e.over (e.told (subst IsTrue (sym was.stands.0) t)) c.in-Ok-tell_all.ensures.told (rest-listed _ _ no_flags false false _ _ _ _ (was.told t) u) (was.list_heard t u);
+      list_heard = λ t u. went-by-list _ _ _ _ _ _ _ _ _ _ _ inside e.has_window (e.told (subst IsTrue (sym was.stands.0) t)) c.in-Ok-tell_all.ensures.told (rest-listed _ _ no_flags false false _ _ _ _ (was.told t) u) (was.list_heard t u);
       same = c.in-Ok-tell_all.ensures.same;
       bound = turned-later _ _ _ _ was.bound e.bound;
       stands = stands-then _ _ _ _ _ _ was.stands (stands-kept _ _ _ _ e.keeps);
@@ -75,13 +75,13 @@ pub returns-in-Err-clause-plan : goal.returns-in-Err-clause-plan
 returns-in-Err-clause-plan g c = λ t.
     let was = c.loop-made.invariant in
     let e = c.in-Err.ensures in
-    of-run _ _ _ _ (ended-so _ _ _ _ _ _ _ _ c.loop-made-test.true e.over (was.told t) (e.told (subst IsTrue (sym was.stands.0) t))).window
+    of-run _ _ _ _ (ended-so _ _ _ _ _ _ _ _ c.loop-made-test.true e.has_window (was.told t) (e.told (subst IsTrue (sym was.stands.0) t))).window
 
 pub returns-in-Err-clause-run : goal.returns-in-Err-clause-run
 returns-in-Err-clause-run g c =
     let was = c.loop-made.invariant in
     let e = c.in-Err.ensures in
-    run-is _ _ _ _ _ _ _ _ _ _ (λ t. ended-so _ _ _ _ _ _ _ _ c.loop-made-test.true e.over (was.told t) (e.told (subst IsTrue (sym was.stands.0) t)))
+    run-is _ _ _ _ _ _ _ _ _ _ (λ t. ended-so _ _ _ _ _ _ _ _ c.loop-made-test.true e.has_window (was.told t) (e.told (subst IsTrue (sym was.stands.0) t)))
     (last-later _ _ _ _ _ c.loop-made-test.true was.bound e.bound) (stands-then _ _ _ _ _ _ was.stands (stands-kept _ _ _ _ e.keeps))
 
 pub returns-in-Err-clause-stops : goal.returns-in-Err-clause-stops
@@ -98,7 +98,7 @@ pub returns-in-Err-clause-list_heard : goal.returns-in-Err-clause-list_heard
 returns-in-Err-clause-list_heard g c = λ t ne u.
     let was = c.loop-made.invariant in
     unless-wild _ _ _ (left-heard _ _ _ _ _ was.same)
-    (ended-by-list _ _ _ _ _ _ _ _ _ _ c.loop-made-test.true c.in-Err.ensures.over ne (c.in-Err.ensures.told (subst IsTrue (sym was.stands.0) t)) (rest-listed _ _ no_flags false false _ _ _ _ (was.told t) u) (was.list_heard t u))
+    (ended-by-list _ _ _ _ _ _ _ _ _ _ c.loop-made-test.true c.in-Err.ensures.has_window ne (c.in-Err.ensures.told (subst IsTrue (sym was.stands.0) t)) (rest-listed _ _ no_flags false false _ _ _ _ (was.told t) u) (was.list_heard t u))
 
 -- ---- where all steps are made
 

@@ -21,5 +21,5 @@ returns-in-Err-clause-lines c = λ lines taken memory. line-taken lines c.args.t
 pub returns-in-Err-clause-items : goal.returns-in-Err-clause-items
 returns-in-Err-clause-items c = λ lines taken memory. line-grows lines c.args.text.now c.args.out.now c.try_line.new.out c.args.self.now c.try_line.new.self (search rules) taken
 
-pub returns-in-Ok-Err-clause-again : goal.returns-in-Ok-Err-clause-again
-returns-in-Ok-Err-clause-again c = open-before _ c.args.self.now c.try_line.result c.in-Ok-Err.field-0 (cc) c.try_line.ensures.closed
+pub returns-in-Ok-Err-clause-refusal_again : goal.returns-in-Ok-Err-clause-refusal_again
+returns-in-Ok-Err-clause-refusal_again c = open-before _ c.args.self.now c.try_line.result c.in-Ok-Err.field-0 (cc) c.try_line.ensures.closed

@@ -14,5 +14,5 @@ returns-in-Trap-clause-answer c = λ m.
     let s = state_of c.args.self.now in
     let l : s.pc < 2 ^ 63 = omega (arith, c.if-at-ge-STACK_SEGMENT.false, c.pc-at.ensures.value) in
     let traps : operation_in (fetched s) ≡ op.Trap =
-    ap operation_in (sym c.fetched-i.ensures) ∙ ap operation_of (sym c.code.ensures) ∙ c.group_of.ensures.operation ∙ ap (λ g. operation_by g c.code.result) c.in-Trap.is in
+    ap operation_in (sym c.fetch-i.ensures) ∙ ap operation_of (sym c.code.ensures) ∙ c.group_of.ensures.operation ∙ ap (λ g. operation_by g c.code.result) c.in-Trap.is in
     ap (advanced s) (sym (step_traps s l traps))

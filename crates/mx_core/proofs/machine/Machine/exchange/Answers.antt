@@ -24,11 +24,11 @@ returns-in-Ok-clause-answer c = λ m. made c
 pub returns-in-Ok-clause-err : goal.returns-in-Ok-clause-err
 returns-in-Ok-clause-err c = keeps _ _ _ _ (made c)
 
-pub returns-in-Ok-clause-there : goal.returns-in-Ok-clause-there
-returns-in-Ok-clause-there c = lasts _ _ _ _ _ (made c)
+pub returns-in-Ok-clause-lacks_memory : goal.returns-in-Ok-clause-lacks_memory
+returns-in-Ok-clause-lacks_memory c = lasts _ _ _ _ _ (made c)
 
-pub returns-in-Err-clause-there : goal.returns-in-Err-clause-there
-returns-in-Err-clause-there c =
+pub returns-in-Err-clause-lacks_memory : goal.returns-in-Err-clause-lacks_memory
+returns-in-Err-clause-lacks_memory c =
     let s = state_of c.args.self.now in
     let fits : set_overfills s.stack (x_of c.args.i.now) ≡ false = ap (λ j. set_overfills s.stack j) (sym c.x.ensures) ∙ sym c.overfills.ensures ∙ c.if-overfills.false in
-    lacks_exchange s c.args.i.now c.args.a (Err c.in-Err.stop) fits c.in-Err.ensures.there c.in-Err.ensures.room
+    lacks_exchange s c.args.i.now c.args.a (Err c.in-Err.stop) fits c.in-Err.ensures.lacks_memory c.in-Err.ensures.room

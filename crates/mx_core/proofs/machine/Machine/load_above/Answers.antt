@@ -12,8 +12,8 @@ use Rattle.mx_core.proofs.machine.Machine.load_above.Goals as goal
 pub returns-in-Ok : goal.returns-in-Ok
 returns-in-Ok c =
     let s = state_of c.args.self.now in
-    let value : c.loaded_value.result ≡ loaded_value c.args.how (octa s c.args.a) c.args.a = c.loaded_value.ensures ∙ ap (λ x. loaded_value c.args.how x c.args.a) c.octa.ensures in
-    let ok = settle-ok s (state_of c.settle.new.self) (x_of c.args.i.now) c.loaded_value.result c.next.result (rw c.in-Ok.is at c.settle.ensures) in
+    let value : c.extract_loaded.result ≡ loaded_value c.args.how (octa s c.args.a) c.args.a = c.extract_loaded.ensures ∙ ap (λ x. loaded_value c.args.how x c.args.a) c.octa.ensures in
+    let ok = settle-ok s (state_of c.settle.new.self) (x_of c.args.i.now) c.extract_loaded.result c.next.result (rw c.in-Ok.is at c.settle.ensures) in
     let after : state_of c.settle.new.self ≡ onward (with_value_in s (x_of c.args.i.now) (loaded_value c.args.how (octa s c.args.a) c.args.a)) (next_of c.args.i.now) = ok.1 ∙ rw (value, c.next.ensures) refl in
     made-as _ _ s (state_of c.note_touch.new.self) _ _ (load_outside c.args.how s c.args.i.now c.args.a c.requires.address c.requires.least c.if-a.false (sym c.is_in_stack_area.ensures ∙ c.if-is_in_stack_area.false)) ok.0
     (c.note_touch.ensures ∙ ap with_touch after)
@@ -21,5 +21,5 @@ returns-in-Ok c =
 pub returns-in-Err : goal.returns-in-Err
 returns-in-Err c =
     let s = state_of c.args.self.now in
-    let err = settle-err s (state_of c.settle.new.self) (x_of c.args.i.now) c.loaded_value.result c.next.result c.in-Err.stop (rw c.in-Err.is at c.settle.ensures) in
+    let err = settle-err s (state_of c.settle.new.self) (x_of c.args.i.now) c.extract_loaded.result c.next.result c.in-Err.stop (rw c.in-Err.is at c.settle.ensures) in
     refused-as _ _ s (state_of c.settle.new.self) _ c.in-Err.stop _ (load_outside c.args.how s c.args.i.now c.args.a c.requires.address c.requires.least c.if-a.false (sym c.is_in_stack_area.ensures ∙ c.if-is_in_stack_area.false)) err

@@ -16,8 +16,8 @@ returns-in-Ok c =
     let ok = set-ok s (state_of c.set.new.self) c.x.result c.x_register.result c.in-Ok.ensures in
     let local : state_of c.set.new.self ≡ with_local s k = ok.1 ∙ rw (c.x.ensures, c.x_register.ensures) refl in
     let there : state_of c.note_touch.new.self ≡ with_touch (with_local s k) = c.note_touch.ensures ∙ ap with_touch local in
-    let value : c.loaded_value-value.result ≡ loaded_value c.args.how (octa (with_local s k) c.args.a) c.args.a =
-    c.loaded_value-value.ensures ∙ ap (λ x. loaded_value c.args.how x c.args.a) (c.octa.ensures ∙ ap (λ (t : State). octa t c.args.a) local) in
+    let value : c.extract_loaded-value.result ≡ loaded_value c.args.how (octa (with_local s k) c.args.a) c.args.a =
+    c.extract_loaded-value.ensures ∙ ap (λ x. loaded_value c.args.how x c.args.a) (c.octa.ensures ∙ ap (λ (t : State). octa t c.args.a) local) in
     after-local s (state_of c.note_touch.new.self) (state_of c.settle.new.self) k _ (next_of c.args.i.now) c.settle.result _ there
     (rw (sym value, sym c.next.ensures) c.settle.ensures)
     (sym (ap (λ j. set_overfills s.stack j) c.x.ensures) ∙ ok.0)

@@ -19,5 +19,5 @@ pub returns-in-Trap-clause-answer : goal.returns-in-Trap-clause-answer
 returns-in-Trap-clause-answer c = λ m.
     let s = state_of c.args.self.now in
     let l : s.pc < 2 ^ 63 = omega (arith, c.if-at.false, c.pc-at.ensures.value) in
-    let traps : operation_in (fetched s) ≡ op.Trap = ap operation_in (sym c.fetched-i.ensures) ∙ sym c.operation.ensures ∙ c.in-Trap.is in
-    ap (λ (call : TrapCall). (answer.Trap call, s)) c.call.ensures ∙ ap (step_answer s) (sym (step_traps s l traps))
+    let traps : operation_in (fetched s) ≡ op.Trap = ap operation_in (sym c.fetch-i.ensures) ∙ sym c.operation.ensures ∙ c.in-Trap.is in
+    ap (λ (call : TrapCall). (answer.Trap call, s)) c.trap_call.ensures ∙ ap (step_answer s) (sym (step_traps s l traps))

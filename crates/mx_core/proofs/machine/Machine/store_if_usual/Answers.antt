@@ -16,10 +16,10 @@ returns-then-store_if_near-clause-made c = λ _.
     let t = state_of c.store_if_near.new.self in
     let a = c.data_address-a.result in
     let low : a < 2 ^ 63 = omega (arith, c.store_if_near.ensures.low c.if-store_if_near.true) in
-    let event : stored_event c.args.how c.x_register-x.result ≡ None = c.overflows.ensures ∙ rw c.if-overflows.false refl in
-    let ok = stored-ok s t a c.stored_part.result c.stored_value.result (c.store_if_near.ensures.made c.if-store_if_near.true) in
+    let event : stored_event c.args.how c.x_register-x.result ≡ None = c.is_store_overflow.ensures ∙ rw c.if-is_store_overflow.false refl in
+    let ok = stored-ok s t a c.part_of_store.result c.convert_stored.result (c.store_if_near.ensures.made c.if-store_if_near.true) in
     let after : t ≡ store_seen s a (stored_part c.args.how) (stored_value c.args.how c.x_register-x.result (x_of c.args.i.now)) =
-    ok.1 ∙ rw (c.stored_part.ensures, c.stored_value.ensures, c.x.ensures) refl in
+    ok.1 ∙ rw (c.part_of_store.ensures, c.convert_stored.ensures, c.x.ensures) refl in
     made-as _ _ s (state_of c.go_to.new.self) _ _ (store_plain c.args.how s c.args.i.now a c.x_register-x.result c.data_address-a.ensures c.x_register-x.ensures low event) ok.0
     (c.go_to.ensures ∙ ap (λ n. onward t n) c.next.ensures ∙ ap (λ (u : State). onward u (next_of c.args.i.now)) after)
 
@@ -28,12 +28,12 @@ returns-then-store_if_near-clause-stores c = λ _.
     let s = state_of c.args.self.now in
     let t = state_of c.store_if_near.new.self in
     let a = c.data_address-a.result in
-    let ok = stored-ok s t a c.stored_part.result c.stored_value.result (c.store_if_near.ensures.made c.if-store_if_near.true) in
+    let ok = stored-ok s t a c.part_of_store.result c.convert_stored.result (c.store_if_near.ensures.made c.if-store_if_near.true) in
     subst (StoresBelow s (state_of c.go_to.new.self)) c.data_address-a.ensures (record {
       low = c.store_if_near.ensures.low c.if-store_if_near.true;
       there = c.store_if_near.ensures.there c.if-store_if_near.true;
-      part = c.stored_part.result;
-      value = c.stored_value.result;
+      part = c.part_of_store.result;
+      value = c.convert_stored.result;
       next = c.next.result;
       is = c.go_to.ensures ∙ ap (λ (u : State). onward u c.next.result) ok.1;
     })

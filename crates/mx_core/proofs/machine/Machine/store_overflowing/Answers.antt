@@ -8,26 +8,26 @@ use Rattle.mx_core.proofs.Results.Unchanged.{lacks_as}
 use Rattle.mx_core.proofs.machine.Machine.store_overflowing.Goals as goal
 
 pub store_noted-requires-clause-bits : goal.store_noted-requires-clause-bits
-store_noted-requires-clause-bits c = c.noted_events_stay_in_18_bits.ensures c.status.result c.in-Noted.status Overflow c.status.ensures.bits (sym c.decide.ensures ∙ c.in-Noted.is)
+store_noted-requires-clause-bits c = c.noted_events_stay_in_18_bits.ensures c.ra.result c.in-Noted.status Overflow c.ra.ensures.bits (sym c.decide.ensures ∙ c.in-Noted.is)
 
 pub returns-in-Noted-clause-answer : goal.returns-in-Noted-clause-answer
 returns-in-Noted-clause-answer c = λ m.
     let s = state_of c.args.self.now in
     c.store_noted.ensures.answer m
-    ∙ ap (left s) (sym (store_overflow c.args.how s c.args.i.now c.args.a c.args.x _ c.requires.event (ap (λ r. decided r Overflow) (sym c.status.ensures.value) ∙ sym c.decide.ensures ∙ c.in-Noted.is)))
+    ∙ ap (left s) (sym (store_overflow c.args.how s c.args.i.now c.args.a c.args.x _ c.requires.event (ap (λ r. decided r Overflow) (sym c.ra.ensures.value) ∙ sym c.decide.ensures ∙ c.in-Noted.is)))
 
 pub returns-in-Taken-clause-answer : goal.returns-in-Taken-clause-answer
 returns-in-Taken-clause-answer c = λ m.
     let s = state_of c.args.self.now in
     c.store_tripped.ensures.answer m
-    ∙ ap (left s) (sym (store_overflow c.args.how s c.args.i.now c.args.a c.args.x _ c.requires.event (ap (λ r. decided r Overflow) (sym c.status.ensures.value) ∙ sym c.decide.ensures ∙ c.in-Taken.is)))
+    ∙ ap (left s) (sym (store_overflow c.args.how s c.args.i.now c.args.a c.args.x _ c.requires.event (ap (λ r. decided r Overflow) (sym c.ra.ensures.value) ∙ sym c.decide.ensures ∙ c.in-Taken.is)))
 
-pub returns-in-Noted-clause-there : goal.returns-in-Noted-clause-there
-returns-in-Noted-clause-there c =
+pub returns-in-Noted-clause-lacks_memory : goal.returns-in-Noted-clause-lacks_memory
+returns-in-Noted-clause-lacks_memory c =
     let s = state_of c.args.self.now in
-    lacks_as _ _ c.store_noted.result (ap (makes_page s c.args.a) (sym (store_overflow c.args.how s c.args.i.now c.args.a c.args.x _ c.requires.event (ap (λ r. decided r Overflow) (sym c.status.ensures.value) ∙ sym c.decide.ensures ∙ c.in-Noted.is)))) c.store_noted.ensures.there
+    lacks_as _ _ c.store_noted.result (ap (makes_page s c.args.a) (sym (store_overflow c.args.how s c.args.i.now c.args.a c.args.x _ c.requires.event (ap (λ r. decided r Overflow) (sym c.ra.ensures.value) ∙ sym c.decide.ensures ∙ c.in-Noted.is)))) c.store_noted.ensures.lacks_memory
 
-pub returns-in-Taken-clause-there : goal.returns-in-Taken-clause-there
-returns-in-Taken-clause-there c =
+pub returns-in-Taken-clause-lacks_memory : goal.returns-in-Taken-clause-lacks_memory
+returns-in-Taken-clause-lacks_memory c =
     let s = state_of c.args.self.now in
-    lacks_as _ _ c.store_tripped.result (ap (makes_page s c.args.a) (sym (store_overflow c.args.how s c.args.i.now c.args.a c.args.x _ c.requires.event (ap (λ r. decided r Overflow) (sym c.status.ensures.value) ∙ sym c.decide.ensures ∙ c.in-Taken.is)))) c.store_tripped.ensures.there
+    lacks_as _ _ c.store_tripped.result (ap (makes_page s c.args.a) (sym (store_overflow c.args.how s c.args.i.now c.args.a c.args.x _ c.requires.event (ap (λ r. decided r Overflow) (sym c.ra.ensures.value) ∙ sym c.decide.ensures ∙ c.in-Taken.is)))) c.store_tripped.ensures.lacks_memory

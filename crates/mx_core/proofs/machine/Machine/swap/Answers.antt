@@ -24,9 +24,9 @@ returns-else-found-special-clause-answer c = λ m.
     ∙ ap (λ x. left s (left_alone s c.args.i.now a x)) c.octa-found.ensures
     ∙ ap (left s) (sym (swap_outside s c.args.i.now a c.data_address-a.ensures c.if-a.false (sym c.is_in_stack_area.ensures ∙ c.if-is_in_stack_area.false) ∙ rw other refl))
 
-pub returns-then-found-special-clause-there : goal.returns-then-found-special-clause-there
-returns-then-found-special-clause-there c =
+pub returns-then-found-special-clause-lacks_memory : goal.returns-then-found-special-clause-lacks_memory
+returns-then-found-special-clause-lacks_memory c =
     let s = state_of c.args.self.now in
     let a = c.data_address-a.result in
     let same : (octa s a == special_register s rP) ≡ true = found-same _ _ c.octa-found.result c.special.result c.octa-found.ensures c.special.ensures c.if-found-special.true in
-    lacks_as _ _ c.exchange.result (swap_needs s c.args.i.now a c.data_address-a.ensures c.if-a.false (sym c.is_in_stack_area.ensures ∙ c.if-is_in_stack_area.false) same) c.exchange.ensures.there
+    lacks_as _ _ c.exchange.result (swap_needs s c.args.i.now a c.data_address-a.ensures c.if-a.false (sym c.is_in_stack_area.ensures ∙ c.if-is_in_stack_area.false) same) c.exchange.ensures.lacks_memory

@@ -11,4 +11,4 @@ invariant_of-self c =
     let octas = registers_below c.self.inside.visible c.args.count ++ c.args.count ∷ [] in
     let f : length (octas_of c.self.inside.hidden) + (c.args.count + 1) ≤ 2 ^ 20 = rw (← c.self.view_is) at c.requires.room in
     let size : length octas ≡ c.args.count + 1 = length_push (registers_below c.self.inside.visible c.args.count) c.args.count ∙ ap (λ n. n + 1) (length-below c.self.inside.visible c.args.count) in
-    rw (c.make_room.ensures, c.local_count.ensures.value, c.keep_from.ensures, c.hide_below.ensures) (push-ring (window_in c.self.inside) c.args.count octas c.self.invariant size f)
+    rw (c.make_room.ensures, c.local_count.ensures.value, c.drop_first.ensures, c.hide_below.ensures) (push-ring (window_in c.self.inside) c.args.count octas c.self.invariant size f)

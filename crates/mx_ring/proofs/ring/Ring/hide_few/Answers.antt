@@ -17,7 +17,7 @@ invariant_of-self c =
     let size : length octas ≡ c.args.count + 1 = length_push (registers_below w.visible c.args.count) c.args.count ∙ ap (λ n. n + 1) (length-below w.visible c.args.count) in
     let f : length (octas_of w.hidden) + (c.args.count + 1) ≤ 2 ^ 20 = omega (arith, room, c.requires.count) in
     let none = push-within w c.args.count c.args.size octas c.self.invariant size c.requires.count ring few in
-    rw (c.keep_fewer.ensures, c.hide_few_below.ensures) (rw none at (push-ring w c.args.count octas c.self.invariant size f))
+    rw (c.drop_first_fewer.ensures, c.hide_few_below.ensures) (rw none at (push-ring w c.args.count octas c.self.invariant size f))
 
 pub returns : goal.returns
 returns c =
@@ -27,4 +27,4 @@ returns c =
     let few : length w.visible.locals ≤ c.args.size = rw (← c.self.view_is) at c.requires.few in
     let size : length octas ≡ c.args.count + 1 = length_push (registers_below w.visible c.args.count) c.args.count ∙ ap (λ n. n + 1) (length-below w.visible c.args.count) in
     let none = push-within w c.args.count c.args.size octas c.self.invariant size c.requires.count ring few in
-    rw (← c.self.view_is, c.keep_fewer.ensures, c.hide_few_below.ensures) (ap (λ (h : HiddenPart). windowed (record { size = w.size; hidden = h; visible = registers_from w.visible (c.args.count + 1) })) (sym none))
+    rw (← c.self.view_is, c.drop_first_fewer.ensures, c.hide_few_below.ensures) (ap (λ (h : HiddenPart). windowed (record { size = w.size; hidden = h; visible = registers_from w.visible (c.args.count + 1) })) (sym none))

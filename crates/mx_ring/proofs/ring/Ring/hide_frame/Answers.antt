@@ -12,10 +12,10 @@ invariant_of-self c =
     let g : v.first_global ≤ c.args.x = rw (← c.self.view_is) at c.requires.global in
     let top : c.args.last ≡ length (octas_of c.self.inside.hidden) + frame_length v.first_global (length v.locals) - 1 = rw (← c.self.view_is) at c.requires.top in
     let size : length (frame v c.args.s.now) ≡ frame_length v.first_global (length v.locals) = length-frame v c.args.s.now c.self.invariant.registers in
-    rw (c.set.ensures, c.cut.ensures, c.spill_all.ensures, c.hide_registers.ensures) (save-ring (window_in c.self.inside) c.args.x _ (frame v c.args.s.now) c.self.invariant g (omega arith))
+    rw (c.set.ensures, c.truncate.ensures, c.spill_all.ensures, c.hide_registers.ensures) (save-ring (window_in c.self.inside) c.args.x _ (frame v c.args.s.now) c.self.invariant g (omega arith))
 
 pub returns : goal.returns
 unfolding saved
 returns c =
     let top : c.args.last ≡ frame_top (windowed (window_in c.self.inside)) = rw (← c.self.view_is) at c.requires.top in
-    rw (← c.self.view_is, c.set.ensures, c.cut.ensures, c.spill_all.ensures, c.hide_registers.ensures, top) refl
+    rw (← c.self.view_is, c.set.ensures, c.truncate.ensures, c.spill_all.ensures, c.hide_registers.ensures, top) refl

@@ -4,4 +4,4 @@ use Rattle.mx_ring.proofs.ring.Ring.note_store.Goals as goal
 
 pub octa_after_spill-octa-requires-clause-few : goal.octa_after_spill-octa-requires-clause-few
 octa_after_spill-octa-requires-clause-few c =
-    subst (λ n. n ≤ length c.args.self.now.hidden.resident) (sym c.spilled_by-count.ensures.value) (spilled-few c.args.self.now c.args.k c.spilled_by-count.ensures.bounds)
+    subst (λ n. n ≤ length c.args.self.now.hidden.resident) (sym c.count_spilled_by-count.ensures.value) (spilled-few c.args.self.now c.args.k c.count_spilled_by-count.ensures.bounds)

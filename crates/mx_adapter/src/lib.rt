@@ -1,0 +1,14 @@
+//! The words of the Debug Adapter Protocol: requests that come, and the responses and events that are sent, which are numbered.
+#![tactic(auto)]
+
+mod arguments;
+mod commands;
+mod launching;
+mod outbox;
+mod requests;
+
+pub use arguments::{argument, flag_at, integer_at, list_at, number_at, text_at, text_in};
+pub use commands::Command;
+pub use launching::{Launch, Unread, Wishes, read_launch};
+pub use outbox::{Answer, Bodies, Outbox};
+pub use requests::{Request, read_request};

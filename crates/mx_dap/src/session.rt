@@ -1,0 +1,298 @@
+//! A session: the messages that come, and the answers to them.
+
+use crate::breaks::Mark;
+use crate::loaded::Loaded;
+use crate::outputs::tell_text;
+use crate::running::Work;
+use crate::stops::Reason;
+use mx_adapter::{
+    Answer, Bodies, Command, Launch, Outbox, Request, Unread, read_launch, read_request,
+};
+use mx_debug::Session as Debugged;
+use mx_word::{Bytes, NoMemory};
+use serde_json::Value;
+use std::alloc::Global;
+
+/// Whether a session goes on to the next message, has work to do before, or ends with a status.
+#[derive(Clone, Copy, Debug, PartialEq, Eq)]
+pub enum Flow {
+    Going,
+    Busy,
+    Ended(u8),
+}
+
+/// What the adapter offers.
+fn offers() -> &'static [u8] {
+    b"{\"supportsConfigurationDoneRequest\":true,\"supportsFunctionBreakpoints\":true,\"supportsConditionalBreakpoints\":true,\"supportsEvaluateForHovers\":true,\"supportsStepBack\":true,\"supportsExceptionInfoRequest\":true,\"supportsDataBreakpoints\":true,\"supportsReadMemoryRequest\":true,\"supportsDisassembleRequest\":true,\"supportsInstructionBreakpoints\":true,\"supportsSteppingGranularity\":true,\"supportsTerminateRequest\":true,\"supportsCancelRequest\":true,\"supportsLoadedSourcesRequest\":true,\"supportsDelayedStackTraceLoading\":true}"
+}
+
+/// A program that is to be launched or is launched, what is to be done before the next message is read, and what is to be sent.
+#[derive(Drop)]
+pub struct Session {
+    alloc: Global,
+    out: Outbox,
+    launch: Option<Launch>,
+    loaded: Option<Loaded>,
+    work: Option<Work>,
+}
+
+/// Whether a request goes to another step.
+fn is_move(command: Command) -> bool {
+    matches!(
+        command,
+        Command::Continue
+            | Command::Next
+            | Command::StepIn
+            | Command::StepOut
+            | Command::StepBack
+            | Command::ReverseContinue
+    )
+}
+
+/// A body, or none, where a request has nothing more to say.
+fn done(alloc: Global, body: &[u8]) -> Result<Answer, NoMemory> {
+    Ok(Answer::Done(Bytes::copy(alloc, body)?))
+}
+
+/// A refusal.
+fn refused(alloc: Global, why: &[u8]) -> Result<Answer, NoMemory> {
+    Ok(Answer::Refused(Bytes::copy(alloc, why)?))
+}
+
+/// What is said where there is no launch.
+fn reason_of(unread: Unread) -> &'static [u8] {
+    match unread {
+        Unread::Refused(why) => why.as_bytes(),
+        Unread::NoMemory => b"out of memory",
+    }
+}
+
+/// The answer to a request about a program, which may leave work to do.
+fn answer_about(
+    loaded: &mut Loaded,
+    work: &mut Option<Work>,
+    command: Command,
+    message: &Value,
+) -> Result<Answer, NoMemory> {
+    match command {
+        Command::SetBreakpoints => loaded.set_lines(message),
+        Command::SetFunctionBreakpoints => loaded.set_marks(Mark::Function, message),
+        Command::SetInstructionBreakpoints => loaded.set_marks(Mark::Instruction, message),
+        Command::SetDataBreakpoints => loaded.set_marks(Mark::Data, message),
+        Command::DataBreakpointInfo => loaded.scene().data_info(message),
+        Command::ExceptionInfo => loaded.exception_info(),
+        Command::StackTrace => loaded.stack_trace(message),
+        Command::Scopes => loaded.scopes(message),
+        Command::Variables => loaded.variables(message),
+        Command::ReadMemory => loaded.scene().read_memory(message),
+        Command::Disassemble => loaded.scene().disassemble(message),
+        Command::Source => loaded.scene().source(),
+        Command::LoadedSources => loaded.scene().loaded_sources(),
+        Command::Evaluate => {
+            let evaluated = loaded.evaluate(message)?;
+            if evaluated.has_moved {
+                *work = Some(Work::Tell(Reason::GoTo));
+            }
+            Ok(evaluated.answer)
+        }
+        _ => refused(loaded.alloc, b"there is no such request"),
+    }
+}
+
+impl Session {
+    /// A session before its first message.
+    pub fn new(alloc: Global) -> Session {
+        Session {
+            alloc,
+            out: Outbox::new(alloc),
+            launch: None,
+            loaded: None,
+            work: None,
+        }
+    }
+
+    /// Takes out what is to be sent.
+    pub fn take_sent(&mut self) -> Bodies {
+        self.out.take()
+    }
+
+    /// Takes out the program that is to be launched, if there is one.
+    pub fn take_launch(&mut self) -> Option<Launch> {
+        self.launch.take()
+    }
+
+    /// The answer to a request that needs a program.
+    fn answer_loaded(&mut self, command: Command, message: &Value) -> Result<Answer, NoMemory> {
+        match &mut self.loaded {
+            None => refused(self.alloc, b"no program is launched"),
+            Some(loaded) => {
+                if !is_move(command) {
+                    return answer_about(loaded, &mut self.work, command, message);
+                }
+                if loaded.is_done {
+                    return refused(self.alloc, b"the run is done");
+                }
+                self.work = Some(loaded.work_for(command, message));
+                done(self.alloc, b"{\"allThreadsContinued\":true}")
+            }
+        }
+    }
+
+    /// The answer to `configurationDone`, after which the run begins.
+    fn answer_configured(&mut self) -> Result<Answer, NoMemory> {
+        if self.loaded.is_some() {
+            self.work = Some(Work::Begin);
+        }
+        done(self.alloc, b"")
+    }
+
+    /// The answer to a request.
+    fn answer_to(&mut self, command: Command, message: &Value) -> Result<Answer, NoMemory> {
+        match command {
+            Command::Initialize => done(self.alloc, offers()),
+            Command::ConfigurationDone => self.answer_configured(),
+            Command::Threads => done(self.alloc, b"{\"threads\":[{\"id\":1,\"name\":\"mmix\"}]}"),
+            Command::SetExceptionBreakpoints
+            | Command::Pause
+            | Command::Cancel
+            | Command::Terminate
+            | Command::Disconnect => done(self.alloc, b""),
+            Command::Other | Command::Launch => refused(self.alloc, b"there is no such request"),
+            _ => self.answer_loaded(command, message),
+        }
+    }
+
+    /// What is done after the answer to a request.
+    fn after(&mut self, command: Command) -> Result<Flow, NoMemory> {
+        match command {
+            Command::Disconnect => Ok(Flow::Ended(0)),
+            Command::Terminate => {
+                self.out.tell(b"terminated", b"")?;
+                Ok(Flow::Going)
+            }
+            _ if self.work.is_some() => Ok(Flow::Busy),
+            _ => Ok(Flow::Going),
+        }
+    }
+
+    /// Takes a request `launch`: it is answered where the files were read.
+    fn take_launch_request(&mut self, request: Request, message: &Value) -> Result<Flow, NoMemory> {
+        match read_launch(self.alloc, request, message) {
+            Ok(launch) => {
+                self.launch = Some(launch);
+                Ok(Flow::Busy)
+            }
+            Err((request, unread)) => {
+                self.out.refuse(&request, reason_of(unread))?;
+                Ok(Flow::Going)
+            }
+        }
+    }
+
+    /// Takes a request.
+    fn take_request(&mut self, request: Request, message: &Value) -> Result<Flow, NoMemory> {
+        if request.command == Command::Launch {
+            return self.take_launch_request(request, message);
+        }
+        match self.answer_to(request.command, message) {
+            Ok(answer) => {
+                self.out.answer(&request, &answer)?;
+                self.after(request.command)
+            }
+            Err(NoMemory) => {
+                self.out.refuse(&request, b"out of memory")?;
+                Ok(Flow::Going)
+            }
+        }
+    }
+
+    /// Refuses what is no message, and ends.
+    pub fn refuse(&mut self, why: &[u8]) -> Result<Flow, NoMemory> {
+        tell_text(self.alloc, &mut self.out, b"stderr", why)?;
+        self.out.tell(b"terminated", b"")?;
+        Ok(Flow::Ended(1))
+    }
+
+    /// Takes a message, and says what the session does next.
+    pub fn take(&mut self, body: &[u8]) -> Result<Flow, NoMemory> {
+        let Ok(text) = str::from_utf8(body) else {
+            return self.refuse(b"this is no JSON\n");
+        };
+        match Value::from_str(self.alloc, text) {
+            Ok(message) => match read_request(self.alloc, &message)? {
+                Some(request) => self.take_request(request, &message),
+                None => Ok(Flow::Going),
+            },
+            Err(e) => {
+                if e.is_memory() {
+                    Err(NoMemory)
+                } else {
+                    self.refuse(b"this is no JSON\n")
+                }
+            }
+        }
+    }
+
+    /// Takes a program that is launched, at its start.
+    pub fn take_program(&mut self, launch: Launch, debugged: Debugged) -> Result<(), NoMemory> {
+        let Launch {
+            words: _,
+            path,
+            request,
+            wishes,
+        } = launch;
+        self.loaded = Some(Loaded::new(self.alloc, debugged, path, wishes));
+        self.out
+            .answer(&request, &Answer::Done(Bytes::new(self.alloc)))?;
+        self.out.tell(b"initialized", b"")
+    }
+
+    /// Tells why a program is not launched: its faults, where it has some, and why in a line.
+    pub fn take_refusal(
+        &mut self,
+        launch: &Launch,
+        faults: &[u8],
+        why: &[u8],
+    ) -> Result<(), NoMemory> {
+        if !faults.is_empty() {
+            tell_text(self.alloc, &mut self.out, b"stderr", faults)?;
+        }
+        self.out.refuse(&launch.request, why)?;
+        self.out.tell(b"terminated", b"")
+    }
+
+    /// Tells that there was no memory for what was to be done, where the run is.
+    fn tell_lack(&mut self) -> Result<(), NoMemory> {
+        tell_text(self.alloc, &mut self.out, b"stderr", b"out of memory\n")?;
+        match &mut self.loaded {
+            Some(loaded) => loaded.tell_stop(&mut self.out, Reason::Pause),
+            None => Ok(()),
+        }
+    }
+
+    /// Does a part of what is to be done, and gives what is left of it.
+    fn do_work(&mut self, work: Work) -> Result<Option<Work>, NoMemory> {
+        match &mut self.loaded {
+            Some(loaded) => loaded.work(&mut self.out, work),
+            None => Ok(None),
+        }
+    }
+
+    /// Does a part of what is to be done, and says what the session does next.
+    pub fn work(&mut self) -> Result<Flow, NoMemory> {
+        let Some(work) = self.work.take() else {
+            return Ok(Flow::Going);
+        };
+        match self.do_work(work) {
+            Ok(Some(work)) => {
+                self.work = Some(work);
+                Ok(Flow::Busy)
+            }
+            Ok(None) => Ok(Flow::Going),
+            Err(NoMemory) => {
+                self.tell_lack()?;
+                Ok(Flow::Going)
+            }
+        }
+    }
+}

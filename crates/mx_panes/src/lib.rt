@@ -1,0 +1,19 @@
+//! What an editor is shown of a step of a run: frames, registers, symbols, memory, instructions, and the value of a name.
+#![tactic(auto)]
+
+mod asking;
+mod breaks;
+mod disassembly;
+mod frames;
+mod memory;
+mod scene;
+mod sources;
+mod values;
+mod variables;
+
+pub use asking::result_body;
+pub use breaks::{line_wanted, offset_wanted, watched_place};
+pub use frames::{depth_around, locals_reference};
+pub use scene::Scene;
+pub use values::{add_reference, parse_reference};
+pub use variables::list_variables;

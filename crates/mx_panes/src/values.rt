@@ -1,0 +1,86 @@
+//! Values as texts, and references to memory.
+
+use mx_ask::parse_address;
+use mx_book::{Book, Thing};
+use mx_pieces::is_short;
+use mx_places::resolve_name;
+use mx_tell::{add_label, add_value};
+use mx_text::{Form, octa_hex};
+use mx_word::{Bytes, NoMemory};
+use std::alloc::Global;
+
+/// A label that is this many bytes away, or more, is not near.
+const FAR: u64 = 1 << 16;
+
+/// The first address of the data segment.
+const DATA: u64 = 1 << 61;
+
+/// The first address that no memory has.
+pub(crate) const MEMORY_END: u64 = 1 << 63;
+
+/// Whether a label is near an address, at or before it.
+fn has_label(book: &Book, address: u64) -> bool {
+    match book.nearest_label(address) {
+        Some(label) => address.wrapping_sub(label.address) < FAR,
+        None => false,
+    }
+}
+
+/// Adds the label of an address after something else, where one is near.
+pub(crate) fn add_label_after(text: &mut Bytes, book: &Book, address: u64) -> Result<(), NoMemory> {
+    if !has_label(book, address) {
+        return Ok(());
+    }
+    text.extend(b"  <")?;
+    add_label(text, book, address)?;
+    text.extend(b">")
+}
+
+/// Adds a value in decimal and hexadecimal digits, and the label that is near a long one.
+pub(crate) fn add_value_text(text: &mut Bytes, book: &Book, value: u64) -> Result<(), NoMemory> {
+    add_value(text, book, value, Some(Form::Decimal))?;
+    text.extend(b"  ")?;
+    text.extend(&octa_hex(value))?;
+    if is_short(value) {
+        return Ok(());
+    }
+    add_label_after(text, book, value)
+}
+
+/// Whether a value may be an address of data.
+pub(crate) fn is_data(value: u64) -> bool {
+    DATA <= value && value < MEMORY_END
+}
+
+/// Adds the reference to an address between quotation marks.
+pub fn add_reference(text: &mut Bytes, front: &[u8], address: u64) -> Result<(), NoMemory> {
+    let digits = octa_hex(address);
+    text.extend(front)?;
+    text.extend(b"\"0x")?;
+    text.extend(&digits[1..])?;
+    text.extend(b"\"")
+}
+
+/// The address that hexadecimal digits write.
+fn hexadecimal(alloc: Global, digits: &[u8]) -> Result<Option<u64>, NoMemory> {
+    let mut text = Bytes::copy(alloc, b"#")?;
+    text.extend(digits)?;
+    Ok(parse_address(text.as_slice()))
+}
+
+/// The address that a text names as `print` would.
+fn named_address(book: &Book, text: &[u8]) -> Option<u64> {
+    match resolve_name(book, text)? {
+        Thing::Octa(a) | Thing::Number(a) => Some(a),
+        Thing::Register(_) | Thing::Special(_) => None,
+    }
+}
+
+/// The address that a reference names.
+pub fn parse_reference(alloc: Global, book: &Book, text: &[u8]) -> Result<Option<u64>, NoMemory> {
+    match text {
+        [b'0', b'x', digits @ ..] => hexadecimal(alloc, digits),
+        [b'#', ..] => Ok(parse_address(text)),
+        _ => Ok(named_address(book, text)),
+    }
+}

@@ -1,0 +1,10 @@
+use Rattle.std.proofs.Common.{refl}
+use Rattle.mx_host.proofs.Serving.{read-only}
+use Rattle.mx_serve.proofs.serving.read_piece.Goals as goal
+
+pub returns-in-Err-Misused-clause-causes : goal.returns-in-Err-Misused-clause-causes
+returns-in-Err-Misused-clause-causes g c = record {
+  host_fault = λ had e. read-only _ _ _ _ _ _ _ _ c.read_slot.ensures.answers c.read_slot.ensures.misused refl had (cc (c.in-Err-Misused.is, c.in-Err-Misused.field-0-is));
+  no_file = λ un e. absurd (cc e);
+  keeps = c.read_slot.ensures.keeps;
+}
