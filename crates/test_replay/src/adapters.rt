@@ -147,7 +147,7 @@ static ROWS: [Row; 6] = [
             "{\"verified\":false,\"message\":\"there is no such label\"}",
             "\"reason\":\"function breakpoint\",\"description\":\"step 18\"",
             "{\"id\":1,\"name\":\"Twice\"",
-            "\"line\":19",
+            "\"line\":20",
             "{\"id\":2,\"name\":\"Loop+28\"",
             "\"line\":17",
             "\"totalFrames\":2",

@@ -13,7 +13,7 @@ static BYTES: &str = "abcd";
 /// A name and a mode that a second opening is given, and whether it fails; else there is no such file.
 type Row = (&'static [u8], Mode, bool);
 
-static ROWS: [Row; 8] = [
+static ROWS: [Row; 9] = [
     // a folder, a path through a file, a name that is too long
     (b".", Mode::TextWrite, true),
     (b"opening.bin/x", Mode::BinaryRead, true),
@@ -26,10 +26,11 @@ static ROWS: [Row; 8] = [
     ),
     // a folder that is missing, a name that is no text, none
     (b"none/x", Mode::BinaryWrite, true),
-    (b"\xff", Mode::TextRead, true),
+    (b"\xff", Mode::TextWrite, true),
     (b"", Mode::TextWrite, true),
-    // no such file
+    // no such file, since no file of the system can have the name that is no text
     (b"none/x", Mode::TextRead, false),
+    (b"\xff", Mode::TextRead, false),
     (b"none.bin", Mode::BinaryRead, false),
 ];
 
@@ -110,5 +111,5 @@ fn on_files(rt: HostRuntime) -> usize {
 
 #[test]
 fn a_failed_opening_leaves_the_slot_and_a_missing_file_closes_it(rt: HostRuntime) {
-    assert_eq!(rt; (in_memory(rt.alloc()), on_files(rt)), (8, 8));
+    assert_eq!(rt; (in_memory(rt.alloc()), on_files(rt)), (9, 9));
 }
