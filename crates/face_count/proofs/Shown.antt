@@ -7,13 +7,14 @@ use Rattle.mx_word.proofs.Fronts.{front-through}
 use Rattle.mx_host.specs.HostModel.{HostModel, contents, tells}
 use Rattle.mx_host.specs.HostAnswer.{Then}
 use Rattle.mx_host.specs.Keeping.{Answers, ComesByFault, Keeps, OnlyAddsOutput, OnlyByFailure}
+use Rattle.mx_plan.specs.Wild.{ends, meets_wild}
 use Rattle.mx_run.specs.WildRuns.{MachineKind, window_machine, list_machine}
 use Rattle.mx_begin.specs.Arguments.{Word, arguments, word_at}
-use Rattle.mx_count.specs.Runs.{CountAnswer, CountsByKind, GoesAs as CountGoesAs, came_to, went_wild}
+use Rattle.mx_count.specs.Runs.{CountAnswer, CountsByKind, GoesAs as CountGoesAs}
 use Rattle.mx_face.specs.Pages.{FaultsBetween, IsOfView, page_put}
 use Rattle.mx_face.specs.declared.page.Page.{Page}
 use Rattle.mx_face.proofs.Faults.{faults-nowhere}
-use Rattle.mx_files.specs.Answers.{Answer, GoesAs, answered, plainly}
+use Rattle.mx_files.specs.Answers.{Answer, GoesAs, plainly}
 use Rattle.mx_files.specs.Source.{file_bytes, object_pieces}
 use Rattle.mx_outcome.specs.Kinds.{is_usage}
 use Rattle.mx_outcome.specs.declared.outcome.Outcome.{Outcome}
@@ -44,14 +45,14 @@ lacking-told r same = by (is_lacking r) refl
 
 -- ---- an answer beside the list machine
 
-goes-by : (y : Answer) (r : Outcome) (n : HostModel) → answered r n ≡ y → GoesAs y r n
+goes-by : (y : Answer) (r : Outcome) (n : HostModel) → ends r n ≡ y → GoesAs y r n
 goes-by y r n e = subst (λ z. GoesAs z r n) e (refl, refl)
 
 goes-shown : {A : Type 0} (page : A → Page) (y : CountAnswer A) (x : A) (r : Outcome) (m n : HostModel) → (r, n) ≡ page_put (page x) m → IsFront m.output n.output →
     CountGoesAs y x m → GoesAs (page_after page y) r n
-goes-shown page (came_to z k) x r m n shown grows goes =
+goes-shown page (ends z k) x r m n shown grows goes =
     goes-by (plainly (page_put (page z) k)) r n (ap plainly (shown ∙ (λ i. page_put (page (goes.0 i)) (goes.1 i))))
-goes-shown page (went_wild k) x r m n shown grows goes = front-through k.output m.output n.output goes grows
+goes-shown page (meets_wild k) x r m n shown grows goes = front-through k.output m.output n.output goes grows
 
 -- ---- what was counted, and then its page
 
@@ -92,7 +93,7 @@ pub unread-shown : (a b d : Option HostModel) (r : Outcome) (is_json : Bool) (o 
     Answers b d OutOfMemory r (λ m. page_put (unread_page is_json why) m) → AnswersByKind a d r (λ kind m. shown_count is_json kind o name given m)
 unread-shown a b d r is_json o name given why same read lacks shown =
     let there : IsTrue (tells a) → IsTrue (tells b) = λ t. subst IsTrue (sym same) t in
-    let put : (kind : MachineKind) → IsTrue (tells a) → r ≢ OutOfMemory → answered r (contents d) ≡ shown_count is_json kind o name given (contents a) =
+    let put : (kind : MachineKind) → IsTrue (tells a) → r ≢ OutOfMemory → ends r (contents d) ≡ shown_count is_json kind o name given (contents a) =
     λ kind t ne. ap plainly (shown (there t) ne) ∙ ap (shown_after is_json kind o given) (read t (λ e. ne (lacks (cc e)))) in
     (put window_machine, λ t ne. goes-by (shown_count is_json list_machine o name given (contents a)) r (contents d) (put list_machine t ne))
 

@@ -4,15 +4,16 @@ use Rattle.std.specs.Prelude.{ℕ, ◌≡◌, Bool, true, false, List, [], ◌�
 use Rattle.std.specs.Str.{bytes_eq}
 use Rattle.mx_host.specs.HostModel.{HostModel}
 use Rattle.mx_host.specs.HostAnswer.{Then}
+use Rattle.mx_plan.specs.Wild.{meets_wild, ends}
 use Rattle.mx_run.specs.WildRuns.{MachineKind, window_machine, list_machine}
 use Rattle.mx_begin.specs.Arguments.{Word, arguments, word_at}
-use Rattle.mx_count.specs.Runs.{CountAnswer, came_to, data_of, in_form, mapped, source_counted, went_wild}
+use Rattle.mx_count.specs.Runs.{CountAnswer, data_of, in_form, mapped, source_counted}
 use Rattle.mx_count.specs.declared.count.Counted.{Counted}
 use Rattle.mx_count.specs.declared.counts.Form.TheVariants.{Octas, Text}
 use Rattle.mx_count.specs.declared.lines.CountedLines.{CountedLines}
 use Rattle.mx_face.specs.Pages.{page_put}
 use Rattle.mx_face.specs.declared.page.Page.{Page}
-use Rattle.mx_files.specs.Answers.{Answer, AnswersAs, AnswersAsList, plainly, wild}
+use Rattle.mx_files.specs.Answers.{Answer, AnswersAs, AnswersAsList, plainly}
 use Rattle.mx_files.specs.Source.{file_bytes, object_pieces}
 use Rattle.mx_object.specs.Listing.{begins_as_object}
 use Rattle.mx_object.specs.Runs.{object_counted}
@@ -63,8 +64,8 @@ unread_page true outcome = json_page (record { outcome = outcome; sheet = None }
 
 -- what comes of the page of what was counted
 abbrev pub page_after : {A : Type 0} → (A → Page) → CountAnswer A → Answer
-page_after page (came_to x m) = plainly (page_put (page x) m)
-page_after page (went_wild m) = wild m
+page_after page (ends x m) = plainly (page_put (page x) m)
+page_after page (meets_wild m) = meets_wild m
 
 -- a source is run with these arguments and counted, and that is shown as a table or as a line of JSON
 unfoldable pub shown_source : Bool → MachineKind → Order → List (List ℕ) → List ℕ → HostModel → Answer

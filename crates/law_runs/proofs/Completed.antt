@@ -9,7 +9,7 @@ use Rattle.mx_mmo.specs.Image.{Image}
 use Rattle.mx_core.specs.State.{State}
 use Rattle.mx_ring.specs.Stack.{register}
 use Rattle.mx_run.specs.Runs.{no_flags}
-use Rattle.mx_run.specs.WildRuns.{MachineKind, run_course}
+use Rattle.mx_run.specs.WildRuns.{MachineKind, run_by}
 use Rattle.mx_run.specs.declared.end.End.TheVariants.{Halted}
 use Rattle.mx_words.specs.declared.order.Command.{Command}
 use Rattle.mx_words.specs.declared.order.Command.TheVariants.{Run, Asm, Sim, Gen}
@@ -21,7 +21,7 @@ use Rattle.mx_asm.specs.Image as imaging
 use Rattle.mx_asm.specs.Refusal.{refusal}
 use Rattle.mx_asm.specs.declared.refused.Refused.{Refused}
 use Rattle.mx_asm.proofs.InTurn.{source-accepted}
-use Rattle.mx_files.specs.Answers.{Answer, answered, plainly, after_lines}
+use Rattle.mx_files.specs.Answers.{Answer, plainly, after_lines}
 use Rattle.mx_begin.specs.Arguments.{Word, word_at, arguments}
 use Rattle.mx_begin.specs.Begun.{assembled, loaded, started}
 use Rattle.mx_begin.specs.declared.images.Form.TheVariants.{Source, Object}
@@ -99,15 +99,15 @@ halted-run kind words o image begun status ended after h =
     started-run kind words o image h.machine begun h.starts ∙ halted-answer kind o h.machine ended begun after status h.plain h.halts
 
 pub plain-told : (wanted : Bool) (status : ℕ) (ended : State) (after : HostModel) → wanted ≡ false →
-    with_message (dump_answer wanted (Done status) ended after) ≡ answered (Done status) after
+    with_message (dump_answer wanted (Done status) ended after) ≡ ends (Done status) after
 plain-told wanted status ended after h =
-    ap with_message (dumped-end wanted (Done status) ended after ∙ ap (λ b. cond (b && leaves_machine (Done status)) (after_lines (Done status) (lines_put (dump_lines ended) after)) (answered (Done status) after)) h)
+    ap with_message (dumped-end wanted (Done status) ended after ∙ ap (λ b. cond (b && leaves_machine (Done status)) (after_lines (Done status) (lines_put (dump_lines ended) after)) (ends (Done status) after)) h)
     ∙ done-said status after
 
 pub dump-told : (wanted : Bool) (status : ℕ) (ended : State) (after last : HostModel) → wanted ≡ true → lines_put (dump_lines ended) after ≡ (true, last) →
-    with_message (dump_answer wanted (Done status) ended after) ≡ answered (Done status) last
+    with_message (dump_answer wanted (Done status) ended after) ≡ ends (Done status) last
 dump-told wanted status ended after last h e =
-    ap with_message (dumped-end wanted (Done status) ended after ∙ ap (λ b. cond (b && leaves_machine (Done status)) (after_lines (Done status) (lines_put (dump_lines ended) after)) (answered (Done status) after)) h
+    ap with_message (dumped-end wanted (Done status) ended after ∙ ap (λ b. cond (b && leaves_machine (Done status)) (after_lines (Done status) (lines_put (dump_lines ended) after)) (ends (Done status) after)) h
     ∙ ap (after_lines (Done status)) e) ∙ done-said status last
 
 -- ---- `run` and `sim`: what runs this image, by the words and the host after the file was read
@@ -116,12 +116,12 @@ abbrev pub Runs : MachineKind → List Word → Order → Image → HostModel �
 Runs kind words o image m begun = product kind words m ≡ with_message (image_answer kind o (arguments words o) image begun)
 
 pub runs-plain : (kind : MachineKind) (words : List Word) (o : Order) (image : Image) (status : ℕ) (ended : State) (m begun after : HostModel) → Runs kind words o image m begun →
-    IsHalted kind words o image begun status ended after → o.dump ≡ false → product kind words m ≡ answered (Done status) after
+    IsHalted kind words o image begun status ended after → o.dump ≡ false → product kind words m ≡ ends (Done status) after
 runs-plain kind words o image status ended m begun after h k d =
     h ∙ ap with_message (halted-run kind words o image begun status ended after k) ∙ plain-told o.dump status ended after d
 
 pub runs-dumped : (kind : MachineKind) (words : List Word) (o : Order) (image : Image) (status : ℕ) (ended : State) (m begun after last : HostModel) → Runs kind words o image m begun →
-    IsHalted kind words o image begun status ended after → o.dump ≡ true → lines_put (dump_lines ended) after ≡ (true, last) → product kind words m ≡ answered (Done status) last
+    IsHalted kind words o image begun status ended after → o.dump ≡ true → lines_put (dump_lines ended) after ≡ (true, last) → product kind words m ≡ ends (Done status) last
 runs-dumped kind words o image status ended m begun after last h k d e =
     h ∙ ap with_message (halted-run kind words o image begun status ended after k) ∙ dump-told o.dump status ended after last d e
 
@@ -139,11 +139,11 @@ played-answer kind words o image begun outcome ended after h =
     sitting-answer kind o h.machine begun ∙ ap (session_told o.steps (dumped_plan o.dump)) h.plays ∙ ap (λ r. dump_answer o.dump r ended after) (sym h.comes)
 
 pub played-image : (kind : MachineKind) (words : List Word) (o : Order) (image : Image) (begun : HostModel) (outcome : Outcome) (ended : State) (after : HostModel) → IsPlayed kind words o image begun outcome ended after →
-    o.dump ≡ false → with_message (image_answer kind o (arguments words o) image begun) ≡ with_message (answered outcome after)
+    o.dump ≡ false → with_message (image_answer kind o (arguments words o) image begun) ≡ with_message (ends outcome after)
 played-image kind words o image begun outcome ended after h d =
     sat-image kind words o image h.machine begun h.console h.starts
     ∙ ap with_message (played-answer kind words o image begun outcome ended after h ∙ dumped-end o.dump outcome ended after
-    ∙ ap (λ b. cond (b && leaves_machine outcome) (after_lines outcome (lines_put (dump_lines ended) after)) (answered outcome after)) d)
+    ∙ ap (λ b. cond (b && leaves_machine outcome) (after_lines outcome (lines_put (dump_lines ended) after)) (ends outcome after)) d)
 
 -- ---- `asm`
 
@@ -170,7 +170,7 @@ unfolding source_meaning
 unrefused-means text e = ap (λ r. meaning_unless r (imaging.image (statements_in (source_entries text)))) e
 
 object-written : (kind : MachineKind) (words : List Word) (text : List ℕ) (m after : HostModel) → IsWritten words text m after →
-    product kind words m ≡ with_message (answered (assembled_outcome (source_object text).1) after)
+    product kind words m ≡ with_message (ends (assembled_outcome (source_object text).1) after)
 unfolding ordered_plan
 object-written kind words text m after h =
     order-is kind words h.order Asm m h.ordered
@@ -179,19 +179,19 @@ object-written kind words text m after h =
     (assembled-by (word_at words h.order.file) (word_at words h.order.rest) text m h.begun h.opened h.written after h.read h.opens h.writes h.closes)
 
 pub source-written : (kind : MachineKind) (words : List Word) (text : List ℕ) (image : Image) (m after : HostModel) → IsWritten words text m after → source_meaning text ≡ Ok image →
-    product kind words m ≡ answered (Done 0) after
+    product kind words m ≡ ends (Done 0) after
 source-written kind words text image m after h e =
-    object-written kind words text m after h ∙ ap (λ r. with_message (answered (assembled_outcome r) after)) (meant-object text image e) ∙ done-said 0 after
+    object-written kind words text m after h ∙ ap (λ r. with_message (ends (assembled_outcome r) after)) (meant-object text image e) ∙ done-said 0 after
 
 pub accepted-written : (kind : MachineKind) (words : List Word) (text : List ℕ) (m after : HostModel) → IsWritten words text m after → (source_object text).1 ≡ Ok tt →
-    product kind words m ≡ answered (Done 0) after
+    product kind words m ≡ ends (Done 0) after
 accepted-written kind words text m after h e =
-    object-written kind words text m after h ∙ ap (λ r. with_message (answered (assembled_outcome r) after)) e ∙ done-said 0 after
+    object-written kind words text m after h ∙ ap (λ r. with_message (ends (assembled_outcome r) after)) e ∙ done-said 0 after
 
 pub refused-written : (kind : MachineKind) (words : List Word) (text : List ℕ) (r : Refusal) (m after : HostModel) → IsWritten words text m after → (source_object text).1 ≡ Err r →
-    product kind words m ≡ with_message (answered (refused_with r) after)
+    product kind words m ≡ with_message (ends (refused_with r) after)
 refused-written kind words text r m after h e =
-    object-written kind words text m after h ∙ ap (λ a. with_message (answered (assembled_outcome a) after)) e
+    object-written kind words text m after h ∙ ap (λ a. with_message (ends (assembled_outcome a) after)) e
 
 -- ---- `gen`
 
@@ -203,11 +203,11 @@ generated-means n few =
     ∙ ap (λ ss. Ok (imaging.image ss)) (statements-of n few)
 
 -- its machine, and the line that sums it up
-summed-answer : (kind : MachineKind) (blocks size : ℕ) (s ended : State) (m left : HostModel) (status : ℕ) → run_course kind generator_steps no_flags false s m ≡ ends (Halted status) (ended, left) →
+summed-answer : (kind : MachineKind) (blocks size : ℕ) (s ended : State) (m left : HostModel) (status : ℕ) → run_by kind generator_steps no_flags false s m ≡ ends (Halted status) (ended, left) →
     answer_of (work_by kind (generated_work blocks size) s m) ≡ plainly (end_of host (telling (Done 0) (summary blocks size ended.steps (register ended.stack 255) ∷ [])) left)
 unfolding course
 summed-answer kind blocks size s ended m left status h =
-    run-answers kind generator_steps (work.summed_plan blocks size) (λ outcome t kept. summed_plan blocks size outcome t) (at_start s (m, [])) (run_course kind generator_steps no_flags false s m) (to-summed blocks size)
+    run-answers kind generator_steps (work.summed_plan blocks size) (λ outcome t kept. summed_plan blocks size outcome t) (at_start s (m, [])) (run_by kind generator_steps no_flags false s m) (to-summed blocks size)
     ∙ ap (run_answer generator_steps (λ outcome t. summed_plan blocks size outcome t)) h
 
 generated-answer : (kind : MachineKind) (o : Order) (size : ℕ) (image : Image) (m : HostModel) (r : Result Image Refusal) → r ≡ Ok image → answer_by kind (taking (run_source o size r)) m
@@ -230,7 +230,7 @@ generated-told kind words m left line h =
     ∙ ap (λ text. plainly (end_of host (telling (Done 0) (text ∷ [])) left)) (sym h.told) ∙ telling-end (Done 0) (line ∷ []) left)
 
 pub generated-done : (kind : MachineKind) (words : List Word) (m left after : HostModel) (line : List ℕ) → IsGenerated kind words m left line → lines_put (line ∷ []) left ≡ (true, after) →
-    product kind words m ≡ answered (Done 0) after
+    product kind words m ≡ ends (Done 0) after
 generated-done kind words m left after line h e = generated-told kind words m left line h ∙ ap (λ t. with_message (after_lines (Done 0) t)) e ∙ done-said 0 after
 
 pub ruleset completed = (meant-object, accepted-object, unrefused-means, generated-means, generated-done)

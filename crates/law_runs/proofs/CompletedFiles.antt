@@ -22,18 +22,18 @@ use Rattle.mx_plan.proofs.Streams.{streams-held}
 use Rattle.mx_run.specs.Counts.{end_host}
 use Rattle.mx_run.specs.Runs.{no_flags}
 use Rattle.mx_run.specs.RunPlans.{RunWorld}
-use Rattle.mx_run.specs.WildRuns.{MachineKind, of_course as run_of, run_course, run_by}
+use Rattle.mx_run.specs.WildRuns.{MachineKind, run_by}
 use Rattle.mx_run.specs.declared.end.End.{End}
 use Rattle.mx_run.proofs.HeldRuns.{streams-left}
 use Rattle.mx_run.proofs.SteadyRuns.{run-steady}
-use Rattle.mx_con.specs.Session.{session_goes, of_course, session_course, session}
+use Rattle.mx_con.specs.Session.{session}
 use Rattle.mx_con.specs.SessionPlans.{SessionWorld, session_plan}
 use Rattle.mx_con.specs.declared.end.SessionEnd.{SessionEnd}
 use Rattle.mx_con.proofs.HeldSessions.{course-keeps}
-use Rattle.mx_con.proofs.SteadySessions.{session_host, session-steady}
+use Rattle.mx_con.proofs.SteadySessions.{session-steady}
 use Rattle.mx_words.specs.declared.order.Command.TheVariants.{Asm}
 use Rattle.mx_words.specs.declared.order.Order.{Order}
-use Rattle.mx_files.specs.Answers.{answered, plainly, after_lines}
+use Rattle.mx_files.specs.Answers.{plainly, after_lines}
 use Rattle.mx_files.specs.Assembling.{assembled_outcome}
 use Rattle.mx_files.specs.FilePlans.{on_ok, file_plan, lines_plan}
 use Rattle.mx_files.specs.ObjectPlans.{assemble_plan}
@@ -117,36 +117,28 @@ lines-written lines m h =
     (ap (λ (t : Then Bool). t.0) e, ap (λ (t : Then Bool). unscheduled t.1) e)
 
 told-done : (lines : List (List ℕ)) (status : ℕ) (m : HostModel) (t : Then Bool) → LinesWritten lines m t →
-    answer_unscheduled (with_message (after_lines (Done status) t)) ≡ answered (Done status) (unscheduled (with_output m (concat lines)))
-told-done lines status m (true, n) h = ap answer_unscheduled (done-said status n) ∙ ap (answered (Done status)) h.1
+    answer_unscheduled (with_message (after_lines (Done status) t)) ≡ ends (Done status) (unscheduled (with_output m (concat lines)))
+told-done lines status m (true, n) h = ap answer_unscheduled (done-said status n) ∙ ap (ends (Done status)) h.1
 told-done lines status m (false, n) h = absurd (cc (h.0))
 
 pub lines-done : (lines : List (List ℕ)) (status : ℕ) (m : HostModel) → IsReady m →
-    answer_unscheduled (with_message (after_lines (Done status) (lines_put lines m))) ≡ answered (Done status) (unscheduled (with_output m (concat lines)))
+    answer_unscheduled (with_message (after_lines (Done status) (lines_put lines m))) ≡ ends (Done status) (unscheduled (with_output m (concat lines)))
 lines-done lines status m h = told-done lines status m (lines_put lines m) (lines-written lines m h)
 
 -- ---- what a run and a session leave
 
-pub run-left : (kind : MachineKind) (steps : ℕ) (s : State) (m : HostModel) (e : End) (w : RunWorld) → m.failing ≡ [] → HasStartSlots m → run_course kind steps no_flags false s m ≡ ends e w → IsReady w.1
-unfolding run_by
+pub run-left : (kind : MachineKind) (steps : ℕ) (s : State) (m : HostModel) (e : End) (w : RunWorld) → m.failing ≡ [] → HasStartSlots m → run_by kind steps no_flags false s m ≡ ends e w → IsReady w.1
 run-left kind steps s m e w well slots h =
-    subst (λ (c : Course End RunWorld). IsReady (end_host (run_of c))) h
+    subst (λ (c : Course End RunWorld). IsReady (end_host c)) h
     ((steady-of (run-steady kind steps no_flags false s m) well).1, (streams-left kind steps no_flags false s m).output (slot_at-start_output m slots))
 
-host-left : (c : Course SessionEnd SessionWorld) → (world_of c).0.1 ≡ session_host (of_course c)
-host-left (ends end w) = refl
-host-left (meets_wild w) = refl
-
-session-shows : (kind : MachineKind) (steps : ℕ) (s : State) (m : HostModel) → Shows m → Shows (session_host (session kind steps s no_flags m))
-unfolding session session_course
-session-shows kind steps s m h =
-    let c : Course SessionEnd SessionWorld = course (session_goes kind) (session_plan steps) ((s, m), no_flags) in
-    subst Shows (host-left c) ((course-keeps KeepsStreams streams-held kind (session_plan steps) ((s, m), no_flags)).output h)
-
-pub session-left : (kind : MachineKind) (steps : ℕ) (s : State) (m : HostModel) (e : SessionEnd) (w : SessionWorld) → m.failing ≡ [] → HasStartSlots m → session_course kind steps s no_flags m ≡ ends e w → IsReady w.0.1
+session-shows : (kind : MachineKind) (steps : ℕ) (s : State) (m : HostModel) → Shows m → Shows (world_of (session kind steps s no_flags m)).0.1
 unfolding session
+session-shows kind steps s m h = (course-keeps KeepsStreams streams-held kind (session_plan steps) ((s, m), no_flags)).output h
+
+pub session-left : (kind : MachineKind) (steps : ℕ) (s : State) (m : HostModel) (e : SessionEnd) (w : SessionWorld) → m.failing ≡ [] → HasStartSlots m → session kind steps s no_flags m ≡ ends e w → IsReady w.0.1
 session-left kind steps s m e w well slots h =
-    subst (λ (c : Course SessionEnd SessionWorld). IsReady (session_host (of_course c))) h
+    subst (λ (c : Course SessionEnd SessionWorld). IsReady (world_of c).0.1) h
     ((steady-of (session-steady kind steps s no_flags m) well).1, session-shows kind steps s m (slot_at-start_output m slots))
 
 -- ---- running
@@ -169,7 +161,7 @@ abbrev pub with_object : List Word → Order → List ℕ → HostModel → Host
 with_object words o text m = with_file m (word_at words o.rest) (source_object text).0
 
 pub assembled-still : (kind : MachineKind) (words : List Word) (o : Order) (text : List ℕ) (m : HostModel) → IsOrdered words o Asm → IsThere (word_at words o.file) 1025 text m →
-    product kind words (still m) ≡ with_message (answered (assembled_outcome (source_object text).1) (still (with_object words o text m)))
+    product kind words (still m) ≡ with_message (ends (assembled_outcome (source_object text).1) (still (with_object words o text m)))
 unfolding ordered_plan
 assembled-still kind words o text m h there =
     let object : Word = word_at words o.rest in
@@ -178,4 +170,4 @@ assembled-still kind words o text m h there =
     order-is kind words o Asm (still m) h
     ∙ ap with_message (host-answer kind (assemble_plan (word_at words o.file) object) (still m))
     ∙ ap (λ t. with_message (plainly t)) (assembled-idle m.files m.slots m (still m) (word_at words o.file) object text long (there-read (word_at words o.file) 1025 text m there))
-    ∙ ap (λ ss. with_message (answered (assembled_outcome (source_object text).1) (idle (put_at m.files object (source_object text).0 (place_of m.files object)) ss m))) (shut-object m.slots there.slots)
+    ∙ ap (λ ss. with_message (ends (assembled_outcome (source_object text).1) (idle (put_at m.files object (source_object text).0 (place_of m.files object)) ss m))) (shut-object m.slots there.slots)

@@ -13,7 +13,7 @@ use Rattle.mx_core.specs.State.{State}
 use Rattle.mx_code.specs.declared.trace.Trace.{Trace}
 use Rattle.mx_run.specs.RunPlans.{RunWorld}
 use Rattle.mx_run.specs.Runs.{Ended, ended, no_flags}
-use Rattle.mx_run.specs.WildRuns.{MachineKind, window_machine, list_machine, RunEnd, run_ended, of_course, run_course, run_by}
+use Rattle.mx_run.specs.WildRuns.{MachineKind, window_machine, list_machine, run_ended, run_by}
 use Rattle.mx_run.specs.declared.end.End.{End}
 use Rattle.mx_run.specs.declared.end.End.TheVariants as ending
 use Rattle.mx_run.proofs.BothMachines.{window-ends}
@@ -21,7 +21,6 @@ use Rattle.mx_watch.specs.Traces.{traces}
 use Rattle.mx_words.specs.declared.order.Command.{Command}
 use Rattle.mx_words.specs.declared.order.Command.TheVariants.{Run, Sim}
 use Rattle.mx_words.specs.declared.order.Order.{Order}
-use Rattle.mx_files.specs.Answers.{answered}
 use Rattle.mx_files.specs.Assembling.{refused_with}
 use Rattle.mx_files.specs.Source.{file_bytes, object_pieces, source_pieces}
 use Rattle.mx_files.specs.Sources.{source_meaning}
@@ -40,7 +39,7 @@ use Rattle.mx_top.specs.Telling.{with_message}
 use Rattle.mx_top.specs.WorkClauses.{answer_by as answer_by_kind, told_by, work_by}
 use Rattle.mx_top.proofs.Spoken.{traces-of}
 use Rattle.mx_top.proofs.WorkParts.{begun_by, file-course}
-use Rattle.mx_count.specs.Runs.{CountAnswer, AnswerForms, by_lines, came_to, counted_to, halting_after, image_counted, in_form, counted_run_from, mapped, meaning_counted, outcome_of, ran, reporting, start_counted, went_wild}
+use Rattle.mx_count.specs.Runs.{CountAnswer, AnswerForms, by_lines, counted_to, halting_after, halting_steps, image_counted, in_form, counted_run_from, mapped, meaning_counted, outcome_of, ran, reporting, start_counted}
 use Rattle.mx_count.specs.Sheets.{sheet_of}
 use Rattle.mx_count.specs.declared.count.Counted.{Counted}
 use Rattle.mx_count.specs.declared.counts.Form.TheVariants.{Text}
@@ -66,8 +65,7 @@ outcome-same steps (ending.Traced trace) = refl
 outcome-same steps ending.Spent = refl
 outcome-same steps ending.OutOfMemory = refl
 
-ran-same : (kind : MachineKind) (n : ℕ) (s : State) (m : HostModel) → of_course (run_course kind n no_flags false s m) ≡ ran kind n s m
-unfolding run_by
+ran-same : (kind : MachineKind) (n : ℕ) (s : State) (m : HostModel) → run_by kind n no_flags false s m ≡ ran kind n s m
 ran-same window_machine n s m = window-ends n no_flags false s m
 ran-same list_machine n s m = refl
 
@@ -78,21 +76,21 @@ record HasOutcome {A : Type 0} (outcome_in : A → Outcome) (making : AnswerForm
 
 module _ {A : Type 0} (outcome_in : A → Outcome) (making : AnswerForms A) (has : HasOutcome outcome_in making) where
   -- what follows a run where there is no dump
-  ended-same : (steps : ℕ) (h : List Trace) (c : Course End RunWorld) → run_answer steps (dumped_plan false) c ≡ answer_by outcome_in (counted_to steps making h (of_course c))
+  ended-same : (steps : ℕ) (h : List Trace) (c : Course End RunWorld) → run_answer steps (dumped_plan false) c ≡ answer_by outcome_in (counted_to steps making h c)
   unfolding dumped_plan end_of
-  ended-same steps h (ends e w) = ap (λ outcome. answered outcome w.1) (outcome-same steps e ∙ sym (has.with_steps (outcome_of steps e) (h ++ halting_after (ended e w.0 w.1))))
+  ended-same steps h (ends e w) = ap (λ outcome. ends outcome w.1) (outcome-same steps e ∙ sym (has.with_steps (outcome_of steps e) (h ++ halting_steps e w.0.pc)))
   ended-same steps h (meets_wild w) = refl
 
   module _ (kind : MachineKind) (words : List Word) (o : Order) (command : Command) (plain : RunsPlainly words o command) where
     machine-same : (s : State) (m : HostModel) → answer_of (work_by kind (machine_plan o) s m) ≡ answer_by outcome_in (counted_run_from kind o.steps making s m)
     machine-same s m =
         forward-answer kind o s m plain.interactive plain.last
-        ∙ ap (λ b. run_answer o.steps (dumped_plan b) (run_course kind o.steps no_flags false s m)) plain.dump
-        ∙ ended-same o.steps (traces kind o.steps s m) (run_course kind o.steps no_flags false s m)
-        ∙ ap (λ (x : RunEnd). answer_by outcome_in (counted_to o.steps making (traces kind o.steps s m) x)) (ran-same kind o.steps s m)
+        ∙ ap (λ b. run_answer o.steps (dumped_plan b) (run_by kind o.steps no_flags false s m)) plain.dump
+        ∙ ended-same o.steps (traces kind o.steps s m) (run_by kind o.steps no_flags false s m)
+        ∙ ap (λ (x : Course End RunWorld). answer_by outcome_in (counted_to o.steps making (traces kind o.steps s m) x)) (ran-same kind o.steps s m)
 
     start-same : (r : Result State Outcome) (m : HostModel) → answer_of (work_on kind (machine_plan o) r (m, [])) ≡ answer_by outcome_in (start_counted kind o.steps making r m)
-    start-same (Err outcome) m = ap (λ x. answered x m) (sym (has.without outcome))
+    start-same (Err outcome) m = ap (λ x. ends x m) (sym (has.without outcome))
     start-same (Ok s) m = machine-same s m
 
     image-same : (image : Image) (m : HostModel) →
@@ -101,7 +99,7 @@ module _ {A : Type 0} (outcome_in : A → Outcome) (making : AnswerForms A) (has
 
     meaning-same : (r : Result Image Refusal) (m : HostModel) →
         image_ran kind o (arguments words o) (assembled r) m ≡ answer_by outcome_in (meaning_counted kind o (arguments words o) making r m)
-    meaning-same (Err refusal) m = ap (λ x. answered x m) (sym (has.without (refused_with refusal)))
+    meaning-same (Err refusal) m = ap (λ x. ends x m) (sym (has.without (refused_with refusal)))
     meaning-same (Ok image) m = image-same image m
 
 -- ---- what begins it
@@ -113,7 +111,7 @@ order-run kind words o command m h = order-is kind words o command m (record { o
 source-same : {A : Type 0} (outcome_in : A → Outcome) (making : List ℕ → AnswerForms A) → ((source : List ℕ) → HasOutcome outcome_in (making source)) →
     (kind : MachineKind) (words : List Word) (o : Order) (t : Then (Result (List ℕ) Outcome)) → RunsPlainly words o Run →
     file_ran kind o (arguments words o) Source t ≡ answer_by outcome_in (source_read kind o (arguments words o) making t)
-source-same outcome_in making has kind words o (Err outcome, m) h = ap (λ x. answered x m) (sym ((has []).without outcome))
+source-same outcome_in making has kind words o (Err outcome, m) h = ap (λ x. ends x m) (sym ((has []).without outcome))
 source-same outcome_in making has kind words o (Ok source, m) h = meaning-same outcome_in (making source) (has source) kind words o Run h (source_meaning source) m
 
 text-has : (source : List ℕ) → HasOutcome (λ (c : Counted). c.outcome) (in_form Text source)
@@ -142,8 +140,8 @@ report-has : (report : List Trace → List ℕ) → HasOutcome (λ (c : Counted)
 report-has report = record { without = λ outcome. refl; with_steps = λ outcome h. refl }
 
 mapped-same : (tetras : List ListedTetra) (x : CountAnswer Counted) → answer_by (λ (c : Counted). c.outcome) x ≡ answer_by (λ (c : CountedObject). c.outcome) (mapped (object_in tetras) x)
-mapped-same tetras (came_to c m) = refl
-mapped-same tetras (went_wild m) = refl
+mapped-same tetras (ends c m) = refl
+mapped-same tetras (meets_wild m) = refl
 
 loaded-same : (kind : MachineKind) (words : List Word) (o : Order) (bytes : List ℕ) (r : Result (Image × List Symbol) (ℕ × ℕ)) (m : HostModel) → RunsPlainly words o Sim →
     image_ran kind o (arguments words o) (loaded r) m ≡ answer_by (λ (c : CountedObject). c.outcome) (loaded_with by_report kind o (arguments words o) bytes r m)
@@ -197,13 +195,13 @@ module _ (kind : MachineKind) (words : List Word) (o : Order) (source : List ℕ
         ∙ run-heard
 
     sheet-with : (e : Ended) → ran kind o.steps s begun ≡ run_ended e → source_file kind words o (in_form Text) m
-        ≡ came_to (record { outcome = outcome_of o.steps e.end; sheet = Some (sheet_of source (product_traces kind words m ++ halting_after e)) }) e.host
+        ≡ ends (record { outcome = outcome_of o.steps e.end; sheet = Some (sheet_of source (product_traces kind words m ++ halting_after e)) }) e.host
     sheet-with e ended =
         counted-is
         ∙ ap (λ r. counted_to o.steps (in_form Text source) (traces kind o.steps s begun) r) ended
-        ∙ ap (λ h. came_to (record { outcome = outcome_of o.steps e.end; sheet = Some (sheet_of source (h ++ halting_after e)) }) e.host) (sym traces-are)
+        ∙ ap (λ h. ends (record { outcome = outcome_of o.steps e.end; sheet = Some (sheet_of source (h ++ halting_after e)) }) e.host) (sym traces-are)
 
 pub sheet-is : (kind : MachineKind) (words : List Word) (o : Order) (source : List ℕ) (s : State) (m begun : HostModel) (e : Ended) → RunsPlainly words o Run → o.report ≡ true →
     StartsWith kind words o source s m begun → ran kind o.steps s begun ≡ run_ended e → source_file kind words o (in_form Text) m
-    ≡ came_to (record { outcome = outcome_of o.steps e.end; sheet = Some (sheet_of source (product_traces kind words m ++ halting_after e)) }) e.host
+    ≡ ends (record { outcome = outcome_of o.steps e.end; sheet = Some (sheet_of source (product_traces kind words m ++ halting_after e)) }) e.host
 sheet-is kind words o source s m begun e plain reports starts ended = sheet-with kind words o source s m begun starts plain reports e ended

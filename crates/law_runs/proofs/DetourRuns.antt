@@ -25,12 +25,12 @@ use Rattle.mx_start.specs.Start.{start}
 use Rattle.mx_core.specs.State.{State}
 use Rattle.mx_run.specs.RunPlans.{RunWorld}
 use Rattle.mx_run.specs.Runs.{no_flags}
-use Rattle.mx_run.specs.WildRuns.{MachineKind, run_course}
+use Rattle.mx_run.specs.WildRuns.{MachineKind, run_by}
 use Rattle.mx_run.specs.declared.end.End.{End}
 use Rattle.mx_run.specs.declared.end.End.TheVariants as ending
 use Rattle.mx_back.specs.History.{states_kept}
 use Rattle.mx_back.specs.KeptRuns.{turns_of}
-use Rattle.mx_con.specs.Session.{session_course}
+use Rattle.mx_con.specs.Session.{session}
 use Rattle.mx_con.specs.SessionPlans.{SessionWorld}
 use Rattle.mx_con.specs.declared.end.SessionEnd.{SessionEnd}
 use Rattle.mx_con.specs.declared.end.SessionEnd.TheVariants as sitting
@@ -40,7 +40,7 @@ use Rattle.mx_words.specs.Values.{is_option}
 use Rattle.mx_words.specs.declared.order.Command.TheVariants.{Run, Sim}
 use Rattle.mx_words.specs.declared.order.Order.{Order}
 use Rattle.mx_words.specs.declared.order.WordsFault.{WordsFault}
-use Rattle.mx_files.specs.Answers.{Answer, answered, wild, plainly}
+use Rattle.mx_files.specs.Answers.{Answer, plainly}
 use Rattle.mx_begin.specs.Arguments.{Word, word_at, arguments, program_name}
 use Rattle.law_runs.specs.Detour.{host_of, answer_uncounted, HasOutcome, asm_words, run_words, sim_words, AreOrdered, IsAssembled}
 use Rattle.law_runs.proofs.DetourImages.{source-loads, source-short, accepted-run, assembled-none, pages-refused}
@@ -120,16 +120,16 @@ sim-is kind options object rest o m e f r =
 
 -- ---- messages
 
-done-told : (outcome : Outcome) (n a : HostModel) → with_message (answered outcome n) ≡ answered (Done 0) a → outcome ≡ Done 0
-done-told outcome n a e = let said : answered outcome (end_of host (message_plan outcome) n).1 ≡ answered (Done 0) a = sym (message-said outcome n) ∙ e in cc
+done-told : (outcome : Outcome) (n a : HostModel) → with_message (ends outcome n) ≡ ends (Done 0) a → outcome ≡ Done 0
+done-told outcome n a e = let said : ends outcome (end_of host (message_plan outcome) n).1 ≡ ends (Done 0) a = sym (message-said outcome n) ∙ e in cc
 
-done-model : (outcome : Outcome) (n a : HostModel) → outcome ≡ Done 0 → with_message (answered outcome n) ≡ answered (Done 0) a → n ≡ a
+done-model : (outcome : Outcome) (n a : HostModel) → outcome ≡ Done 0 → with_message (ends outcome n) ≡ ends (Done 0) a → n ≡ a
 done-model outcome n a is e =
-    let told : answered (Done 0) n ≡ answered (Done 0) a = sym (done-said 0 n) ∙ subst (λ o. with_message (answered o n) ≡ answered (Done 0) a) is e in
+    let told : ends (Done 0) n ≡ ends (Done 0) a = sym (done-said 0 n) ∙ subst (λ o. with_message (ends o n) ≡ ends (Done 0) a) is e in
     cc
 
 -- an order that is done tells nothing
-done-plain : (t : Then Outcome) (a : HostModel) → with_message (plainly t) ≡ answered (Done 0) a → t ≡ (Done 0, a)
+done-plain : (t : Then Outcome) (a : HostModel) → with_message (plainly t) ≡ ends (Done 0) a → t ≡ (Done 0, a)
 done-plain (outcome, n) a e =
     let done : outcome ≡ Done 0 = done-told outcome n a e in
     let model : n ≡ a = done-model outcome n a done e in
@@ -137,14 +137,14 @@ done-plain (outcome, n) a e =
 
 -- an order to assemble that is done names two files
 asm-with : (kind : MachineKind) (source object : Word) (fault : WordsFault) (n a : HostModel) (b : Bool) →
-    with_message (answer_by kind (work_plan (asm_words source object) (cond b (Err fault) (Ok (asm_order defaults 1)))) n) ≡ answered (Done 0) a →
+    with_message (answer_by kind (work_plan (asm_words source object) (cond b (Err fault) (Ok (asm_order defaults 1)))) n) ≡ ends (Done 0) a →
     end_of host (assemble_plan source object) n ≡ (Done 0, a)
 unfolding ordered_plan
 asm-with kind source object fault n a true e =
     absurd (let no : Usage fault ≡ Done 0 = done-told (Usage fault) n a (ap (λ c. with_message (answer_of c)) (sym (returns-course kind (Usage fault) (n, []))) ∙ e) in cc)
 asm-with kind source object fault n a false e = done-plain (end_of host (assemble_plan source object) n) a (ap with_message (sym (host-answer kind (assemble_plan source object) n)) ∙ e)
 
-asm-done : (kind : MachineKind) (source object : Word) (n a : HostModel) → product kind (asm_words source object) n ≡ answered (Done 0) a → end_of host (assemble_plan source object) n ≡ (Done 0, a)
+asm-done : (kind : MachineKind) (source object : Word) (n a : HostModel) → product kind (asm_words source object) n ≡ ends (Done 0) a → end_of host (assemble_plan source object) n ≡ (Done 0, a)
 unfolding options_from
 asm-done kind source object n a e = asm-with kind source object (record { kind = 3; word = 1 }) n a (is_option source) (sym (product-is-said kind (asm_words source object) n) ∙ e)
 
@@ -249,7 +249,7 @@ known-of : (kind : MachineKind) (source object : Word) (text : List ℕ) (m afte
 known-of kind source object text m after a h =
     let well : NoneFailed m (host_of (product kind (asm_words source object) m)) = subst (λ (t : Answer). NoneFailed m (host_of t)) (sym a.done) a.well in
     let asm = (product-steady kind (asm_words source object) m).same well in
-    let done : product kind (asm_words source object) (still m) ≡ answered (Done 0) (still after) = sym asm ∙ ap answer_still a.done in
+    let done : product kind (asm_words source object) (still m) ≡ ends (Done 0) (still after) = sym asm ∙ ap answer_still a.done in
     let file = (plan-spared (file_plan 1025 source) m).same (read-well kind source object text m after a) in
     let read : (file_bytes 1025 source (still m)).0 ≡ Ok text = ap (λ (t : Then (Result (List ℕ) Outcome)). t.0) (sym file) ∙ a.read in
     reading-left m.files m.slots m source object text (still after) (place_of m.files source) h refl read (asm-done kind source object (still m) (still after) done)
@@ -277,8 +277,8 @@ is_refusal (Refused line fault from) = true
 is_refusal outcome = false
 
 abbrev IsUnrefused : Answer → Type 0
-IsUnrefused (answered outcome m) = is_refusal outcome ≡ false
-IsUnrefused (wild m) = Unit {0}
+IsUnrefused (ends outcome m) = is_refusal outcome ≡ false
+IsUnrefused (meets_wild m) = Unit {0}
 
 -- no run does, and no session
 run-unrefused : (steps : ℕ) (e : End) → is_refusal (runs.outcome_of steps e) ≡ false
@@ -315,10 +315,10 @@ sat-unrefused n (meets_wild w) = tt
 
 work-unrefused : (kind : MachineKind) (o : WorkCall) (w : Work) → Answers (WorkMay Any Unrefused o) (work_goes kind o w)
 work-unrefused kind (of_host o) w = tt
-work-unrefused kind (stepping n) w = ran-gives Unrefused n w _ (ends-unrefused n (run_course kind n no_flags false w.machine w.host))
-work-unrefused kind (reporting n) w = ran-gives Unrefused n (record w { told = traces kind n w.machine w.host }) _ (ends-unrefused n (run_course kind n no_flags false w.machine w.host))
-work-unrefused kind (keeping n) w = ran-gives Unrefused n (record w { kept = states_kept (turns_of n w.machine w.host) [] }) _ (ends-unrefused n (run_course kind n no_flags false w.machine w.host))
-work-unrefused kind (sitting_call n) w = sat-gives Unrefused n w _ (sat-unrefused n (session_course kind n w.machine no_flags w.host))
+work-unrefused kind (stepping n) w = ran-gives Unrefused n w _ (ends-unrefused n (run_by kind n no_flags false w.machine w.host))
+work-unrefused kind (reporting n) w = ran-gives Unrefused n (record w { told = traces kind n w.machine w.host }) _ (ends-unrefused n (run_by kind n no_flags false w.machine w.host))
+work-unrefused kind (keeping n) w = ran-gives Unrefused n (record w { kept = states_kept (turns_of n w.machine w.host) [] }) _ (ends-unrefused n (run_by kind n no_flags false w.machine w.host))
+work-unrefused kind (sitting_call n) w = sat-gives Unrefused n w _ (sat-unrefused n (session kind n w.machine no_flags w.host))
 work-unrefused kind other w = tt
 
 worked-unrefused : (c : Course Outcome Work) → Answers Unrefused c → IsUnrefused (answer_of (worked c))
@@ -335,24 +335,24 @@ image-unrefused kind o args image m = subst IsUnrefused (sym (image-course kind 
         (course_gives (work_goes kind) (WorkMay Any Unrefused) Unrefused (work-unrefused kind) (machine_plan o) (at_start s (m, [])) (machine-gives Any Unrefused refl o))
 
 -- the message changes no outcome
-message-comes : (outcome : Outcome) (m : HostModel) → HasOutcome (with_message (answered outcome m)) outcome
+message-comes : (outcome : Outcome) (m : HostModel) → HasOutcome (with_message (ends outcome m)) outcome
 message-comes outcome m = subst (λ (a : Answer). HasOutcome a outcome) (sym (message-said outcome m)) refl
 
 message-came : (a : Answer) (o : Outcome) → HasOutcome (with_message a) o → HasOutcome a o
-message-came (answered outcome m) o h = subst (λ (a : Answer). HasOutcome a o) (message-said outcome m) h
-message-came (wild m) o h = h
+message-came (ends outcome m) o h = subst (λ (a : Answer). HasOutcome a o) (message-said outcome m) h
+message-came (meets_wild m) o h = h
 
 never-refused : (a : Answer) (line fault from : ℕ) → IsUnrefused a → HasOutcome a (Refused line fault from) → ⊥
-never-refused (answered outcome m) line fault from h is = cc
-never-refused (wild m) line fault from h is = is
+never-refused (ends outcome m) line fault from h is = cc
+never-refused (meets_wild m) line fault from h is = is
 
 still-comes : (a : Answer) (o : Outcome) → HasOutcome a o → HasOutcome (answer_still a) o
-still-comes (answered outcome m) o h = h
-still-comes (wild m) o h = h
+still-comes (ends outcome m) o h = h
+still-comes (meets_wild m) o h = h
 
 comes-still : (a : Answer) (o : Outcome) → HasOutcome (answer_still a) o → HasOutcome a o
-comes-still (answered outcome m) o h = h
-comes-still (wild m) o h = h
+comes-still (ends outcome m) o h = h
+comes-still (meets_wild m) o h = h
 
 -- a source that is refused when it is run
 refused-run : (kind : MachineKind) (o : Order) (args : List Word) (text : List ℕ) (m : HostModel) (line fault from : ℕ) →
@@ -385,7 +385,7 @@ refused-detour kind options source object arguments text m after line fault from
     subst (λ t. HasOutcome t (Refused line fault from)) (run.same runs ∙ ran-as) (still-comes (product kind (run_words options source arguments) after) (Refused line fault from) told) in
     let found = refused-run kind order (program_name source ∷ arguments) text back line fault from (message-came _ _ came) in
     let pages = pages-refused text found.0 a.bytes none found.1 in
-    let simmed : product kind (sim_words options object arguments) (still after) ≡ with_message (answered (BadObject pages.1 90) back) =
+    let simmed : product kind (sim_words options object arguments) (still after) ≡ with_message (ends (BadObject pages.1 90) back) =
     sim-is kind options object arguments words.order (still after) words.sim words.file words.rest
     ∙ ap with_message (object-left m.files m.slots m source object text (still after) (omega arith) known kind (record words.order { command = Sim }) (program_name object ∷ arguments) (source-short text a.bytes none))
     ∙ ap (λ r. with_message (image_ran kind (record words.order { command = Sim }) (program_name object ∷ arguments) (loaded r) back)) pages.2 in (

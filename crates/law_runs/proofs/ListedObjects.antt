@@ -22,6 +22,7 @@ use Rattle.mx_mmo.specs.Tetras.{wide_lop}
 use Rattle.mx_mmo.proofs.Sound.{left-bytes, object-stands}
 use Rattle.mx_plan.specs.Counts.{unscheduled}
 use Rattle.mx_plan.proofs.Spared.{uncalled}
+use Rattle.mx_plan.specs.Wild.{ends}
 use Rattle.mx_run.specs.WildRuns.{MachineKind, window_machine}
 use Rattle.mx_stab.specs.Grammar.{IsTrie}
 use Rattle.mx_stab.specs.Reading.{trie_answer}
@@ -36,7 +37,7 @@ use Rattle.mx_type.proofs.Listed.{all-listed}
 use Rattle.mx_type.proofs.Once.{items-once, trie-once}
 use Rattle.mx_words.specs.declared.order.Command.TheVariants.{Show}
 use Rattle.mx_words.specs.declared.order.Order.{Order}
-use Rattle.mx_files.specs.Answers.{Answer, answered, plainly}
+use Rattle.mx_files.specs.Answers.{Answer, plainly}
 use Rattle.mx_files.proofs.FileEnds.{listed-by}
 use Rattle.mx_begin.specs.Arguments.{Word, word_at}
 use Rattle.mx_top.specs.Product.{ordered_plan, product}
@@ -211,10 +212,10 @@ once-typed bytes others object other b c e f h k same =
 
 -- what is answered and left for it
 abbrev there-told : List ℕ → HostModel → Answer
-there-told bytes m = answered (typed bytes).1 (with_output m (concat (typed bytes).0))
+there-told bytes m = ends (typed bytes).1 (with_output m (concat (typed bytes).0))
 
 abbrev still-told : List ℕ → HostModel → Answer
-still-told bytes m = answered (typed bytes).1 (still (with_output m (concat (typed bytes).0)))
+still-told bytes m = ends (typed bytes).1 (still (with_output m (concat (typed bytes).0)))
 
 still-listed : (kind : MachineKind) (words : List Word) (o : Order) (bytes : List ℕ) (m : HostModel) → IsOrdered words o Show → IsThere (word_at words o.file) object_pieces bytes m →
     product kind words (still m) ≡ with_message (still-told bytes m)
@@ -238,7 +239,7 @@ pub listed-called : (words : List Word) (o : Order) (bytes : List ℕ) (old new 
 listed-called words o bytes old new result call h there none kept =
     let outcome : Outcome = (typed bytes).1 in
     let m : HostModel = with_output (unscheduled (contents old)) (concat (typed bytes).0) in
-    let spoken : Answers outcome (with_message (answered outcome m)) = message-answers outcome m in
+    let spoken : Answers outcome (with_message (ends outcome m)) = message-answers outcome m in
     called words old new result outcome call kept
     (spoken.0, listed-spared window_machine words o bytes (contents old) h there none ∙ spoken.1)
 

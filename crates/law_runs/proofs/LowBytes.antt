@@ -16,14 +16,13 @@ use Rattle.mx_core.specs.Step.{Stepped, went, calls, stopped, step}
 use Rattle.mx_run.specs.RunPlans.{RunWorld, end_of_turn}
 use Rattle.mx_run.specs.Runs.{no_flags}
 use Rattle.mx_run.specs.Turns.{Turn, went_on, halts, stops, area_size, status_of, turn_with, trap_turn, turn_of, turn, turn_answer}
-use Rattle.mx_run.specs.WildRuns.{MachineKind, run_course, run_by}
+use Rattle.mx_run.specs.WildRuns.{MachineKind, run_by}
 use Rattle.mx_run.specs.declared.end.End.{End}
 use Rattle.mx_run.specs.declared.end.End.TheVariants as ending
 use Rattle.mx_run.specs.declared.turn_answer.TurnAnswer.{TurnAnswer}
 use Rattle.mx_run.specs.declared.turn_answer.TurnAnswer.TheVariants as answers
 use Rattle.mx_run.proofs.FreeTurns.{trace-free}
 use Rattle.mx_run.proofs.RunCases.{OnOr, LeadsTo, AnyWay, run-ends-so}
-use Rattle.mx_con.proofs.QuietTraces.{run-ends}
 
 -- ---- turns
 
@@ -72,12 +71,10 @@ answer-low s m (stops reason u k) h = λ status e. absurd (cc)
 leads-low : LeadsTo no_flags AnswersLow AnyWay EndsLow
 leads-low = record { spent = λ w g status e. absurd (cc); broken = λ n w x g status e. absurd (cc); turned = λ n a w v g h. turned-low n w.0.pc a w v h }
 
-run-low : (kind : MachineKind) (n : ℕ) (s : State) (m : HostModel) → EndsSo EndsLow (run_course kind n no_flags false s m)
-unfolding run_by
-run-low kind n s m =
-    run-ends EndsLow (run_course kind n no_flags false s m) (run-ends-so kind no_flags AnswersLow AnyWay EndsLow leads-low (λ t k tame. answer-low t k (turn t k) (turn-low t k)) n false s m tt)
+run-low : (kind : MachineKind) (n : ℕ) (s : State) (m : HostModel) → EndsSo EndsLow (run_by kind n no_flags false s m)
+run-low kind n s m = run-ends-so kind no_flags AnswersLow AnyWay EndsLow leads-low (λ t k tame. answer-low t k (turn t k) (turn-low t k)) n false s m tt
 
-pub halts-low : (kind : MachineKind) (steps status : ℕ) (s left : State) (m after : HostModel) → run_course kind steps no_flags false s m ≡ ends (ending.Halted status) (left, after) → status ≡ register left.stack 255 % 2 ^ 8
+pub halts-low : (kind : MachineKind) (steps status : ℕ) (s left : State) (m after : HostModel) → run_by kind steps no_flags false s m ≡ ends (ending.Halted status) (left, after) → status ≡ register left.stack 255 % 2 ^ 8
 halts-low kind steps status s left m after h = subst (EndsSo EndsLow) h (run-low kind steps s m) status refl
 
 pub ruleset lowered = (halts-low)

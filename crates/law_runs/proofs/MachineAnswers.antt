@@ -11,17 +11,17 @@ use Rattle.mx_code.specs.declared.trace.Trace.{Trace}
 use Rattle.mx_core.specs.State.{State}
 use Rattle.mx_run.specs.RunPlans.{RunWorld}
 use Rattle.mx_run.specs.Runs.{no_flags}
-use Rattle.mx_run.specs.WildRuns.{MachineKind, run_course}
+use Rattle.mx_run.specs.WildRuns.{MachineKind, run_by}
 use Rattle.mx_run.specs.declared.end.End.{End}
 use Rattle.mx_run.specs.declared.end.End.TheVariants.{Halted}
 use Rattle.mx_back.specs.History.{states_kept}
 use Rattle.mx_back.specs.KeptRuns.{turns_of}
-use Rattle.mx_con.specs.Session.{session_course}
+use Rattle.mx_con.specs.Session.{session}
 use Rattle.mx_con.specs.SessionPlans.{SessionWorld}
 use Rattle.mx_con.specs.declared.end.SessionEnd.{SessionEnd}
 use Rattle.mx_watch.specs.Traces.{traces}
 use Rattle.mx_words.specs.declared.order.Order.{Order}
-use Rattle.mx_files.specs.Answers.{Answer, answered, wild, plainly, after_lines}
+use Rattle.mx_files.specs.Answers.{Answer, plainly, after_lines}
 use Rattle.mx_files.specs.Clauses.{part_of}
 use Rattle.mx_files.specs.FilePlans.{lines_plan}
 use Rattle.mx_files.specs.Writing.{lines_put}
@@ -49,11 +49,11 @@ After = Outcome → State → HostPlan Outcome
 
 abbrev pub run_answer : ℕ → After → Course End RunWorld → Answer
 run_answer n more (ends e w) = plainly (end_of host (more (outcome_of n e) w.0) w.1)
-run_answer n more (meets_wild w) = wild w.1
+run_answer n more (meets_wild w) = meets_wild w.1
 
 abbrev pub session_told : ℕ → After → Course SessionEnd SessionWorld → Answer
 session_told n more (ends e w) = plainly (end_of host (more (session_outcome n e) w.0.0) w.0.1)
-session_told n more (meets_wild w) = wild w.0.1
+session_told n more (meets_wild w) = meets_wild w.0.1
 
 beside-answer : (told : List Trace) (t : Outcome × HostModel) → answer_of (beside told t) ≡ plainly t
 beside-answer told t = plain-so t
@@ -85,31 +85,31 @@ kept_by steps s m = states_kept (turns_of steps s m) []
 -- what it comes to, whether reports are asked for or not: of a run, by whether no step is taken back; and of a run or a session
 abbrev run_by_last : MachineKind → ℕ → ℕ → Bool → State → HostModel → Bool → Answer
 run_by_last kind steps last dump s m none =
-    cond none (run_answer steps (end.dumped_plan dump) (run_course kind steps no_flags false s m))
-    (run_answer steps (λ outcome t. end.back_plan dump outcome (take last (kept_by steps s m)) t) (run_course kind steps no_flags false s m))
+    cond none (run_answer steps (end.dumped_plan dump) (run_by kind steps no_flags false s m))
+    (run_answer steps (λ outcome t. end.back_plan dump outcome (take last (kept_by steps s m)) t) (run_by kind steps no_flags false s m))
 
 abbrev pub machine_by : MachineKind → ℕ → ℕ → Bool → State → HostModel → Bool → Answer
 machine_by kind steps last dump s m seated =
-    cond seated (session_told steps (end.dumped_plan dump) (session_course kind steps s no_flags m)) (run_by_last kind steps last dump s m (last == 0))
+    cond seated (session_told steps (end.dumped_plan dump) (session kind steps s no_flags m)) (run_by_last kind steps last dump s m (last == 0))
 
 stepped-answer : (kind : MachineKind) (o : Order) (s : State) (m : HostModel) → answer_of (work_by kind (work.stepped_plan o) s m) ≡ run_by_last kind o.steps o.last o.dump s m true
 unfolding course
-stepped-answer kind o s m = run-answers kind o.steps (work.dumped_plan o.dump) (λ outcome t kept. end.dumped_plan o.dump outcome t) (at_start s (m, [])) (run_course kind o.steps no_flags false s m) (to-dumped o.dump)
+stepped-answer kind o s m = run-answers kind o.steps (work.dumped_plan o.dump) (λ outcome t kept. end.dumped_plan o.dump outcome t) (at_start s (m, [])) (run_by kind o.steps no_flags false s m) (to-dumped o.dump)
 
 reported-answer : (kind : MachineKind) (o : Order) (s : State) (m : HostModel) → answer_of (work_by kind (work.reported_plan o) s m) ≡ run_by_last kind o.steps o.last o.dump s m true
 unfolding course
 reported-answer kind o s m =
-    run-answers kind o.steps (work.dumped_plan o.dump) (λ outcome t kept. end.dumped_plan o.dump outcome t) (at_start s (m, traces kind o.steps s m)) (run_course kind o.steps no_flags false s m) (to-dumped o.dump)
+    run-answers kind o.steps (work.dumped_plan o.dump) (λ outcome t kept. end.dumped_plan o.dump outcome t) (at_start s (m, traces kind o.steps s m)) (run_by kind o.steps no_flags false s m) (to-dumped o.dump)
 
 kept-answer : (kind : MachineKind) (o : Order) (s : State) (m : HostModel) → answer_of (work_by kind (work.kept_plan o) s m) ≡ run_by_last kind o.steps o.last o.dump s m false
 unfolding course bind work.on_host need host
 kept-answer kind o s m =
-    run-answers kind o.steps (work.back_plan o) (λ outcome t kept. end.back_plan o.dump outcome (take o.last kept) t) (record (at_start s (m, [])) { kept = kept_by o.steps s m }) (run_course kind o.steps no_flags false s m) (to-back o)
+    run-answers kind o.steps (work.back_plan o) (λ outcome t kept. end.back_plan o.dump outcome (take o.last kept) t) (record (at_start s (m, [])) { kept = kept_by o.steps s m }) (run_by kind o.steps no_flags false s m) (to-back o)
 
 -- a session of the console
 pub sitting-answer : (kind : MachineKind) (o : Order) (s : State) (m : HostModel) → answer_of (work_by kind (work.sitting_plan o) s m) ≡ machine_by kind o.steps o.last o.dump s m true
 unfolding course
-sitting-answer kind o s m = session-answers kind o.steps (work.dumped_plan o.dump) (λ outcome t kept. end.dumped_plan o.dump outcome t) (at_start s (m, [])) (session_course kind o.steps s no_flags m) (to-dumped o.dump)
+sitting-answer kind o s m = session-answers kind o.steps (work.dumped_plan o.dump) (λ outcome t kept. end.dumped_plan o.dump outcome t) (at_start s (m, [])) (session kind o.steps s no_flags m) (to-dumped o.dump)
 
 pub machine-answer : (kind : MachineKind) (o : Order) (s : State) (m : HostModel) → answer_of (work_by kind (work.machine_plan o) s m) ≡ machine_by kind o.steps o.last o.dump s m o.interactive
 unfolding work.machine_plan
@@ -124,7 +124,7 @@ machine-answer kind o s m = by o.interactive (o.last == 0) o.report
 
 -- a run, by which no step is taken back
 pub forward-answer : (kind : MachineKind) (o : Order) (s : State) (m : HostModel) → o.interactive ≡ false → o.last ≡ 0 →
-    answer_of (work_by kind (work.machine_plan o) s m) ≡ run_answer o.steps (end.dumped_plan o.dump) (run_course kind o.steps no_flags false s m)
+    answer_of (work_by kind (work.machine_plan o) s m) ≡ run_answer o.steps (end.dumped_plan o.dump) (run_by kind o.steps no_flags false s m)
 forward-answer kind o s m i none =
     machine-answer kind o s m ∙ ap (machine_by kind o.steps o.last o.dump s m) i ∙ ap (λ n. machine_by kind o.steps n o.dump s m false) none
 
@@ -149,13 +149,13 @@ machine-heard kind o s m = by o.interactive (o.last == 0) o.report
 
 -- ---- a program that halts: no step is taken back
 
-halted-by : (kind : MachineKind) (steps last : ℕ) (dump : Bool) (s ended : State) (m after : HostModel) (status : ℕ) (none : Bool) → run_course kind steps no_flags false s m ≡ ends (Halted status) (ended, after) →
+halted-by : (kind : MachineKind) (steps last : ℕ) (dump : Bool) (s ended : State) (m after : HostModel) (status : ℕ) (none : Bool) → run_by kind steps no_flags false s m ≡ ends (Halted status) (ended, after) →
     run_by_last kind steps last dump s m none ≡ plainly (end_of host (end.dumped_plan dump (Done status) ended) after)
 unfolding end.back_plan
 halted-by kind steps last dump s ended m after status true h = ap (run_answer steps (end.dumped_plan dump)) h
 halted-by kind steps last dump s ended m after status false h = ap (run_answer steps (λ outcome t. end.back_plan dump outcome (take last (kept_by steps s m)) t)) h
 
-pub halted-answer : (kind : MachineKind) (o : Order) (s ended : State) (m after : HostModel) (status : ℕ) → o.interactive ≡ false → run_course kind o.steps no_flags false s m ≡ ends (Halted status) (ended, after) →
+pub halted-answer : (kind : MachineKind) (o : Order) (s ended : State) (m after : HostModel) (status : ℕ) → o.interactive ≡ false → run_by kind o.steps no_flags false s m ≡ ends (Halted status) (ended, after) →
     answer_of (work_by kind (work.machine_plan o) s m) ≡ plainly (end_of host (end.dumped_plan o.dump (Done status) ended) after)
 halted-answer kind o s ended m after status i h =
     machine-answer kind o s m ∙ ap (machine_by kind o.steps o.last o.dump s m) i ∙ halted-by kind o.steps o.last o.dump s ended m after status (o.last == 0) h
@@ -175,10 +175,10 @@ telling-end outcome lines m =
 
 -- the dump
 pub dumped-end : (dump : Bool) (outcome : Outcome) (s : State) (m : HostModel) →
-    plainly (end_of host (end.dumped_plan dump outcome s) m) ≡ cond (dump && leaves_machine outcome) (after_lines outcome (lines_put (dump_lines s) m)) (answered outcome m)
+    plainly (end_of host (end.dumped_plan dump outcome s) m) ≡ cond (dump && leaves_machine outcome) (after_lines outcome (lines_put (dump_lines s) m)) (ends outcome m)
 unfolding end.dumped_plan end_of
 dumped-end dump outcome s m = by (dump && leaves_machine outcome)
   where
-    by : (b : Bool) → plainly (end_of host (cond b (telling outcome (dump_lines s)) (returns outcome)) m) ≡ cond b (after_lines outcome (lines_put (dump_lines s) m)) (answered outcome m)
+    by : (b : Bool) → plainly (end_of host (cond b (telling outcome (dump_lines s)) (returns outcome)) m) ≡ cond b (after_lines outcome (lines_put (dump_lines s) m)) (ends outcome m)
     by true = telling-end outcome (dump_lines s) m
     by false = refl

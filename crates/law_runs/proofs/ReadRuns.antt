@@ -5,11 +5,11 @@ use Rattle.mx_host.specs.HostAnswer.{Then}
 use Rattle.mx_host.specs.HostModel.{HostModel}
 use Rattle.mx_plan.specs.Calls.{host}
 use Rattle.mx_plan.specs.Plan.{bind, end_of, end_after}
-use Rattle.mx_plan.specs.Wild.{course}
+use Rattle.mx_plan.specs.Wild.{course, ends}
 use Rattle.mx_mmo.specs.Image.{Image}
 use Rattle.mx_run.specs.WildRuns.{MachineKind}
 use Rattle.mx_words.specs.declared.order.Order.{Order}
-use Rattle.mx_files.specs.Answers.{Answer, answered}
+use Rattle.mx_files.specs.Answers.{Answer}
 use Rattle.mx_files.specs.FilePlans.{on_ok}
 use Rattle.mx_files.specs.Source.{file_bytes}
 use Rattle.mx_outcome.specs.declared.outcome.Outcome.{Outcome}
@@ -31,11 +31,11 @@ image-course kind o args image m = ap answer_of (run-on kind o.ring args (machin
 
 abbrev pub image_ran : MachineKind → Order → List Word → Result Image Outcome → HostModel → Answer
 image_ran kind o args (Ok image) m = image_answer kind o args image m
-image_ran kind o args (Err outcome) m = answered outcome m
+image_ran kind o args (Err outcome) m = ends outcome m
 
 abbrev pub file_ran : MachineKind → Order → List Word → Form → Then (Result (List ℕ) Outcome) → Answer
 file_ran kind o args form (Ok bytes, m) = image_ran kind o args (image_in form bytes) m
-file_ran kind o args form (Err outcome, m) = answered outcome m
+file_ran kind o args form (Err outcome, m) = ends outcome m
 
 pub file-read : (kind : MachineKind) (words : List Word) (o : Order) (form : Form) (m : HostModel) →
     answer_by kind (run_file words o form) m ≡ file_ran kind o (arguments words o) form (file_bytes (most_pieces form) (word_at words o.file) m)

@@ -8,6 +8,7 @@ use Rattle.mx_host.specs.HostAnswer.{Then, with_file}
 use Rattle.mx_host.proofs.Still.{still}
 use Rattle.mx_mmo.specs.Image.{Image}
 use Rattle.mx_asm.specs.Refusal.{refusal}
+use Rattle.mx_plan.specs.Wild.{ends}
 use Rattle.mx_core.specs.State.{State}
 use Rattle.mx_ring.specs.Stack.{register}
 use Rattle.mx_plan.specs.Calls.{host}
@@ -18,7 +19,7 @@ use Rattle.mx_run.specs.WildRuns.{MachineKind, window_machine}
 use Rattle.mx_run.specs.declared.end.End.TheVariants.{Halted}
 use Rattle.mx_words.specs.declared.order.Command.TheVariants.{Asm}
 use Rattle.mx_words.specs.declared.order.Order.{Order}
-use Rattle.mx_files.specs.Answers.{Answer, answered, after_lines}
+use Rattle.mx_files.specs.Answers.{Answer, after_lines}
 use Rattle.mx_outcome.specs.Kinds.{leaves_machine}
 use Rattle.mx_begin.specs.Arguments.{Word, word_at, arguments}
 use Rattle.law_runs.specs.Called.{NoCallFails, IsCalled}
@@ -69,16 +70,16 @@ pub object-spared : (kind : MachineKind) (words : List Word) (o : Order) (image 
 object-spared kind words o image m h none = runs-as kind words o image m none (object-still kind words o image m h)
 
 pub halted-plain : (kind : MachineKind) (words : List Word) (o : Order) (image : Image) (status : ℕ) (ended : State) (m after : HostModel) → RunsAs kind words o image m →
-    IsHalted kind words o image (unscheduled m) status ended after → o.dump ≡ false → answer_unscheduled (product kind words m) ≡ answered (Done status) (unscheduled after)
+    IsHalted kind words o image (unscheduled m) status ended after → o.dump ≡ false → answer_unscheduled (product kind words m) ≡ ends (Done status) (unscheduled after)
 halted-plain kind words o image status ended m after h k d =
     h ∙ ap answer_unscheduled (ap with_message (halted-run kind words o image (unscheduled m) status ended after k) ∙ plain-told o.dump status ended after d)
 
 pub halted-dumped : (kind : MachineKind) (words : List Word) (o : Order) (image : Image) (status : ℕ) (ended : State) (m after : HostModel) → HasStartSlots m → RunsAs kind words o image m →
     IsHalted kind words o image (unscheduled m) status ended after → o.dump ≡ true →
-    answer_unscheduled (product kind words m) ≡ answered (Done status) (unscheduled (with_output after (concat (dump_lines ended))))
+    answer_unscheduled (product kind words m) ≡ ends (Done status) (unscheduled (with_output after (concat (dump_lines ended))))
 halted-dumped kind words o image status ended m after slots h k d =
     h ∙ ap (λ a. answer_unscheduled (with_message a)) (halted-run kind words o image (unscheduled m) status ended after k) ∙ ap (λ a. answer_unscheduled (with_message a)) (dumped-end o.dump (Done status) ended after)
-    ∙ ap (λ b. answer_unscheduled (with_message (cond (b && leaves_machine (Done status)) (after_lines (Done status) (lines_put (dump_lines ended) after)) (answered (Done status) after)))) d
+    ∙ ap (λ b. answer_unscheduled (with_message (cond (b && leaves_machine (Done status)) (after_lines (Done status) (lines_put (dump_lines ended) after)) (ends (Done status) after)))) d
     ∙ lines-done (dump_lines ended) status after (run-left kind o.steps k.machine (unscheduled m) (Halted status) (ended, after) refl slots k.halts)
 
 -- a session
@@ -89,25 +90,25 @@ sat-spared kind words o image s m h i k = h ∙ ap answer_unscheduled (sat-image
 -- ---- `asm` and `gen`
 
 pub told-spared : (kind : MachineKind) (words : List Word) (o : Order) (text : List ℕ) (m : HostModel) → IsOrdered words o Asm → IsThere (word_at words o.file) source_pieces text m → NoCallFails kind words m →
-    answer_unscheduled (product kind words m) ≡ answer_unscheduled (with_message (answered (assembled_outcome (source_object text).1) (with_file (unscheduled m) (word_at words o.rest) (source_object text).0)))
+    answer_unscheduled (product kind words m) ≡ answer_unscheduled (with_message (ends (assembled_outcome (source_object text).1) (with_file (unscheduled m) (word_at words o.rest) (source_object text).0)))
 told-spared kind words o text m h there none =
     let outcome : Outcome = assembled_outcome (source_object text).1 in
     let n : HostModel = with_object words o text (unscheduled m) in
-    let same : SparedAnswers n (answered outcome n) (answered outcome (still n)) = uncalled in
-    carried-as kind words m n (with_message (answered outcome n)) (with_message (answered outcome (still n))) none (assembled-still kind words o text m h there) (message-steady (answered outcome n) (answered outcome (still n)) same) refl
+    let same : SparedAnswers n (ends outcome n) (ends outcome (still n)) = uncalled in
+    carried-as kind words m n (with_message (ends outcome n)) (with_message (ends outcome (still n))) none (assembled-still kind words o text m h there) (message-steady (ends outcome n) (ends outcome (still n)) same) refl
 
 pub assembled-spared : (kind : MachineKind) (words : List Word) (o : Order) (text : List ℕ) (m : HostModel) → IsOrdered words o Asm → IsThere (word_at words o.file) source_pieces text m → NoCallFails kind words m →
-    refusal text ≡ None → answer_unscheduled (product kind words m) ≡ answered (Done 0) (unscheduled (with_file m (word_at words o.rest) (source_object text).0))
+    refusal text ≡ None → answer_unscheduled (product kind words m) ≡ ends (Done 0) (unscheduled (with_file m (word_at words o.rest) (source_object text).0))
 assembled-spared kind words o text m h there none e =
-    told-spared kind words o text m h there none ∙ ap (λ r. answer_unscheduled (with_message (answered (assembled_outcome r) (with_object words o text (unscheduled m))))) (accepted-object text e)
+    told-spared kind words o text m h there none ∙ ap (λ r. answer_unscheduled (with_message (ends (assembled_outcome r) (with_object words o text (unscheduled m))))) (accepted-object text e)
     ∙ ap answer_unscheduled (done-said 0 (with_object words o text (unscheduled m)))
 
 pub generated-spared : (kind : MachineKind) (words : List Word) (m left : HostModel) (line : List ℕ) → HasStartSlots m → NoCallFails kind words m → IsGenerated kind words (unscheduled m) left line →
-    answer_unscheduled (product kind words m) ≡ answered (Done 0) (unscheduled (with_output left line))
+    answer_unscheduled (product kind words m) ≡ ends (Done 0) (unscheduled (with_output left line))
 generated-spared kind words m left line slots none h =
     product-same kind words m (unscheduled m) refl none (λ call from to. refl) ∙ ap answer_unscheduled (generated-told kind words (unscheduled m) left line h)
     ∙ lines-done (line ∷ []) 0 left (run-left kind generator_steps h.machine (unscheduled m) (Halted h.status) (h.ended, left) refl slots h.halts)
-    ∙ ap (λ text. answered (Done 0) (unscheduled (with_output left text))) (append-nil line)
+    ∙ ap (λ text. ends (Done 0) (unscheduled (with_output left text))) (append-nil line)
 
 pub ruleset spared = (source-spared, object-spared, told-spared, assembled-spared, generated-spared, file-left)
 
@@ -115,7 +116,7 @@ pub ruleset spared = (source-spared, object-spared, told-spared, assembled-spare
 
 -- the answer has this outcome
 abbrev pub Answers : Outcome → Answer → Type 0
-Answers outcome a = (q : HostModel) × (answer_unscheduled a ≡ answered outcome q)
+Answers outcome a = (q : HostModel) × (answer_unscheduled a ≡ ends outcome q)
 
 -- by whether there is a dump
 halted-answers : (kind : MachineKind) (words : List Word) (o : Order) (image : Image) (status : ℕ) (ended : State) (m after : HostModel) → HasStartSlots m → RunsAs kind words o image m →
@@ -125,7 +126,7 @@ halted-answers kind words o image status ended m after slots h k true d =
 halted-answers kind words o image status ended m after slots h k false d = (unscheduled after, halted-plain kind words o image status ended m after h k d)
 
 -- a message changes no outcome, nor do the lines of a dump that are written
-pub message-answers : (outcome : Outcome) (m : HostModel) → Answers outcome (with_message (answered outcome m))
+pub message-answers : (outcome : Outcome) (m : HostModel) → Answers outcome (with_message (ends outcome m))
 message-answers outcome m = (unscheduled (end_of host (message_plan outcome) m).1, ap answer_unscheduled (message-said outcome m))
 
 lines-answer : (lines : List (List ℕ)) (outcome : Outcome) (m : HostModel) (t : Then Bool) → LinesWritten lines m t → Answers outcome (with_message (after_lines outcome t))
@@ -133,7 +134,7 @@ lines-answer lines outcome m (true, n) h = message-answers outcome n
 lines-answer lines outcome m (false, n) h = absurd (cc (h.0))
 
 dumped-by : (b : Bool) (outcome : Outcome) (ended : State) (m : HostModel) → IsReady m →
-    Answers outcome (with_message (cond b (after_lines outcome (lines_put (dump_lines ended) m)) (answered outcome m)))
+    Answers outcome (with_message (cond b (after_lines outcome (lines_put (dump_lines ended) m)) (ends outcome m)))
 dumped-by true outcome ended m h = lines-answer (dump_lines ended) outcome m (lines_put (dump_lines ended) m) (lines-written (dump_lines ended) m h)
 dumped-by false outcome ended m h = message-answers outcome m
 
@@ -152,7 +153,7 @@ played-answers kind words o image outcome ended m after slots h k =
 pub called : (words : List Word) (old new : Option HostModel) (result outcome : Outcome) → IsCalled words old new result → result ≢ OutOfMemory →
     Answers outcome (product window_machine words (contents old)) → result ≡ outcome
 called words old new result outcome h k a =
-    let told : answered result (unscheduled (contents new)) ≡ answered outcome a.0 = ap answer_unscheduled (h.answers h.telling k) ∙ a.1 in
+    let told : ends result (unscheduled (contents new)) ≡ ends outcome a.0 = ap answer_unscheduled (h.answers h.telling k) ∙ a.1 in
     cc
 
 -- that of a machine that halts, and that of a session

@@ -16,9 +16,9 @@ use Rattle.mx_plan.proofs.WildLaws.{course_still, SparedCourse, course_spared}
 use Rattle.mx_run.specs.WildRuns.{MachineKind}
 use Rattle.mx_multi.specs.JointTurns.{JointWorld}
 use Rattle.mx_multi.specs.MultiPlans.{turns_plan}
-use Rattle.mx_multi.specs.Turns.{multi_goes, of_course, turns}
+use Rattle.mx_multi.specs.Turns.{multi_goes, turns}
 use Rattle.mx_multi.specs.declared.end.MultiEnd.{MultiEnd}
-use Rattle.mx_files.specs.Answers.{Answer, answered, wild, plainly}
+use Rattle.mx_files.specs.Answers.{Answer, plainly}
 use Rattle.mx_begin.specs.Arguments.{Word}
 use Rattle.mx_begin.specs.Begun.{started}
 use Rattle.mx_outcome.specs.declared.outcome.Outcome.{Outcome}
@@ -56,7 +56,7 @@ machine-spared kind work (Ok s) w =
     (after worked_left (left-spared work_seen work_host work_still (work_goes kind) (work-spared kind) work (at_start s w)) uncalled)
 
 turned-case : (dump : Bool) (told : List Trace) (c : Course MultiEnd JointWorld) →
-    Spares (joint_host (world_of c)) (program_host (world_of (turned dump told (of_course c)))) (course_still program_still (turned dump told (of_course c))) (turned dump told (of_course (course_still still_joint c)))
+    Spares (joint_host (world_of c)) (program_host (world_of (turned dump told c))) (course_still program_still (turned dump told c)) (turned dump told (course_still still_joint c))
 turned-case dump told (ends end w) = uncalled
 turned-case dump told (meets_wild w) = uncalled
 
@@ -68,14 +68,14 @@ call-spared kind (of_host o) w =
 call-spared kind (on_machine ring image arguments work) w = machine-spared kind work (started kind ring image arguments) w
 call-spared kind (taking_turns ring image schedule steps dump) w =
     let start : JointWorld = (joint_at_start kind ring image schedule, w.0) in
-    after (λ c. turned dump w.1 (of_course c)) (turns-spared kind schedule steps schedule start) (turned-case dump w.1 (course (multi_goes kind) (turns_plan schedule steps schedule) start))
+    after (turned dump w.1) (turns-spared kind schedule steps schedule start) (turned-case dump w.1 (course (multi_goes kind) (turns_plan schedule steps schedule) start))
 
 -- ---- answers
 
 -- an answer with the still model in place of its own
 abbrev pub answer_still : Answer → Answer
-answer_still (answered outcome m) = answered outcome (still m)
-answer_still (wild m) = wild (still m)
+answer_still (ends outcome m) = ends outcome (still m)
+answer_still (meets_wild m) = meets_wild (still m)
 
 abbrev pub SparedAnswers : HostModel → Answer → Answer → Type 0
 SparedAnswers m a b = Spares m (host_of a) (answer_still a) b
@@ -109,8 +109,8 @@ said-case : (t : Then Outcome) → Spares t.1 (host_of (plainly t)) (answer_stil
 said-case (outcome, m) = uncalled
 
 with-case : (a : Answer) → SparedAnswers (host_of a) (with_message a) (with_message (answer_still a))
-with-case (answered outcome m) = after plainly (plan-spared (message_plan outcome) m) (said-case (end_of host (message_plan outcome) m))
-with-case (wild m) = uncalled
+with-case (ends outcome m) = after plainly (plan-spared (message_plan outcome) m) (said-case (end_of host (message_plan outcome) m))
+with-case (meets_wild m) = uncalled
 
 pub message-steady : {m : HostModel} (a b : Answer) → SparedAnswers m a b → SparedAnswers m (with_message a) (with_message b)
 message-steady a b h = after with_message h (with-case a)
@@ -118,8 +118,8 @@ message-steady a b h = after with_message h (with-case a)
 -- ---- two models that differ in the number of calls and the list of those that fail
 
 pub answer-unscheduled : (a : Answer) → answer_unscheduled a ≡ answer_unscheduled (answer_still a)
-answer-unscheduled (answered outcome m) = refl
-answer-unscheduled (wild m) = refl
+answer-unscheduled (ends outcome m) = refl
+answer-unscheduled (meets_wild m) = refl
 
 pub product-same : (kind : MachineKind) (words : List Word) (m n : HostModel) → unscheduled m ≡ unscheduled n →
     NoneFailed m (host_of (product kind words m)) → NoneFailed n (host_of (product kind words n)) →
@@ -141,13 +141,13 @@ pub ruleset steady = (product-same, traces-same, product-list)
 -- ---- what is the same in the still model is the same but for the number of calls, where the lists are the same
 
 pub answers-same : (a b : Answer) → answer_still a ≡ answer_still b → (host_of a).failing ≡ (host_of b).failing → answer_uncounted a ≡ answer_uncounted b
-answers-same (answered x m) (answered y n) e h =
+answers-same (ends x m) (ends y n) e h =
     let same : x ≡ y = cc in
     let models : still m ≡ still n = cc in
     let model = uncounted-of m n models h in
-    ap (λ z. answered z (without_count m)) same ∙ ap (answered y) model
-answers-same (wild m) (wild n) e h =
+    ap (λ z. ends z (without_count m)) same ∙ ap (ends y) model
+answers-same (meets_wild m) (meets_wild n) e h =
     let models : still m ≡ still n = cc in
-    ap wild (uncounted-of m n models h)
-answers-same (answered x m) (wild n) e h = absurd (cc)
-answers-same (wild m) (answered y n) e h = absurd (cc)
+    ap meets_wild (uncounted-of m n models h)
+answers-same (ends x m) (meets_wild n) e h = absurd (cc)
+answers-same (meets_wild m) (ends y n) e h = absurd (cc)

@@ -16,18 +16,18 @@ use Rattle.mx_run.specs.Counts.{end_host}
 use Rattle.mx_run.specs.RunPlans.{RunWorld}
 use Rattle.mx_run.specs.Runs.{no_flags}
 use Rattle.mx_run.specs.Turns.{Turn, went_on, halts, stops, turn, turn_answer}
-use Rattle.mx_run.specs.WildRuns.{MachineKind, RunEnd, run_ended, run_wild, ends_wild, host_after, of_course, run_course, run_by}
+use Rattle.mx_run.specs.WildRuns.{MachineKind, ends_wild, host_after, run_by}
 use Rattle.mx_run.specs.declared.end.End.{End}
 use Rattle.mx_run.specs.declared.turn_answer.TurnAnswer.TheVariants as answer
 use Rattle.mx_run.proofs.FreeTurns.{after_first, none-by, run-by-turn}
 use Rattle.mx_run.proofs.SteadyRuns.{end_still, run-steady, turn_still, turn-steady}
 use Rattle.mx_back.specs.History.{kept_turn, states_kept}
 use Rattle.mx_back.specs.KeptRuns.{turn_kind, turns_after, turns_of}
-use Rattle.mx_con.specs.Session.{SessionRun, session_ended, session_wild, session_course, session}
+use Rattle.mx_con.specs.Session.{session}
 use Rattle.mx_con.specs.Session as console
 use Rattle.mx_con.specs.SessionPlans.{SessionWorld}
 use Rattle.mx_con.specs.declared.end.SessionEnd.{SessionEnd}
-use Rattle.mx_con.proofs.SteadySessions.{session_host, session_still, session-steady}
+use Rattle.mx_con.proofs.SteadySessions.{world_host, world_still, session-steady}
 use Rattle.mx_watch.specs.Traces.{traces_after, traces}
 use Rattle.mx_top.specs.MachineWork.{Work, WorkCall, of_host, stepping, reporting, keeping, sitting, WorkSays, work_goes, ran, sat}
 use Rattle.mx_top.specs.Product.{ProgramWorld}
@@ -79,7 +79,7 @@ turn-told kind n pc more (halts status s m) = uncalled
 turn-told kind n pc more (stops reason s m) = uncalled
 
 step-told : (kind : MachineKind) (n : ℕ) (s : State) (m : HostModel) → ToldSo kind n → (b : Bool) →
-    Spares m (end_host (cond b (run_wild m) (after_first kind n s.pc (turn s m)))) (cond b [] (traces_after (traces kind n) (turn s m))) (cond b [] (traces_after (traces kind n) (turn s (still m))))
+    Spares m (end_host (cond b (meets_wild (s, m)) (after_first kind n s.pc (turn s m)))) (cond b [] (traces_after (traces kind n) (turn s m))) (cond b [] (traces_after (traces kind n) (turn s (still m))))
 step-told kind n s m more true = uncalled
 step-told kind n s m more false = after (traces_after (traces kind n)) (turn-steady s m) (turn-told kind n s.pc more (turn s m))
 
@@ -90,12 +90,12 @@ run-told kind (suc n) s m = rw (run-by-turn kind n s m) (step-told kind n s m (r
 
 -- ---- what a run leaves of the work, and with the states that it keeps
 
-abbrev run_left : Work → RunEnd → (End × Work) ⊎ ProgramWorld
-run_left w (run_ended e) = inl (e.end, record w { machine = e.state; host = e.host })
-run_left w (run_wild m) = inr (m, w.told)
+abbrev run_left : Work → Course End RunWorld → (End × Work) ⊎ ProgramWorld
+run_left w (ends end v) = inl (end, record w { machine = v.0; host = v.1 })
+run_left w (meets_wild v) = inr (v.1, w.told)
 
 module _ (kind : MachineKind) (w : Work) where
-  abbrev kept_left : List State → RunEnd → (End × Work) ⊎ ProgramWorld
+  abbrev kept_left : List State → Course End RunWorld → (End × Work) ⊎ ProgramWorld
   kept_left kept r = run_left (record w { kept = kept }) r
 
   -- what is kept by a turn from a state, and by those after it
@@ -115,8 +115,8 @@ module _ (kind : MachineKind) (w : Work) where
   turn-kept n s kept more (went_on u m trace) = more (kept_turn (turn_kind (step s) (answer.Went trace)) s kept) u m
 
   step-kept : (n : ℕ) (kept : List State) (s : State) (m : HostModel) → ((ks : List State) (u : State) (k : HostModel) → KeptSo n ks u k) → (b : Bool) →
-      Spares m (end_host (cond b (run_wild m) (after_first kind n s.pc (turn s m)))) (kept_left (kept_by n s kept (turn s m)) (end_still (cond b (run_wild m) (after_first kind n s.pc (turn s m)))))
-      (kept_left (kept_by n s kept (turn s (still m))) (cond b (run_wild (still m)) (after_first kind n s.pc (turn s (still m)))))
+      Spares m (end_host (cond b (meets_wild (s, m)) (after_first kind n s.pc (turn s m)))) (kept_left (kept_by n s kept (turn s m)) (end_still (cond b (meets_wild (s, m)) (after_first kind n s.pc (turn s m)))))
+      (kept_left (kept_by n s kept (turn s (still m))) (cond b (meets_wild (s, still m)) (after_first kind n s.pc (turn s (still m)))))
   step-kept n kept s m more true = uncalled
   step-kept n kept s m more false = after (λ t. kept_left (kept_by n s kept t) (after_first kind n s.pc t)) (turn-steady s m) (turn-kept n s kept more (turn s m))
 
@@ -137,7 +137,7 @@ abbrev pub work_seen : Work → ProgramWorld
 work_seen w = (w.host, w.told)
 
 ran-spared : {m : HostModel} (w : Work) (t u : List Trace) (k l : List State) (c d : Course End RunWorld) →
-    Spares m (end_host (of_course c)) (run_left (record w { told = t; kept = k }) (end_still (of_course c))) (run_left (record w { told = u; kept = l }) (of_course d)) →
+    Spares m (end_host c) (run_left (record w { told = t; kept = k }) (end_still c)) (run_left (record w { told = u; kept = l }) d) →
     Spares m (work_host (world_of (ran (record w { told = t; kept = k }) c))) (left work_seen (course_still work_still (ran (record w { told = t; kept = k }) c)))
     (left work_seen (ran (record (work_still w) { told = u; kept = l }) d))
 ran-spared w t u k l (ends a v) (ends b x) h = h
@@ -145,12 +145,12 @@ ran-spared w t u k l (ends a v) (meets_wild x) h = h
 ran-spared w t u k l (meets_wild v) (ends b x) h = h
 ran-spared w t u k l (meets_wild v) (meets_wild x) h = h
 
-abbrev session_left : Work → SessionRun → (SessionEnd × Work) ⊎ ProgramWorld
-session_left w (session_ended e) = inl (e.end, record w { machine = e.state; host = e.host })
-session_left w (session_wild m) = inr (m, w.told)
+abbrev session_left : Work → Course SessionEnd SessionWorld → (SessionEnd × Work) ⊎ ProgramWorld
+session_left w (ends end v) = inl (end, record w { machine = v.0.0; host = v.0.1 })
+session_left w (meets_wild v) = inr (v.0.1, w.told)
 
 sat-spared : {m : HostModel} (w : Work) (c d : Course SessionEnd SessionWorld) →
-    Spares m (session_host (console.of_course c)) (session_left w (session_still (console.of_course c))) (session_left w (console.of_course d)) →
+    Spares m (world_host (world_of c)) (session_left w (course_still world_still c)) (session_left w d) →
     Spares m (work_host (world_of (sat w c))) (left work_seen (course_still work_still (sat w c))) (left work_seen (sat (work_still w) d))
 sat-spared w (ends a v) (ends b x) h = h
 sat-spared w (ends a v) (meets_wild x) h = h
@@ -158,20 +158,20 @@ sat-spared w (meets_wild v) (ends b x) h = h
 sat-spared w (meets_wild v) (meets_wild x) h = h
 
 pub work-spared : (kind : MachineKind) (o : WorkCall) (w : Work) → SparedLeft work_seen work_host work_still w (work_goes kind o w) (work_goes kind o (work_still w))
-unfolding end_of run_by session
+unfolding end_of
 work-spared kind (of_host o) w =
     let say : Then (HostSays o) → (WorkSays (of_host o) × Work) ⊎ ProgramWorld = λ t. inl (t.0, record w { host = t.1 }) in
     after say (plan-spared (calls o (λ r. returns r)) w.host) uncalled
 work-spared kind (stepping n) w =
-    ran-spared w w.told w.told w.kept w.kept (run_course kind n no_flags false w.machine w.host) (run_course kind n no_flags false w.machine (still w.host))
+    ran-spared w w.told w.told w.kept w.kept (run_by kind n no_flags false w.machine w.host) (run_by kind n no_flags false w.machine (still w.host))
     (after (run_left w) (run-steady kind n no_flags false w.machine w.host) uncalled)
 work-spared kind (reporting n) w =
-    let told : List Trace × RunEnd → (End × Work) ⊎ ProgramWorld = λ x. run_left (record w { told = x.0 }) x.1 in
-    ran-spared w (traces kind n w.machine w.host) (traces kind n w.machine (still w.host)) w.kept w.kept (run_course kind n no_flags false w.machine w.host) (run_course kind n no_flags false w.machine (still w.host))
+    let told : List Trace × Course End RunWorld → (End × Work) ⊎ ProgramWorld = λ x. run_left (record w { told = x.0 }) x.1 in
+    ran-spared w (traces kind n w.machine w.host) (traces kind n w.machine (still w.host)) w.kept w.kept (run_by kind n no_flags false w.machine w.host) (run_by kind n no_flags false w.machine (still w.host))
     (after told (both (run-told kind n w.machine w.host) (run-steady kind n no_flags false w.machine w.host)) uncalled)
 work-spared kind (keeping n) w =
     ran-spared w w.told w.told (states_kept (turns_of n w.machine w.host) []) (states_kept (turns_of n w.machine (still w.host)) [])
-    (run_course kind n no_flags false w.machine w.host) (run_course kind n no_flags false w.machine (still w.host)) (run-kept kind w n [] w.machine w.host)
+    (run_by kind n no_flags false w.machine w.host) (run_by kind n no_flags false w.machine (still w.host)) (run-kept kind w n [] w.machine w.host)
 work-spared kind (sitting n) w =
-    sat-spared w (session_course kind n w.machine no_flags w.host) (session_course kind n w.machine no_flags (still w.host)) (after (session_left w) (session-steady kind n w.machine no_flags w.host) uncalled)
+    sat-spared w (session kind n w.machine no_flags w.host) (session kind n w.machine no_flags (still w.host)) (after (session_left w) (session-steady kind n w.machine no_flags w.host) uncalled)
 work-spared kind other w = uncalled

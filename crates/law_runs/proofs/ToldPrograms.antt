@@ -27,11 +27,11 @@ use Rattle.mx_code.specs.declared.trace.Trace.{Trace}
 use Rattle.mx_core.specs.State.{State}
 use Rattle.mx_run.specs.RunPlans.{RunWorld}
 use Rattle.mx_run.specs.Runs.{no_flags}
-use Rattle.mx_run.specs.WildRuns.{MachineKind, run_course}
+use Rattle.mx_run.specs.WildRuns.{MachineKind, run_by}
 use Rattle.mx_run.specs.declared.end.End.{End}
 use Rattle.mx_back.specs.History.{states_kept}
 use Rattle.mx_back.specs.KeptRuns.{turns_of}
-use Rattle.mx_con.specs.Session.{of_course, session_course, session}
+use Rattle.mx_con.specs.Session.{session}
 use Rattle.mx_con.specs.SessionPlans.{SessionWorld}
 use Rattle.mx_con.specs.Told as sessions
 use Rattle.mx_con.specs.declared.end.SessionEnd.{SessionEnd}
@@ -64,7 +64,8 @@ use Rattle.mx_begin.specs.declared.images.Form.{Form}
 use Rattle.mx_begin.specs.declared.images.Form.TheVariants.{Source, Object}
 use Rattle.mx_files.specs.Sources.{source_meaning}
 use Rattle.mx_files.specs.Schedules.{judged, schedule_in, schedule_fault, schedule_plan}
-use Rattle.mx_multi.specs.Turns.{TurnsEnd, turns_ended, turns_wild, turns}
+use Rattle.mx_multi.specs.JointTurns.{JointWorld}
+use Rattle.mx_multi.specs.Turns.{turns}
 use Rattle.mx_multi.specs.declared.end.MultiEnd.{MultiEnd}
 use Rattle.mx_dump.specs.Dump.{Line}
 use Rattle.law_runs.proofs.GivenOutcomes.{WorkMay, EndsWith, write-gives, lines-give, telling-gives, machine-gives, generated-gives, ran-gives, sat-gives}
@@ -298,20 +299,19 @@ run-told : (n : ℕ) (c : Course End RunWorld) → EndsSo Told c → Answers (λ
 run-told n (ends e w) h = h n
 run-told n (meets_wild w) h = tt
 
-session-told : (n : ℕ) (c : Course SessionEnd SessionWorld) → sessions.is_told (of_course c) ≡ true → Answers (λ e. OutcomeTold (session_outcome n e)) c
+session-told : (n : ℕ) (c : Course SessionEnd SessionWorld) → sessions.is_told c ≡ true → Answers (λ e. OutcomeTold (session_outcome n e)) c
 session-told n (ends e w) h = end-told n e h
 session-told n (meets_wild w) h = tt
 
-runs-told : (kind : MachineKind) (n : ℕ) (w : Work) → Answers (λ e. OutcomeTold (runs.outcome_of n e)) (run_course kind n no_flags false w.machine w.host)
-runs-told kind n w = run-told n (run_course kind n no_flags false w.machine w.host) (run-course-told kind n w.machine w.host)
+runs-told : (kind : MachineKind) (n : ℕ) (w : Work) → Answers (λ e. OutcomeTold (runs.outcome_of n e)) (run_by kind n no_flags false w.machine w.host)
+runs-told kind n w = run-told n (run_by kind n no_flags false w.machine w.host) (run-course-told kind n w.machine w.host)
 
 work-told : (kind : MachineKind) (o : WorkCall) (w : Work) → Answers (WorkMay May OutcomeTold o) (work_goes kind o w)
-unfolding session
 work-told kind (of_host o) w = may o w.host
-work-told kind (stepping n) w = ran-gives OutcomeTold n w (run_course kind n no_flags false w.machine w.host) (runs-told kind n w)
-work-told kind (reporting n) w = ran-gives OutcomeTold n (record w { told = traces kind n w.machine w.host }) (run_course kind n no_flags false w.machine w.host) (runs-told kind n w)
-work-told kind (keeping n) w = ran-gives OutcomeTold n (record w { kept = states_kept (turns_of n w.machine w.host) [] }) (run_course kind n no_flags false w.machine w.host) (runs-told kind n w)
-work-told kind (sitting n) w = sat-gives OutcomeTold n w (session_course kind n w.machine no_flags w.host) (session-told n (session_course kind n w.machine no_flags w.host) (sessions-told kind n w.machine no_flags w.host))
+work-told kind (stepping n) w = ran-gives OutcomeTold n w (run_by kind n no_flags false w.machine w.host) (runs-told kind n w)
+work-told kind (reporting n) w = ran-gives OutcomeTold n (record w { told = traces kind n w.machine w.host }) (run_by kind n no_flags false w.machine w.host) (runs-told kind n w)
+work-told kind (keeping n) w = ran-gives OutcomeTold n (record w { kept = states_kept (turns_of n w.machine w.host) [] }) (run_by kind n no_flags false w.machine w.host) (runs-told kind n w)
+work-told kind (sitting n) w = sat-gives OutcomeTold n w (session kind n w.machine no_flags w.host) (session-told n (session kind n w.machine no_flags w.host) (sessions-told kind n w.machine no_flags w.host))
 work-told kind other w = tt
 
 -- ---- the calls of the program
@@ -338,9 +338,9 @@ machine-told kind plan (Err outcome) w h = λ g. h
 machine-told kind plan (Ok s) w h =
     worked-told (Gives (WorkMay May OutcomeTold) OutcomeTold plan) (course (work_goes kind) plan (at_start s w)) (λ g. course_gives (work_goes kind) (WorkMay May OutcomeTold) OutcomeTold (work-told kind) plan (at_start s w) g)
 
-turned-told : (dump : Bool) (steps : ℕ) (told : List Trace) (x : TurnsEnd) → TurnsTold x → Answers (λ (r : MultiEnd × List Line). OutcomeTold (multi_outcome steps r.0)) (turned dump told x)
-turned-told dump steps told (turns_ended end j m) h = h steps
-turned-told dump steps told (turns_wild m) h = tt
+turned-told : (dump : Bool) (steps : ℕ) (told : List Trace) (x : Course MultiEnd JointWorld) → TurnsTold x → Answers (λ (r : MultiEnd × List Line). OutcomeTold (multi_outcome steps r.0)) (turned dump told x)
+turned-told dump steps told (ends end w) h = h steps
+turned-told dump steps told (meets_wild w) h = tt
 
 calls-told : (kind : MachineKind) (o : ProgramCall) (w : ProgramWorld) → Answers (ProgramMay o) (program_goes kind o w)
 calls-told kind (page.of_host o) w = may o w.0

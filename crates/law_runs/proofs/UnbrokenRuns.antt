@@ -8,13 +8,12 @@ use Rattle.mx_plan.proofs.WildLaws.{EndsSo}
 use Rattle.mx_run.specs.RunPlans.{RunWorld, end_of_turn}
 use Rattle.mx_run.specs.Runs.{no_flags}
 use Rattle.mx_run.specs.Turns.{turn}
-use Rattle.mx_run.specs.WildRuns.{MachineKind, run_course, run_by}
+use Rattle.mx_run.specs.WildRuns.{MachineKind, run_by}
 use Rattle.mx_run.specs.declared.end.End.{End}
 use Rattle.mx_run.specs.declared.turn_answer.TurnAnswer.{TurnAnswer}
 use Rattle.mx_run.specs.declared.turn_answer.TurnAnswer.TheVariants as answer
 use Rattle.mx_run.proofs.FreeTurns.{trace-free}
 use Rattle.mx_run.proofs.RunCases.{OnOr, LeadsTo, AnyWay, HasMemory, has-memory, run-ends-so}
-use Rattle.mx_con.proofs.QuietTraces.{run-ends}
 use Rattle.mx_top.specs.Runs.{outcome_of}
 use Rattle.law_runs.specs.Unbroken.{is_outcome_told, is_run_told}
 
@@ -30,16 +29,14 @@ turned n pc answer.OutOfMemory w h = absurd (h refl)
 leads : LeadsTo no_flags HasMemory AnyWay Told
 leads = record { spent = λ w g steps. refl; broken = λ n w e. absurd (cc); turned = λ n a w v g h. turned n w.0.pc a v h }
 
-pub run-course-told : (kind : MachineKind) (steps : ℕ) (s : State) (m : HostModel) → EndsSo Told (run_course kind steps no_flags false s m)
-unfolding run_by
-run-course-told kind steps s m =
-    run-ends Told (run_course kind steps no_flags false s m) (run-ends-so kind no_flags HasMemory AnyWay Told leads (λ t k tame. has-memory (turn t k)) steps false s m tt)
+pub run-course-told : (kind : MachineKind) (steps : ℕ) (s : State) (m : HostModel) → EndsSo Told (run_by kind steps no_flags false s m)
+run-course-told kind steps s m = run-ends-so kind no_flags HasMemory AnyWay Told leads (λ t k tame. has-memory (turn t k)) steps false s m tt
 
 course-told : (steps : ℕ) (c : Course End RunWorld) → EndsSo Told c → is_run_told steps c ≡ true
 course-told steps (ends e w) h = h steps
 course-told steps (meets_wild w) h = refl
 
-pub runs-told : (kind : MachineKind) (steps : ℕ) (s : State) (m : HostModel) → is_run_told steps (run_course kind steps no_flags false s m) ≡ true
-runs-told kind steps s m = course-told steps (run_course kind steps no_flags false s m) (run-course-told kind steps s m)
+pub runs-told : (kind : MachineKind) (steps : ℕ) (s : State) (m : HostModel) → is_run_told steps (run_by kind steps no_flags false s m) ≡ true
+runs-told kind steps s m = course-told steps (run_by kind steps no_flags false s m) (run-course-told kind steps s m)
 
 pub ruleset unbroken = (runs-told)

@@ -12,16 +12,16 @@ use Rattle.mx_multi.specs.Joint.{Joint, has_halted, state_at}
 use Rattle.mx_multi.specs.JointTurns.{JointWorld, joined, turn_of}
 use Rattle.mx_multi.specs.MultiPlans.{MultiCall, starting, turning, looking, MultiSays, MultiPlan, multi, turn_plan, look, turn_if, step_plan, steps_plan, turns_next, turns_plan}
 use Rattle.mx_multi.specs.Schedules.{next_in, next_turn, end_of_turn, end_at_last}
-use Rattle.mx_multi.specs.Turns.{multi_goes, TurnsEnd, turns_ended, turns_wild, of_course, turns}
+use Rattle.mx_multi.specs.Turns.{multi_goes, turns}
 use Rattle.mx_multi.specs.declared.turn.Turn.{Turn}
 use Rattle.mx_multi.specs.declared.turn.Turn.TheVariants as turned
 use Rattle.mx_multi.specs.declared.end.MultiEnd.{MultiEnd}
 use Rattle.mx_top.specs.Processors.{multi_outcome}
 use Rattle.law_runs.specs.Unbroken.{is_outcome_told}
 
-abbrev pub Told : TurnsEnd → Type 0
-Told (turns_ended end j m) = (steps : ℕ) → is_outcome_told (multi_outcome steps end) ≡ true
-Told (turns_wild m) = Unit {0}
+abbrev pub Told : Course MultiEnd JointWorld → Type 0
+Told (ends end w) = (steps : ℕ) → is_outcome_told (multi_outcome steps end) ≡ true
+Told (meets_wild w) = Unit {0}
 
 -- ---- a turn
 
@@ -84,7 +84,7 @@ plan-told : (schedule : List ℕ) (n : ℕ) (rest : List ℕ) → Gives HasMemor
 unfolding Gives turns_plan
 plan-told schedule n rest = λ r u. steps-told schedule n rest
 
-end-told : (c : Course MultiEnd JointWorld) → Answers EndTold c → Told (of_course c)
+end-told : (c : Course MultiEnd JointWorld) → Answers EndTold c → Told c
 end-told (ends end w) h = h
 end-told (meets_wild w) h = tt
 

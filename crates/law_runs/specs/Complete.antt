@@ -11,9 +11,9 @@ use Rattle.mx_core.specs.State.{State}
 use Rattle.mx_ring.specs.Stack.{register}
 use Rattle.mx_plan.specs.Wild.{ends}
 use Rattle.mx_run.specs.Runs.{FlagsOf, no_flags}
-use Rattle.mx_run.specs.WildRuns.{MachineKind, run_course}
+use Rattle.mx_run.specs.WildRuns.{MachineKind, run_by}
 use Rattle.mx_run.specs.declared.end.End.TheVariants.{Halted}
-use Rattle.mx_con.specs.Session.{session_course}
+use Rattle.mx_con.specs.Session.{session}
 use Rattle.mx_con.specs.declared.end.SessionEnd.{SessionEnd}
 use Rattle.mx_words.specs.Orders.{order_of}
 use Rattle.mx_words.specs.declared.order.Command.{Command}
@@ -72,7 +72,7 @@ pub record IsHalted (kind : MachineKind) (words : List Word) (o : Order) (image 
   pub plain : o.interactive ≡ false
   pub machine : State
   pub starts : IsStarted kind words o image machine
-  pub halts : run_course kind o.steps no_flags false machine begun ≡ ends (Halted status) (ended, after)
+  pub halts : run_by kind o.steps no_flags false machine begun ≡ ends (Halted status) (ended, after)
 
 -- The machine of this image starts, and in a session of the console it comes to this.
 pub record IsPlayed (kind : MachineKind) (words : List Word) (o : Order) (image : Image) (begun : HostModel)
@@ -82,7 +82,7 @@ pub record IsPlayed (kind : MachineKind) (words : List Word) (o : Order) (image 
   pub starts : IsStarted kind words o image machine
   pub end : SessionEnd
   pub flags : FlagsOf
-  pub plays : session_course kind o.steps machine no_flags begun ≡ ends end ((ended, after), flags)
+  pub plays : session kind o.steps machine no_flags begun ≡ ends end ((ended, after), flags)
   pub comes : outcome ≡ session_outcome o.steps end
 
 -- The words order to assemble a source from which this text is read; the object file opens, the bytes of the object are
@@ -107,7 +107,7 @@ pub record IsGenerated (kind : MachineKind) (words : List Word) (m left : HostMo
   pub starts : started kind order.ring (generated_image order.number) (codes "gen" ∷ []) ≡ Ok machine
   pub status : ℕ
   pub ended : State
-  pub halts : run_course kind generator_steps no_flags false machine m ≡ ends (Halted status) (ended, left)
+  pub halts : run_by kind generator_steps no_flags false machine m ≡ ends (Halted status) (ended, left)
   pub told : line ≡ summary order.number (length (generated order.number)) ended.steps (register ended.stack 255)
 
 -- ---- files that are there

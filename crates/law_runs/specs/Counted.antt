@@ -4,18 +4,19 @@ use Rattle.std.specs.Prelude.{ℕ, ◌≡◌, false, List, [], Result, Ok, Err}
 use Rattle.mx_host.specs.HostModel.{HostModel}
 use Rattle.mx_host.specs.HostAnswer.{Then}
 use Rattle.mx_mmo.specs.Image.{Image}
+use Rattle.mx_plan.specs.Wild.{ends, meets_wild}
 use Rattle.mx_core.specs.State.{State}
 use Rattle.mx_run.specs.WildRuns.{MachineKind}
 use Rattle.mx_words.specs.Orders.{order_of}
 use Rattle.mx_words.specs.declared.order.Command.{Command}
 use Rattle.mx_words.specs.declared.order.Order.{Order}
-use Rattle.mx_files.specs.Answers.{Answer, answered, wild}
+use Rattle.mx_files.specs.Answers.{Answer}
 use Rattle.mx_files.specs.Source.{file_bytes, object_pieces, source_pieces}
 use Rattle.mx_files.specs.Sources.{source_meaning}
 use Rattle.mx_outcome.specs.declared.outcome.Outcome.{Outcome}
 use Rattle.mx_begin.specs.Arguments.{Word, word_at, arguments}
 use Rattle.mx_begin.specs.Begun.{started}
-use Rattle.mx_count.specs.Runs.{CountAnswer, AnswerForms, came_to, source_counted, went_wild}
+use Rattle.mx_count.specs.Runs.{CountAnswer, AnswerForms, source_counted}
 use Rattle.mx_object.specs.Runs.{object_counted, uncounted}
 use Rattle.mx_object.specs.declared.counted.CountedObject.{CountedObject}
 
@@ -37,7 +38,7 @@ pub record StartsWith (kind : MachineKind) (words : List Word) (o : Order) (sour
 -- ---- what is counted of the source in the file that an order names, which is read as `mmixware run` reads it
 
 abbrev pub source_read : {A : Type 0} → MachineKind → Order → List (List ℕ) → (List ℕ → AnswerForms A) → Then (Result (List ℕ) Outcome) → CountAnswer A
-source_read kind o given making (Err outcome, m) = came_to ((making []).without outcome) m
+source_read kind o given making (Err outcome, m) = ends ((making []).without outcome) m
 source_read kind o given making (Ok source, m) = source_counted kind o given (making source) source m
 
 abbrev pub source_file : {A : Type 0} → MachineKind → List Word → Order → (List ℕ → AnswerForms A) → HostModel → CountAnswer A
@@ -46,7 +47,7 @@ source_file kind words o making m = source_read kind o (arguments words o) makin
 -- ---- and of the object there, which is read as `mmixware sim` reads it
 
 abbrev pub object_read : MachineKind → Order → List (List ℕ) → Then (Result (List ℕ) Outcome) → CountAnswer CountedObject
-object_read kind o given (Err outcome, m) = came_to (uncounted outcome) m
+object_read kind o given (Err outcome, m) = ends (uncounted outcome) m
 object_read kind o given (Ok bytes, m) = object_counted kind o given bytes m
 
 abbrev pub object_file : MachineKind → List Word → Order → HostModel → CountAnswer CountedObject
@@ -55,5 +56,5 @@ object_file kind words o m = object_read kind o (arguments words o) (file_bytes 
 -- ---- the answer of a run that was counted, without its sheet, by the outcome of what was counted
 
 abbrev pub answer_by : {A : Type 0} → (A → Outcome) → CountAnswer A → Answer
-answer_by outcome (came_to x m) = answered (outcome x) m
-answer_by outcome (went_wild m) = wild m
+answer_by outcome (ends x m) = ends (outcome x) m
+answer_by outcome (meets_wild m) = meets_wild m

@@ -4,11 +4,12 @@ use Rattle.std.specs.Str.{bytes_eq}
 use Rattle.mx_word.specs.Ranges.{AreBytes}
 use Rattle.mx_host.specs.HostModel.{HostModel}
 use Rattle.mx_plan.specs.Counts.{NoneFailed, unscheduled, without_count}
+use Rattle.mx_plan.specs.Wild.{ends, meets_wild}
 use Rattle.mx_run.specs.WildRuns.{MachineKind}
 use Rattle.mx_words.specs.Orders.{order_of}
 use Rattle.mx_words.specs.declared.order.Command.TheVariants.{Run, Sim}
 use Rattle.mx_words.specs.declared.order.Order.{Order}
-use Rattle.mx_files.specs.Answers.{Answer, answered, wild}
+use Rattle.mx_files.specs.Answers.{Answer}
 use Rattle.mx_begin.specs.Arguments.{Word, program_name}
 use Rattle.mx_top.specs.Product.{product}
 use Rattle.mx_files.specs.Source.{file_bytes, source_pieces}
@@ -17,23 +18,23 @@ use Rattle.mx_outcome.specs.declared.outcome.Outcome.TheVariants.{Done}
 
 -- the host as an answer leaves it
 abbrev pub host_of : Answer → HostModel
-host_of (answered outcome m) = m
-host_of (wild m) = m
+host_of (ends outcome m) = m
+host_of (meets_wild m) = m
 
 -- the answer has this outcome
 abbrev pub HasOutcome : Answer → Outcome → Type 0
-HasOutcome (answered outcome m) other = outcome ≡ other
-HasOutcome (wild m) other = ⊥
+HasOutcome (ends outcome m) other = outcome ≡ other
+HasOutcome (meets_wild m) other = ⊥
 
 -- an answer but for the number of calls
 abbrev pub answer_uncounted : Answer → Answer
-answer_uncounted (answered outcome m) = answered outcome (without_count m)
-answer_uncounted (wild m) = wild (without_count m)
+answer_uncounted (ends outcome m) = ends outcome (without_count m)
+answer_uncounted (meets_wild m) = meets_wild (without_count m)
 
 -- an answer but for the number of calls and the list of those that fail
 abbrev pub answer_unscheduled : Answer → Answer
-answer_unscheduled (answered outcome m) = answered outcome (unscheduled m)
-answer_unscheduled (wild m) = wild (unscheduled m)
+answer_unscheduled (ends outcome m) = ends outcome (unscheduled m)
+answer_unscheduled (meets_wild m) = meets_wild (unscheduled m)
 
 -- the words of the three commands
 abbrev pub asm_words : Word → Word → List Word
@@ -63,4 +64,4 @@ pub record IsAssembled (kind : MachineKind) (source object : Word) (text : List 
   pub alike : program_name source ≡ program_name object
   pub read : (file_bytes source_pieces source m).0 ≡ Ok text
   pub bytes : AreBytes text
-  pub done : product kind (asm_words source object) m ≡ answered (Done 0) after
+  pub done : product kind (asm_words source object) m ≡ ends (Done 0) after

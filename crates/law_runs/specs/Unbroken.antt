@@ -3,7 +3,7 @@ use Rattle.std.specs.Prelude.{ℕ, Bool, true, false}
 use Rattle.mx_plan.specs.Wild.{Course, ends, meets_wild}
 use Rattle.mx_run.specs.RunPlans.{RunWorld}
 use Rattle.mx_run.specs.declared.end.End.{End}
-use Rattle.mx_files.specs.Answers.{Answer, answered, wild}
+use Rattle.mx_files.specs.Answers.{Answer}
 use Rattle.mx_top.specs.Runs.{outcome_of}
 use Rattle.mx_outcome.specs.declared.outcome.Outcome.{Outcome}
 use Rattle.mx_outcome.specs.declared.outcome.Outcome.TheVariants.{OutOfMemory}
@@ -19,5 +19,5 @@ is_run_told steps (ends end w) = is_outcome_told (outcome_of steps end)
 is_run_told steps (meets_wild w) = true
 
 abbrev pub is_answer_told : Answer → Bool
-is_answer_told (answered outcome m) = is_outcome_told outcome
-is_answer_told (wild m) = true
+is_answer_told (ends outcome m) = is_outcome_told outcome
+is_answer_told (meets_wild m) = true

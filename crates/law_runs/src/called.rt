@@ -9,7 +9,7 @@ ghost use Rattle.mx_ring.specs.Stack.{register};
 ghost use Rattle.mx_plan.specs.Counts.{unscheduled};
 ghost use Rattle.mx_plan.specs.Wild.{ends};
 ghost use Rattle.mx_run.specs.Runs.{no_flags};
-ghost use Rattle.mx_run.specs.WildRuns.{MachineKind, run_course, window_machine};
+ghost use Rattle.mx_run.specs.WildRuns.{MachineKind, run_by, window_machine};
 ghost use Rattle.mx_run.specs.declared.end.End.TheVariants.{Halted};
 ghost use Rattle.mx_words.specs.declared.order.Command.{Command};
 ghost use Rattle.mx_words.specs.declared.order.Order.{Order};
@@ -24,7 +24,7 @@ ghost use Rattle.mx_outcome.specs.declared.outcome.Outcome.{Outcome};
 #[tactic(auto, using(crate::proofs::LowBytes::lowered))]
 pub fn statuses_are_low_bytes()
     ensures { (kind : MachineKind) (steps status : ℕ) (s ended : State) (m after : HostModel) →
-        run_course kind steps no_flags false s m ≡ ends (Halted status) (ended, after) →
+        run_by kind steps no_flags false s m ≡ ends (Halted status) (ended, after) →
         status ≡ register ended.stack 255 % 2 ^ 8 }
 {}
 

@@ -6,6 +6,7 @@ ghost use Rattle.std.specs.List.{concat};
 ghost use Rattle.mx_host.specs.HostModel.{HostModel, HasStartSlots, place_of};
 ghost use Rattle.mx_host.specs.HostAnswer.{with_file};
 ghost use Rattle.mx_mmo.specs.Image.{Image};
+ghost use Rattle.mx_plan.specs.Wild.{ends};
 ghost use Rattle.mx_core.specs.State.{State};
 ghost use Rattle.mx_asm.specs.Entries.{source_entries, statements_in};
 ghost use Rattle.mx_asm.specs.Image.{image};
@@ -17,7 +18,7 @@ ghost use Rattle.mx_plan.specs.Counts.{NoneFailed, unscheduled, without_count};
 ghost use Rattle.mx_run.specs.WildRuns.{MachineKind};
 ghost use Rattle.mx_words.specs.declared.order.Command.{Command};
 ghost use Rattle.mx_words.specs.declared.order.Order.{Order};
-ghost use Rattle.mx_files.specs.Answers.{answered};
+
 ghost use Rattle.mx_begin.specs.Arguments.{Word, word_at, arguments};
 ghost use Rattle.law_runs.specs.Complete.{HasObject, HasSource, IsGenerated, IsHalted, IsOrdered, IsPlayed, IsStarted};
 ghost use Rattle.law_runs.specs.Complete.{IsThere, IsWritten, ObjectIsThere, SourceIsThere, image_answer};
@@ -43,12 +44,12 @@ pub fn sources_that_halt_are_done()
     ensures plain { (kind : MachineKind) (words : List Word) (o : Order) (image : Image) (status : ℕ) (ended : State)
         (m begun after : HostModel) → HasSource words o image m begun →
         IsHalted kind words o image begun status ended after → o.dump ≡ false →
-        product kind words m ≡ answered (Outcome.Done status) after }
+        product kind words m ≡ ends (Outcome.Done status) after }
     ensures dumped { (kind : MachineKind) (words : List Word) (o : Order) (image : Image) (status : ℕ) (ended : State)
         (m begun after last : HostModel) → HasSource words o image m begun →
         IsHalted kind words o image begun status ended after → o.dump ≡ true →
         lines_put (dump_lines ended) after ≡ (true, last) →
-        product kind words m ≡ answered (Outcome.Done status) last }
+        product kind words m ≡ ends (Outcome.Done status) last }
 {}
 
 /// An object that is read and loaded, and whose machine starts and halts within the steps of the order, is done: the
@@ -58,12 +59,12 @@ pub fn objects_that_halt_are_done()
     ensures plain { (kind : MachineKind) (words : List Word) (o : Order) (image : Image) (status : ℕ) (ended : State)
         (m begun after : HostModel) → HasObject words o image m begun →
         IsHalted kind words o image begun status ended after → o.dump ≡ false →
-        product kind words m ≡ answered (Outcome.Done status) after }
+        product kind words m ≡ ends (Outcome.Done status) after }
     ensures dumped { (kind : MachineKind) (words : List Word) (o : Order) (image : Image) (status : ℕ) (ended : State)
         (m begun after last : HostModel) → HasObject words o image m begun →
         IsHalted kind words o image begun status ended after → o.dump ≡ true →
         lines_put (dump_lines ended) after ≡ (true, last) →
-        product kind words m ≡ answered (Outcome.Done status) last }
+        product kind words m ≡ ends (Outcome.Done status) last }
 {}
 
 /// With the console, where the machine starts, the program answers what the session comes to, and leaves
@@ -80,11 +81,11 @@ pub fn consoles_answer_as_sessions()
     ensures plain_source { (kind : MachineKind) (words : List Word) (o : Order) (image : Image) (outcome : Outcome)
         (ended : State) (m begun after : HostModel) → HasSource words o image m begun →
         IsPlayed kind words o image begun outcome ended after → o.dump ≡ false →
-        product kind words m ≡ with_message (answered outcome after) }
+        product kind words m ≡ with_message (ends outcome after) }
     ensures plain_object { (kind : MachineKind) (words : List Word) (o : Order) (image : Image) (outcome : Outcome)
         (ended : State) (m begun after : HostModel) → HasObject words o image m begun →
         IsPlayed kind words o image begun outcome ended after → o.dump ≡ false →
-        product kind words m ≡ with_message (answered outcome after) }
+        product kind words m ≡ with_message (ends outcome after) }
 {}
 
 /// A source without a refusal means the image of its statements, and a source that means an image is
@@ -100,13 +101,13 @@ pub fn sources_that_mean_are_assembled()
     ensures assembled { (text : List ℕ) → refusal text ≡ None → (source_object text).1 ≡ Ok tt }
     ensures means { (kind : MachineKind) (words : List Word) (text : List ℕ) (image : Image) (m after : HostModel) →
         IsWritten words text m after → source_meaning text ≡ Ok image →
-        product kind words m ≡ answered (Outcome.Done 0) after }
+        product kind words m ≡ ends (Outcome.Done 0) after }
     ensures done { (kind : MachineKind) (words : List Word) (text : List ℕ) (m after : HostModel) →
         IsWritten words text m after → (source_object text).1 ≡ Ok tt →
-        product kind words m ≡ answered (Outcome.Done 0) after }
+        product kind words m ≡ ends (Outcome.Done 0) after }
     ensures refused { (kind : MachineKind) (words : List Word) (text : List ℕ) (r : Refusal) (m after : HostModel) →
         IsWritten words text m after → (source_object text).1 ≡ Err r →
-        product kind words m ≡ with_message (answered (refused_with r) after) }
+        product kind words m ≡ with_message (ends (refused_with r) after) }
 {}
 
 /// A source that is generated means the image of its program. It is done where the machine of this image
@@ -118,10 +119,10 @@ pub fn generated_sources_are_done()
     ensures means { (n : ℕ) → n ≤ 10000 → source_meaning (generated n) ≡ Ok (generated_image n) }
     ensures written { (kind : MachineKind) (words : List Word) (m left after : HostModel) (line : List ℕ) →
         IsGenerated kind words m left line → lines_put (line ∷ []) left ≡ (true, after) →
-        product kind words m ≡ answered (Outcome.Done 0) after }
+        product kind words m ≡ ends (Outcome.Done 0) after }
     ensures spared { (kind : MachineKind) (words : List Word) (m left : HostModel) (line : List ℕ) →
         HasStartSlots m → NoCallFails kind words m → IsGenerated kind words (unscheduled m) left line →
-        answer_unscheduled (product kind words m) ≡ answered (Outcome.Done 0) (unscheduled (with_output left line)) }
+        answer_unscheduled (product kind words m) ≡ ends (Outcome.Done 0) (unscheduled (with_output left line)) }
 {}
 
 /// Where no call of the reading fails and the slots are as at the start, a file that is there is read,
@@ -141,12 +142,12 @@ pub fn sources_that_are_there_are_run()
     ensures plain { (kind : MachineKind) (words : List Word) (o : Order) (image : Image) (status : ℕ) (ended : State)
         (m after : HostModel) → SourceIsThere words o image m → NoCallFails kind words m →
         IsHalted kind words o image (unscheduled m) status ended after → o.dump ≡ false →
-        answer_unscheduled (product kind words m) ≡ answered (Outcome.Done status) (unscheduled after) }
+        answer_unscheduled (product kind words m) ≡ ends (Outcome.Done status) (unscheduled after) }
     ensures dumped { (kind : MachineKind) (words : List Word) (o : Order) (image : Image) (status : ℕ) (ended : State)
         (m after : HostModel) → SourceIsThere words o image m → NoCallFails kind words m →
         IsHalted kind words o image (unscheduled m) status ended after → o.dump ≡ true →
         answer_unscheduled (product kind words m) ≡
-        answered (Outcome.Done status) (unscheduled (with_output after (concat (dump_lines ended)))) }
+        ends (Outcome.Done status) (unscheduled (with_output after (concat (dump_lines ended)))) }
 {}
 
 /// Where no call that the program makes fails and the slots are as at the start, an object that is there, and that
@@ -161,12 +162,12 @@ pub fn objects_that_are_there_are_run()
     ensures plain { (kind : MachineKind) (words : List Word) (o : Order) (image : Image) (status : ℕ) (ended : State)
         (m after : HostModel) → ObjectIsThere words o image m → NoCallFails kind words m →
         IsHalted kind words o image (unscheduled m) status ended after → o.dump ≡ false →
-        answer_unscheduled (product kind words m) ≡ answered (Outcome.Done status) (unscheduled after) }
+        answer_unscheduled (product kind words m) ≡ ends (Outcome.Done status) (unscheduled after) }
     ensures dumped { (kind : MachineKind) (words : List Word) (o : Order) (image : Image) (status : ℕ) (ended : State)
         (m after : HostModel) → ObjectIsThere words o image m → NoCallFails kind words m →
         IsHalted kind words o image (unscheduled m) status ended after → o.dump ≡ true →
         answer_unscheduled (product kind words m) ≡
-        answered (Outcome.Done status) (unscheduled (with_output after (concat (dump_lines ended)))) }
+        ends (Outcome.Done status) (unscheduled (with_output after (concat (dump_lines ended)))) }
 {}
 
 /// With the console, where no call that the program makes fails, a source or an object that is there
@@ -193,11 +194,11 @@ pub fn sources_that_are_there_are_assembled()
     ensures done { (kind : MachineKind) (words : List Word) (o : Order) (text : List ℕ) (m : HostModel) →
         IsOrdered words o Command.Asm → IsThere (word_at words o.file) source_pieces text m →
         NoCallFails kind words m → refusal text ≡ None →
-        answer_unscheduled (product kind words m) ≡ answered (Outcome.Done 0)
+        answer_unscheduled (product kind words m) ≡ ends (Outcome.Done 0)
         (unscheduled (with_file m (word_at words o.rest) (source_object text).0)) }
     ensures told { (kind : MachineKind) (words : List Word) (o : Order) (text : List ℕ) (m : HostModel) →
         IsOrdered words o Command.Asm → IsThere (word_at words o.file) source_pieces text m →
         NoCallFails kind words m → answer_unscheduled (product kind words m) ≡
-        answer_unscheduled (with_message (answered (assembled_outcome (source_object text).1)
+        answer_unscheduled (with_message (ends (assembled_outcome (source_object text).1)
         (with_file (unscheduled m) (word_at words o.rest) (source_object text).0))) }
 {}

@@ -1,9 +1,10 @@
 //! A run that is counted beside the run of the program.
 
 ghost use Rattle.std.specs.Prelude.{◌≡◌, ◌≤◌, ◌^◌, ◌++◌, ℕ, List, Ok, Some, length, true};
+ghost use Rattle.mx_plan.specs.Wild.{ends};
 ghost use Rattle.mx_files.specs.Source.{file_bytes, object_pieces, source_pieces};
 ghost use Rattle.mx_core.specs.State.{State};
-ghost use Rattle.mx_count.specs.Runs.{by_lines, came_to, halting_after, in_form, outcome_of, ran};
+ghost use Rattle.mx_count.specs.Runs.{by_lines, halting_after, in_form, outcome_of, ran};
 ghost use Rattle.mx_count.specs.Sheets.{sheet_of};
 ghost use Rattle.mx_count.specs.declared.count.Counted.{Counted};
 ghost use Rattle.mx_count.specs.declared.counts.Form.TheVariants.{Text};
@@ -41,7 +42,7 @@ pub fn counts_go_by_the_traces_of_their_runs()
     ensures { (kind : MachineKind) (words : List Word) (o : Order) (source : List ℕ) (s : State) (m begun : HostModel)
         (e : Ended) → RunsPlainly words o Run → o.report ≡ true → StartsWith kind words o source s m begun →
         ran kind o.steps s begun ≡ run_ended e →
-        source_file kind words o (in_form Text) m ≡ came_to (record {
+        source_file kind words o (in_form Text) m ≡ ends (record {
           outcome = outcome_of o.steps e.end;
           sheet = Some (sheet_of source (product_traces kind words m ++ halting_after e));
         }) e.host }

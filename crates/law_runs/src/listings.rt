@@ -11,6 +11,7 @@ ghost use Rattle.mx_mmo.specs.Whole.{object_of};
 ghost use Rattle.mx_mmo.specs.declared.faults.MmoFault.{MmoFault};
 ghost use Rattle.mx_mmo.specs.declared.items.Item.{Item};
 ghost use Rattle.mx_mmo.specs.declared.items.Object.{Object};
+ghost use Rattle.mx_plan.specs.Wild.{ends};
 ghost use Rattle.mx_load.specs.Objects.{object_loaded};
 ghost use Rattle.mx_plan.specs.Counts.{unscheduled};
 ghost use Rattle.mx_run.specs.WildRuns.{MachineKind, window_machine};
@@ -20,7 +21,7 @@ ghost use Rattle.mx_stab.specs.declared.faults.StabFault.{StabFault};
 ghost use Rattle.mx_type.specs.Listing.{AreLines, IsListing};
 ghost use Rattle.mx_words.specs.declared.order.Command.{Command};
 ghost use Rattle.mx_words.specs.declared.order.Order.{Order};
-ghost use Rattle.mx_files.specs.Answers.{answered};
+
 ghost use Rattle.mx_begin.specs.Arguments.{Word, word_at};
 ghost use Rattle.mx_top.specs.Product.{product};
 ghost use Rattle.mx_top.specs.Telling.{with_message};
@@ -80,7 +81,7 @@ pub fn objects_that_are_there_are_listed()
     ensures listed { (kind : MachineKind) (words : List Word) (o : Order) (bytes : List ℕ) (m : HostModel) →
         IsOrdered words o Command.Show → IsThere (word_at words o.file) object_pieces bytes m →
         NoCallFails kind words m → answer_unscheduled (product kind words m) ≡
-        answer_unscheduled (with_message (answered (typed bytes).1
+        answer_unscheduled (with_message (ends (typed bytes).1
         (with_output (unscheduled m) (concat (typed bytes).0)))) }
     ensures called { (words : List Word) (o : Order) (bytes : List ℕ) (old new : Option HostModel)
         (result : Outcome) → IsCalled words old new result → IsOrdered words o Command.Show →

@@ -1,14 +1,15 @@
 //! What holds of runs of the program, whatever the ring.
 
 ghost use Rattle.std.specs.Prelude.{◌≡◌, ℕ, List, Option, Some, Ok, true, false};
+ghost use Rattle.mx_plan.specs.Wild.{ends};
 ghost use Rattle.mx_core.specs.State.{State};
 ghost use Rattle.mx_host.specs.HostModel.{HostModel, contents};
 ghost use Rattle.mx_plan.specs.Calls.{host};
 ghost use Rattle.mx_plan.specs.Plan.{end_of};
 ghost use Rattle.mx_run.specs.Runs.{no_flags};
-ghost use Rattle.mx_run.specs.WildRuns.{MachineKind, window_machine, list_machine, run_course};
+ghost use Rattle.mx_run.specs.WildRuns.{MachineKind, window_machine, list_machine, run_by};
 ghost use Rattle.mx_watch.specs.Watching.{Watching};
-ghost use Rattle.mx_files.specs.Answers.{answered};
+
 ghost use Rattle.mx_outcome.specs.declared.outcome.Outcome.{Outcome};
 ghost use Rattle.mx_words.specs.Orders.{order_of};
 ghost use Rattle.mx_words.specs.Values.{blocks_value, ring_value};
@@ -48,8 +49,8 @@ pub fn reports_change_nothing_else()
         order_of words ≡ Ok o → order_of others ≡ Ok p → DifferInRing words others o p → o.ring ≡ p.ring →
         product kind words m ≡ product kind others m }
     ensures outcome { (kind : MachineKind) (words : List Word) (watchers : List Watching) (outcome : Outcome)
-        (m n : HostModel) → product kind words m ≡ answered outcome n → watched_product kind words watchers m ≡
-        answered outcome (end_of host (reports_plan outcome
+        (m n : HostModel) → product kind words m ≡ ends outcome n → watched_product kind words watchers m ≡
+        ends outcome (end_of host (reports_plan outcome
         (due_reports (order_of words) watchers (product_traces kind words m))) n).1 }
     ensures calls { (words : List Word) (watchers : List Watching) (old new : Option HostModel) (result : Outcome) →
         IsWatched words watchers old new result →
@@ -61,7 +62,7 @@ pub fn reports_change_nothing_else()
 #[tactic(auto, using(crate::proofs::UnbrokenRuns::unbroken))]
 pub fn runs_end_by_themselves()
     ensures { (kind : MachineKind) (steps : ℕ) (s : State) (m : HostModel) →
-        is_run_told steps (run_course kind steps no_flags false s m) ≡ true }
+        is_run_told steps (run_by kind steps no_flags false s m) ≡ true }
 {}
 
 /// By its definition the program is never out of memory, with whatever words, files and failing calls. So

@@ -3,14 +3,16 @@ use Rattle.std.proofs.Common.{◌≡◌, ◌≢◌, ◌<◌, ◌≤◌, ◌+◌,
 use Rattle.std.specs.Prelude.{Result, ◌||◌}
 use Rattle.std.proofs.lemmas.List.{take-map}
 use Rattle.mx_host.specs.HostModel.{HostModel}
+use Rattle.mx_plan.specs.Wild.{Course, ends, meets_wild}
 use Rattle.mx_core.specs.Bounds.{as_list_state, as_list_step}
 use Rattle.mx_core.specs.State.{State}
 use Rattle.mx_core.specs.Step.{Stepped, went, calls, stopped, step}
 use Rattle.mx_core.specs.Wild.{is_wild}
 use Rattle.mx_core.proofs.Same.Steps.{step-listed}
+use Rattle.mx_run.specs.RunPlans.{RunWorld}
 use Rattle.mx_run.specs.Runs.{no_flags}
 use Rattle.mx_run.specs.Turns.{Answered, Turn, went_on, halts, stops, turn, turn_answer}
-use Rattle.mx_run.specs.WildRuns.{RunEnd, run_ended, run_wild, HasWindow, list_machine, run_by, turn_is_wild, trap_touches, as_list_turn}
+use Rattle.mx_run.specs.WildRuns.{HasWindow, list_machine, run_by, turn_is_wild, trap_touches, as_list_turn}
 use Rattle.mx_run.specs.declared.end.End.{End}
 use Rattle.mx_run.specs.declared.end.End.TheVariants as end
 use Rattle.mx_run.proofs.FreeTurns.{trace-free}
@@ -75,14 +77,14 @@ turns-beside n i s m kept l h u e =
 -- ---- on the way: what is kept so far is untouched, and what the list machine makes of it is what it makes of all; unless its
 -- run meets something wild
 
-pub data SoFar (whole : RunEnd) (kept mine goal : List State) : Type 0 where
+pub data SoFar (whole : Course End RunWorld) (kept mine goal : List State) : Type 0 where
   holds : AreUntouched kept → mine ≡ goal → SoFar whole kept mine goal
-  wild : (m : HostModel) → whole ≡ run_wild m → SoFar whole kept mine goal
+  wild : (w : RunWorld) → whole ≡ meets_wild w → SoFar whole kept mine goal
 
-abbrev pub KeptSoFar : RunEnd → ℕ → State → HostModel → List State → List State → Type 0
+abbrev pub KeptSoFar : Course End RunWorld → ℕ → State → HostModel → List State → List State → Type 0
 KeptSoFar whole left s m kept goal = SoFar whole kept (states_kept (turns_of left (as_list_state s) m) (as_lists kept)) goal
 
-pub begun-beside : (n : ℕ) (whole : RunEnd) (s : State) (m : HostModel) (kept : List State) → AreUntouched kept → KeptSoFar whole (n - 0) s m kept (states_kept (turns_of n (as_list_state s) m) (as_lists kept))
+pub begun-beside : (n : ℕ) (whole : Course End RunWorld) (s : State) (m : HostModel) (kept : List State) → AreUntouched kept → KeptSoFar whole (n - 0) s m kept (states_kept (turns_of n (as_list_state s) m) (as_lists kept))
 begun-beside n whole s m kept h = holds h (begun-kept n (as_list_state s) m (as_lists kept))
 
 -- the turns after one that goes on, and after one that ends the run
@@ -96,21 +98,21 @@ end-by more pc why t k (went_on v n trace) e = let first : Err why ≡ Ok tt = a
 end-by more pc why t k (halts status v n) e = refl
 end-by more pc why t k (stops reason v n) e = refl
 
-went-by : (n i : ℕ) (whole : RunEnd) (s t : State) (m k : HostModel) (kept now goal : List State) (c : Bool) → turn_is_wild s ≡ c → i < n → TurnWindow s → s.touched ≡ false → (w : turns_after (turns_of (n - (i + 1))) (as_list_turn (turn s m)) ≡ turns_of (n - (i + 1)) (as_list_state t) k) → now ≡ kept_turn (kind_at s m) s kept →
+went-by : (n i : ℕ) (whole : Course End RunWorld) (s t : State) (m k : HostModel) (kept now goal : List State) (c : Bool) → turn_is_wild s ≡ c → i < n → TurnWindow s → s.touched ≡ false → (w : turns_after (turns_of (n - (i + 1))) (as_list_turn (turn s m)) ≡ turns_of (n - (i + 1)) (as_list_state t) k) → now ≡ kept_turn (kind_at s m) s kept →
     whole ≡ run_by list_machine (n - i) no_flags false (as_list_state s) m → AreUntouched kept → states_kept (turns_of (n - i) (as_list_state s) m) (as_lists kept) ≡ goal → KeptSoFar whole (n - (i + 1)) t k now goal
-went-by n i whole s t m k kept now goal true e l h u w is so a b = wild m (so ∙ meets-wild n i s m l h u e)
+went-by n i whole s t m k kept now goal true e l h u w is so a b = wild (as_list_state s, m) (so ∙ meets-wild n i s m l h u e)
 went-by n i whole s t m k kept now goal false e l h u w is so a b =
     holds (subst AreUntouched (sym is) (kept-untouched (kind_at s m) s kept u a))
     (ap (λ ks. states_kept (turns_of (n - (i + 1)) (as_list_state t) k) (as_lists ks)) is
     ∙ ap (λ ts. states_kept ts (as_lists (kept_turn (kind_at s m) s kept))) (sym w) ∙ sym (turns-beside n i s m kept l h u e) ∙ b)
 
-went-on : (n i : ℕ) (whole : RunEnd) (s t : State) (m k : HostModel) (kept now goal : List State) → i < n → TurnWindow s → turns_after (turns_of (n - (i + 1))) (as_list_turn (turn s m)) ≡ turns_of (n - (i + 1)) (as_list_state t) k → now ≡ kept_turn (kind_at s m) s kept →
+went-on : (n i : ℕ) (whole : Course End RunWorld) (s t : State) (m k : HostModel) (kept now goal : List State) → i < n → TurnWindow s → turns_after (turns_of (n - (i + 1))) (as_list_turn (turn s m)) ≡ turns_of (n - (i + 1)) (as_list_state t) k → now ≡ kept_turn (kind_at s m) s kept →
     Beside whole (run_by list_machine (n - i) no_flags false (as_list_state s) m) s → KeptSoFar whole (n - i) s m kept goal → KeptSoFar whole (n - (i + 1)) t k now goal
 went-on n i whole s t m k kept now goal l h w is (was_wild g e) p = wild g e
 went-on n i whole s t m k kept now goal l h w is (as_list u so) (wild g e) = wild g e
 went-on n i whole s t m k kept now goal l h w is (as_list u so) (holds a b) = went-by n i whole s t m k kept now goal (turn_is_wild s) refl l h u w is so a b
 
-pub went-kept-beside : (n i : ℕ) (whole : RunEnd) (u : Unit {0}) (s t : State) (m k : HostModel) (kept now goal : List State) → i < n → HasWindow s → ComesStep (s, m) (t, k) (Ok u) → now ≡ kept_turn (kind_at s m) s kept →
+pub went-kept-beside : (n i : ℕ) (whole : Course End RunWorld) (u : Unit {0}) (s t : State) (m k : HostModel) (kept now goal : List State) → i < n → HasWindow s → ComesStep (s, m) (t, k) (Ok u) → now ≡ kept_turn (kind_at s m) s kept →
     Beside whole (run_by list_machine (n - i) no_flags false (as_list_state s) m) s → KeptSoFar whole (n - i) s m kept goal → KeptSoFar whole (n - (i + 1)) t k now goal
 unfolding run_step
 went-kept-beside n i whole u s t m k kept now goal l h c is b p =
@@ -119,26 +121,26 @@ went-kept-beside n i whole u s t m k kept now goal l h c is b p =
 
 -- ---- at the end
 
-at-end : (whole : RunEnd) (now goal : List State) → SoFar whole now (as_lists now) goal → AreBeside whole now goal
-at-end (run_ended e) now goal (holds a b) = (b, a)
-at-end (run_ended e) now goal (wild m is) = absurd (cc)
-at-end (run_wild m) now goal h = tt
+at-end : (whole : Course End RunWorld) (now goal : List State) → SoFar whole now (as_lists now) goal → AreBeside whole now goal
+at-end (ends end w) now goal (holds a b) = (b, a)
+at-end (ends end w) now goal (wild v is) = absurd (cc)
+at-end (meets_wild w) now goal h = tt
 
-ended-by : (n i : ℕ) (whole : RunEnd) (s : State) (m : HostModel) (kept now goal : List State) (c : Bool) → turn_is_wild s ≡ c → i < n → TurnWindow s → s.touched ≡ false → turns_after (turns_of (n - (i + 1))) (as_list_turn (turn s m)) ≡ [] → now ≡ kept_turn (kind_at s m) s kept →
+ended-by : (n i : ℕ) (whole : Course End RunWorld) (s : State) (m : HostModel) (kept now goal : List State) (c : Bool) → turn_is_wild s ≡ c → i < n → TurnWindow s → s.touched ≡ false → turns_after (turns_of (n - (i + 1))) (as_list_turn (turn s m)) ≡ [] → now ≡ kept_turn (kind_at s m) s kept →
     whole ≡ run_by list_machine (n - i) no_flags false (as_list_state s) m → AreUntouched kept → states_kept (turns_of (n - i) (as_list_state s) m) (as_lists kept) ≡ goal → SoFar whole now (as_lists now) goal
 unfolding states_kept
-ended-by n i whole s m kept now goal true e l h u w is so a b = wild m (so ∙ meets-wild n i s m l h u e)
+ended-by n i whole s m kept now goal true e l h u w is so a b = wild (as_list_state s, m) (so ∙ meets-wild n i s m l h u e)
 ended-by n i whole s m kept now goal false e l h u w is so a b =
     holds (subst AreUntouched (sym is) (kept-untouched (kind_at s m) s kept u a))
     (ap as_lists is ∙ ap (λ ts. states_kept ts (as_lists (kept_turn (kind_at s m) s kept))) (sym w) ∙ sym (turns-beside n i s m kept l h u e) ∙ b)
 
-ended-on : (n i : ℕ) (whole : RunEnd) (s : State) (m : HostModel) (kept now goal : List State) → i < n → TurnWindow s → turns_after (turns_of (n - (i + 1))) (as_list_turn (turn s m)) ≡ [] → now ≡ kept_turn (kind_at s m) s kept →
+ended-on : (n i : ℕ) (whole : Course End RunWorld) (s : State) (m : HostModel) (kept now goal : List State) → i < n → TurnWindow s → turns_after (turns_of (n - (i + 1))) (as_list_turn (turn s m)) ≡ [] → now ≡ kept_turn (kind_at s m) s kept →
     Beside whole (run_by list_machine (n - i) no_flags false (as_list_state s) m) s → KeptSoFar whole (n - i) s m kept goal → SoFar whole now (as_lists now) goal
 ended-on n i whole s m kept now goal l h w is (was_wild g e) p = wild g e
 ended-on n i whole s m kept now goal l h w is (as_list u so) (wild g e) = wild g e
 ended-on n i whole s m kept now goal l h w is (as_list u so) (holds a b) = ended-by n i whole s m kept now goal (turn_is_wild s) refl l h u w is so a b
 
-pub ended-kept-beside : (n i : ℕ) (whole : RunEnd) (why : End) (s t : State) (m k : HostModel) (kept now goal : List State) → i < n → HasWindow s → why ≢ end.OutOfMemory → ComesStep (s, m) (t, k) (Err why) → now ≡ kept_turn (kind_at s m) s kept →
+pub ended-kept-beside : (n i : ℕ) (whole : Course End RunWorld) (why : End) (s t : State) (m k : HostModel) (kept now goal : List State) → i < n → HasWindow s → why ≢ end.OutOfMemory → ComesStep (s, m) (t, k) (Err why) → now ≡ kept_turn (kind_at s m) s kept →
     Beside whole (run_by list_machine (n - i) no_flags false (as_list_state s) m) s → KeptSoFar whole (n - i) s m kept goal → AreBeside whole now goal
 unfolding run_step
 ended-kept-beside n i whole why s t m k kept now goal l h ne c is b p =
@@ -149,9 +151,9 @@ none-left : (n i : ℕ) (s : State) (m : HostModel) (kept : List State) → n �
 unfolding turns_of states_kept
 none-left n i s m kept l = let none : n - i ≡ 0 = omega arith in ap (λ j. states_kept (turns_of j s m) kept) none
 
-spent-by : (n i : ℕ) (whole : RunEnd) (s : State) (m : HostModel) (kept goal : List State) → n ≤ i → KeptSoFar whole (n - i) s m kept goal → SoFar whole kept (as_lists kept) goal
+spent-by : (n i : ℕ) (whole : Course End RunWorld) (s : State) (m : HostModel) (kept goal : List State) → n ≤ i → KeptSoFar whole (n - i) s m kept goal → SoFar whole kept (as_lists kept) goal
 spent-by n i whole s m kept goal l (wild g e) = wild g e
 spent-by n i whole s m kept goal l (holds a b) = holds a (sym (none-left n i (as_list_state s) m (as_lists kept) l) ∙ b)
 
-pub spent-kept-beside : (n i : ℕ) (whole : RunEnd) (s : State) (m : HostModel) (kept goal : List State) → n ≤ i → KeptSoFar whole (n - i) s m kept goal → AreBeside whole kept goal
+pub spent-kept-beside : (n i : ℕ) (whole : Course End RunWorld) (s : State) (m : HostModel) (kept goal : List State) → n ≤ i → KeptSoFar whole (n - i) s m kept goal → AreBeside whole kept goal
 spent-kept-beside n i whole s m kept goal l p = at-end whole kept goal (spent-by n i whole s m kept goal l p)

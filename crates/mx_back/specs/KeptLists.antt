@@ -2,11 +2,12 @@
 use Rattle.std.specs.Prelude.{ℕ, ◌≡◌, ◌≢◌, IsTrue, false, List, map, Option}
 use Rattle.std.specs.List.{AllByRecursion}
 use Rattle.mx_host.specs.HostModel.{HostModel, tells, contents}
+use Rattle.mx_plan.specs.Wild.{Course, ends, meets_wild}
 use Rattle.mx_core.specs.Bounds.{as_list_state}
 use Rattle.mx_core.specs.State.{State}
 use Rattle.mx_core.specs.Undoing.{StateWas}
 use Rattle.mx_run.specs.AccompaniedRuns.{list_run}
-use Rattle.mx_run.specs.WildRuns.{RunEnd, run_ended, run_wild}
+use Rattle.mx_run.specs.RunPlans.{RunWorld}
 use Rattle.mx_run.specs.declared.end.End.{End}
 use Rattle.mx_run.specs.declared.end.End.TheVariants as end
 use Rattle.mx_back.specs.History.{states_kept, states_before}
@@ -29,9 +30,9 @@ list_kept old before n earlier = states_kept (turns_of n (as_list_state before) 
 
 -- states beside those that the list machine keeps, where its run ends and so meets nothing wild: they stand for these, and
 -- nothing was touched
-abbrev pub AreBeside : RunEnd → List State → List State → Type 0
-AreBeside (run_ended e) states kept = (as_lists states ≡ kept) × AreUntouched states
-AreBeside (run_wild m) states kept = Unit {0}
+abbrev pub AreBeside : Course End RunWorld → List State → List State → Type 0
+AreBeside (ends end w) states kept = (as_lists states ≡ kept) × AreUntouched states
+AreBeside (meets_wild w) states kept = Unit {0}
 
 -- over a host that tells its contents, unless there was no memory, and where nothing was touched in the state before and in the
 -- earlier ones, the states that the notes stand for are beside those that the list machine keeps

@@ -10,7 +10,7 @@ use Rattle.mx_plan.specs.Held.{Held, KeepsStreams, OnlyAdds}
 use Rattle.mx_plan.proofs.HeldLaws.{held-end, held-stop, held-on}
 use Rattle.mx_plan.proofs.Streams.{streams-held}
 use Rattle.mx_plan.proofs.WildLaws.{course_held}
-use Rattle.mx_run.specs.WildRuns.{run_goes, run_course}
+use Rattle.mx_run.specs.WildRuns.{run_goes, run_by}
 use Rattle.mx_run.specs.RunPlans.{RunCall, turning, looking, RunWorld, running, run_plan}
 use Rattle.mx_run.specs.Runs.{FlagsOf}
 use Rattle.mx_run.specs.WildRuns.{MachineKind, ends_wild}
@@ -110,7 +110,7 @@ flags-kept Rel f m (ends a w) h = h
 flags-kept Rel f m (meets_wild w) h = h
 
 call-goes-on : (Rel : HostModel → HostModel → Type 0) → Held host Rel → (kind : MachineKind) (o : SessionCall) (w : SessionWorld) → Beside Rel w (world_of (session_goes kind o w))
-unfolding run_course
+unfolding run_by
 call-goes-on Rel h kind of_turn w = flags-kept Rel w.1 w.0.1 (run_goes kind turning w.0) (run-goes-on Rel h kind turning w.0)
 call-goes-on Rel h kind (of_run n pass) w =
     flags-kept Rel w.1 w.0.1 (course (run_goes kind) (run_plan n w.1 pass) w.0)

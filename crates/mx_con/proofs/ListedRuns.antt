@@ -9,7 +9,6 @@ use Rattle.mx_core.specs.State.{State}
 use Rattle.mx_code.specs.declared.trace.Trace.{Trace}
 use Rattle.mx_run.specs.Clauses as run
 use Rattle.mx_run.specs.RunCourses as runs
-use Rattle.mx_run.specs.WildRuns.{of_course, run_course}
 use Rattle.mx_run.specs.RunPlans.{RunWorld, running, run_plan}
 use Rattle.mx_run.specs.Runs.{FlagsOf, Ended, ended}
 use Rattle.mx_run.specs.Turns.{Answered, turn, turn_answer}
@@ -99,11 +98,7 @@ listed-stepped steps s m f h u = by (steps - s.steps == 0)
 
 -- ---- what the code tells of a run, over both machines
 
-of-goes : (c : Course End RunWorld) (end : End) (t : State) (k : HostModel) → run.GoesAsList (of_course c) (ended end t k) → GoesAs runs.as_list_world runs.IsUntouched runs.WritesOn c end (t, k)
-of-goes (ends e v) end t k h = (sym (ap (λ (x : Ended). x.end) h.0), (sym (ap (λ (x : Ended). (x.state, x.host)) h.0), h.1))
-of-goes (meets_wild v) end t k h = h
-
 pub run-both : (n : ℕ) (f : FlagsOf) (pass : Bool) (s t : State) (m k : HostModel) (end : End) → Comes running (s, m) (t, k) ending.OutOfMemory end (run_plan n f pass) →
-    (end ≢ ending.OutOfMemory → s.touched ≡ false → run.GoesAsList (run_by list_machine n f pass (as_list_state s) m) (ended end t k)) → runs.RunsBoth (s, m) (t, k) ending.OutOfMemory end (run_plan n f pass)
-unfolding run_by run_course
-run-both n f pass s t m k end c g = record { window = c; list = λ u ne. of-goes (run_course list_machine n f pass (as_list_state s) m) end t k (g ne u) }
+    (end ≢ ending.OutOfMemory → s.touched ≡ false → run.GoesAsList (run_by list_machine n f pass (as_list_state s) m) end (t, k)) → runs.RunsBoth (s, m) (t, k) ending.OutOfMemory end (run_plan n f pass)
+unfolding run_by
+run-both n f pass s t m k end c g = record { window = c; list = λ u ne. g ne u }

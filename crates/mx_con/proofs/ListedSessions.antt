@@ -14,9 +14,9 @@ use Rattle.mx_run.proofs.Areas.{has-window}
 use Rattle.mx_cmd.specs.Commands.{command_of}
 use Rattle.mx_cmd.specs.declared.command.Command.{Command}
 use Rattle.mx_cmd.specs.declared.command.Command.TheVariants as command
-use Rattle.mx_con.specs.Clauses.{IsPart, as_list_world, IsUntouched, GoesAsList, SitsBoth, RestsBoth, SessionGoesAsList}
+use Rattle.mx_con.specs.Clauses.{IsPart, as_list_world, IsUntouched, GoesAsList, SitsBoth, RestsBoth}
 use Rattle.mx_con.specs.LinePlans.{on_ok, LineRead, asking_plan, without_return}
-use Rattle.mx_con.specs.Session.{session_goes, ended_session, of_course, session_course, session}
+use Rattle.mx_con.specs.Session.{session_goes, session}
 use Rattle.mx_con.specs.SessionPlans.{SessionWorld, SessionPlan, Part, conversing, on_host, showing, continued_plan, stepped_plan, command_plan, with_left, line_done, one_line_plan, lines_of_session, most_input, end_of_session, session_plan}
 use Rattle.mx_con.specs.declared.dialog.Dialog.{Dialog}
 use Rattle.mx_con.specs.declared.end.SessionEnd.{SessionEnd}
@@ -133,24 +133,18 @@ lines-limit says faults a b start w k i steps d whole l h =
 abbrev all : ℕ → Part Dialog
 all steps = lines_of_session (most_input + 1) steps (with_left most_input None)
 
-session-by : (end : SessionEnd) (w : SessionWorld) (c : Course SessionEnd SessionWorld) → GoesAsList c end w → SessionGoesAsList (of_course c) (ended_session (end, w))
-session-by end w (ends e v) h =
-    (ap (λ (x : SessionWorld). ended_session (end, x)) (sym h.1.0) ∙ ap (λ (x : SessionEnd). ended_session (x, v)) (sym h.0), h.1.1)
-session-by end w (meets_wild v) h = h
-
 session-listed : (steps : ℕ) (r : Result Dialog SessionEnd) (end : SessionEnd) (s : State) (f : FlagsOf) (m : HostModel) (w : SessionWorld) → end_of_session r ≡ returns end → r ≢ Err OutOfMemory →
-    SitsBoth ((s, m), f) w (Err OutOfMemory) r (all steps) → s.touched ≡ false → SessionGoesAsList (session list_machine steps (as_list_state s) f m) (ended_session (end, w))
-unfolding session session_course session_plan course
+    SitsBoth ((s, m), f) w (Err OutOfMemory) r (all steps) → s.touched ≡ false → GoesAsList (session list_machine steps (as_list_state s) f m) end w
+unfolding session session_plan course
 session-listed steps r end s f m w e ne c u =
-    session-by end w (course (session_goes list_machine) (session_plan steps) ((as_list_state s, m), f))
-    (subst (λ (x : Course SessionEnd SessionWorld). GoesAsList x end w) (sym (course_bind (session_goes list_machine) end_of_session (all steps) ((as_list_state s, m), f)))
+    subst (λ (x : Course SessionEnd SessionWorld). GoesAsList x end w) (sym (course_bind (session_goes list_machine) end_of_session (all steps) ((as_list_state s, m), f)))
     (goes-on end_of_session r w w end (course (session_goes list_machine) (all steps) ((as_list_state s, m), f)) (c.list u ne) (λ v h. h)
-    (λ b. subst (λ (q : SessionPlan SessionEnd). GoesAsList (course (session_goes list_machine) q (as_list_world w)) end w) (sym e) (refl, (refl, b)))))
+    (λ b. subst (λ (q : SessionPlan SessionEnd). GoesAsList (course (session_goes list_machine) q (as_list_world w)) end w) (sym e) (refl, (refl, b))))
 
 pub session-over-listed : (steps : ℕ) (end : SessionEnd) (s : State) (f : FlagsOf) (m : HostModel) (w : SessionWorld) → end ≢ OutOfMemory → SitsBoth ((s, m), f) w (Err OutOfMemory) (Err end) (all steps) → s.touched ≡ false →
-    SessionGoesAsList (session list_machine steps (as_list_state s) f m) (ended_session (end, w))
+    GoesAsList (session list_machine steps (as_list_state s) f m) end w
 session-over-listed steps end s f m w ne c u = session-listed steps (Err end) end s f m w refl (λ e. ne (cc)) c u
 
 pub session-limit-listed : (steps : ℕ) (d : Dialog) (s : State) (f : FlagsOf) (m : HostModel) (w : SessionWorld) → SitsBoth ((s, m), f) w (Err OutOfMemory) (Ok d) (all steps) → s.touched ≡ false →
-    SessionGoesAsList (session list_machine steps (as_list_state s) f m) (ended_session (Limit, w))
+    GoesAsList (session list_machine steps (as_list_state s) f m) Limit w
 session-limit-listed steps d s f m w c u = session-listed steps (Ok d) Limit s f m w refl (λ e. absurd (cc)) c u

@@ -40,13 +40,13 @@ use Rattle.mx_core.proofs.Steps.{other_deed, step_went, step_stopped, step_traps
 use Rattle.mx_run.specs.RunPlans.{RunWorld, end_of_trace, end_of_turn}
 use Rattle.mx_run.specs.Runs.{FlagsOf, break_of}
 use Rattle.mx_run.specs.Turns.{Turn, area_size, turn_with, trap_turn, turn_of, turn, turn_answer}
-use Rattle.mx_run.specs.WildRuns.{list_machine, trap_touches, turn_is_wild, run_course, of_course, run_by}
+use Rattle.mx_run.specs.WildRuns.{list_machine, trap_touches, turn_is_wild, run_by}
 use Rattle.mx_run.specs.declared.end.BreakKind.{BreakKind}
 use Rattle.mx_run.specs.declared.end.End.{End}
 use Rattle.mx_run.specs.declared.end.End.TheVariants as ending
 use Rattle.mx_run.specs.declared.turn_answer.TurnAnswer.{TurnAnswer}
 use Rattle.mx_run.specs.declared.turn_answer.TurnAnswer.TheVariants as answer
-use Rattle.mx_run.proofs.RunCases.{OnOr, AnyWay, RunEndsSo, run-ends-so}
+use Rattle.mx_run.proofs.RunCases.{OnOr, AnyWay, run-ends-so}
 
 -- what is touched lies outside the stack area
 abbrev pub Outside : Option Touch → Type 0
@@ -234,14 +234,7 @@ turned-outside n f pc (answer.Halted status) v h = tt
 turned-outside n f pc (answer.Stopped reason) v h = tt
 turned-outside n f pc answer.OutOfMemory v h = tt
 
--- what is known of the end of a run is known of its course
-pub run-ends : (Such : End → RunWorld → Type 0) (c : Course End RunWorld) → RunEndsSo Such (of_course c) → EndsSo Such c
-run-ends Such (ends end w) h = h
-run-ends Such (meets_wild w) h = tt
-
-pub run-outside : (n : ℕ) (f : FlagsOf) (pass : Bool) (s : State) (m : HostModel) → EndsSo (λ end w. EndOutside end) (run_course list_machine n f pass s m)
-unfolding run_by
+pub run-outside : (n : ℕ) (f : FlagsOf) (pass : Bool) (s : State) (m : HostModel) → EndsSo (λ end w. EndOutside end) (run_by list_machine n f pass s m)
 run-outside n f pass s m =
-    run-ends EndsOutside (run_course list_machine n f pass s m)
-    (run-ends-so list_machine f (λ w a v. AnswerOutside a) AnyWay EndsOutside (record { spent = λ w g. tt; broken = λ k w x g. tt; turned = λ k a w v g h. turned-outside k f w.0.pc a v h })
-    (λ t k tame. turn-outside t k tame) n pass s m tt)
+    run-ends-so list_machine f (λ w a v. AnswerOutside a) AnyWay EndsOutside (record { spent = λ w g. tt; broken = λ k w x g. tt; turned = λ k a w v g h. turned-outside k f w.0.pc a v h })
+    (λ t k tame. turn-outside t k tame) n pass s m tt

@@ -5,11 +5,12 @@ use Rattle.mx_host.specs.HostModel.{HostModel, tells, contents}
 use Rattle.mx_host.specs.Keeping.{Keeps}
 use Rattle.mx_plan.specs.Clauses.{Stands}
 use Rattle.mx_plan.specs.Plan.{Comes}
+use Rattle.mx_plan.specs.Wild.{ends}
 use Rattle.mx_core.specs.State.{State}
 use Rattle.mx_run.specs.Runs.{FlagsOf}
 use Rattle.mx_run.specs.WildRuns.{window_machine}
 use Rattle.mx_con.specs.Clauses.{session_output}
-use Rattle.mx_con.specs.Session.{ended_session, session_ended, session}
+use Rattle.mx_con.specs.Session.{session_ended, session}
 use Rattle.mx_con.specs.SessionPlans.{SessionWorld, conversing, session_plan}
 use Rattle.mx_con.specs.declared.end.SessionEnd.{SessionEnd}
 use Rattle.mx_con.specs.declared.end.SessionEnd.TheVariants.{OutOfMemory}
@@ -17,8 +18,8 @@ use Rattle.mx_con.proofs.HeldSessions.{session-streams, keeps-by, output-front}
 use Rattle.mx_con.proofs.SessionCourses.{session-end}
 
 pub session-told : (steps : ℕ) (s t : State) (f g : FlagsOf) (m n : HostModel) (end : SessionEnd) → Comes conversing ((s, m), f) ((t, n), g) OutOfMemory end (session_plan steps) → end ≢ OutOfMemory →
-    session_ended (record { end = end; state = t; flags = g; host = n }) ≡ session window_machine steps s f m
-session-told steps s t f g m n end c ne = ap (λ (x : SessionEnd × SessionWorld). session_ended (ended_session x)) (c.ending ne) ∙ session-end steps s f m
+    ends end ((t, n), g) ≡ session window_machine steps s f m
+session-told steps s t f g m n end c ne = ap session_ended (c.ending ne) ∙ session-end steps s f m
 
 pub session-begun : (steps : ℕ) (s t : State) (f g : FlagsOf) (m n : HostModel) (end : SessionEnd) → Comes conversing ((s, m), f) ((t, n), g) OutOfMemory end (session_plan steps) → end ≡ OutOfMemory →
     IsFront n.output (session_output (session window_machine steps s f m))

@@ -5,11 +5,11 @@ use Rattle.mx_plan.specs.Plan.{returns, calls, bind, end_of, Stops}
 use Rattle.mx_plan.specs.Calls.{host, HostPlan}
 use Rattle.mx_plan.specs.Wild.{Course, ends, then_on, course, carried}
 use Rattle.mx_core.specs.State.{State}
-use Rattle.mx_run.specs.WildRuns.{run_goes, run_course}
+use Rattle.mx_run.specs.WildRuns.{run_goes}
 use Rattle.mx_run.specs.RunPlans.{turning, looking, RunWorld, RunPlan, running, run_plan}
 use Rattle.mx_run.specs.Runs.{FlagsOf}
 use Rattle.mx_run.specs.WildRuns.{MachineKind, window_machine}
-use Rattle.mx_con.specs.Session.{keeping_flags, session_goes, session_ended, ended_session, of_course, session_course, session}
+use Rattle.mx_con.specs.Session.{keeping_flags, session_goes, session_ended, session}
 use Rattle.mx_con.specs.SessionPlans.{SessionCall, of_run, SessionSays, SessionWorld, SessionPlan, conversing, beside_machine, on_host, session_plan}
 
 -- ---- over the host alone
@@ -40,25 +40,25 @@ end_then f (calls o k) w = end_then f (k (conversing.act o w).0) (conversing.act
 
 -- ---- over a window of registers, what a plan comes to is its end
 
-run-window : {A : Type 0} (p : RunPlan A) (w : RunWorld) → course (run_goes window_machine) p w ≡ ends (end_of running p w).0 (end_of running p w).1
+pub run-window : {A : Type 0} (p : RunPlan A) (w : RunWorld) → course (run_goes window_machine) p w ≡ ends (end_of running p w).0 (end_of running p w).1
 unfolding course end_of running
 run-window (returns a) w = refl
 run-window (calls turning k) w = run-window (k (running.act turning w).0) (running.act turning w).1
 run-window (calls looking k) w = run-window (k (running.act looking w).0) (running.act looking w).1
 
 call-window : (o : SessionCall) (w : SessionWorld) → session_goes window_machine o w ≡ carried conversing o w
-unfolding conversing running run_course
+unfolding conversing running run_by
 call-window (of_run n pass) w = ap (keeping_flags w.1) (run-window (run_plan n w.1 pass) w.0)
 call-window other w = refl
 
-window-course : {A : Type 0} (p : SessionPlan A) (w : SessionWorld) → course (session_goes window_machine) p w ≡ ends (end_of conversing p w).0 (end_of conversing p w).1
+pub window-course : {A : Type 0} (p : SessionPlan A) (w : SessionWorld) → course (session_goes window_machine) p w ≡ ends (end_of conversing p w).0 (end_of conversing p w).1
 unfolding course end_of
 window-course (returns a) w = refl
 window-course {A} (calls o k) w =
     ap (λ (c : Course (SessionSays o) SessionWorld). then_on (λ r v. course (session_goes window_machine) (k r) v) c) (call-window o w) ∙ window-course (k (conversing.act o w).0) (conversing.act o w).1
 
-pub session-end : (steps : ℕ) (s : State) (f : FlagsOf) (m : HostModel) → session_ended (ended_session (end_of conversing (session_plan steps) ((s, m), f))) ≡ session window_machine steps s f m
-unfolding session session_course
-session-end steps s f m = sym (ap of_course (window-course (session_plan steps) ((s, m), f)))
+pub session-end : (steps : ℕ) (s : State) (f : FlagsOf) (m : HostModel) → session_ended (end_of conversing (session_plan steps) ((s, m), f)) ≡ session window_machine steps s f m
+unfolding session
+session-end steps s f m = sym (window-course (session_plan steps) ((s, m), f))
 
 pub ruleset courses = (session-end)

@@ -11,13 +11,13 @@ use Rattle.mx_plan.proofs.Spared.{Spares, uncalled, after, plan-spared}
 use Rattle.mx_plan.proofs.WildLaws.{SparedCourse, course_still, course_spared}
 use Rattle.mx_core.specs.State.{State}
 use Rattle.mx_run.proofs.SteadyRuns.{turn_still, turn-steady}
-use Rattle.mx_run.specs.WildRuns.{run_goes, run_course}
+use Rattle.mx_run.specs.WildRuns.{run_goes, run_by}
 use Rattle.mx_run.specs.RunPlans.{RunCall, turning, looking, RunWorld, running, run_plan}
 use Rattle.mx_run.specs.Runs.{FlagsOf}
 use Rattle.mx_run.specs.Turns.{Turn, went_on, halts, stops, turn, turn_answer}
 use Rattle.mx_run.specs.WildRuns.{MachineKind, ends_wild, host_after}
 use Rattle.mx_run.specs.declared.turn_answer.TurnAnswer.{TurnAnswer}
-use Rattle.mx_con.specs.Session.{keeping_flags, command_ends_wild, session_goes, SessionRun, session_ended, session_wild, of_course, session_course, session}
+use Rattle.mx_con.specs.Session.{keeping_flags, command_ends_wild, session_goes, session}
 use Rattle.mx_con.specs.SessionPlans.{SessionCall, of_host, of_turn, of_run, replying, SessionSays, SessionWorld, conversing, session_plan}
 use Rattle.mx_con.specs.declared.end.SessionEnd.{SessionEnd}
 
@@ -48,10 +48,10 @@ run-call-spared kind looking w = uncalled
 
 -- ---- sessions
 
-abbrev world_host : SessionWorld → HostModel
+abbrev pub world_host : SessionWorld → HostModel
 world_host w = w.0.1
 
-abbrev world_still : SessionWorld → SessionWorld
+abbrev pub world_still : SessionWorld → SessionWorld
 world_still w = (run_still w.0, w.1)
 
 flags-spared : {A : Type 0} {m : HostModel} (f : FlagsOf) (t u : Course A RunWorld) → Spares m (run_host (world_of t)) (course_still run_still t) u →
@@ -63,7 +63,7 @@ flags-spared {A} f t u h = after (keeping_flags f) h (by t)
     by (meets_wild w) = uncalled
 
 call-spared : (kind : MachineKind) (o : SessionCall) (w : SessionWorld) → SparedCourse world_host world_still w (session_goes kind o w) (session_goes kind o (world_still w))
-unfolding conversing run_course end_of
+unfolding conversing run_by end_of
 call-spared kind (of_host o) w =
     let say : Then (HostSays o) → Course (SessionSays (of_host o)) SessionWorld = λ t. ends t.0 ((w.0.0, t.1), w.1) in
     after say (plan-spared (calls o (λ r. returns r)) w.0.1) uncalled
@@ -78,22 +78,7 @@ call-spared kind (replying shown command) w = by (command_ends_wild kind shown c
     by false = uncalled
 call-spared kind other w = uncalled
 
-abbrev pub session_host : SessionRun → HostModel
-session_host (session_ended e) = e.host
-session_host (session_wild m) = m
-
-abbrev pub session_still : SessionRun → SessionRun
-session_still (session_ended e) = session_ended (record { end = e.end; state = e.state; flags = e.flags; host = still e.host })
-session_still (session_wild m) = session_wild (still m)
-
-abbrev pub SparedSessions : HostModel → SessionRun → SessionRun → Type 0
-SparedSessions m t u = Spares m (session_host t) (session_still t) u
-
-of-spared : (c : Course SessionEnd SessionWorld) → Spares (world_host (world_of c)) (session_host (of_course c)) (session_still (of_course c)) (of_course (course_still world_still c))
-of-spared (ends end w) = uncalled
-of-spared (meets_wild w) = uncalled
-
-pub session-steady : (kind : MachineKind) (steps : ℕ) (s : State) (f : FlagsOf) (m : HostModel) → SparedSessions m (session kind steps s f m) (session kind steps s f (still m))
-unfolding session session_course
-session-steady kind steps s f m =
-    after of_course (course_spared world_host world_still (session_goes kind) (call-spared kind) (session_plan steps) ((s, m), f)) (of-spared (course (session_goes kind) (session_plan steps) ((s, m), f)))
+pub session-steady : (kind : MachineKind) (steps : ℕ) (s : State) (f : FlagsOf) (m : HostModel) →
+    SparedCourse world_host world_still ((s, m), f) (session kind steps s f m) (session kind steps s f (still m))
+unfolding session
+session-steady kind steps s f m = course_spared world_host world_still (session_goes kind) (call-spared kind) (session_plan steps) ((s, m), f)

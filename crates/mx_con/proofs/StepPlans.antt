@@ -12,7 +12,7 @@ use Rattle.mx_core.specs.Bounds.{as_list_state}
 use Rattle.mx_core.specs.State.{State}
 use Rattle.mx_code.specs.declared.trace.Trace.{Trace}
 use Rattle.mx_run.specs.RunCourses as runs
-use Rattle.mx_run.specs.WildRuns.{run_goes, run_course}
+use Rattle.mx_run.specs.WildRuns.{run_goes, run_by}
 use Rattle.mx_run.specs.RunPlans.{turning, RunWorld, running, turn_plan, run_plan}
 use Rattle.mx_run.specs.Runs.{FlagsOf}
 use Rattle.mx_run.specs.WildRuns.{list_machine}
@@ -156,7 +156,7 @@ run-listed (meets_wild v) end t k u f r o h c ne = writes (after_end end) ((t, k
 one-run-both : (steps n : ℕ) (pass : Bool) (f : FlagsOf) (end : End) (s t : State) (m k u : HostModel) (r : Result Bool SessionEnd) → n ≡ steps - s.steps →
     runs.RunsBoth (s, m) (t, k) ending.OutOfMemory end (run_plan n f pass) → Finishes end t k u f r → (end ≡ ending.OutOfMemory → r ≡ Err OutOfMemory) → (end ≡ ending.OutOfMemory → u ≡ k) →
     SitsBoth ((s, m), f) ((t, u), f) (Err OutOfMemory) r (one_run_plan steps pass)
-unfolding one_run_plan count_plan run_made bind course run_course conversing
+unfolding one_run_plan count_plan run_made bind course run_by conversing
 one-run-both steps n pass f end s t m k u r e h c lacked same = record {
   window = one-run-comes steps n pass f end s t m k u r e h.window c lacked same;
   list = λ un ne.

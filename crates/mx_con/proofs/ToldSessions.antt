@@ -18,16 +18,15 @@ use Rattle.mx_code.specs.declared.trace.Trace.{Trace}
 use Rattle.mx_run.specs.RunPlans.{turning, RunWorld, running, end_of_trace, end_of_turn}
 use Rattle.mx_run.specs.Runs.{FlagsOf, break_of}
 use Rattle.mx_run.specs.Turns.{Turn, went_on, halts, stops, turn, turn_answer}
-use Rattle.mx_run.specs.WildRuns.{MachineKind, ends_wild, run_goes, run_course, run_by}
+use Rattle.mx_run.specs.WildRuns.{MachineKind, ends_wild, run_goes, run_by}
 use Rattle.mx_run.specs.declared.end.BreakKind.{BreakKind}
 use Rattle.mx_run.specs.declared.end.End.{End}
 use Rattle.mx_run.specs.declared.turn_answer.TurnAnswer.{TurnAnswer}
 use Rattle.mx_run.specs.declared.turn_answer.TurnAnswer.TheVariants as answer
-use Rattle.mx_con.specs.Session.{keeping_flags, command_ends_wild, session_goes, of_course, session_course, session}
+use Rattle.mx_con.specs.Session.{keeping_flags, command_ends_wild, session_goes, session}
 use Rattle.mx_con.specs.SessionPlans.{SessionCall, of_host, of_turn, of_run, replying, SessionWorld, conversing, session_plan}
 use Rattle.mx_con.specs.Told.{is_end_told, is_told}
 use Rattle.mx_con.specs.declared.end.SessionEnd.{SessionEnd}
-use Rattle.mx_con.proofs.QuietTraces.{run-ends}
 use Rattle.mx_run.proofs.RunCases.{OnOr, AnyWay, run-ends-so}
 use Rattle.mx_con.proofs.WalkedPlans.{is_call_told, is_host_told, is_turn_told, is_run_told, SessionTold, session-gives}
 
@@ -118,12 +117,10 @@ answer-told n f pc (answer.Halted status) v h = refl
 answer-told n f pc (answer.Stopped reason) v h = refl
 answer-told n f pc answer.OutOfMemory v h = h
 
-run-told : (kind : MachineKind) (n : ℕ) (f : FlagsOf) (pass : Bool) (s : State) (m : HostModel) → EndsSo EndsTold (run_course kind n f pass s m)
-unfolding run_by
+run-told : (kind : MachineKind) (n : ℕ) (f : FlagsOf) (pass : Bool) (s : State) (m : HostModel) → EndsSo EndsTold (run_by kind n f pass s m)
 run-told kind n f pass s m =
-    run-ends EndsTold (run_course kind n f pass s m)
-    (run-ends-so kind f (λ w a v. TurnTold a) AnyWay EndsTold (record { spent = λ w g. refl; broken = λ k w x g. refl; turned = λ k a w v g h. answer-told k f w.0.pc a v h })
-    (λ t k tame. turn-told (turn t k)) n pass s m tt)
+    run-ends-so kind f (λ w a v. TurnTold a) AnyWay EndsTold (record { spent = λ w g. refl; broken = λ k w x g. refl; turned = λ k a w v g h. answer-told k f w.0.pc a v h })
+    (λ t k tame. turn-told (turn t k)) n pass s m tt
 
 -- ---- the calls of a session, and a session
 
@@ -139,7 +136,7 @@ call-told : (kind : MachineKind) (o : SessionCall) (w : SessionWorld) → Answer
 unfolding conversing
 call-told kind (of_host o) w = host-told o w.0.1
 call-told kind of_turn w = turn-flags w.1 (run_goes kind turning w.0) (turning-told kind w.0)
-call-told kind (of_run n pass) w = run-flags n pass w.1 (run_course kind n w.1 pass w.0.0 w.0.1) (run-told kind n w.1 pass w.0.0 w.0.1)
+call-told kind (of_run n pass) w = run-flags n pass w.1 (run_by kind n w.1 pass w.0.0 w.0.1) (run-told kind n w.1 pass w.0.0 w.0.1)
 call-told kind (replying shown command) w = by (command_ends_wild kind shown command)
   where
     by : (b : Bool) → Answers (SessionTold (replying shown command)) (cond b (meets_wild w) (carried conversing (replying shown command) w))
@@ -147,12 +144,12 @@ call-told kind (replying shown command) w = by (command_ends_wild kind shown com
     by false = (tt, refl)
 call-told kind other w = (tt, refl)
 
-of-told : (c : Course SessionEnd SessionWorld) → Answers (λ end. is_end_told end ≡ true) c → is_told (of_course c) ≡ true
+of-told : (c : Course SessionEnd SessionWorld) → Answers (λ end. is_end_told end ≡ true) c → is_told c ≡ true
 of-told (ends end w) h = h
 of-told (meets_wild w) h = refl
 
 pub sessions-told : (kind : MachineKind) (steps : ℕ) (s : State) (f : FlagsOf) (m : HostModel) → is_told (session kind steps s f m) ≡ true
-unfolding session session_course
+unfolding session
 sessions-told kind steps s f m =
     of-told (course (session_goes kind) (session_plan steps) ((s, m), f))
     (course_gives (session_goes kind) SessionTold (λ end. is_end_told end ≡ true) (call-told kind) (session_plan steps) ((s, m), f) (session-gives steps))

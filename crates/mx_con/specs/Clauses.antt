@@ -9,7 +9,8 @@ use Rattle.mx_host.specs.Keeping.{OnlyByFailure}
 use Rattle.mx_plan.specs.Calls.{host, HostPlan}
 use Rattle.mx_plan.specs.Clauses.{Stands}
 use Rattle.mx_plan.specs.Plan.{Plan, Acts, Comes}
-use Rattle.mx_plan.specs.Wild.{Course, GoesAs, ComesBoth, IsRestBoth}
+use Rattle.mx_plan.specs.Wild.{Course, ends, GoesAs, ComesBoth, IsRestBoth}
+use Rattle.mx_plan.specs.Wild as wild
 use Rattle.mx_cmd.specs.declared.command.Command.{Command}
 use Rattle.mx_core.specs.Bounds.{as_list_state}
 use Rattle.mx_core.specs.Kept.{state_of}
@@ -19,7 +20,7 @@ use Rattle.mx_core.specs.State.{State}
 use Rattle.mx_run.specs.RunCourses as runs
 use Rattle.mx_run.specs.Runs.{FlagsOf}
 use Rattle.mx_run.specs.WildRuns.{list_machine}
-use Rattle.mx_con.specs.Session.{session_goes, SessionEnded, SessionRun, session_ended, session_wild}
+use Rattle.mx_con.specs.Session.{session_goes}
 use Rattle.mx_con.specs.SessionPlans.{SessionWorld, SessionPlan, Part, conversing, answered_plan}
 use Rattle.mx_con.specs.declared.end.SessionEnd.{SessionEnd}
 use Rattle.mx_con.specs.declared.end.SessionEnd.TheVariants.{HostFault, OutOfMemory}
@@ -72,23 +73,19 @@ pub record StepsWithin (steps : ℕ) (s t : State) : Type 0 where
 
 -- SESSIONS
 
-abbrev pub session_end : SessionEnd → Running → Option HostModel → SessionEnded
-session_end end r told = record { end = end; state = state_of r.machine; flags = flags_at r.flags; host = contents told }
-
-abbrev pub session_output : SessionRun → List ℕ
-session_output (session_ended e) = e.host.output
-session_output (session_wild m) = m.output
+abbrev pub session_output : Course SessionEnd SessionWorld → List ℕ
+session_output c = (wild.world_of c).0.1.output
 
 -- over a host that tells its contents, the end and what it leaves are those of the session f, unless there was no memory
 abbrev pub EndsAsSession : Option HostModel → Option HostModel → Running → Running → SessionEnd →
-    (State → FlagsOf → HostModel → SessionRun) → Type 0
+    (State → FlagsOf → HostModel → Course SessionEnd SessionWorld) → Type 0
 EndsAsSession old new r s result f =
     IsTrue (tells old) → result ≢ OutOfMemory →
-    session_ended (session_end result s new) ≡ f (state_of r.machine) (flags_at r.flags) (contents old)
+    ends result (world_of s new) ≡ f (state_of r.machine) (flags_at r.flags) (contents old)
 
 -- over a host that tells its contents, where there was no memory, what standard output then holds is a front of what the
 -- session f gives it
-abbrev pub EndsFront : Option HostModel → Option HostModel → Running → SessionEnd → (State → FlagsOf → HostModel → SessionRun) → Type 0
+abbrev pub EndsFront : Option HostModel → Option HostModel → Running → SessionEnd → (State → FlagsOf → HostModel → Course SessionEnd SessionWorld) → Type 0
 EndsFront old new r result f =
     IsTrue (tells old) → result ≡ OutOfMemory →
     IsFront (contents new).output (session_output (f (state_of r.machine) (flags_at r.flags) (contents old)))
@@ -123,15 +120,8 @@ Sits says faults old new r s result plan =
     IsPart says faults old new result (SitsBoth (world_of r (says old)) (world_of s (says new)) (Err OutOfMemory) result plan)
 
 -- the same of a whole session
-abbrev pub as_list_session : SessionEnded → SessionEnded
-as_list_session e = record { end = e.end; state = as_list_state e.state; flags = e.flags; host = e.host }
-
-abbrev pub SessionGoesAsList : SessionRun → SessionEnded → Type 0
-SessionGoesAsList (session_ended e) r = (as_list_session r ≡ e) × (r.state.touched ≡ false)
-SessionGoesAsList (session_wild m) r = IsFront m.output r.host.output
-
 abbrev pub EndsAsListSession : Option HostModel → Option HostModel → Running → Running → SessionEnd →
-    (State → FlagsOf → HostModel → SessionRun) → Type 0
+    (State → FlagsOf → HostModel → Course SessionEnd SessionWorld) → Type 0
 EndsAsListSession old new r s result f =
     IsTrue (tells old) → result ≢ OutOfMemory → (state_of r.machine).touched ≡ false →
-    SessionGoesAsList (f (as_list_state (state_of r.machine)) (flags_at r.flags) (contents old)) (session_end result s new)
+    GoesAsList (f (as_list_state (state_of r.machine)) (flags_at r.flags) (contents old)) result (world_of s new)

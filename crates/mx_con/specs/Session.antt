@@ -5,7 +5,7 @@ use Rattle.mx_host.specs.HostModel.{HostModel}
 use Rattle.mx_plan.specs.Wild.{Course, ends, meets_wild, course, carried}
 use Rattle.mx_cmd.specs.declared.command.Command.{Command}
 use Rattle.mx_core.specs.State.{State}
-use Rattle.mx_run.specs.WildRuns.{run_goes, run_course}
+use Rattle.mx_run.specs.WildRuns.{run_goes, run_by}
 use Rattle.mx_run.specs.RunPlans.{turning, RunWorld}
 use Rattle.mx_run.specs.Runs.{FlagsOf}
 use Rattle.mx_run.specs.WildRuns.{MachineKind, window_machine, list_machine}
@@ -27,34 +27,18 @@ command_ends_wild list_machine shown command = command_wild shown command
 
 abbrev pub session_goes : MachineKind → (o : SessionCall) → SessionWorld → Course (SessionSays o) SessionWorld
 session_goes kind of_turn w = keeping_flags w.1 (run_goes kind turning w.0)
-session_goes kind (of_run n pass) w = keeping_flags w.1 (run_course kind n w.1 pass w.0.0 w.0.1)
+session_goes kind (of_run n pass) w = keeping_flags w.1 (run_by kind n w.1 pass w.0.0 w.0.1)
 session_goes kind (replying shown command) w =
     if command_ends_wild kind shown command then meets_wild w else carried conversing (replying shown command) w
 session_goes kind other w = carried conversing other w
 
 -- ---- sessions
 
--- a session of the machine of a kind from these flags on, with at most this many steps of the machine in all
-unfoldable pub session_course : MachineKind → ℕ → State → FlagsOf → HostModel → Course SessionEnd SessionWorld
-session_course kind steps s f m = course (session_goes kind) (session_plan steps) ((s, m), f)
+-- A session of the machine of a kind from these flags on, with at most this many steps of the machine in all: it ends, or it meets
+-- something wild, which is not done.
+unfoldable pub session : MachineKind → ℕ → State → FlagsOf → HostModel → Course SessionEnd SessionWorld
+session kind steps s f m = course (session_goes kind) (session_plan steps) ((s, m), f)
 
--- the same, as how it ended and what it left; or where the host stands, where it met something wild
-pub record SessionEnded : Type 0 where
-  pub end : SessionEnd
-  pub state : State
-  pub flags : FlagsOf
-  pub host : HostModel
-
-pub data SessionRun : Type 0 where
-  session_ended : SessionEnded → SessionRun
-  session_wild : HostModel → SessionRun
-
-abbrev pub ended_session : SessionEnd × SessionWorld → SessionEnded
-ended_session t = record { end = t.0; state = t.1.0.0; flags = t.1.1; host = t.1.0.1 }
-
-abbrev pub of_course : Course SessionEnd SessionWorld → SessionRun
-of_course (ends end w) = session_ended (ended_session (end, w))
-of_course (meets_wild w) = session_wild w.0.1
-
-unfoldable pub session : MachineKind → ℕ → State → FlagsOf → HostModel → SessionRun
-session kind steps s f m = of_course (session_course kind steps s f m)
+-- a session that ended so, as what it came to
+abbrev pub session_ended : SessionEnd × SessionWorld → Course SessionEnd SessionWorld
+session_ended t = ends t.0 t.1

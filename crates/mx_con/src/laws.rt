@@ -7,7 +7,7 @@ ghost use Rattle.mx_plan.specs.Plan.{Stops, end_of};
 ghost use Rattle.mx_core.specs.State.{State};
 ghost use Rattle.mx_run.specs.Runs.{FlagsOf};
 ghost use Rattle.mx_run.specs.WildRuns.{MachineKind, window_machine};
-ghost use Rattle.mx_con.specs.Session.{ended_session, session, session_ended};
+ghost use Rattle.mx_con.specs.Session.{session, session_ended};
 ghost use Rattle.mx_con.specs.SessionPlans.{SessionPlan, SessionWorld, conversing, most_input, session_plan};
 ghost use Rattle.mx_con.specs.declared.end.SessionEnd.{SessionEnd};
 ghost use Rattle.mx_con.specs.Taking.{TakesAtMost};
@@ -28,8 +28,7 @@ pub fn sessions_end_by_themselves()
 #[tactic(auto, using(crate::proofs::HeldSessions::laws, crate::proofs::SessionCourses::courses))]
 pub fn sessions_are_their_plans()
     ensures ending { (steps : ℕ) (s : State) (f : FlagsOf) (m : HostModel)
-        → session_ended (ended_session (end_of conversing (session_plan steps) ((s, m), f)))
-        ≡ session window_machine steps s f m }
+        → session_ended (end_of conversing (session_plan steps) ((s, m), f)) ≡ session window_machine steps s f m }
     ensures stopping { (p : SessionPlan SessionEnd) (v w : SessionWorld) → Stops conversing v p w
         → KeepsStreams w.0.1 v.0.1 }
     ensures front { (p : SessionPlan SessionEnd) (v w : SessionWorld) → Stops conversing v p w

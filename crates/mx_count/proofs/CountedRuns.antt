@@ -1,14 +1,16 @@
 -- A run that is counted from no steps on, over a window and over the list that it stands for.
-use Rattle.std.proofs.Common.{◌≡◌, ◌≢◌, ℕ, Bool, false, List, [], ◌∷◌, ◌++◌, subst, ap, ◌∙◌, Some, Ok, Err}
+use Rattle.std.proofs.Common.{◌≡◌, ◌≢◌, ℕ, Bool, false, List, [], ◌∷◌, ◌++◌, subst, sym, ap, ◌∙◌, Some, Ok, Err}
 use Rattle.std.specs.Prelude.{Option, Result}
 use Rattle.mx_host.specs.HostModel.{HostModel, contents}
 use Rattle.mx_mmo.specs.Image.{Image}
+use Rattle.mx_plan.specs.Wild.{Course, ends, meets_wild}
 use Rattle.mx_core.specs.Bounds.{as_list_state}
 use Rattle.mx_core.specs.State.{State}
 use Rattle.mx_code.specs.declared.trace.Trace.{Trace}
 use Rattle.mx_run.specs.Clauses.{GoesAsList}
+use Rattle.mx_run.specs.RunPlans.{RunWorld}
 use Rattle.mx_run.specs.Runs.{Ended, ended, no_flags, run}
-use Rattle.mx_run.specs.WildRuns.{MachineKind, window_machine, list_machine, RunEnd, run_ended, run_wild}
+use Rattle.mx_run.specs.WildRuns.{MachineKind, window_machine, list_machine}
 use Rattle.mx_run.specs.declared.end.End.{End}
 use Rattle.mx_watch.specs.Hearing.{Hears}
 use Rattle.mx_watch.specs.Traces.{traces}
@@ -26,7 +28,8 @@ use Rattle.mx_run.specs.AccompaniedRuns.{list_run}
 use Rattle.mx_view.specs.Loads.{loads_of}
 use Rattle.mx_count.specs.Counting.{counting_as, kept_tally}
 use Rattle.mx_count.specs.Reports.{report_of, report_text}
-use Rattle.mx_count.specs.Runs.{CountAnswer, CountsBoth, CountsByKind, EndsAsReported, EndsReported, GoesAs, AnswerForms, came_to, counted_to, halting_after, halting_steps, image_counted, counted_run_from, mapped, meaning_counted, outcome_of, reporting, source_counted, start_counted, steps_counted, went_wild}
+use Rattle.mx_files.specs.Answers.{GoesAs}
+use Rattle.mx_count.specs.Runs.{CountAnswer, CountsBoth, CountsByKind, EndsAsReported, EndsReported, AnswerForms, counted_to, halting_after, halting_steps, image_counted, counted_run_from, mapped, meaning_counted, outcome_of, reporting, source_counted, start_counted, steps_counted}
 use Rattle.mx_count.specs.Tallies.{added, tally_in}
 use Rattle.mx_count.specs.declared.count.Counted.{Counted}
 use Rattle.mx_count.specs.declared.counts.Form.{Form}
@@ -43,32 +46,33 @@ ended-told w n at s after old new end text is place e =
     ∙ ap (λ (x : Ended). w.text (traces window_machine n s old ++ halting_after x)) e
 
 -- beside the list machine
-pub list-told : (w : Watching) (r : RunEnd) (h : List Trace) (ws left : List Watching) (earlier kept : List Report) (at : ℕ) (after : State) (new : HostModel) (end : End) (text : List ℕ) →
+pub list-told : (w : Watching) (r : Course End RunWorld) (h : List Trace) (ws left : List Watching) (earlier kept : List Report) (at : ℕ) (after : State) (new : HostModel) (end : End) (text : List ℕ) →
     ws ≡ w ∷ [] → ((g : List Trace) → w.full g ≡ false) → UnlessWild r (Hears h ws left earlier kept) →
-    ((v : Watching) → left ≡ v ∷ [] → text ≡ v.text (halting_steps end at)) → GoesAsList r (ended end after new) → at ≡ after.pc →
+    ((v : Watching) → left ≡ v ∷ [] → text ≡ v.text (halting_steps end at)) → GoesAsList r end (after, new) → at ≡ after.pc →
     EndsAsReported w h r end new text
-list-told w (run_ended e) h ws left earlier kept at after new end text alone none hears is goes place = (
-  ap (λ (x : Ended). x.end) goes.0,
-  ap (λ (x : Ended). x.host) goes.0,
+list-told w (ends last v) h ws left earlier kept at after new end text alone none hears is goes place = (
+  sym goes.0,
+  ap (λ (x : RunWorld). x.1) (sym goes.1.0),
   report-alone w h (halting_steps end at) ws left earlier kept text alone none hears is
       ∙ ap (λ a. w.text (h ++ halting_steps end a)) place
-      ∙ ap (λ (x : Ended). w.text (h ++ halting_after x)) goes.0,
+      ∙ ap (λ (x : End). w.text (h ++ halting_steps x after.pc)) (sym goes.0)
+      ∙ ap (λ (x : RunWorld). w.text (h ++ halting_steps last x.0.pc)) (sym goes.1.0),
 )
-list-told w (run_wild m) h ws left earlier kept at after new end text alone none hears is goes place = goes
+list-told w (meets_wild v) h ws left earlier kept at after new end text alone none hears is goes place = goes
 
 -- ---- a machine
 
-list-counted : (steps : ℕ) (w : Watching) (h : List Trace) (r : RunEnd) (end : End) (outcome : Outcome) (text : List ℕ) (new : HostModel) → outcome ≡ outcome_of steps end →
+list-counted : (steps : ℕ) (w : Watching) (h : List Trace) (r : Course End RunWorld) (end : End) (outcome : Outcome) (text : List ℕ) (new : HostModel) → outcome ≡ outcome_of steps end →
     EndsAsReported w h r end new text → GoesAs (counted_to steps (reporting w.text) h r) (record { outcome = outcome; sheet = Some text }) new
-list-counted steps w h (run_ended e) end outcome text new is told =
+list-counted steps w h (ends last v) end outcome text new is told =
     ((λ i. record { outcome = (is ∙ ap (outcome_of steps) told.0) i; sheet = Some (told.2 i) }), told.1)
-list-counted steps w h (run_wild m) end outcome text new is told = told
+list-counted steps w h (meets_wild v) end outcome text new is told = told
 
 window-counted : (steps : ℕ) (report : List Trace → List ℕ) (s after : State) (old new : HostModel) (end : End) (outcome : Outcome) (text : List ℕ) → outcome ≡ outcome_of steps end →
     ended end after new ≡ run steps no_flags false s old → text ≡ report (steps_counted window_machine steps s old) →
-    came_to (record { outcome = outcome; sheet = Some text }) new ≡ counted_run_from window_machine steps (reporting report) s old
+    ends (record { outcome = outcome; sheet = Some text }) new ≡ counted_run_from window_machine steps (reporting report) s old
 window-counted steps report s after old new end outcome text is e told =
-    λ i. came_to (record { outcome = (is ∙ ap (λ (x : Ended). outcome_of steps x.end) e) i; sheet = Some (told i) }) (ap (λ (x : Ended). x.host) e i)
+    λ i. ends (record { outcome = (is ∙ ap (λ (x : Ended). outcome_of steps x.end) e) i; sheet = Some (told i) }) (ap (λ (x : Ended). x.host) e i)
 
 pub machine-told : (steps : ℕ) (w : Watching) (old new : Option HostModel) (s after : State) (end : End) (outcome : Outcome) (text : List ℕ) → s.touched ≡ false → outcome ≡ outcome_of steps end →
     EndsReported old new s after steps w (Ok (end, text)) →
@@ -98,7 +102,7 @@ module _ {A : Type 0} (old new : Option HostModel) (outcome : Outcome) (result :
       (why ≢ OutOfMemory → ◌≡◌ {A = Result State Outcome} (Err why) (started list_machine o.ring image arguments)) →
       CountsByKind old new outcome result (λ kind m. image_counted kind o arguments making image m)
   unstarted-told image why same place is e f = (
-    λ t ne. (λ i. came_to (is i) (contents (same i))) ∙ ap (λ r. start_counted window_machine o.steps making r (contents old)) (e (λ none. ne (place ∙ none))),
+    λ t ne. (λ i. ends (is i) (contents (same i))) ∙ ap (λ r. start_counted window_machine o.steps making r (contents old)) (e (λ none. ne (place ∙ none))),
     λ t ne. subst (λ x. GoesAs x result (contents new)) (ap (λ r. start_counted list_machine o.steps making r (contents old)) (f (λ none. ne (place ∙ none)))) (is, ap contents same),
   )
 
@@ -115,7 +119,7 @@ module _ {A : Type 0} (old new : Option HostModel) (outcome : Outcome) (result :
   pub refused-told : (source : List ℕ) (refusal : Refusal) → new ≡ old → ◌≡◌ {A = Result Image Refusal} (Err refusal) (source_meaning source) → result ≡ making.without (refused_with refusal) →
       CountsByKind old new outcome result (λ kind m. source_counted kind o arguments making source m)
   refused-told source refusal same e is = (
-    λ t ne. (λ i. came_to (is i) (contents (same i))) ∙ ap (λ r. meaning_counted window_machine o arguments making r (contents old)) e,
+    λ t ne. (λ i. ends (is i) (contents (same i))) ∙ ap (λ r. meaning_counted window_machine o arguments making r (contents old)) e,
     λ t ne. subst (λ x. GoesAs x result (contents new)) (ap (λ r. meaning_counted list_machine o arguments making r (contents old)) e) (is, ap contents same),
   )
 
@@ -139,13 +143,13 @@ reported-told old new outcome result o arguments image f g e told =
 -- ---- a function of what comes of it
 
 goes-mapped : {A B : Type 0} (f : A → B) (x : CountAnswer A) (y : A) (z : B) (new : HostModel) → z ≡ f y → GoesAs x y new → GoesAs (mapped f x) z new
-goes-mapped f (came_to x m) y z new e told = (e ∙ ap f told.0, told.1)
-goes-mapped f (went_wild m) y z new e told = told
+goes-mapped f (ends x m) y z new e told = (e ∙ ap f told.0, told.1)
+goes-mapped f (meets_wild m) y z new e told = told
 
 pub mapped-told : {A B : Type 0} (old new : Option HostModel) (before after : Outcome) (counted : A) (result : B) (f : A → B) (answer : MachineKind → HostModel → CountAnswer A) →
     (after ≢ OutOfMemory → before ≢ OutOfMemory) → (after ≢ OutOfMemory → result ≡ f counted) → CountsByKind old new before counted answer →
     CountsByKind old new after result (λ kind m. mapped f (answer kind m))
 mapped-told old new before after counted result f answer enough is told = (
-  λ t ne. (λ i. came_to (is ne i) (contents new)) ∙ ap (mapped f) (told.0 t (enough ne)),
+  λ t ne. (λ i. ends (is ne i) (contents new)) ∙ ap (mapped f) (told.0 t (enough ne)),
   λ t ne. goes-mapped f (answer list_machine (contents old)) counted result (contents new) (is ne) (told.1 t (enough ne)),
 )

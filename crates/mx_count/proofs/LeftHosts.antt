@@ -3,6 +3,7 @@ use Rattle.std.proofs.Common.{◌≡◌, ◌≢◌, ℕ, List, arith, refl, sym,
 use Rattle.std.specs.Prelude.{Option, Result}
 use Rattle.mx_host.specs.HostModel.{HostModel, contents}
 use Rattle.mx_mmo.specs.Image.{Image}
+use Rattle.mx_plan.specs.Wild.{ends}
 use Rattle.mx_core.specs.State.{State}
 use Rattle.mx_run.specs.AccompaniedRuns.{ComesAccompanied}
 use Rattle.mx_run.specs.WildRuns.{window_machine}
@@ -16,7 +17,8 @@ use Rattle.mx_files.specs.declared.refusal.Refusal.{Refusal}
 use Rattle.mx_outcome.specs.declared.outcome.Outcome.{Outcome}
 use Rattle.mx_outcome.specs.declared.outcome.Outcome.TheVariants as out
 use Rattle.mx_count.specs.Leaving.{RunLeaves, StartLeaves, ImageLeaves, MeaningLeaves}
-use Rattle.mx_count.specs.Runs.{CountAnswer, CountsBoth, GoesAs, came_to}
+use Rattle.mx_files.specs.Answers.{GoesAs}
+use Rattle.mx_count.specs.Runs.{CountAnswer, CountsBoth}
 use Rattle.mx_count.specs.declared.count.Counted.{Counted}
 
 -- ---- a machine
@@ -54,6 +56,6 @@ unmeant-left o arguments (Err refusal) m = refl
 pub sheet-told : (old new : Option HostModel) (why : Outcome) (text : List ℕ) (result : Counted) (f g : HostModel → CountAnswer Counted) → result.outcome ≡ why →
     (why ≢ out.OutOfMemory → result ≡ record { outcome = why; sheet = Some text }) → CountsBoth old new why (record { outcome = why; sheet = Some text }) f g → CountsBoth old new result.outcome result f g
 sheet-told old new why text result f g same is told = (
-  λ t ne. ap (λ x. came_to x (contents new)) (is (λ e. ne (same ∙ e))) ∙ told.0 t (λ e. ne (same ∙ e)),
+  λ t ne. ap (λ x. ends x (contents new)) (is (λ e. ne (same ∙ e))) ∙ told.0 t (λ e. ne (same ∙ e)),
   λ t ne. subst (λ (x : Counted). GoesAs (g (contents old)) x (contents new)) (sym (is (λ e. ne (same ∙ e)))) (told.1 t (λ e. ne (same ∙ e))),
 )

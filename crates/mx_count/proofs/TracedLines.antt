@@ -2,10 +2,13 @@
 use Rattle.std.proofs.Common.{◌≡◌, ℕ, zero, suc, ◌*◌, ◌+◌, ◌≤◌, ◌^◌, ◌==◌, ◌||◌, Bool, true, false, cond, List, [], ◌∷◌, ◌++◌, length, length-append, Result, Ok, Err, Some, arith, refl, ap}
 use Rattle.mx_host.specs.HostModel.{HostModel}
 use Rattle.mx_mmo.specs.Image.{Image}
+use Rattle.mx_plan.specs.Wild.{Course, ends, meets_wild}
 use Rattle.mx_core.specs.State.{State}
 use Rattle.mx_code.specs.declared.trace.Trace.{Trace}
+use Rattle.mx_run.specs.RunPlans.{RunWorld}
+use Rattle.mx_run.specs.declared.end.End.{End}
 use Rattle.mx_run.specs.Turns.{Turn, went_on, halts, stops, turn}
-use Rattle.mx_run.specs.WildRuns.{MachineKind, RunEnd, run_ended, run_wild, ends_wild}
+use Rattle.mx_run.specs.WildRuns.{MachineKind, ends_wild}
 use Rattle.mx_watch.specs.Traces.{traces, traces_after}
 use Rattle.mx_words.specs.declared.order.Order.{Order}
 use Rattle.mx_files.specs.Assembling.{refused_with}
@@ -15,7 +18,7 @@ use Rattle.mx_outcome.specs.declared.outcome.Outcome.{Outcome}
 use Rattle.mx_begin.specs.Begun.{started}
 use Rattle.mx_costs.specs.Costs.{is_within, oops, mems}
 use Rattle.mx_count.specs.Reports.{HasOctas, report_of}
-use Rattle.mx_count.specs.Runs.{AnswerForms, by_lines, came_to, counted_to, data_of, halting_after, halting_in, halting_step, image_counted, in_form, is_halted, mapped, meaning_counted, outcome_of, ran, reporting, source_counted, start_counted, steps_counted, uncounted}
+use Rattle.mx_count.specs.Runs.{AnswerForms, by_lines, counted_to, data_of, halting_in, halting_step, halting_steps, image_counted, in_form, is_halted, mapped, meaning_counted, outcome_of, ran, reporting, source_counted, start_counted, steps_counted, uncounted}
 use Rattle.mx_count.specs.Tallies.{added, code_in, goes_away, nothing, tally_in}
 use Rattle.mx_count.specs.declared.count.Counted.{Counted}
 use Rattle.mx_count.specs.declared.counts.Form.TheVariants.{Octas}
@@ -91,9 +94,9 @@ one-if : (b : Bool) (t : Trace) → length (cond b (t ∷ []) []) ≤ 1
 one-if true t = omega arith
 one-if false t = omega arith
 
-one-halting : (r : RunEnd) → length (halting_in r) ≤ 1
-one-halting (run_ended e) = one-if (is_halted e.end) (halting_step e.state.pc)
-one-halting (run_wild m) = omega arith
+one-halting : (r : Course End RunWorld) → length (halting_in r) ≤ 1
+one-halting (ends end w) = one-if (is_halted end) (halting_step w.0.pc)
+one-halting (meets_wild w) = omega arith
 
 few-fit : (h : List Trace) → length h ≤ 10 ^ 12 + 1 → HasOctas (tally_in (λ a. true) h)
 few-fit h few =
@@ -118,20 +121,20 @@ pub record Remakes {A : Type 0} (f : Counted → A) (report : List Trace → Lis
   pub with_steps : (outcome : Outcome) (h : List Trace) → HasOctas (tally_in (λ a. true) h) → f (record { outcome = outcome; sheet = Some (report h) }) ≡ making.with_steps outcome h
 
 module _ {A : Type 0} (f : Counted → A) (report : List Trace → List ℕ) (making : AnswerForms A) (same : Remakes f report making) where
-  ended-same : (steps : ℕ) (h : List Trace) (r : RunEnd) → HasOctas (tally_in (λ a. true) (h ++ halting_in r)) → mapped f (counted_to steps (reporting report) h r) ≡ counted_to steps making h r
-  ended-same steps h (run_ended e) fit = ap (λ x. came_to x e.host) (same.with_steps (outcome_of steps e.end) (h ++ halting_after e) fit)
-  ended-same steps h (run_wild m) fit = refl
+  ended-same : (steps : ℕ) (h : List Trace) (r : Course End RunWorld) → HasOctas (tally_in (λ a. true) (h ++ halting_in r)) → mapped f (counted_to steps (reporting report) h r) ≡ counted_to steps making h r
+  ended-same steps h (ends end w) fit = ap (λ x. ends x w.1) (same.with_steps (outcome_of steps end) (h ++ halting_steps end w.0.pc) fit)
+  ended-same steps h (meets_wild w) fit = refl
 
   module _ (kind : MachineKind) (o : Order) (arguments : List (List ℕ)) (few : o.steps ≤ 10 ^ 12) where
     start-same : (r : Result State Outcome) (m : HostModel) → mapped f (start_counted kind o.steps (reporting report) r m) ≡ start_counted kind o.steps making r m
-    start-same (Err outcome) m = ap (λ x. came_to x m) (same.without outcome)
+    start-same (Err outcome) m = ap (λ x. ends x m) (same.without outcome)
     start-same (Ok s) m = ended-same o.steps (traces kind o.steps s m) (ran kind o.steps s m) (run-fits kind o.steps s m few)
 
     pub image-same : (image : Image) (m : HostModel) → mapped f (image_counted kind o arguments (reporting report) image m) ≡ image_counted kind o arguments making image m
     image-same image m = start-same (started kind o.ring image arguments) m
 
     pub meaning-same : (r : Result Image Refusal) (m : HostModel) → mapped f (meaning_counted kind o arguments (reporting report) r m) ≡ meaning_counted kind o arguments making r m
-    meaning-same (Err refusal) m = ap (λ x. came_to x m) (same.without (refused_with refusal))
+    meaning-same (Err refusal) m = ap (λ x. ends x m) (same.without (refused_with refusal))
     meaning-same (Ok image) m = image-same image m
 
 lines-remade : (source : List ℕ) → Remakes (data_of source) (report_of Octas source) (by_lines source)

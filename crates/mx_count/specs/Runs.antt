@@ -5,13 +5,15 @@ use Rattle.std.specs.Prelude.{ℕ, ◌≡◌, ◌≢◌, ◌≤◌, ◌+◌, ◌
 use Rattle.mx_word.specs.Lists.{IsFront}
 use Rattle.mx_host.specs.HostModel.{HostModel, tells, contents}
 use Rattle.mx_mmo.specs.Image.{Image}
+use Rattle.mx_plan.specs.Wild.{Course, ends, meets_wild}
 use Rattle.mx_ring.specs.Stack.{stack_address}
 use Rattle.mx_core.specs.State.{State}
 use Rattle.mx_code.specs.declared.trace.Trace.{Trace}
 use Rattle.mx_start.specs.Start.{pool, pool_octas}
 use Rattle.mx_run.specs.AccompaniedRuns.{list_run}
+use Rattle.mx_run.specs.RunPlans.{RunWorld}
 use Rattle.mx_run.specs.Runs.{Ended, ended, no_flags, run}
-use Rattle.mx_run.specs.WildRuns.{MachineKind, window_machine, list_machine, RunEnd, run_ended, run_wild, run_by}
+use Rattle.mx_run.specs.WildRuns.{MachineKind, window_machine, list_machine, run_ended, run_by}
 use Rattle.mx_run.specs.declared.end.End.{End}
 use Rattle.mx_run.specs.declared.end.End.TheVariants as ending
 use Rattle.mx_watch.specs.Traces.{traces}
@@ -20,6 +22,7 @@ use Rattle.mx_watch.specs.Watching.{Watching}
 use Rattle.mx_words.specs.declared.order.Order.{Order}
 use Rattle.mx_word.specs.declared.no_memory.NoMemory.{NoMemory}
 use Rattle.mx_begin.specs.Begun.{started}
+use Rattle.mx_files.specs.Answers.{GoesAs}
 use Rattle.mx_files.specs.Assembling.{refused_with}
 use Rattle.mx_files.specs.Sources.{source_meaning}
 use Rattle.mx_files.specs.declared.refusal.Refusal.{Refusal}
@@ -46,7 +49,7 @@ outcome_of steps ending.Spent = StepsSpent steps
 outcome_of steps ending.OutOfMemory = OutOfMemory
 
 -- what a run of at most n steps comes to: that of the window always ends
-abbrev pub ran : MachineKind → ℕ → State → HostModel → RunEnd
+abbrev pub ran : MachineKind → ℕ → State → HostModel → Course End RunWorld
 ran window_machine n s m = run_ended (run n no_flags false s m)
 ran list_machine n s m = run_by list_machine n no_flags false s m
 
@@ -67,9 +70,9 @@ halting_steps end pc = if is_halted end then halting_step pc ∷ [] else []
 abbrev pub halting_after : Ended → List Trace
 halting_after e = halting_steps e.end e.state.pc
 
-abbrev pub halting_in : RunEnd → List Trace
-halting_in (run_ended e) = halting_after e
-halting_in (run_wild m) = []
+abbrev pub halting_in : Course End RunWorld → List Trace
+halting_in (ends end w) = halting_steps end w.0.pc
+halting_in (meets_wild w) = []
 
 -- those of a run of at most n steps of the machine of a kind: its traces, and after them the step that halts
 abbrev pub steps_counted : MachineKind → ℕ → State → HostModel → List Trace
@@ -79,14 +82,13 @@ steps_counted kind n s m = traces kind n s m ++ halting_in (ran kind n s m)
 
 -- what comes of a run that is counted, with the host as it then is; or, over the list machine, the host at the first turn that looks
 -- at rS or at the memory of the register stack
-pub data CountAnswer (A : Type 0) : Type 0 where
-  came_to : A → HostModel → CountAnswer A
-  went_wild : HostModel → CountAnswer A
+abbrev pub CountAnswer : Type 0 → Type 0
+CountAnswer A = Course A HostModel
 
 -- a function of what comes of it
 abbrev pub mapped : {A B : Type 0} → (A → B) → CountAnswer A → CountAnswer B
-mapped f (came_to x m) = came_to (f x) m
-mapped f (went_wild m) = went_wild m
+mapped f (ends x m) = ends (f x) m
+mapped f (meets_wild m) = meets_wild m
 
 -- what is made of an outcome: where no machine ran, and where one did and these steps are counted
 pub record AnswerForms (A : Type 0) : Type 0 where
@@ -94,15 +96,15 @@ pub record AnswerForms (A : Type 0) : Type 0 where
   pub with_steps : Outcome → List Trace → A
 
 -- a run of these traces that comes to this
-abbrev pub counted_to : {A : Type 0} → ℕ → AnswerForms A → List Trace → RunEnd → CountAnswer A
-counted_to steps making h (run_ended e) = came_to (making.with_steps (outcome_of steps e.end) (h ++ halting_after e)) e.host
-counted_to steps making h (run_wild m) = went_wild m
+abbrev pub counted_to : {A : Type 0} → ℕ → AnswerForms A → List Trace → Course End RunWorld → CountAnswer A
+counted_to steps making h (ends end w) = ends (making.with_steps (outcome_of steps end) (h ++ halting_steps end w.0.pc)) w.1
+counted_to steps making h (meets_wild w) = meets_wild w.1
 
 abbrev pub counted_run_from : {A : Type 0} → MachineKind → ℕ → AnswerForms A → State → HostModel → CountAnswer A
 counted_run_from kind steps making s m = counted_to steps making (traces kind steps s m) (ran kind steps s m)
 
 abbrev pub start_counted : {A : Type 0} → MachineKind → ℕ → AnswerForms A → Result State Outcome → HostModel → CountAnswer A
-start_counted kind steps making (Err outcome) m = came_to (making.without outcome) m
+start_counted kind steps making (Err outcome) m = ends (making.without outcome) m
 start_counted kind steps making (Ok s) m = counted_run_from kind steps making s m
 
 -- an image is run with these arguments, on the ring and for the steps of an order
@@ -111,7 +113,7 @@ image_counted kind o arguments making image m = start_counted kind o.steps makin
 
 -- a source is refused, or its image is run
 abbrev pub meaning_counted : {A : Type 0} → MachineKind → Order → List (List ℕ) → AnswerForms A → Result Image Refusal → HostModel → CountAnswer A
-meaning_counted kind o arguments making (Err refusal) m = came_to (making.without (refused_with refusal)) m
+meaning_counted kind o arguments making (Err refusal) m = ends (making.without (refused_with refusal)) m
 meaning_counted kind o arguments making (Ok image) m = image_counted kind o arguments making image m
 
 abbrev pub source_counted : {A : Type 0} → MachineKind → Order → List (List ℕ) → AnswerForms A → List ℕ → HostModel → CountAnswer A
@@ -157,13 +159,9 @@ AreArguments arguments = (1 ≤ length arguments) × (pool + 8 * length (pool_oc
 -- over a host that tells its contents, what is counted and what the host then holds are those of f, unless out of memory; this is the
 -- outcome of what is counted
 abbrev pub CountsAs : {A : Type 0} → Option HostModel → Option HostModel → Outcome → A → (HostModel → CountAnswer A) → Type 0
-CountsAs old new outcome result f = IsTrue (tells old) → outcome ≢ OutOfMemory → came_to result (contents new) ≡ f (contents old)
+CountsAs old new outcome result f = IsTrue (tells old) → outcome ≢ OutOfMemory → ends result (contents new) ≡ f (contents old)
 
 -- the same, up to what is wild: there standard output begins with what was written before
-abbrev pub GoesAs : {A : Type 0} → CountAnswer A → A → HostModel → Type 0
-GoesAs (came_to x m) result new = (result ≡ x) × (new ≡ m)
-GoesAs (went_wild m) result new = IsFront m.output new.output
-
 abbrev pub CountsAsList : {A : Type 0} → Option HostModel → Option HostModel → Outcome → A → (HostModel → CountAnswer A) → Type 0
 CountsAsList old new outcome result f = IsTrue (tells old) → outcome ≢ OutOfMemory → GoesAs (f (contents old)) result (contents new)
 
@@ -177,9 +175,9 @@ CountsByKind old new outcome result f = CountsBoth old new outcome result (f win
 
 -- a run ends as this one does, and a watcher has this report on these traces and on the step that halts; where that one is wild, standard
 -- output begins with what it had written
-abbrev pub EndsAsReported : Watching → List Trace → RunEnd → End → HostModel → List ℕ → Type 0
-EndsAsReported w h (run_ended e) end new text = (end ≡ e.end) × (new ≡ e.host) × (text ≡ w.text (h ++ halting_after e))
-EndsAsReported w h (run_wild m) end new text = IsFront m.output new.output
+abbrev pub EndsAsReported : Watching → List Trace → Course End RunWorld → End → HostModel → List ℕ → Type 0
+EndsAsReported w h (ends last v) end new text = (end ≡ last) × (new ≡ v.1) × (text ≡ w.text (h ++ halting_steps last v.0.pc))
+EndsAsReported w h (meets_wild v) end new text = IsFront v.1.output new.output
 
 -- over a host that tells its contents, a run of at most n steps ends so, and a watcher has this report on its steps; and, from a state
 -- where nothing was touched, the same holds of the list machine

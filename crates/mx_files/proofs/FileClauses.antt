@@ -9,7 +9,8 @@ use Rattle.mx_plan.specs.Held.{Makes}
 use Rattle.mx_plan.specs.Plan.{returns, end_of, end_after, Comes}
 use Rattle.mx_plan.proofs.Plans.{end_bind, end_returns, stops_first}
 use Rattle.mx_word.specs.Lists.{IsFront}
-use Rattle.mx_files.specs.Answers.{answered, output_of, GoesAs, plainly}
+use Rattle.mx_plan.specs.Wild.{ends}
+use Rattle.mx_files.specs.Answers.{output_of, GoesAs, plainly}
 use Rattle.mx_outcome.specs.Kinds.{is_usage}
 use Rattle.mx_files.specs.Clauses.{ComesByFailing, HasToolSlots, Serves, WorksBetween, is_end}
 use Rattle.mx_files.specs.FilePlans.{Part, file_plan}
@@ -85,7 +86,7 @@ pub assembled-front : (source object : List ℕ) (m n : HostModel) (o : Outcome)
     IsFront n.output (end_of host (assemble_plan source object) m).1.output
 assembled-front source object m n o c e = stop-front (assemble_plan source object) n m (c.stopping e)
 
-pub listed-told : (name : List ℕ) (m n : HostModel) (o : Outcome) → Comes host m n OutOfMemory o (list_plan name) → o ≢ OutOfMemory → answered o n ≡ plainly (end_of host (list_plan name) m)
+pub listed-told : (name : List ℕ) (m n : HostModel) (o : Outcome) → Comes host m n OutOfMemory o (list_plan name) → o ≢ OutOfMemory → ends o n ≡ plainly (end_of host (list_plan name) m)
 listed-told name m n o c ne = ap plainly (c.ending ne)
 
 pub listed-goes : (name : List ℕ) (m n : HostModel) (o : Outcome) → Comes host m n OutOfMemory o (list_plan name) → o ≢ OutOfMemory → GoesAs (plainly (end_of host (list_plan name) m)) o n

@@ -3,42 +3,36 @@ use Rattle.std.specs.Prelude.{◌≡◌, ◌≢◌, IsTrue, Bool, if◌then◌el
 use Rattle.mx_word.specs.Lists.{IsFront}
 use Rattle.mx_host.specs.HostModel.{HostModel, tells, contents}
 use Rattle.mx_host.specs.HostAnswer.{Then}
+use Rattle.mx_plan.specs.Wild.{Course, ends, meets_wild, world_of}
 use Rattle.mx_outcome.specs.declared.outcome.Outcome.{Outcome}
 use Rattle.mx_outcome.specs.declared.outcome.Outcome.TheVariants.{HostFault, OutOfMemory}
 
 -- the outcome and the host; or, over the list machine, the host at the first step that looks at rS or at the memory of the
 -- register stack
-pub data Answer : Type 0 where
-  answered : Outcome → HostModel → Answer
-  wild : HostModel → Answer
+abbrev pub Answer : Type 0
+Answer = Course Outcome HostModel
 
 abbrev pub plainly : Then Outcome → Answer
-plainly (outcome, m) = answered outcome m
-
--- what follows an outcome
-abbrev pub and_then : (Outcome → HostModel → Answer) → Answer → Answer
-and_then more (answered outcome m) = more outcome m
-and_then more (wild m) = wild m
+plainly (outcome, m) = ends outcome m
 
 -- lines are written one by one; a line that is not written is the outcome
 abbrev pub after_lines : Outcome → Then Bool → Answer
-after_lines outcome (written, m) = answered (if written then outcome else HostFault) m
+after_lines outcome (written, m) = ends (if written then outcome else HostFault) m
 
 -- what standard output then has
 abbrev pub output_of : Answer → List ℕ
-output_of (answered outcome m) = m.output
-output_of (wild m) = m.output
+output_of answer = (world_of answer).output
 
 -- ---- the words of clauses: `old` and `new` are what the host told before and after
 
 -- over a host that tells its contents, the outcome and what the host then holds are those of f, unless out of memory
 abbrev pub AnswersAs : Option HostModel → Option HostModel → Outcome → (HostModel → Answer) → Type 0
-AnswersAs old new result f = IsTrue (tells old) → result ≢ OutOfMemory → answered result (contents new) ≡ f (contents old)
+AnswersAs old new result f = IsTrue (tells old) → result ≢ OutOfMemory → ends result (contents new) ≡ f (contents old)
 
 -- the same, up to what is wild: there standard output begins with what was written before
-abbrev pub GoesAs : Answer → Outcome → HostModel → Type 0
-GoesAs (answered outcome m) result new = (result ≡ outcome) × (new ≡ m)
-GoesAs (wild m) result new = IsFront m.output new.output
+abbrev pub GoesAs : {A : Type 0} → Course A HostModel → A → HostModel → Type 0
+GoesAs (ends a m) result new = (result ≡ a) × (new ≡ m)
+GoesAs (meets_wild m) result new = IsFront m.output new.output
 
 abbrev pub AnswersAsList : Option HostModel → Option HostModel → Outcome → (HostModel → Answer) → Type 0
 AnswersAsList old new result f = IsTrue (tells old) → result ≢ OutOfMemory → GoesAs (f (contents old)) result (contents new)

@@ -1,15 +1,17 @@
 -- Turns by a schedule as a fold of the schedule that is repeated.
 use Rattle.std.proofs.Common.{◌≡◌, ℕ, zero, suc, ◌+◌, Bool, true, false, cond, List, [], ◌∷◌, ◌++◌, Option, None, Some, arith, append_assoc, refl, sym, subst, ap, ◌∙◌}
 use Rattle.mx_host.specs.HostModel.{HostModel}
+use Rattle.mx_plan.specs.Wild.{Course, ends, meets_wild}
 use Rattle.mx_run.specs.Turns.{turn_answer, turn}
 use Rattle.mx_run.specs.WildRuns.{MachineKind, ends_wild}
 use Rattle.mx_multi.specs.Folds.{AreUnstopped, DoesNotEnd, EndsSo, FoldsFrom, IsNext, after_turns, repeated, steps_in, steps_of}
 use Rattle.mx_multi.specs.Joint.{Joint, has_halted, state_at}
 use Rattle.mx_multi.specs.JointTurns.{JointWorld, turn_of}
 use Rattle.mx_multi.specs.Schedules.{next_in, or_again, AllHaveHalted, end_at_last}
-use Rattle.mx_multi.specs.Turns.{TurnsEnd, turns_ended, turns_wild, turns}
+use Rattle.mx_multi.specs.Turns.{turns}
 use Rattle.mx_multi.specs.declared.turn.Turn.{Turn}
 use Rattle.mx_multi.specs.declared.turn.Turn.TheVariants as turned
+use Rattle.mx_multi.specs.declared.end.MultiEnd.{MultiEnd}
 use Rattle.mx_multi.specs.declared.end.MultiEnd.TheVariants.{AllHalted, Stopped, Spent, OutOfMemory}
 use Rattle.mx_multi.proofs.Schedules.{all-none, found-in}
 use Rattle.mx_multi.proofs.TurnComes.{turn-idle, turn-made, not-idle-at}
@@ -79,10 +81,10 @@ module _ (kind : MachineKind) (schedule : List ℕ) where
   module _ (n : ℕ) where
     -- ---- after turns of processors that have halted
 
-    ends-as : (s t : ℕ) (next : List ℕ) (w v : JointWorld) (end : TurnsEnd) → s ≡ t → w ≡ v → EndsSo kind schedule n s next w end → EndsSo kind schedule n t next v end
+    ends-as : (s t : ℕ) (next : List ℕ) (w v : JointWorld) (end : Course MultiEnd JointWorld) → s ≡ t → w ≡ v → EndsSo kind schedule n s next w end → EndsSo kind schedule n t next v end
     ends-as s t next w v end e f h = subst (λ u. EndsSo kind schedule n t next u end) f (subst (λ k. EndsSo kind schedule n k next w end) e h)
 
-    behind-idle : (before part : List ℕ) (w : JointWorld) (end : TurnsEnd) → ¬ AllHaveHalted w.0.halted schedule → AllHaveHalted w.0.halted before → FoldsFrom kind part schedule n w end → FoldsFrom kind (before ++ part) schedule n w end
+    behind-idle : (before part : List ℕ) (w : JointWorld) (end : Course MultiEnd JointWorld) → ¬ AllHaveHalted w.0.halted schedule → AllHaveHalted w.0.halted before → FoldsFrom kind part schedule n w end → FoldsFrom kind (before ++ part) schedule n w end
     behind-idle before part w end due h f =
         let steps : steps_in (before ++ f.turns) w ≡ steps_in f.turns w = idle-steps before f.turns w h in
         record {
@@ -100,7 +102,7 @@ module _ (kind : MachineKind) (schedule : List ℕ) where
         }
 
     -- the schedule that is begun again is its first round
-    one-round : (rest : List ℕ) (w : JointWorld) (end : TurnsEnd) → FoldsFrom kind (rest ++ schedule) schedule n w end → FoldsFrom kind rest schedule n w end
+    one-round : (rest : List ℕ) (w : JointWorld) (end : Course MultiEnd JointWorld) → FoldsFrom kind (rest ++ schedule) schedule n w end → FoldsFrom kind rest schedule n w end
     one-round rest w end f = record {
       turns = f.turns;
       next = f.next;
@@ -113,12 +115,12 @@ module _ (kind : MachineKind) (schedule : List ℕ) where
 
     -- ---- no turn is made
 
-    nothing : (rest : List ℕ) (w : JointWorld) (end : TurnsEnd) → EndsSo kind schedule n 0 [] w end → FoldsFrom kind rest schedule n w end
+    nothing : (rest : List ℕ) (w : JointWorld) (end : Course MultiEnd JointWorld) → EndsSo kind schedule n 0 [] w end → FoldsFrom kind rest schedule n w end
     unfolding after_turns steps_in AreUnstopped
     nothing rest w end e = record { turns = []; next = []; rounds = 0; front = (rest ++ [], refl); few = omega arith; unstopped = tt; ends = e }
 
     -- the next one is that of this number, which ends them
-    stops-at : (who : ℕ) (after : List ℕ) (w : JointWorld) (end : TurnsEnd) → EndsSo kind schedule n 0 (who ∷ []) w end → FoldsFrom kind (who ∷ after) schedule n w end
+    stops-at : (who : ℕ) (after : List ℕ) (w : JointWorld) (end : Course MultiEnd JointWorld) → EndsSo kind schedule n 0 (who ∷ []) w end → FoldsFrom kind (who ∷ after) schedule n w end
     unfolding after_turns steps_in AreUnstopped
     stops-at who after w end e = record { turns = []; next = who ∷ []; rounds = 0; front = (after ++ [], refl); few = omega arith; unstopped = tt; ends = e }
 
@@ -131,14 +133,14 @@ module _ (kind : MachineKind) (schedule : List ℕ) where
     more-next : (s t x : ℕ) (next : List ℕ) (v : JointWorld) → t ≡ suc s → IsNext n s x next v → IsNext (suc n) t x next v
     more-next s t x next v e h = record { left = (let left = h.left in omega (arith, e, left)); named = h.named; runs = h.runs }
 
-    ends-more : (s t : ℕ) (next : List ℕ) (v : JointWorld) (end : TurnsEnd) → t ≡ suc s → EndsSo kind schedule n s next v end → EndsSo kind schedule (suc n) t next v end
-    ends-more s t next v (turns_ended Spent j m) e h = (h.0, (let all = h.1 in omega (arith, e, all)), h.2)
-    ends-more s t next v (turns_ended AllHalted j m) e h = h
-    ends-more s t next v (turns_ended (Stopped x pc reason) j m) e h = (more-next s t x next v e h.0, h.1, h.2)
-    ends-more s t next v (turns_ended OutOfMemory j m) e h = (h.0, (more-next s t h.0 next v e h.1.0, h.1.1, h.1.2))
-    ends-more s t next v (turns_wild m) e h = (h.0, (more-next s t h.0 next v e h.1.0, h.1.1, h.1.2))
+    ends-more : (s t : ℕ) (next : List ℕ) (v : JointWorld) (end : Course MultiEnd JointWorld) → t ≡ suc s → EndsSo kind schedule n s next v end → EndsSo kind schedule (suc n) t next v end
+    ends-more s t next v (ends Spent u) e h = (h.0, (let all = h.1 in omega (arith, e, all)), h.2)
+    ends-more s t next v (ends AllHalted u) e h = h
+    ends-more s t next v (ends (Stopped x pc reason) u) e h = (more-next s t x next v e h.0, h.1, h.2)
+    ends-more s t next v (ends OutOfMemory u) e h = (h.0, (more-next s t h.0 next v e h.1.0, h.1.1, h.1.2))
+    ends-more s t next v (meets_wild u) e h = (h.0, (more-next s t h.0 next v e h.1.0, h.1.1, h.1.2))
 
-    step-then : (r : Turn) (u : JointWorld) (end : TurnsEnd) → (r, u) ≡ turn_of who w → steps_of r ≡ 1 → DoesNotEnd r → FoldsFrom kind after schedule n u end → FoldsFrom kind (who ∷ after) schedule (suc n) w end
+    step-then : (r : Turn) (u : JointWorld) (end : Course MultiEnd JointWorld) → (r, u) ≡ turn_of who w → steps_of r ≡ 1 → DoesNotEnd r → FoldsFrom kind after schedule n u end → FoldsFrom kind (who ∷ after) schedule (suc n) w end
     unfolding after_turns steps_in AreUnstopped
     step-then r u end e one going f =
         let steps : steps_of (turn_of who w).0 + steps_in f.turns (turn_of who w).1 ≡ suc (steps_in f.turns u) =
@@ -162,14 +164,14 @@ module _ (kind : MachineKind) (schedule : List ℕ) where
     step-by turned.Went u e ne more = step-then turned.Went u (turns kind schedule n after u.0 u.1) e refl tt (more u)
     step-by (turned.Halted status) u e ne more = step-then (turned.Halted status) u (turns kind schedule n after u.0 u.1) e refl tt (more u)
     step-by turned.Idle u e ne more = absurd (ne refl)
-    step-by (turned.Stopped pc reason) u e ne more = stops-at (suc n) who after w (turns_ended (Stopped who pc reason) u.0 u.1) (is-next, e, tame)
-    step-by turned.OutOfMemory u e ne more = stops-at (suc n) who after w (turns_ended OutOfMemory u.0 u.1) (who, (is-next, e, tame))
+    step-by (turned.Stopped pc reason) u e ne more = stops-at (suc n) who after w (ends (Stopped who pc reason) u) (is-next, e, tame)
+    step-by turned.OutOfMemory u e ne more = stops-at (suc n) who after w (ends OutOfMemory u) (who, (is-next, e, tame))
 
   kind-by : (n who : ℕ) (after : List ℕ) (w : JointWorld) (b : Bool) → ends_wild kind (state_at w.0 who) ≡ b → ¬ AllHaveHalted w.0.halted schedule → has_halted w.0.halted who ≡ false →
       ((v : JointWorld) → FoldsFrom kind after schedule n v (turns kind schedule n after v.0 v.1)) →
-      FoldsFrom kind (who ∷ after) schedule (suc n) w (cond b (turns_wild w.1) (made_turn (turns kind schedule n) who after (turn_of who w)))
+      FoldsFrom kind (who ∷ after) schedule (suc n) w (cond b (meets_wild w) (made_turn (turns kind schedule n) who after (turn_of who w)))
   kind-by n who after w true e due runs more =
-      stops-at (suc n) who after w (turns_wild w.1) (who, (record { left = omega arith; named = refl; runs = runs }, e, refl))
+      stops-at (suc n) who after w (meets_wild w) (who, (record { left = omega arith; named = refl; runs = runs }, e, refl))
   kind-by n who after w false e due runs more = step-by n who after w due runs e (turn_of who w).0 (turn_of who w).1 refl (not-idle who w runs) more
 
   -- ---- the next turn, of what is left or of the schedule from its beginning
@@ -204,11 +206,11 @@ module _ (kind : MachineKind) (schedule : List ℕ) where
       one-round (suc n) rest w end
       (behind-idle (suc n) rest schedule w end (not-all-found w.0.halted schedule who after f) (all-none w.0.halted rest e)
       (one-found n schedule who after w f (λ halted all. all) more))
-  next-by n rest w None None e f within more = nothing (suc n) rest w (turns_ended AllHalted w.0 w.1) (refl, all-none w.0.halted schedule f)
+  next-by n rest w None None e f within more = nothing (suc n) rest w (ends AllHalted w) (refl, all-none w.0.halted schedule f)
 
-  last-by : (rest : List ℕ) (w : JointWorld) (x : Option (ℕ × List ℕ)) → next_in w.0.halted schedule ≡ x → FoldsFrom kind rest schedule 0 w (turns_ended (end_at_last x) w.0 w.1)
-  last-by rest w None e = nothing 0 rest w (turns_ended AllHalted w.0 w.1) (refl, all-none w.0.halted schedule e)
-  last-by rest w (Some (who, after)) e = nothing 0 rest w (turns_ended Spent w.0 w.1) (refl, refl, not-all-found w.0.halted schedule who after e)
+  last-by : (rest : List ℕ) (w : JointWorld) (x : Option (ℕ × List ℕ)) → next_in w.0.halted schedule ≡ x → FoldsFrom kind rest schedule 0 w (ends (end_at_last x) w)
+  last-by rest w None e = nothing 0 rest w (ends AllHalted w) (refl, all-none w.0.halted schedule e)
+  last-by rest w (Some (who, after)) e = nothing 0 rest w (ends Spent w) (refl, refl, not-all-found w.0.halted schedule who after e)
 
   fold-from : (n : ℕ) → Folds n
   fold-from zero rest w within = subst (FoldsFrom kind rest schedule 0 w) (sym (no-turns kind schedule rest w)) (last-by rest w (next_in w.0.halted schedule) refl)

@@ -6,6 +6,7 @@ use Rattle.mx_host.specs.HostModel.{HostModel}
 use Rattle.mx_plan.specs.Plan.{Comes, end_of}
 use Rattle.mx_plan.specs.Calls.{host}
 use Rattle.mx_plan.specs.Held.{Held, KeepsStreams, OnlyAdds}
+use Rattle.mx_plan.specs.Wild.{Course, world_of}
 use Rattle.mx_plan.proofs.HeldLaws.{held-end, held-on}
 use Rattle.mx_plan.proofs.Streams.{streams-held}
 use Rattle.mx_run.specs.RunPlans.{running}
@@ -16,7 +17,7 @@ use Rattle.mx_run.proofs.HeldRuns.{run-held}
 use Rattle.mx_multi.specs.Joint.{Joint, has_halted, state_at}
 use Rattle.mx_multi.specs.JointTurns.{JointWorld, joined, turn_of}
 use Rattle.mx_multi.specs.MultiPlans.{MultiCall, starting, turning, looking, multi, turns_plan}
-use Rattle.mx_multi.specs.Turns.{TurnsEnd, turns_ended, turns_wild, turns}
+use Rattle.mx_multi.specs.Turns.{turns}
 use Rattle.mx_multi.specs.declared.turn.Turn.{Turn}
 use Rattle.mx_multi.specs.declared.turn.Turn.TheVariants.{Idle}
 use Rattle.mx_multi.specs.declared.end.MultiEnd.{MultiEnd}
@@ -66,9 +67,8 @@ multi-held Rel h = record {
     between looking w v l = absurd l
 
 -- what standard output then has
-abbrev pub turns_output : TurnsEnd → List ℕ
-turns_output (turns_ended end j m) = m.output
-turns_output (turns_wild m) = m.output
+abbrev pub turns_output : Course MultiEnd JointWorld → List ℕ
+turns_output c = (world_of c).1.output
 
 turns-by-plan : (schedule rest : List ℕ) (n : ℕ) (v : HostModel) (j : Joint) (m : HostModel) → OnlyAdds v (end_of multi (turns_plan schedule n rest) (j, m)).1.1 →
     IsFront v.output (turns_output (turns window_machine schedule n rest j m))

@@ -12,7 +12,7 @@ use Rattle.mx_multi.specs.Joint.{Joint, NoneTouched, as_list_joint, has_halted, 
 use Rattle.mx_multi.specs.JointTurns.{JointWorld, turn_of, is_wild_turn}
 use Rattle.mx_multi.specs.MultiPlans.{MultiCall, starting, turning, looking, MultiSays, MultiPlan, multi, turn_plan, look, turn_if, step_plan, steps_plan, turns_next, turns_plan}
 use Rattle.mx_multi.specs.Schedules.{next_in, or_again, next_turn, end_of_turn, end_at_last}
-use Rattle.mx_multi.specs.Turns.{multi_goes, TurnsEnd, turns_ended, turns_wild, of_course, turns}
+use Rattle.mx_multi.specs.Turns.{multi_goes, turns}
 use Rattle.mx_multi.specs.declared.turn.Turn.{Turn}
 use Rattle.mx_multi.specs.declared.turn.Turn.TheVariants as turned
 use Rattle.mx_multi.specs.declared.end.MultiEnd.{MultiEnd}
@@ -143,21 +143,21 @@ call-carried (turning who) w = by (has_halted w.0.halted who)
     by false = refl
 call-carried looking w = refl
 
-abbrev pub as-turns : MultiEnd × JointWorld → TurnsEnd
-as-turns t = turns_ended t.0 t.1.0 t.1.1
+abbrev pub as-turns : MultiEnd × JointWorld → Course MultiEnd JointWorld
+as-turns t = ends t.0 t.1
 
 -- turns over windows are the end of their plan
 pub plan-end : (schedule : List ℕ) (n : ℕ) (rest : List ℕ) (w : JointWorld) → as-turns (end_of multi (turns_plan schedule n rest) w) ≡ turns window_machine schedule n rest w.0 w.1
 unfolding turns
 plan-end schedule n rest w =
-    sym (ap (λ (goes : (o : MultiCall) → JointWorld → Course (MultiSays o) JointWorld). of_course (course goes (turns_plan schedule n rest) w)) (λ i o v. call-carried o v i)
-    ∙ ap of_course (course_carried multi (turns_plan schedule n rest) w))
+    sym (ap (λ (goes : (o : MultiCall) → JointWorld → Course (MultiSays o) JointWorld). course goes (turns_plan schedule n rest) w) (λ i o v. call-carried o v i)
+    ∙ course_carried multi (turns_plan schedule n rest) w)
 
-as-lists : (c : Course MultiEnd JointWorld) (result : MultiEnd) (k : Joint) (n : HostModel) → GoesAs as_list_joints AreUntouched WriteOn c result (k, n) → GoAsLists (of_course c) result k n
+as-lists : (c : Course MultiEnd JointWorld) (result : MultiEnd) (k : Joint) (n : HostModel) → GoesAs as_list_joints AreUntouched WriteOn c result (k, n) → GoAsLists c result k n
 as-lists (ends end v) result k n g = (g.0, ap (λ (u : JointWorld). u.0) (sym g.1.0), ap (λ (u : JointWorld). u.1) (sym g.1.0), g.1.1)
 as-lists (meets_wild v) result k n g = g
 
-pub turns-told : (schedule rest : List ℕ) (n : ℕ) (v w : JointWorld) (end : MultiEnd) → TurnsBoth v w OutOfMemory end (turns_plan schedule n rest) → end ≢ OutOfMemory → turns_ended end w.0 w.1 ≡ turns window_machine schedule n rest v.0 v.1
+pub turns-told : (schedule rest : List ℕ) (n : ℕ) (v w : JointWorld) (end : MultiEnd) → TurnsBoth v w OutOfMemory end (turns_plan schedule n rest) → end ≢ OutOfMemory → ends end w ≡ turns window_machine schedule n rest v.0 v.1
 turns-told schedule rest n v w end c ne = ap as-turns (c.window.ending ne) ∙ plan-end schedule n rest v
 
 pub turns-listed : (schedule rest : List ℕ) (n : ℕ) (v w : JointWorld) (end : MultiEnd) → TurnsBoth v w OutOfMemory end (turns_plan schedule n rest) → end ≢ OutOfMemory → NoneTouched v.0.processors →
@@ -167,34 +167,34 @@ turns-listed schedule rest n v w end c ne u = as-lists _ end w.0 w.1 (c.list u n
 
 -- ---- turn by turn
 
-abbrev pub after_turn : (List ℕ → Joint → HostModel → TurnsEnd) → Result (List ℕ) MultiEnd → JointWorld → TurnsEnd
+abbrev pub after_turn : (List ℕ → Joint → HostModel → Course MultiEnd JointWorld) → Result (List ℕ) MultiEnd → JointWorld → Course MultiEnd JointWorld
 after_turn more (Ok rest) w = more rest w.0 w.1
-after_turn more (Err end) w = turns_ended end w.0 w.1
+after_turn more (Err end) w = ends end w
 
-abbrev pub made_turn : (List ℕ → Joint → HostModel → TurnsEnd) → ℕ → List ℕ → Turn × JointWorld → TurnsEnd
+abbrev pub made_turn : (List ℕ → Joint → HostModel → Course MultiEnd JointWorld) → ℕ → List ℕ → Turn × JointWorld → Course MultiEnd JointWorld
 made_turn more who rest t = after_turn more (end_of_turn who rest t.0) t.1
 
-abbrev pub turn_by : MachineKind → (List ℕ → Joint → HostModel → TurnsEnd) → JointWorld → Option (ℕ × List ℕ) → TurnsEnd
-turn_by kind more w None = turns_ended AllHalted w.0 w.1
-turn_by kind more w (Some (who, rest)) = cond (ends_wild kind (state_at w.0 who)) (turns_wild w.1) (made_turn more who rest (turn_of who w))
+abbrev pub turn_by : MachineKind → (List ℕ → Joint → HostModel → Course MultiEnd JointWorld) → JointWorld → Option (ℕ × List ℕ) → Course MultiEnd JointWorld
+turn_by kind more w None = ends AllHalted w
+turn_by kind more w (Some (who, rest)) = cond (ends_wild kind (state_at w.0 who)) (meets_wild w) (made_turn more who rest (turn_of who w))
 
-pub no-turns : (kind : MachineKind) (schedule rest : List ℕ) (w : JointWorld) → turns kind schedule 0 rest w.0 w.1 ≡ turns_ended (end_at_last (next_in w.0.halted schedule)) w.0 w.1
+pub no-turns : (kind : MachineKind) (schedule rest : List ℕ) (w : JointWorld) → turns kind schedule 0 rest w.0 w.1 ≡ ends (end_at_last (next_in w.0.halted schedule)) w
 unfolding turns turns_plan steps_plan bind look multi course
 no-turns kind schedule rest w = refl
 
 module _ (kind : MachineKind) (schedule : List ℕ) (n : ℕ) where
-  then-turns : (e : Result (List ℕ) MultiEnd) (w : JointWorld) → of_course (course (multi_goes kind) (turns_next (steps_plan schedule n) e) w) ≡ after_turn (turns kind schedule n) e w
+  then-turns : (e : Result (List ℕ) MultiEnd) (w : JointWorld) → course (multi_goes kind) (turns_next (steps_plan schedule n) e) w ≡ after_turn (turns kind schedule n) e w
   unfolding turns turns_plan multi course
   then-turns (Ok rest) w = refl
   then-turns (Err end) w = refl
 
   made-turns : (who : ℕ) (after : List ℕ) (w : JointWorld) (b c : Bool) (t : Turn × JointWorld) → b ≡ false →
-      of_course (then_on (λ a v. course (multi_goes kind) (turns_next (steps_plan schedule n) (end_of_turn who after a)) v) (cond (not b && c) (meets_wild w) (ends t.0 t.1))) ≡ cond c (turns_wild w.1) (made_turn (turns kind schedule n) who after t)
+      then_on (λ a v. course (multi_goes kind) (turns_next (steps_plan schedule n) (end_of_turn who after a)) v) (cond (not b && c) (meets_wild w) (ends t.0 t.1)) ≡ cond c (meets_wild w) (made_turn (turns kind schedule n) who after t)
   made-turns who after w true c t e = absurd (cc)
   made-turns who after w false true t e = refl
   made-turns who after w false false t e = then-turns (end_of_turn who after t.0) t.1
 
-  next-turns : (rest : List ℕ) (w : JointWorld) (x : Option (ℕ × List ℕ)) → next_turn w.0.halted schedule rest ≡ x → of_course (course (multi_goes kind) (from-next schedule n x) w) ≡ turn_by kind (turns kind schedule n) w x
+  next-turns : (rest : List ℕ) (w : JointWorld) (x : Option (ℕ × List ℕ)) → next_turn w.0.halted schedule rest ≡ x → course (multi_goes kind) (from-next schedule n x) w ≡ turn_by kind (turns kind schedule n) w x
   unfolding bind turn_plan multi course
   next-turns rest w None e = refl
   next-turns rest w (Some (who, after)) e =

@@ -5,7 +5,7 @@ use Rattle.mx_word.specs.Lists.{IsFront}
 use Rattle.mx_host.specs.HostModel.{HostModel, tells, contents}
 use Rattle.mx_host.specs.Keeping.{Keeps}
 use Rattle.mx_plan.specs.Plan.{Comes}
-use Rattle.mx_plan.specs.Wild.{ComesBoth, IsRestBoth}
+use Rattle.mx_plan.specs.Wild.{Course, ends, meets_wild, ComesBoth, IsRestBoth}
 use Rattle.mx_core.specs.State.{State}
 use Rattle.mx_run.specs.Clauses.{CarriesOutRun}
 use Rattle.mx_run.specs.RunPlans as run
@@ -17,7 +17,7 @@ use Rattle.mx_multi.specs.Joint.{Joint, NoneTouched, as_list_joint, has_halted, 
 use Rattle.mx_multi.specs.JointTurns.{JointWorld, MakesOne, halted_by, told_at, turn_of, is_wild_turn}
 use Rattle.mx_multi.specs.MultiPlans.{MultiPlan, multi, turn_plan, turns_plan}
 use Rattle.mx_multi.specs.Schedules.{AllHaveHalted}
-use Rattle.mx_multi.specs.Turns.{multi_goes, TurnsEnd, turns_ended, turns_wild, turns}
+use Rattle.mx_multi.specs.Turns.{multi_goes, turns}
 use Rattle.mx_multi.specs.declared.turn.Turn.{Turn}
 use Rattle.mx_multi.specs.declared.turn.Turn.TheVariants as turned
 use Rattle.mx_multi.specs.declared.end.MultiEnd.{MultiEnd}
@@ -61,20 +61,20 @@ TurnsAsLists old new before after who result =
 
 -- turns by a schedule beside those of list machines on one memory: they end as those, with the lists that the register stacks
 -- then stand for and nothing touched; or, where those meet a wild turn, they begin by writing what those had written
-abbrev pub GoAsLists : TurnsEnd → MultiEnd → Joint → HostModel → Type 0
-GoAsLists (turns_ended end j m) result after n = (end ≡ result) × (as_list_joint after ≡ j) × (n ≡ m) × NoneTouched after.processors
-GoAsLists (turns_wild m) result after n = IsFront m.output n.output
+abbrev pub GoAsLists : Course MultiEnd JointWorld → MultiEnd → Joint → HostModel → Type 0
+GoAsLists (ends end w) result after n = (end ≡ result) × (as_list_joint after ≡ w.0) × (n ≡ w.1) × NoneTouched after.processors
+GoAsLists (meets_wild w) result after n = IsFront w.1.output n.output
 
-abbrev pub EndAsLists : Option HostModel → Option HostModel → Joint → Joint → MultiEnd → (Joint → HostModel → TurnsEnd) → Type 0
+abbrev pub EndAsLists : Option HostModel → Option HostModel → Joint → Joint → MultiEnd → (Joint → HostModel → Course MultiEnd JointWorld) → Type 0
 EndAsLists old new before after result f =
     IsTrue (tells old) → result ≢ end.OutOfMemory → NoneTouched before.processors →
     GoAsLists (f (as_list_joint before) (contents old)) result after (contents new)
 
 -- over a host that tells its contents, the answer, the processors and the contents are those of the turns f, unless there was
 -- no memory
-abbrev pub EndAs : Option HostModel → Option HostModel → Joint → Joint → MultiEnd → (Joint → HostModel → TurnsEnd) → Type 0
+abbrev pub EndAs : Option HostModel → Option HostModel → Joint → Joint → MultiEnd → (Joint → HostModel → Course MultiEnd JointWorld) → Type 0
 EndAs old new before after result f =
-    IsTrue (tells old) → result ≢ end.OutOfMemory → turns_ended result after (contents new) ≡ f before (contents old)
+    IsTrue (tells old) → result ≢ end.OutOfMemory → ends result (after, contents new) ≡ f before (contents old)
 
 -- over a host that tells its contents, a turn answers and leaves what it should, unless there was no memory
 abbrev pub TurnsTo : Option HostModel → Option HostModel → Joint → Joint → ℕ → Turn → Type 0

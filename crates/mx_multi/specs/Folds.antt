@@ -1,13 +1,14 @@
 -- Turns as a fold: of a list of numbers each names the processor of a turn, one after another.
 use Rattle.std.specs.Prelude.{ℕ, zero, suc, ◌≡◌, ◌≤◌, ◌<◌, ◌+◌, false, true, List, [], ◌∷◌, ◌++◌}
 use Rattle.mx_word.specs.Lists.{IsFront}
+use Rattle.mx_plan.specs.Wild.{Course, ends, meets_wild}
 use Rattle.mx_run.specs.WildRuns.{MachineKind, ends_wild}
 use Rattle.mx_multi.specs.Joint.{has_halted, state_at}
 use Rattle.mx_multi.specs.JointTurns.{JointWorld, turn_of}
 use Rattle.mx_multi.specs.Schedules.{AllHaveHalted}
-use Rattle.mx_multi.specs.Turns.{TurnsEnd, turns_ended, turns_wild}
 use Rattle.mx_multi.specs.declared.turn.Turn.{Turn}
 use Rattle.mx_multi.specs.declared.turn.Turn.TheVariants.{Went, Halted, Idle, Stopped, OutOfMemory}
+use Rattle.mx_multi.specs.declared.end.MultiEnd.{MultiEnd}
 use Rattle.mx_multi.specs.declared.end.MultiEnd.TheVariants as end
 
 -- what is left after all of them
@@ -61,18 +62,18 @@ pub record IsNext (n steps who : ℕ) (next : List ℕ) (w : JointWorld) : Type 
 
 -- How they end after turns that do not end them, of which this many are steps: all steps are made, and one that the schedule
 -- names has not halted; all that it names have halted; the next turn stops; or it is wild, and is not made.
-abbrev pub EndsSo : MachineKind → List ℕ → ℕ → ℕ → List ℕ → JointWorld → TurnsEnd → Type 0
-EndsSo kind schedule n steps next w (turns_ended end.Spent j m) = ((j, m) ≡ w) × (steps ≡ n) × ¬ AllHaveHalted w.0.halted schedule
-EndsSo kind schedule n steps next w (turns_ended end.AllHalted j m) = ((j, m) ≡ w) × AllHaveHalted w.0.halted schedule
-EndsSo kind schedule n steps next w (turns_ended (end.Stopped who pc reason) j m) =
-    IsNext n steps who next w × ((Stopped pc reason, (j, m)) ≡ turn_of who w) × (ends_wild kind (state_at w.0 who) ≡ false)
-EndsSo kind schedule n steps next w (turns_ended end.OutOfMemory j m) =
-    (who : ℕ) × (IsNext n steps who next w × ((OutOfMemory, (j, m)) ≡ turn_of who w) × (ends_wild kind (state_at w.0 who) ≡ false))
-EndsSo kind schedule n steps next w (turns_wild m) = (who : ℕ) × (IsNext n steps who next w × (ends_wild kind (state_at w.0 who) ≡ true) × (m ≡ w.1))
+abbrev pub EndsSo : MachineKind → List ℕ → ℕ → ℕ → List ℕ → JointWorld → Course MultiEnd JointWorld → Type 0
+EndsSo kind schedule n steps next w (ends end.Spent v) = (v ≡ w) × (steps ≡ n) × ¬ AllHaveHalted w.0.halted schedule
+EndsSo kind schedule n steps next w (ends end.AllHalted v) = (v ≡ w) × AllHaveHalted w.0.halted schedule
+EndsSo kind schedule n steps next w (ends (end.Stopped who pc reason) v) =
+    IsNext n steps who next w × ((Stopped pc reason, v) ≡ turn_of who w) × (ends_wild kind (state_at w.0 who) ≡ false)
+EndsSo kind schedule n steps next w (ends end.OutOfMemory v) =
+    (who : ℕ) × (IsNext n steps who next w × ((OutOfMemory, v) ≡ turn_of who w) × (ends_wild kind (state_at w.0 who) ≡ false))
+EndsSo kind schedule n steps next w (meets_wild v) = (who : ℕ) × (IsNext n steps who next w × (ends_wild kind (state_at w.0 who) ≡ true) × (v ≡ w))
 
 -- Turns from a world to an end. Those that do not end them, and then the one that does, if one does, are a front of this and then of
 -- the schedule that is repeated; at most n are steps.
-pub record FoldsFrom (kind : MachineKind) (rest schedule : List ℕ) (n : ℕ) (old : JointWorld) (end : TurnsEnd) : Type 0 where
+pub record FoldsFrom (kind : MachineKind) (rest schedule : List ℕ) (n : ℕ) (old : JointWorld) (end : Course MultiEnd JointWorld) : Type 0 where
   pub turns : List ℕ
   pub next : List ℕ
   pub rounds : ℕ

@@ -1,7 +1,7 @@
 -- Several processors take turns by a schedule: what these come to, by the kind of the machines.
 use Rattle.std.specs.Prelude.{ℕ, ◌&&◌, not, Bool, false, List}
 use Rattle.mx_host.specs.HostModel.{HostModel}
-use Rattle.mx_plan.specs.Wild.{Course, ends, meets_wild, course, unless_wild}
+use Rattle.mx_plan.specs.Wild.{Course, course, unless_wild}
 use Rattle.mx_run.specs.WildRuns.{MachineKind, ends_wild}
 use Rattle.mx_multi.specs.Joint.{Joint, has_halted, state_at}
 use Rattle.mx_multi.specs.JointTurns.{JointWorld}
@@ -17,16 +17,8 @@ call_is_wild kind looking w = false
 abbrev pub multi_goes : MachineKind → (o : MultiCall) → JointWorld → Course (MultiSays o) JointWorld
 multi_goes kind o w = unless_wild (call_is_wild kind) multi o w
 
--- what turns come to: they end, or the list machine of a processor meets a wild turn, which it does not make; the host then stands so
-pub data TurnsEnd : Type 0 where
-  turns_ended : MultiEnd → Joint → HostModel → TurnsEnd
-  turns_wild : HostModel → TurnsEnd
-
-abbrev pub of_course : Course MultiEnd JointWorld → TurnsEnd
-of_course (ends end w) = turns_ended end w.0 w.1
-of_course (meets_wild w) = turns_wild w.1
-
 -- At most n steps, in the order of the schedule and from what is left of it. A turn of a processor that has halted does
--- nothing and is no step. They end where each processor that the schedule names has halted, or one stops.
-unfoldable pub turns : MachineKind → List ℕ → ℕ → List ℕ → Joint → HostModel → TurnsEnd
-turns kind schedule n rest j m = of_course (course (multi_goes kind) (turns_plan schedule n rest) (j, m))
+-- nothing and is no step. They end where each processor that the schedule names has halted, or one stops; or the list machine of
+-- a processor meets a wild turn, which it does not make.
+unfoldable pub turns : MachineKind → List ℕ → ℕ → List ℕ → Joint → HostModel → Course MultiEnd JointWorld
+turns kind schedule n rest j m = course (multi_goes kind) (turns_plan schedule n rest) (j, m)

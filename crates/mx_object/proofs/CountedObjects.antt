@@ -4,6 +4,7 @@ use Rattle.std.specs.Prelude.{Option, Result}
 use Rattle.mx_word.specs.declared.symbols.Symbol.{Symbol}
 use Rattle.mx_host.specs.HostModel.{HostModel, contents}
 use Rattle.mx_mmo.specs.Image.{Image}
+use Rattle.mx_plan.specs.Wild.{ends}
 use Rattle.mx_load.specs.Objects.{object_loaded}
 use Rattle.mx_code.specs.declared.trace.Trace.{Trace}
 use Rattle.mx_run.specs.WildRuns.{window_machine, list_machine}
@@ -16,7 +17,8 @@ use Rattle.mx_count.specs.Counting.{counting_as}
 unfoldable use Rattle.mx_count.specs.Counting.{kept_tally}
 use Rattle.mx_count.specs.Leaving.{ImageLeaves}
 use Rattle.mx_count.specs.Reports.{sheet_bytes}
-use Rattle.mx_count.specs.Runs.{CountsByKind, GoesAs, came_to, image_counted, reporting}
+use Rattle.mx_files.specs.Answers.{GoesAs}
+use Rattle.mx_count.specs.Runs.{CountsByKind, image_counted, reporting}
 use Rattle.mx_count.specs.Tallies.{added, tally_in}
 use Rattle.mx_count.specs.declared.count.Counted.{Counted}
 use Rattle.mx_count.specs.declared.counts.Form.TheVariants.{Octas}
@@ -66,7 +68,7 @@ pub refused-told : (old : Option HostModel) (result : CountedObject) (o : Order)
     ◌≡◌ {A = Result (Image × List Symbol) (ℕ × ℕ)} (Err (place, fault)) (object_loaded bytes) → result ≡ uncounted (BadObject place fault) →
     CountsByKind old old result.outcome result (λ kind m. object_counted kind o arguments bytes m)
 refused-told old result o arguments bytes place fault e is = (
-  λ t ne. (λ i. came_to (is i) (contents old)) ∙ ap (λ r. loaded_with by_report window_machine o arguments bytes r (contents old)) e,
+  λ t ne. (λ i. ends (is i) (contents old)) ∙ ap (λ r. loaded_with by_report window_machine o arguments bytes r (contents old)) e,
   λ t ne. subst (λ x. GoesAs x result (contents old)) (ap (λ r. loaded_with by_report list_machine o arguments bytes r (contents old)) e) (is, refl),
 )
 

@@ -5,6 +5,7 @@ use Rattle.mx_word.specs.declared.symbols.Symbol.{Symbol}
 use Rattle.mx_host.specs.HostModel.{HostModel}
 use Rattle.mx_mmo.specs.Image.{Image}
 use Rattle.mx_mmo.specs.Reading.{octas_of}
+use Rattle.mx_plan.specs.Wild.{ends}
 use Rattle.mx_load.specs.Objects.{object_loaded}
 use Rattle.mx_code.specs.declared.trace.Trace.{Trace}
 use Rattle.mx_run.specs.WildRuns.{MachineKind}
@@ -13,7 +14,7 @@ use Rattle.mx_outcome.specs.declared.outcome.Outcome.{Outcome}
 use Rattle.mx_outcome.specs.declared.outcome.Outcome.TheVariants.{BadObject}
 use Rattle.mx_count.specs.Leaving.{ImageLeaves}
 use Rattle.mx_count.specs.Reports.{sheet_bytes}
-use Rattle.mx_count.specs.Runs.{CountAnswer, AnswerForms, came_to, image_counted, mapped, reporting}
+use Rattle.mx_count.specs.Runs.{CountAnswer, AnswerForms, image_counted, mapped, reporting}
 use Rattle.mx_count.specs.Tallies.{tally_in}
 use Rattle.mx_count.specs.declared.count.Counted.{Counted}
 use Rattle.mx_object.specs.Addresses.{addresses_of, items_in}
@@ -59,7 +60,7 @@ by_steps kind o arguments tetras image m = image_counted kind o arguments (by_te
 
 -- an object is refused, or its image is run and counted by the tetras that the object loads
 abbrev pub loaded_with : Counting → MachineKind → Order → List (List ℕ) → List ℕ → Result (Image × List Symbol) (ℕ × ℕ) → HostModel → CountAnswer CountedObject
-loaded_with counting kind o arguments bytes (Err (place, fault)) m = came_to (uncounted (BadObject place fault)) m
+loaded_with counting kind o arguments bytes (Err (place, fault)) m = ends (uncounted (BadObject place fault)) m
 loaded_with counting kind o arguments bytes (Ok (image, symbols)) m = counting kind o arguments (tetras_at image symbols (addresses_of (items_in bytes))) image m
 
 -- the object that bytes are is run with these arguments, on the ring and for the steps of an order, and counted

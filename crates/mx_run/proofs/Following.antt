@@ -11,7 +11,7 @@ use Rattle.mx_code.specs.declared.trace.Trace.{Trace}
 use Rattle.mx_run.specs.RunPlans.{RunWorld, running, look, turn_plan, ended_turn, step_plan, run_next, run_plan, end_of_trace, end_of_turn}
 use Rattle.mx_run.specs.Runs.{FlagsOf, Ended, ended, break_of, run}
 use Rattle.mx_run.specs.Turns.{Answered, turn, turn_answer}
-use Rattle.mx_run.specs.WildRuns.{MachineKind, window_machine, ends_wild, RunEnd, run_ended, run_wild, run_goes, run_course, of_course, run_by}
+use Rattle.mx_run.specs.WildRuns.{MachineKind, window_machine, ends_wild, run_goes, run_by, run_ended}
 use Rattle.mx_run.specs.declared.end.BreakKind.{BreakKind}
 use Rattle.mx_run.specs.declared.end.BreakKind.TheVariants.{Execute}
 use Rattle.mx_run.specs.declared.end.End.{End}
@@ -124,15 +124,15 @@ follows kind (suc i) j f pass w =
 
 -- ---- told of runs
 
-abbrev end_in : RunEnd → End
-end_in (run_ended x) = x.end
-end_in (run_wild m) = OutOfMemory
+abbrev end_in : Course End RunWorld → End
+end_in (ends end w) = end
+end_in (meets_wild w) = OutOfMemory
 
-spent-by : (kind : MachineKind) (j : ℕ) (f : FlagsOf) (pass : Bool) (c d : Course End RunWorld) (t : State) (k : HostModel) → Follows kind j f pass c d → of_course c ≡ run_ended (ended Spent t k) →
-    of_course d ≡ of_course (goes kind j f pass (t, k))
+spent-by : (kind : MachineKind) (j : ℕ) (f : FlagsOf) (pass : Bool) (c d : Course End RunWorld) (t : State) (k : HostModel) → Follows kind j f pass c d → c ≡ ends Spent (t, k) →
+    d ≡ goes kind j f pass (t, k)
 spent-by kind j f pass (ends Spent w) d t k h e =
-    let is : ended Spent w.0 w.1 ≡ ended Spent t k = cc in
-    ap of_course h ∙ ap (λ (x : Ended). of_course (goes kind j f pass (x.state, x.host))) is
+    let is : w ≡ (t, k) = cc in
+    h ∙ ap (goes kind j f pass) is
 spent-by kind j f pass (ends (Halted status) w) d t k h e = let wrong : Halted status ≡ Spent = ap end_in e in absurd (cc)
 spent-by kind j f pass (ends (Stopped pc reason) w) d t k h e = let wrong : Stopped pc reason ≡ Spent = ap end_in e in absurd (cc)
 spent-by kind j f pass (ends (Broke why at trace) w) d t k h e = let wrong : Broke why at trace ≡ Spent = ap end_in e in absurd (cc)
@@ -140,32 +140,32 @@ spent-by kind j f pass (ends (Traced trace) w) d t k h e = let wrong : Traced tr
 spent-by kind j f pass (ends OutOfMemory w) d t k h e = let wrong : OutOfMemory ≡ Spent = ap end_in e in absurd (cc)
 spent-by kind j f pass (meets_wild w) d t k h e = absurd (cc)
 
-over-by : (kind : MachineKind) (j : ℕ) (f : FlagsOf) (pass : Bool) (c d : Course End RunWorld) (x : Ended) → Follows kind j f pass c d → x.end ≢ Spent → of_course c ≡ run_ended x → of_course d ≡ run_ended x
-over-by kind j f pass (ends Spent w) d x h ne e = let is : x ≡ ended Spent w.0 w.1 = cc in absurd (ne (ap (λ (y : Ended). y.end) is))
-over-by kind j f pass (ends (Halted status) w) d x h ne e = ap of_course h ∙ e
-over-by kind j f pass (ends (Stopped pc reason) w) d x h ne e = ap of_course h ∙ e
-over-by kind j f pass (ends (Broke why at trace) w) d x h ne e = ap of_course h ∙ e
-over-by kind j f pass (ends (Traced trace) w) d x h ne e = ap of_course h ∙ e
-over-by kind j f pass (ends OutOfMemory w) d x h ne e = ap of_course h ∙ e
+over-by : (kind : MachineKind) (j : ℕ) (f : FlagsOf) (pass : Bool) (c d : Course End RunWorld) (x : Ended) → Follows kind j f pass c d → x.end ≢ Spent → c ≡ run_ended x → d ≡ run_ended x
+over-by kind j f pass (ends Spent w) d x h ne e = absurd (ne (sym (ap end_in e)))
+over-by kind j f pass (ends (Halted status) w) d x h ne e = h ∙ e
+over-by kind j f pass (ends (Stopped pc reason) w) d x h ne e = h ∙ e
+over-by kind j f pass (ends (Broke why at trace) w) d x h ne e = h ∙ e
+over-by kind j f pass (ends (Traced trace) w) d x h ne e = h ∙ e
+over-by kind j f pass (ends OutOfMemory w) d x h ne e = h ∙ e
 over-by kind j f pass (meets_wild w) d x h ne e = absurd (cc)
 
-wild-by : (kind : MachineKind) (j : ℕ) (f : FlagsOf) (pass : Bool) (c d : Course End RunWorld) (k : HostModel) → Follows kind j f pass c d → of_course c ≡ run_wild k → of_course d ≡ run_wild k
-wild-by kind j f pass (ends end w) d k h e = absurd (cc)
-wild-by kind j f pass (meets_wild w) d k h e = ap of_course h ∙ e
+wild-by : (kind : MachineKind) (j : ℕ) (f : FlagsOf) (pass : Bool) (c d : Course End RunWorld) (v : RunWorld) → Follows kind j f pass c d → c ≡ meets_wild v → d ≡ meets_wild v
+wild-by kind j f pass (ends end w) d v h e = absurd (cc)
+wild-by kind j f pass (meets_wild w) d v h e = h ∙ e
 
-pub spent-follows : (kind : MachineKind) (i j : ℕ) (f : FlagsOf) (pass : Bool) (s t : State) (m k : HostModel) → run_by kind i f pass s m ≡ run_ended (ended Spent t k) →
+pub spent-follows : (kind : MachineKind) (i j : ℕ) (f : FlagsOf) (pass : Bool) (s t : State) (m k : HostModel) → run_by kind i f pass s m ≡ ends Spent (t, k) →
     run_by kind (i + j) f pass s m ≡ run_by kind j f (pass && (i == 0)) t k
-unfolding run_by run_course
+unfolding run_by
 spent-follows kind i j f pass s t m k e = spent-by kind j f (pass && (i == 0)) (goes kind i f pass (s, m)) (goes kind (i + j) f pass (s, m)) t k (follows kind i j f pass (s, m)) e
 
 pub over-stays : (kind : MachineKind) (i j : ℕ) (f : FlagsOf) (pass : Bool) (s : State) (m : HostModel) (x : Ended) → x.end ≢ Spent → run_by kind i f pass s m ≡ run_ended x →
     run_by kind (i + j) f pass s m ≡ run_ended x
-unfolding run_by run_course
+unfolding run_by
 over-stays kind i j f pass s m x ne e = over-by kind j f (pass && (i == 0)) (goes kind i f pass (s, m)) (goes kind (i + j) f pass (s, m)) x (follows kind i j f pass (s, m)) ne e
 
-pub wild-stays : (kind : MachineKind) (i j : ℕ) (f : FlagsOf) (pass : Bool) (s : State) (m k : HostModel) → run_by kind i f pass s m ≡ run_wild k → run_by kind (i + j) f pass s m ≡ run_wild k
-unfolding run_by run_course
-wild-stays kind i j f pass s m k e = wild-by kind j f (pass && (i == 0)) (goes kind i f pass (s, m)) (goes kind (i + j) f pass (s, m)) k (follows kind i j f pass (s, m)) e
+pub wild-stays : (kind : MachineKind) (i j : ℕ) (f : FlagsOf) (pass : Bool) (s : State) (m : HostModel) (w : RunWorld) → run_by kind i f pass s m ≡ meets_wild w → run_by kind (i + j) f pass s m ≡ meets_wild w
+unfolding run_by
+wild-stays kind i j f pass s m w e = wild-by kind j f (pass && (i == 0)) (goes kind i f pass (s, m)) (goes kind (i + j) f pass (s, m)) w (follows kind i j f pass (s, m)) e
 
 pub ruleset following = (spent-follows, over-stays, wild-stays)
 

@@ -9,7 +9,7 @@ use Rattle.mx_code.specs.declared.trace.Trace.{Trace}
 use Rattle.mx_run.specs.RunPlans.{RunWorld, running, look, turn_plan, ended_turn, step_plan, run_next, run_plan, end_of_trace, end_of_turn}
 use Rattle.mx_run.specs.Runs.{Ended, ended, no_flags, break_of, run, ended_by}
 use Rattle.mx_run.specs.Turns.{Turn, went_on, halts, stops, turn, turn_answer}
-use Rattle.mx_run.specs.WildRuns.{MachineKind, ends_wild, RunEnd, run_ended, run_wild, run_goes, run_course, of_course, run_by}
+use Rattle.mx_run.specs.WildRuns.{MachineKind, ends_wild, run_goes, run_by}
 use Rattle.mx_run.specs.declared.end.End.{End}
 use Rattle.mx_run.specs.declared.end.End.TheVariants.{Halted, Stopped, Spent}
 use Rattle.mx_run.proofs.FreeSteps.{no-break}
@@ -20,47 +20,47 @@ trace-free trace = ap (end_of_trace false trace) (no-break trace)
 -- ---- of either machine
 
 -- what a run comes to by its first turn
-abbrev pub after_first : MachineKind → ℕ → ℕ → Turn → RunEnd
+abbrev pub after_first : MachineKind → ℕ → ℕ → Turn → Course End RunWorld
 after_first kind n pc (went_on s m trace) = run_by kind n no_flags false s m
-after_first kind n pc (halts status s m) = run_ended (ended (Halted status) s m)
-after_first kind n pc (stops reason s m) = run_ended (ended (Stopped pc reason) s m)
+after_first kind n pc (halts status s m) = ends (Halted status) (s, m)
+after_first kind n pc (stops reason s m) = ends (Stopped pc reason) (s, m)
 
 module _ (kind : MachineKind) (n pc : ℕ) where
   abbrev next : Result (Unit {0}) End → RunWorld → Course End RunWorld
   next r w = course (run_goes kind) (run_next (run_plan n no_flags false) r) w
 
-  after-turn : (t : Turn) → of_course (next (end_of_turn no_flags pc (turn_answer t).0) ((turn_answer t).1, (turn_answer t).2)) ≡ after_first kind n pc t
-  unfolding course run_by run_course
-  after-turn (went_on s m trace) = ap (λ r. of_course (next r (s, m))) (trace-free trace)
+  after-turn : (t : Turn) → next (end_of_turn no_flags pc (turn_answer t).0) ((turn_answer t).1, (turn_answer t).2) ≡ after_first kind n pc t
+  unfolding course run_by
+  after-turn (went_on s m trace) = ap (λ r. next r (s, m)) (trace-free trace)
   after-turn (halts status s m) = refl
   after-turn (stops reason s m) = refl
 
   unless-wild : (c : Bool) (s : State) (m : HostModel) (t : Turn) →
-      of_course (then_on (λ a v. next (end_of_turn no_flags pc a) v) (cond c (meets_wild (s, m)) (ends (turn_answer t).0 ((turn_answer t).1, (turn_answer t).2)))) ≡ cond c (run_wild m) (after_first kind n pc t)
+      then_on (λ a v. next (end_of_turn no_flags pc a) v) (cond c (meets_wild (s, m)) (ends (turn_answer t).0 ((turn_answer t).1, (turn_answer t).2))) ≡ cond c (meets_wild (s, m)) (after_first kind n pc t)
   unless-wild true s m t = refl
   unless-wild false s m t = after-turn t
 
-pub none-by : (kind : MachineKind) (s : State) (m : HostModel) → run_by kind 0 no_flags false s m ≡ run_ended (ended Spent s m)
-unfolding run_by run_course run_plan course
+pub none-by : (kind : MachineKind) (s : State) (m : HostModel) → run_by kind 0 no_flags false s m ≡ ends Spent (s, m)
+unfolding run_by run_plan course
 none-by kind s m = refl
 
-pub run-by-turn : (kind : MachineKind) (n : ℕ) (s : State) (m : HostModel) → run_by kind (suc n) no_flags false s m ≡ cond (ends_wild kind s) (run_wild m) (after_first kind n s.pc (turn s m))
-unfolding run_by run_course run_plan step_plan ended_turn look turn_plan bind course running
+pub run-by-turn : (kind : MachineKind) (n : ℕ) (s : State) (m : HostModel) → run_by kind (suc n) no_flags false s m ≡ cond (ends_wild kind s) (meets_wild (s, m)) (after_first kind n s.pc (turn s m))
+unfolding run_by run_plan step_plan ended_turn look turn_plan bind course running
 run-by-turn kind n s m = unless-wild kind n s.pc (ends_wild kind s) s m (turn s m)
 
-pub by-wild : (kind : MachineKind) (n : ℕ) (s : State) (m : HostModel) → ends_wild kind s ≡ true → run_by kind (suc n) no_flags false s m ≡ run_wild m
-by-wild kind n s m e = run-by-turn kind n s m ∙ ap (λ c. cond c (run_wild m) (after_first kind n s.pc (turn s m))) e
+pub by-wild : (kind : MachineKind) (n : ℕ) (s : State) (m : HostModel) → ends_wild kind s ≡ true → run_by kind (suc n) no_flags false s m ≡ meets_wild (s, m)
+by-wild kind n s m e = run-by-turn kind n s m ∙ ap (λ c. cond c (meets_wild (s, m)) (after_first kind n s.pc (turn s m))) e
 
 by-first : (kind : MachineKind) (n : ℕ) (s : State) (m : HostModel) (x : Turn) → ends_wild kind s ≡ false → turn s m ≡ x → run_by kind (suc n) no_flags false s m ≡ after_first kind n s.pc x
-by-first kind n s m x e t = run-by-turn kind n s m ∙ ap (λ c. cond c (run_wild m) (after_first kind n s.pc (turn s m))) e ∙ ap (after_first kind n s.pc) t
+by-first kind n s m x e t = run-by-turn kind n s m ∙ ap (λ c. cond c (meets_wild (s, m)) (after_first kind n s.pc (turn s m))) e ∙ ap (after_first kind n s.pc) t
 
 pub by-went : (kind : MachineKind) (n : ℕ) (s t : State) (m k : HostModel) (trace : Trace) → ends_wild kind s ≡ false → turn s m ≡ went_on t k trace → run_by kind (suc n) no_flags false s m ≡ run_by kind n no_flags false t k
 by-went kind n s t m k trace e h = by-first kind n s m (went_on t k trace) e h
 
-pub by-halt : (kind : MachineKind) (n status : ℕ) (s t : State) (m k : HostModel) → ends_wild kind s ≡ false → turn s m ≡ halts status t k → run_by kind (suc n) no_flags false s m ≡ run_ended (ended (Halted status) t k)
+pub by-halt : (kind : MachineKind) (n status : ℕ) (s t : State) (m k : HostModel) → ends_wild kind s ≡ false → turn s m ≡ halts status t k → run_by kind (suc n) no_flags false s m ≡ ends (Halted status) (t, k)
 by-halt kind n status s t m k e h = by-first kind n s m (halts status t k) e h
 
-pub by-stop : (kind : MachineKind) (n reason : ℕ) (s t : State) (m k : HostModel) → ends_wild kind s ≡ false → turn s m ≡ stops reason t k → run_by kind (suc n) no_flags false s m ≡ run_ended (ended (Stopped s.pc reason) t k)
+pub by-stop : (kind : MachineKind) (n reason : ℕ) (s t : State) (m k : HostModel) → ends_wild kind s ≡ false → turn s m ≡ stops reason t k → run_by kind (suc n) no_flags false s m ≡ ends (Stopped s.pc reason) (t, k)
 by-stop kind n reason s t m k e h = by-first kind n s m (stops reason t k) e h
 
 pub ruleset by_turns = (none-by, by-wild, by-went, by-halt, by-stop)

@@ -4,7 +4,6 @@ use Rattle.mx_host.specs.HostModel.{HostModel}
 use Rattle.mx_plan.specs.Plan.{Stops, end_of}
 use Rattle.mx_plan.specs.Calls.{host, both, Both}
 use Rattle.mx_plan.specs.Held.{Held, KeepsStreams, OnlyAdds}
-use Rattle.mx_plan.specs.Wild.{Course, ends, meets_wild, world_of, course}
 use Rattle.mx_plan.proofs.HeldLaws.{held-end, held-stop, held-on}
 use Rattle.mx_plan.proofs.Streams.{beside-held, streams-held}
 use Rattle.mx_plan.proofs.WildLaws.{wild_held}
@@ -21,7 +20,7 @@ use Rattle.mx_run.specs.Counts.{end_host}
 use Rattle.mx_run.specs.RunPlans.{RunCall, turning, looking, RunWorld, RunPlan, running, run_plan, CallLacks}
 use Rattle.mx_run.specs.Runs.{FlagsOf}
 use Rattle.mx_run.specs.Turns.{turn_answer, trap_turn, turn_of, turn}
-use Rattle.mx_run.specs.WildRuns.{MachineKind, call_is_wild, run_goes, run_course, of_course, run_by}
+use Rattle.mx_run.specs.WildRuns.{MachineKind, call_is_wild, run_by}
 use Rattle.mx_run.specs.declared.end.End.{End}
 
 -- the host after a turn
@@ -96,12 +95,6 @@ turn-streams s m = (run-held KeepsStreams streams-held).acting turning (s, m)
 
 -- ---- runs of either machine
 
-host-left : (c : Course End RunWorld) → (world_of c).1 ≡ end_host (of_course c)
-host-left (ends end w) = refl
-host-left (meets_wild w) = refl
-
 pub streams-left : (kind : MachineKind) (n : ℕ) (f : FlagsOf) (pass : Bool) (s : State) (m : HostModel) → KeepsStreams m (end_host (run_by kind n f pass s m))
-unfolding run_by run_course
-streams-left kind n f pass s m =
-    subst (KeepsStreams m) (host-left (course (run_goes kind) (run_plan n f pass) (s, m)))
-    (wild_held running (call_is_wild kind) (λ (v w : RunWorld). KeepsStreams v.1 w.1) (run-held KeepsStreams streams-held) (run_plan n f pass) (s, m))
+unfolding run_by
+streams-left kind n f pass s m = wild_held running (call_is_wild kind) (λ (v w : RunWorld). KeepsStreams v.1 w.1) (run-held KeepsStreams streams-held) (run_plan n f pass) (s, m)

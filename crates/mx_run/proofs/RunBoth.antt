@@ -16,7 +16,7 @@ use Rattle.mx_run.specs.RunCourses.{as_list_world, IsUntouched, WritesOn, RunsBo
 use Rattle.mx_run.specs.RunPlans.{RunWorld, RunPlan, running, look, turn_plan, ended_turn, step_plan, run_next, run_plan, end_of_turn}
 use Rattle.mx_run.specs.Runs.{FlagsOf, Ended, ended, no_flags}
 use Rattle.mx_run.specs.Turns.{Answered, turn, turn_answer}
-use Rattle.mx_run.specs.WildRuns.{list_machine, turn_is_wild, RunEnd, run_wild, run_goes, of_course, run_course, run_by}
+use Rattle.mx_run.specs.WildRuns.{list_machine, turn_is_wild, run_goes, run_by}
 use Rattle.mx_run.specs.declared.end.BreakKind.TheVariants.{Execute}
 use Rattle.mx_run.specs.declared.end.End.{End}
 use Rattle.mx_run.specs.declared.end.End.TheVariants.{Broke, Spent, OutOfMemory}
@@ -124,34 +124,30 @@ rest-freely-both n entries pass v start whole h r = subst (λ p. RestsBoth p v w
 
 -- ---- as a whole
 
-goes-by : (c : Course End RunWorld) (r : Ended) → GoesAs as_list_world IsUntouched WritesOn c r.end (r.state, r.host) → GoesAsList (of_course c) r
-goes-by (ends end w) r g = (ap (λ (x : End). ended x (as_list_state r.state) r.host) (sym g.0) ∙ ap (λ (x : RunWorld). ended end x.0 x.1) (sym g.1.0), g.1.1)
-goes-by (meets_wild w) r g = g
-
 -- a run beside that of the list machine
 pub run-listed : (n : ℕ) (f : FlagsOf) (pass : Bool) (s t : State) (m k : HostModel) (r : End) → RunsBoth (s, m) (t, k) OutOfMemory r (run_plan n f pass) → r ≢ OutOfMemory → s.touched ≡ false →
-    GoesAsList (run_by list_machine n f pass (as_list_state s) m) (ended r t k)
-unfolding run_by run_course
-run-listed n f pass s t m k r c ne u = goes-by _ (ended r t k) (c.list u ne)
+    GoesAsList (run_by list_machine n f pass (as_list_state s) m) r (t, k)
+unfolding run_by
+run-listed n f pass s t m k r c ne u = c.list u ne
 
 -- ---- where it meets something wild
 
 -- the run of the list machine, as a whole and from a state on: nothing was touched, and the rest goes on from the list that the state
 -- represents; or something wild was met
-pub data Beside (whole rest : RunEnd) (s : State) : Type 0 where
+pub data Beside (whole rest : Course End RunWorld) (s : State) : Type 0 where
   as_list : s.touched ≡ false → whole ≡ rest → Beside whole rest s
-  was_wild : (m : HostModel) → whole ≡ run_wild m → Beside whole rest s
+  was_wild : (w : RunWorld) → whole ≡ meets_wild w → Beside whole rest s
 
 pub rest-listed : (n left : ℕ) (f : FlagsOf) (pass first : Bool) (s t : State) (m k : HostModel) → RestsBoth (run_plan left f first) (t, k) (run_plan n f pass) (s, m) → s.touched ≡ false →
     Beside (run_by list_machine n f pass (as_list_state s) m) (run_by list_machine left f first (as_list_state t) k) t
-unfolding run_by run_course
+unfolding run_by
 rest-listed n left f pass first s t m k r u = by (r.list u)
   where
     by : GoesOn as_list_world IsUntouched WritesOn (course (run_goes list_machine) (run_plan n f pass) (as_list_world (s, m))) (course (run_goes list_machine) (run_plan left f first) (as_list_world (t, k))) (t, k) →
-        Beside (of_course (course (run_goes list_machine) (run_plan n f pass) (as_list_world (s, m)))) (of_course (course (run_goes list_machine) (run_plan left f first) (as_list_world (t, k)))) t
-    by (alike a e) = as_list a (ap of_course e)
-    by (wild.was_wild v e h) = was_wild v.1 (ap of_course e)
+        Beside (course (run_goes list_machine) (run_plan n f pass) (as_list_world (s, m))) (course (run_goes list_machine) (run_plan left f first) (as_list_world (t, k))) t
+    by (alike a e) = as_list a e
+    by (wild.was_wild v e h) = was_wild v e
 
-pub meets-wild : (n i : ℕ) (s : State) (m : HostModel) → i < n → TurnWindow s → s.touched ≡ false → turn_is_wild s ≡ true → run_by list_machine (n - i) no_flags false (as_list_state s) m ≡ run_wild m
+pub meets-wild : (n i : ℕ) (s : State) (m : HostModel) → i < n → TurnWindow s → s.touched ≡ false → turn_is_wild s ≡ true → run_by list_machine (n - i) no_flags false (as_list_state s) m ≡ meets_wild (as_list_state s, m)
 meets-wild n i s m l h u e =
     ap (λ j. run_by list_machine j no_flags false (as_list_state s) m) (left-after n i l) ∙ by-wild list_machine (n - (i + 1)) (as_list_state s) m (wild-listed s h.window h.machine u ∙ e)

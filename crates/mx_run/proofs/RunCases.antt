@@ -4,14 +4,14 @@ use Rattle.std.specs.Prelude.{Result, ◌&&◌, not}
 use Rattle.std.proofs.lemmas.Bool.{and_parts}
 use Rattle.mx_host.specs.HostModel.{HostModel}
 use Rattle.mx_plan.specs.Plan.{returns, bind}
-use Rattle.mx_plan.specs.Wild.{Course, ends, meets_wild, course}
+use Rattle.mx_plan.specs.Wild.{ends, meets_wild, course}
 use Rattle.mx_plan.proofs.Giving.{Knows}
 use Rattle.mx_plan.proofs.WildLaws.{EndsSo, course_knows}
 use Rattle.mx_core.specs.State.{State}
 use Rattle.mx_run.specs.RunPlans.{RunCall, turning, looking, RunSays, RunPlan, RunWorld, running, look, turn_plan, ended_turn, step_plan, run_next, run_plan, end_of_turn}
 use Rattle.mx_run.specs.Runs.{FlagsOf}
 use Rattle.mx_run.specs.Turns.{Turn, went_on, halts, stops, turn, turn_answer}
-use Rattle.mx_run.specs.WildRuns.{MachineKind, ends_wild, RunEnd, run_ended, run_wild, run_goes, run_course, of_course, run_by}
+use Rattle.mx_run.specs.WildRuns.{MachineKind, ends_wild, run_goes, run_by}
 use Rattle.mx_run.specs.declared.end.BreakKind.TheVariants.{Execute}
 use Rattle.mx_run.specs.declared.end.End.{End}
 use Rattle.mx_run.specs.declared.end.End.TheVariants.{Broke, Spent}
@@ -74,21 +74,12 @@ has-memory (stops reason s m) = λ e. absurd (cc)
 
 -- ---- runs
 
-abbrev pub RunEndsSo : (End → RunWorld → Type 0) → RunEnd → Type 0
-RunEndsSo Such (run_ended e) = Such e.end (e.state, e.host)
-RunEndsSo Such (run_wild m) = Unit {0}
-
-ends-so : (Such : End → RunWorld → Type 0) (c : Course End RunWorld) → EndsSo Such c → RunEndsSo Such (of_course c)
-ends-so Such (ends end w) h = h
-ends-so Such (meets_wild w) h = tt
-
 pub run-ends-so : (kind : MachineKind) (f : FlagsOf) (May : OfTurn) (Way : ℕ → RunWorld → Type 0) (Such : End → RunWorld → Type 0) → LeadsTo f May Way Such →
     ((s : State) (m : HostModel) → ends_wild kind s ≡ false → May (s, m) (turn_answer (turn s m)).0 ((turn_answer (turn s m)).1, (turn_answer (turn s m)).2)) →
-    (n : ℕ) (pass : Bool) (s : State) (m : HostModel) → Way n (s, m) → RunEndsSo Such (run_by kind n f pass s m)
-unfolding run_by run_course running
+    (n : ℕ) (pass : Bool) (s : State) (m : HostModel) → Way n (s, m) → EndsSo Such (run_by kind n f pass s m)
+unfolding run_by running
 run-ends-so kind f May Way Such h may n pass s m g =
-    ends-so Such (course (run_goes kind) (run_plan n f pass) (s, m))
-    (course_knows (run_goes kind) (OfCall May) Such calls-so (run_plan n f pass) (s, m) (run-known f May Way Such h n pass (s, m) g))
+    course_knows (run_goes kind) (OfCall May) Such calls-so (run_plan n f pass) (s, m) (run-known f May Way Such h n pass (s, m) g)
   where
     by : (w : RunWorld) (b : Bool) → ends_wild kind w.0 ≡ b → EndsSo (May w) (cond b (meets_wild w) (ends (turn_answer (turn w.0 w.1)).0 ((turn_answer (turn w.0 w.1)).1, (turn_answer (turn w.0 w.1)).2)))
     by w true e = tt

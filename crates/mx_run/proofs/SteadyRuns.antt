@@ -19,9 +19,9 @@ use Rattle.mx_core.specs.State.{State}
 use Rattle.mx_core.specs.Step.{Stepped, went, calls, stopped, step}
 use Rattle.mx_run.specs.Counts.{turn_unscheduled, end_unscheduled, end_host}
 use Rattle.mx_run.specs.RunPlans.{RunCall, turning, looking, RunWorld, running, run_plan}
-use Rattle.mx_run.specs.Runs.{FlagsOf, ended}
+use Rattle.mx_run.specs.Runs.{FlagsOf}
 use Rattle.mx_run.specs.Turns.{Turn, went_on, halts, stops, area_size, turn_with, trap_turn, turn_of, turn, turn_answer}
-use Rattle.mx_run.specs.WildRuns.{MachineKind, RunEnd, run_ended, run_wild, ends_wild, run_goes, run_course, of_course, run_by, host_after}
+use Rattle.mx_run.specs.WildRuns.{MachineKind, ends_wild, run_goes, run_by, host_after}
 use Rattle.mx_run.specs.declared.end.End.{End}
 use Rattle.mx_run.specs.declared.turn_answer.TurnAnswer.{TurnAnswer}
 
@@ -58,18 +58,17 @@ turn-steady s m = stepped-steady s m (step s)
 -- ---- runs
 
 -- the end with the still model in place of the one that it leaves
-abbrev pub end_still : RunEnd → RunEnd
-end_still (run_ended e) = run_ended (ended e.end e.state (still e.host))
-end_still (run_wild m) = run_wild (still m)
-
-abbrev pub SparedEnds : HostModel → RunEnd → RunEnd → Type 0
-SparedEnds m t u = Spares m (end_host t) (end_still t) u
-
-abbrev still-world : RunWorld → RunWorld
+abbrev pub still-world : RunWorld → RunWorld
 still-world w = (w.0, still w.1)
 
 abbrev run-host : RunWorld → HostModel
 run-host w = w.1
+
+abbrev pub end_still : Course End RunWorld → Course End RunWorld
+end_still c = course_still still-world c
+
+abbrev pub SparedEnds : HostModel → Course End RunWorld → Course End RunWorld → Type 0
+SparedEnds m t u = Spares m (end_host t) (end_still t) u
 
 -- a turn that is made
 abbrev made-by : Turn → Course TurnAnswer RunWorld
@@ -89,14 +88,9 @@ call-steady kind turning w = by (ends_wild kind w.0)
     by false = after made-by (turn-steady w.0 w.1) (turned-case (turn w.0 w.1))
 call-steady kind looking w = uncalled
 
-end-case : (c : Course End RunWorld) → Spares (run-host (world_of c)) (end_host (of_course c)) (end_still (of_course c)) (of_course (course_still still-world c))
-end-case (ends end w) = uncalled
-end-case (meets_wild w) = uncalled
-
 pub run-steady : (kind : MachineKind) (n : ℕ) (f : FlagsOf) (pass : Bool) (s : State) (m : HostModel) → SparedEnds m (run_by kind n f pass s m) (run_by kind n f pass s (still m))
-unfolding run_by run_course
-run-steady kind n f pass s m =
-    after of_course (course_spared run-host still-world (run_goes kind) (call-steady kind) (run_plan n f pass) (s, m)) (end-case (course (run_goes kind) (run_plan n f pass) (s, m)))
+unfolding run_by
+run-steady kind n f pass s m = course_spared run-host still-world (run_goes kind) (call-steady kind) (run_plan n f pass) (s, m)
 
 -- ---- two models that differ in the number of calls and the list of those that fail
 
@@ -112,9 +106,9 @@ turn-same s m n e h k =
     let b = (turn-steady s n).same k in
     turn-unscheduled (turn s m) ∙ ap turn_unscheduled (a ∙ ap (turn s) (still-same m n e) ∙ sym b) ∙ sym (turn-unscheduled (turn s n))
 
-end-unscheduled : (t : RunEnd) → end_unscheduled t ≡ end_unscheduled (end_still t)
-end-unscheduled (run_ended e) = refl
-end-unscheduled (run_wild m) = refl
+end-unscheduled : (c : Course End RunWorld) → end_unscheduled c ≡ end_unscheduled (end_still c)
+end-unscheduled (ends end w) = refl
+end-unscheduled (meets_wild w) = refl
 
 pub run-same : (kind : MachineKind) (most : ℕ) (f : FlagsOf) (pass : Bool) (s : State) (m n : HostModel) → unscheduled m ≡ unscheduled n →
     NoneFailed m (end_host (run_by kind most f pass s m)) → NoneFailed n (end_host (run_by kind most f pass s n)) →

@@ -3,6 +3,7 @@ use Rattle.std.proofs.Common.{◌≡◌, ℕ, suc, ◌+◌, ◌-◌, ◌≤◌, 
 use Rattle.std.specs.Prelude.{Result}
 use Rattle.mx_host.specs.HostModel.{HostModel}
 use Rattle.mx_mem.specs.Space.{Contents}
+use Rattle.mx_plan.proofs.WildLaws.{EndsSo}
 use Rattle.mx_alu.specs.declared.call.TrapCall.{TrapCall}
 use Rattle.mx_trap.specs.FileTraps.{trap_answer}
 use Rattle.mx_trap.specs.Moves.{Leaves}
@@ -21,7 +22,7 @@ use Rattle.mx_run.specs.WildRuns.{window_machine}
 use Rattle.mx_run.specs.declared.end.End.{End}
 use Rattle.mx_run.proofs.BothMachines.{window-ends}
 use Rattle.mx_run.proofs.Later.{one-later, none-later, begun-later, both-later, few-later, trapped-count}
-use Rattle.mx_run.proofs.RunCases.{OnOr, LeadsTo, RunEndsSo, run-ends-so}
+use Rattle.mx_run.proofs.RunCases.{OnOr, LeadsTo, run-ends-so}
 
 -- ---- a turn counts one step, unless the machine stops
 
@@ -79,7 +80,7 @@ module _ (n : ℕ) (s : State) where
 
 pub run-count : (n : ℕ) (f : FlagsOf) (pass : Bool) (s : State) (m : HostModel) → IsLater n s (run n f pass s m).state
 run-count n f pass s m =
-    subst (RunEndsSo (Later n s)) (window-ends n f pass s m)
+    subst (EndsSo (Later n s)) (window-ends n f pass s m)
     (run-ends-so window_machine f (λ w a v. IsLater 1 w.0 v.0) (Left n s) (Later n s) (leads n s f) (λ t k tame. turn-later t (turn t k) (turn-count t k)) n pass s m (le_refl n, few-later (n - n) 0 s s (omega arith) (begun-later s)))
 
 pub ruleset counts = (run-count)

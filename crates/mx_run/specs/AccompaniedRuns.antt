@@ -3,11 +3,12 @@
 use Rattle.std.specs.Prelude.{ℕ, ◌≡◌, ◌≢◌, ◌≤◌, ◌⊎◌, IsTrue, false, Option}
 use Rattle.mx_host.specs.HostModel.{HostModel, tells, contents}
 use Rattle.mx_plan.specs.Plan.{Stops, end_of}
+use Rattle.mx_plan.specs.Wild.{Course}
 use Rattle.mx_core.specs.Bounds.{as_list_state}
 use Rattle.mx_core.specs.State.{State}
 use Rattle.mx_run.specs.RunPlans.{RunWorld, running, run_plan}
 use Rattle.mx_run.specs.Runs.{ended, no_flags, run}
-use Rattle.mx_run.specs.WildRuns.{RunEnd, list_machine, run_by}
+use Rattle.mx_run.specs.WildRuns.{list_machine, run_by}
 use Rattle.mx_run.specs.declared.end.End.{End}
 use Rattle.mx_run.specs.declared.end.End.TheVariants.{OutOfMemory, Spent}
 
@@ -30,5 +31,5 @@ CarriesOutAccompanied old new before after n result =
     IsTrue (tells old) → ComesAccompanied n (before, contents old) (after, contents new) result
 
 -- what the list machine comes to in at most n steps, with no flags, from the list that a state stands for
-abbrev pub list_run : Option HostModel → State → ℕ → RunEnd
+abbrev pub list_run : Option HostModel → State → ℕ → Course End RunWorld
 list_run old before n = run_by list_machine n no_flags false (as_list_state before) (contents old)

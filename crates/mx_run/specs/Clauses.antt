@@ -6,13 +6,14 @@ use Rattle.mx_host.specs.HostModel.{HostModel, tells, contents}
 use Rattle.mx_host.specs.Keeping.{Keeps}
 use Rattle.mx_plan.specs.Clauses.{Stands}
 use Rattle.mx_plan.specs.Plan.{Comes}
+use Rattle.mx_plan.specs.Wild.{Course, GoesAs}
 use Rattle.mx_core.specs.Bounds.{as_list_state}
 use Rattle.mx_core.specs.State.{State}
-use Rattle.mx_run.specs.RunCourses.{CarriesOutBothRuns}
-use Rattle.mx_run.specs.RunPlans.{RunPlan, running, run_plan, turn_plan, SparesMemory, SparesStep}
+use Rattle.mx_run.specs.RunCourses.{as_list_world, IsUntouched, WritesOn, CarriesOutBothRuns}
+use Rattle.mx_run.specs.RunPlans.{RunPlan, RunWorld, running, run_plan, turn_plan, SparesMemory, SparesStep}
 use Rattle.mx_run.specs.Runs.{Ended, ended, FlagsOf, IsLater, run}
 use Rattle.mx_run.specs.Turns.{Answered, turn_answer, turn}
-use Rattle.mx_run.specs.WildRuns.{RunEnd, run_ended, run_wild, run_by, list_machine, turn_is_wild, as_list_ended}
+use Rattle.mx_run.specs.WildRuns.{run_by, list_machine, turn_is_wild}
 use Rattle.mx_run.specs.declared.end.End.{End}
 use Rattle.mx_run.specs.declared.end.End.TheVariants.{OutOfMemory}
 use Rattle.mx_run.specs.declared.turn_answer.TurnAnswer.{TurnAnswer}
@@ -52,15 +53,14 @@ EndsFront old new before result f =
 
 -- how the run of the window machine goes beside that of the list machine: it ends as that, with the list that its last
 -- state stands for and nothing touched; or, where that meets something wild, it begins by writing what that had written
-abbrev pub GoesAsList : RunEnd → Ended → Type 0
-GoesAsList (run_ended e) r = (as_list_ended r ≡ e) × (r.state.touched ≡ false)
-GoesAsList (run_wild m) r = IsFront m.output r.host.output
+abbrev pub GoesAsList : Course End RunWorld → End → RunWorld → Type 0
+GoesAsList c r w = GoesAs as_list_world IsUntouched WritesOn c r w
 
 -- over a host that tells its contents, from a state where nothing was touched, the run goes as that of the list machine
-abbrev pub EndsAsList : Option HostModel → Option HostModel → State → State → End → (State → HostModel → RunEnd) → Type 0
+abbrev pub EndsAsList : Option HostModel → Option HostModel → State → State → End → (State → HostModel → Course End RunWorld) → Type 0
 EndsAsList old new before after result f =
     IsTrue (tells old) → result ≢ OutOfMemory → before.touched ≡ false →
-    GoesAsList (f (as_list_state before) (contents old)) (ended result after (contents new))
+    GoesAsList (f (as_list_state before) (contents old)) result (after, contents new)
 
 -- an answer with the list that its state stands for
 abbrev pub as_list_answer : {A : Type 0} → Answered A → Answered A

@@ -2,7 +2,7 @@
 -- over the list that it stands for.
 use Rattle.std.specs.Prelude.{ℕ, ◌||◌, Bool, false}
 use Rattle.mx_host.specs.HostModel.{HostModel}
-use Rattle.mx_plan.specs.Wild.{Course, ends, meets_wild, course, unless_wild}
+use Rattle.mx_plan.specs.Wild.{Course, ends, course, unless_wild}
 use Rattle.mx_ring.specs.Window.{Window}
 use Rattle.mx_word.specs.Ranges.{AreOctas}
 use Rattle.mx_trap.specs.Touches.{touches}
@@ -11,7 +11,7 @@ use Rattle.mx_core.specs.MachineSpace.{machine_contents}
 use Rattle.mx_core.specs.State.{State}
 use Rattle.mx_core.specs.Step.{Stepped, went, calls, stopped, step}
 use Rattle.mx_core.specs.Wild.{is_wild}
-use Rattle.mx_run.specs.Ends.{FlagsOf, Ended, ended}
+use Rattle.mx_run.specs.Ends.{FlagsOf, Ended}
 use Rattle.mx_run.specs.RunPlans.{RunCall, turning, looking, RunSays, RunWorld, running, run_plan}
 use Rattle.mx_run.specs.Turns.{Turn, went_on, halts, stops}
 use Rattle.mx_run.specs.declared.end.End.{End}
@@ -48,21 +48,14 @@ call_is_wild kind looking w = false
 abbrev pub run_goes : MachineKind → (o : RunCall) → RunWorld → Course (RunSays o) RunWorld
 run_goes kind o w = unless_wild (call_is_wild kind) running o w
 
--- at most n steps of the machine of a kind, with these flags, as `run`
-unfoldable pub run_course : MachineKind → ℕ → FlagsOf → Bool → State → HostModel → Course End RunWorld
-run_course kind n f pass s m = course (run_goes kind) (run_plan n f pass) (s, m)
+-- at most n steps of the machine of a kind, with these flags, as `run`: they end, or the list machine meets a wild turn, which it does
+-- not make
+unfoldable pub run_by : MachineKind → ℕ → FlagsOf → Bool → State → HostModel → Course End RunWorld
+run_by kind n f pass s m = course (run_goes kind) (run_plan n f pass) (s, m)
 
--- what such a run comes to: it ends, or the list machine meets a wild turn, which it does not make; the host then stands so
-pub data RunEnd : Type 0 where
-  run_ended : Ended → RunEnd
-  run_wild : HostModel → RunEnd
-
-abbrev pub of_course : Course End RunWorld → RunEnd
-of_course (ends end w) = run_ended (ended end w.0 w.1)
-of_course (meets_wild w) = run_wild w.1
-
-unfoldable pub run_by : MachineKind → ℕ → FlagsOf → Bool → State → HostModel → RunEnd
-run_by kind n f pass s m = of_course (run_course kind n f pass s m)
+-- a run that ended so, as what it came to
+abbrev pub run_ended : Ended → Course End RunWorld
+run_ended e = ends e.end (e.state, e.host)
 
 -- WINDOWS
 
@@ -78,9 +71,6 @@ abbrev pub as_list_turn : Turn → Turn
 as_list_turn (went_on s m trace) = went_on (as_list_state s) m trace
 as_list_turn (halts status s m) = halts status (as_list_state s) m
 as_list_turn (stops reason s m) = stops reason (as_list_state s) m
-
-abbrev pub as_list_ended : Ended → Ended
-as_list_ended e = record e { state = as_list_state e.state }
 
 -- WHAT A TURN LEAVES
 

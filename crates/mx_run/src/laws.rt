@@ -6,6 +6,7 @@ ghost use Rattle.std.specs.Prelude.{◌≡◌, ◌≢◌, ◌+◌, ◌&&◌, ◌
 ghost use Rattle.mx_host.specs.HostModel.{HostModel};
 ghost use Rattle.mx_plan.specs.Held.{KeepsStreams, OnlyAdds};
 ghost use Rattle.mx_plan.specs.Plan.{Stops, end_of};
+ghost use Rattle.mx_plan.specs.Wild.{meets_wild};
 ghost use Rattle.mx_ring.specs.Window.{Window};
 ghost use Rattle.mx_word.specs.Lists.{IsFront};
 ghost use Rattle.mx_word.specs.Ranges.{AreOctas};
@@ -17,7 +18,7 @@ ghost use Rattle.mx_run.specs.Turns.{went_on, halts, stops, turn};
 ghost use Rattle.mx_run.specs.declared.end.End.{End};
 ghost use Rattle.mx_run.specs.declared.end.End.TheVariants.{Halted, Spent, Stopped};
 ghost use Rattle.mx_code.specs.declared.trace.Trace.{Trace};
-ghost use Rattle.mx_run.specs.WildRuns.{MachineKind, window_machine, ends_wild, run_by, run_ended, run_wild};
+ghost use Rattle.mx_run.specs.WildRuns.{MachineKind, window_machine, ends_wild, run_by, run_ended};
 ghost use Rattle.mx_run.specs.WildRuns.{turn_is_wild, as_list_turn, state_after};
 
 /// A turn that is not wild, where nothing was touched, comes to the same with the same trace and the
@@ -54,7 +55,7 @@ pub fn runs_go_turn_by_turn()
     ensures spent { (kind : MachineKind) (s : State) (m : HostModel)
         → run_by kind 0 no_flags false s m ≡ run_ended (ended Spent s m) }
     ensures wild { (kind : MachineKind) (n : ℕ) (s : State) (m : HostModel) → ends_wild kind s ≡ true
-        → run_by kind (suc n) no_flags false s m ≡ run_wild m }
+        → run_by kind (suc n) no_flags false s m ≡ meets_wild (s, m) }
     ensures went { (kind : MachineKind) (n : ℕ) (s t : State) (m k : HostModel) (trace : Trace) → ends_wild kind s ≡ false
         → turn s m ≡ went_on t k trace → run_by kind (suc n) no_flags false s m ≡ run_by kind n no_flags false t k }
     ensures halted { (kind : MachineKind) (n status : ℕ) (s t : State) (m k : HostModel) → ends_wild kind s ≡ false
@@ -75,8 +76,8 @@ pub fn runs_follow_each_other()
         → run_by kind (i + j) f pass s m ≡ run_by kind j f (pass && i == 0) t k }
     ensures over { (kind : MachineKind) (i j : ℕ) (f : FlagsOf) (pass : Bool) (s : State) (m : HostModel) (e : Ended)
         → e.end ≢ Spent → run_by kind i f pass s m ≡ run_ended e → run_by kind (i + j) f pass s m ≡ run_ended e }
-    ensures wild { (kind : MachineKind) (i j : ℕ) (f : FlagsOf) (pass : Bool) (s : State) (m k : HostModel)
-        → run_by kind i f pass s m ≡ run_wild k → run_by kind (i + j) f pass s m ≡ run_wild k }
+    ensures wild { (kind : MachineKind) (i j : ℕ) (f : FlagsOf) (pass : Bool) (s : State) (m : HostModel) (w : RunWorld)
+        → run_by kind i f pass s m ≡ meets_wild w → run_by kind (i + j) f pass s m ≡ meets_wild w }
 {}
 
 /// A run is what its plan comes to. Where a plan over turns stops for want of memory, it only added to

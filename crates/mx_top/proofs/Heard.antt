@@ -6,7 +6,7 @@ use Rattle.mx_host.specs.HostModel.{HostModel, tells, contents}
 use Rattle.mx_plan.specs.Calls.{host}
 use Rattle.mx_plan.specs.Clauses.{CarriesOut}
 use Rattle.mx_plan.specs.Plan.{Comes}
-use Rattle.mx_plan.specs.Wild.{Course, course}
+use Rattle.mx_plan.specs.Wild.{Course, course, ends, meets_wild}
 use Rattle.mx_core.specs.Bounds.{as_list_state}
 use Rattle.mx_core.specs.State.{State}
 use Rattle.mx_code.specs.declared.trace.Trace.{Trace}
@@ -20,7 +20,7 @@ use Rattle.mx_watch.proofs.HeardBy.{by-hears, nothing-heard}
 use Rattle.mx_words.specs.Orders.{order_of}
 use Rattle.mx_words.specs.declared.order.Order.{Order}
 use Rattle.mx_words.specs.declared.order.WordsFault.{WordsFault}
-use Rattle.mx_files.specs.Answers.{Answer, answered, wild}
+use Rattle.mx_files.specs.Answers.{Answer}
 use Rattle.mx_outcome.specs.declared.outcome.Outcome.{Outcome}
 use Rattle.mx_outcome.specs.declared.outcome.Outcome.TheVariants.{OutOfMemory}
 use Rattle.mx_begin.specs.Arguments.{Word}
@@ -37,8 +37,8 @@ use Rattle.mx_top.proofs.WorkPlans.{tells-then}
 -- ---- what is heard
 
 unless-told : (a : Answer) (P : Type 0) → P → UnlessWild a P
-unless-told (answered outcome m) P p = p
-unless-told (wild m) P p = tt
+unless-told (ends outcome m) P p = p
+unless-told (meets_wild m) P p = tt
 
 -- no traces, so that the watchers stay as they are
 quiet : (ts : List Trace) (ws : List Watching) (earlier : List Report) → ts ≡ [] → (ws, earlier) ≡ heard_by ts ws earlier
@@ -76,8 +76,8 @@ unbegun-heard a b r ws earlier words o form first listed = quiet-plan a r ws ear
     by t ne list_machine = none list_machine ne (listed t)
 
 pub unless-by : (a : Answer) (P Q : Type 0) → (P → Q) → UnlessWild a P → UnlessWild a Q
-unless-by (answered outcome m) P Q f p = f p
-unless-by (wild m) P Q f p = tt
+unless-by (ends outcome m) P Q f p = f p
+unless-by (meets_wild m) P Q f p = tt
 
 -- from no reports
 pub from-none : (h : List Trace) (ws : List Watching) (K : List Report) (x : List Watching × List Report) → K ≡ [] → x ≡ heard_by h ws K → x ≡ heard_by h ws []

@@ -4,6 +4,7 @@ use Rattle.std.specs.Prelude.{IsTrue, Option, Result}
 use Rattle.mx_host.specs.HostModel.{HostModel}
 use Rattle.mx_host.proofs.Keeping.{keeps-then}
 use Rattle.mx_plan.specs.Plan.{end_of}
+use Rattle.mx_plan.specs.Wild.{ends, meets_wild}
 use Rattle.mx_run.specs.WildRuns.{MachineKind}
 use Rattle.mx_code.specs.declared.trace.Trace.{Trace}
 use Rattle.mx_watch.specs.Watching.{Watching}
@@ -12,7 +13,7 @@ use Rattle.mx_word.proofs.Fronts.{front-through}
 use Rattle.mx_words.specs.Orders.{order_of}
 use Rattle.mx_words.specs.declared.order.Order.{Order}
 use Rattle.mx_words.specs.declared.order.WordsFault.{WordsFault}
-use Rattle.mx_files.specs.Answers.{Answer, answered, wild, GoesAs}
+use Rattle.mx_files.specs.Answers.{Answer, GoesAs}
 use Rattle.mx_outcome.specs.declared.outcome.Outcome.{Outcome}
 use Rattle.mx_begin.specs.Arguments.{Word}
 use Rattle.mx_top.specs.Product.{ProgramPlan, work_plan, product, product_traces}
@@ -33,18 +34,18 @@ saying-then told faults a b c first second = record {
 
 -- ---- after the message
 
-pub reported : (outcome result : Outcome) (here new : HostModel) (due : Answer) (texts dues : List (List ℕ)) → answered outcome here ≡ due → texts ≡ dues →
-    answered result new ≡ with_reports texts (with_message (answered outcome here)) → answered result new ≡ with_reports dues (with_message due)
+pub reported : (outcome result : Outcome) (here new : HostModel) (due : Answer) (texts dues : List (List ℕ)) → ends outcome here ≡ due → texts ≡ dues →
+    ends result new ≡ with_reports texts (with_message (ends outcome here)) → ends result new ≡ with_reports dues (with_message due)
 reported outcome result here new due texts dues e same said =
-    said ∙ ap (λ ts. with_reports ts (with_message (answered outcome here))) same ∙ ap (λ a. with_reports dues (with_message a)) e
+    said ∙ ap (λ ts. with_reports ts (with_message (ends outcome here))) same ∙ ap (λ a. with_reports dues (with_message a)) e
 
 pub reported-goes : (outcome result : Outcome) (here new : HostModel) (due : Answer) (texts dues : List (List ℕ)) → GoesAs due outcome here → UnlessWild due (texts ≡ dues) →
-    answered result new ≡ with_reports texts (with_message (answered outcome here)) → IsFront here.output new.output → GoesAs (with_reports dues (with_message due)) result new
-reported-goes outcome result here new (answered o m) texts dues e same said grows =
-    goes-as (with_reports dues (with_message (answered o m))) result new
-    (said ∙ ap (λ ts. with_reports ts (with_message (answered outcome here))) same ∙ ap (λ p. with_reports dues (with_message (answered p here))) e.0
-    ∙ ap (λ n. with_reports dues (with_message (answered o n))) e.1)
-reported-goes outcome result here new (wild m) texts dues e same said grows = front-through m.output here.output new.output e grows
+    ends result new ≡ with_reports texts (with_message (ends outcome here)) → IsFront here.output new.output → GoesAs (with_reports dues (with_message due)) result new
+reported-goes outcome result here new (ends o m) texts dues e same said grows =
+    goes-as (with_reports dues (with_message (ends o m))) result new
+    (said ∙ ap (λ ts. with_reports ts (with_message (ends outcome here))) same ∙ ap (λ p. with_reports dues (with_message (ends p here))) e.0
+    ∙ ap (λ n. with_reports dues (with_message (ends o n))) e.1)
+reported-goes outcome result here new (meets_wild m) texts dues e same said grows = front-through m.output here.output new.output e grows
 
 -- what is told of the work, with its message and the reports after it, is what the program comes to
 pub watched-so : (kind : MachineKind) (words : List Word) (ws : List Watching) (m : HostModel) →
@@ -66,8 +67,8 @@ none-ever r = λ i told. none-due r told i
 
 none-written : (a : Answer) → with_reports [] a ≡ a
 unfolding reports_plan end_of
-none-written (answered outcome m) = refl
-none-written (wild m) = refl
+none-written (ends outcome m) = refl
+none-written (meets_wild m) = refl
 
 pub none-mean : {A : Type 0} (f : A → Watching) (xs : List A) → xs ≡ [] → map f xs ≡ []
 none-mean f xs e = ap (map f) e

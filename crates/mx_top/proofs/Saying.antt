@@ -10,10 +10,11 @@ use Rattle.mx_plan.specs.Calls.{host, HostPlan, need, write_plan}
 use Rattle.mx_plan.specs.Clauses.{CarriesOut}
 use Rattle.mx_plan.specs.Plan.{returns, bind, end_of, end_after, Stops, IsRest}
 use Rattle.mx_plan.proofs.Plans.{end_bind, end_returns, stops_first, rest_after}
+use Rattle.mx_plan.specs.Wild.{ends}
 use Rattle.mx_outcome.specs.Messages.{message_of}
 use Rattle.mx_outcome.specs.declared.outcome.Outcome.{Outcome}
 use Rattle.mx_outcome.specs.declared.outcome.Outcome.TheVariants.{OutOfMemory}
-use Rattle.mx_files.specs.Answers.{answered, plainly}
+use Rattle.mx_files.specs.Answers.{plainly}
 use Rattle.mx_top.specs.Telling.{said_plan, message_if, message_plan, report_plan, reports_plan, with_message, with_reports}
 use Rattle.mx_top.specs.WorkClauses.{Tells, TellsBy, Telling, is_lacking}
 
@@ -131,10 +132,10 @@ reports-said outcome [] m = ap (λ (t : Outcome × HostModel). t.0) (end_returns
 reports-said outcome (text ∷ texts) m =
     ap (λ (t : Outcome × HostModel). t.0) (end_bind host (λ (r : Result (Unit {0}) HostFault). reports_plan outcome texts) (report_plan text) m) ∙ reports-said outcome texts (end_of host (report_plan text) m).1
 
-pub telling-told : (left new : HostModel) (result said : Outcome) (texts : List (List ℕ)) → Telling left new result said texts → result ≢ OutOfMemory → answered result new ≡ with_reports texts (with_message (answered said left))
+pub telling-told : (left new : HostModel) (result said : Outcome) (texts : List (List ℕ)) → Telling left new result said texts → result ≢ OutOfMemory → ends result new ≡ with_reports texts (with_message (ends said left))
 telling-told left new result said texts h ne = by h.message h.behind
   where
-    by : Tells left h.between h.spoken (message_plan said) → Tells h.between new result (reports_plan h.spoken texts) → answered result new ≡ with_reports texts (with_message (answered said left))
+    by : Tells left h.between h.spoken (message_plan said) → Tells h.between new result (reports_plan h.spoken texts) → ends result new ≡ with_reports texts (with_message (ends said left))
     by x (inr y) = absurd (ne y.0)
     by (inl x) (inl y) = ap plainly y ∙ ap (with_reports texts) (ap plainly x)
     by (inr x) (inl y) = absurd (ne (ap (λ (t : Outcome × HostModel). t.0) y ∙ reports-said h.spoken texts h.between ∙ x.0))

@@ -9,7 +9,7 @@ use Rattle.mx_code.specs.declared.trace.Trace.{Trace}
 use Rattle.mx_run.specs.WildRuns.{MachineKind, window_machine}
 use Rattle.mx_word.specs.Lists.{IsFront}
 use Rattle.mx_words.specs.Orders.{order_of}
-use Rattle.mx_files.specs.Answers.{answered, plainly, output_of}
+use Rattle.mx_files.specs.Answers.{plainly, output_of}
 use Rattle.mx_outcome.specs.declared.outcome.Outcome.{Outcome}
 use Rattle.mx_outcome.specs.declared.outcome.Outcome.TheVariants.{OutOfMemory}
 use Rattle.mx_begin.specs.Arguments.{Word}
@@ -26,7 +26,7 @@ use Rattle.mx_top.proofs.WorkPlans.{host-course}
 abbrev said-by : MachineKind → Course Outcome ProgramWorld → Course Outcome ProgramWorld
 said-by kind c = then_on (λ outcome w. course (program_goes kind) (on_host (message_plan outcome)) w) c
 
-pub plain-so : (t : Outcome × HostModel) → answered t.0 t.1 ≡ plainly t
+pub plain-so : (t : Outcome × HostModel) → ends t.0 t.1 ≡ plainly t
 plain-so (outcome, m) = refl
 
 said-answer : (kind : MachineKind) (c : Course Outcome ProgramWorld) → answer_of (said-by kind c) ≡ with_message (answer_of c)
@@ -51,8 +51,8 @@ traces-of kind words m = ap told_of (product-by kind words m) ∙ said-told kind
 
 -- ---- what comes of a plan over a window
 
-pub answer-is : (m v : HostModel) (r : Outcome) (plan : ProgramPlan Outcome) → PlanComes m v r plan → r ≢ OutOfMemory → answered r v ≡ answer_by window_machine plan m
-answer-is m v r plan c ne = ap (λ (t : Outcome × HostModel). answered t.0 t.1) (c.ending ne) ∙ sym (ap answer_of (program-window plan (m, [])))
+pub answer-is : (m v : HostModel) (r : Outcome) (plan : ProgramPlan Outcome) → PlanComes m v r plan → r ≢ OutOfMemory → ends r v ≡ answer_by window_machine plan m
+answer-is m v r plan c ne = ap (λ (t : Outcome × HostModel). ends t.0 t.1) (c.ending ne) ∙ sym (ap answer_of (program-window plan (m, [])))
 
 pub front-is : (m v : HostModel) (r : Outcome) (plan : ProgramPlan Outcome) → PlanComes m v r plan → r ≡ OutOfMemory → IsFront v.output (output_of (answer_by window_machine plan m))
 front-is m v r plan c e =

@@ -3,20 +3,20 @@ use Rattle.std.proofs.Common.{◌≡◌, ◌≢◌, ◌⊎◌, inl, inr, ℕ, Li
 use Rattle.mx_host.specs.HostModel.{HostModel}
 use Rattle.mx_plan.specs.Calls.{host, HostPlan}
 use Rattle.mx_plan.specs.Plan.{end_of, Stops, Comes}
-use Rattle.mx_plan.specs.Wild.{Course, then_on, course}
+use Rattle.mx_plan.specs.Wild.{Course, then_on, course, ends}
 use Rattle.mx_mmo.specs.Image.{Image}
 use Rattle.mx_run.specs.WildRuns.{MachineKind, window_machine, list_machine}
 use Rattle.mx_multi.specs.Clauses.{GoAsLists}
 use Rattle.mx_multi.specs.Joint.{Joint, as_list_joint}
 use Rattle.mx_multi.specs.MultiPlans.{multi, turns_plan}
-use Rattle.mx_multi.specs.Turns.{TurnsEnd, turns_ended, turns_wild, turns}
+use Rattle.mx_multi.specs.Turns.{turns}
 use Rattle.mx_multi.specs.declared.end.MultiEnd.{MultiEnd}
 use Rattle.mx_multi.specs.declared.end.MultiEnd.TheVariants as turning
 use Rattle.mx_multi.proofs.ListStarts.{start-listed}
 use Rattle.mx_word.specs.Lists.{IsFront}
 use Rattle.mx_word.proofs.Fronts.{front-through}
 use Rattle.mx_words.specs.declared.order.Order.{Order}
-use Rattle.mx_files.specs.Answers.{answered, GoesAs}
+use Rattle.mx_files.specs.Answers.{GoesAs}
 use Rattle.mx_outcome.specs.declared.outcome.Outcome.{Outcome}
 use Rattle.mx_outcome.specs.declared.outcome.Outcome.TheVariants.{OutOfMemory}
 use Rattle.mx_dump.specs.Dump.{Line}
@@ -64,18 +64,18 @@ turns-follow o schedule image i m k v end r c lacked follows = by (turned-out en
 
 -- ---- by the kind of the machines
 
-abbrev after-by : MachineKind → Order → TurnsEnd → Course Outcome ProgramWorld
+abbrev after-by : MachineKind → Order → Course MultiEnd JointWorld → Course Outcome ProgramWorld
 after-by kind o x = then_on (λ t w. course (program_goes kind) (tell-turns o.steps t) w) (turned o.dump [] x)
 
-turns-beside : (o : Order) (x : TurnsEnd) (i : Joint) (k v : HostModel) (end : MultiEnd) (r : Outcome) → GoAsLists x end i k → IsFront k.output v.output → (r, v) ≡ end_of host (telling (multi_outcome o.steps end) (multi_lines o.dump end i)) k →
+turns-beside : (o : Order) (x : Course MultiEnd JointWorld) (i : Joint) (k v : HostModel) (end : MultiEnd) (r : Outcome) → GoAsLists x end i k → IsFront k.output v.output → (r, v) ≡ end_of host (telling (multi_outcome o.steps end) (multi_lines o.dump end i)) k →
     GoesAs (answer_of (after-by list_machine o x)) r v
-turns-beside o (turns_ended e j m) i k v end r goes grows said =
+turns-beside o (ends e w) i k v end r goes grows said =
     let tells : MultiEnd → Joint → HostPlan Outcome = λ x y. telling (multi_outcome o.steps x) (multi_lines o.dump x y) in
-    let same : tells e j ≡ tells end i = ap (λ (x : MultiEnd). tells x j) goes.0 ∙ ap (λ (y : Joint). tells end y) (sym goes.1) ∙ same-told o.dump (multi_outcome o.steps end) end i in
-    goes-by (answer_of (after-by list_machine o (turns_ended e j m))) r v
-    (ap answer_of (host-course list_machine (tells e j) (m, [])) ∙ ap (λ (p : HostPlan Outcome). answered (end_of host p m).0 (end_of host p m).1) same
-    ∙ ap (λ (h : HostModel). answered (end_of host (tells end i) h).0 (end_of host (tells end i) h).1) (sym goes.2) ∙ ap (λ (t : Outcome × HostModel). answered t.0 t.1) (sym said))
-turns-beside o (turns_wild w) i k v end r goes grows said = front-through w.output k.output v.output goes grows
+    let same : tells e w.0 ≡ tells end i = ap (λ (x : MultiEnd). tells x w.0) goes.0 ∙ ap (λ (y : Joint). tells end y) (sym goes.1) ∙ same-told o.dump (multi_outcome o.steps end) end i in
+    goes-by (answer_of (after-by list_machine o (ends e w))) r v
+    (ap answer_of (host-course list_machine (tells e w.0) (w.1, [])) ∙ ap (λ (p : HostPlan Outcome). ends (end_of host p w.1).0 (end_of host p w.1).1) same
+    ∙ ap (λ (h : HostModel). ends (end_of host (tells end i) h).0 (end_of host (tells end i) h).1) (sym goes.2) ∙ ap (λ (t : Outcome × HostModel). ends t.0 t.1) (sym said))
+turns-beside o (meets_wild w) i k v end r goes grows said = front-through w.1.output k.output v.output goes grows
 
 turns-course : (kind : MachineKind) (o : Order) (schedule : List ℕ) (image : Image) (m : HostModel) →
     course (program_goes kind) (turns_from o schedule image) (m, []) ≡ after-by kind o (turns kind schedule o.steps schedule (joint_at_start kind o.ring image schedule) m)
@@ -91,9 +91,9 @@ turns-listed o schedule image i m k v end r goes grows said =
     (turns-beside o (turns list_machine schedule o.steps schedule (as_list_joint (joint_at_start window_machine o.ring image schedule)) m) i k v end r goes grows said)
 
 -- watchers are told nothing
-told-by : (kind : MachineKind) (o : Order) (x : TurnsEnd) → told_of (after-by kind o x) ≡ []
-told-by kind o (turns_ended e j m) = ap told_of (host-course kind (telling (multi_outcome o.steps e) (multi_lines o.dump e j)) (m, []))
-told-by kind o (turns_wild m) = refl
+told-by : (kind : MachineKind) (o : Order) (x : Course MultiEnd JointWorld) → told_of (after-by kind o x) ≡ []
+told-by kind o (ends e w) = ap told_of (host-course kind (telling (multi_outcome o.steps e) (multi_lines o.dump e w.0)) (w.1, []))
+told-by kind o (meets_wild w) = refl
 
 pub turns-told : (kind : MachineKind) (o : Order) (schedule : List ℕ) (image : Image) (m : HostModel) → told_of (course (program_goes kind) (turns_from o schedule image) (m, [])) ≡ []
 turns-told kind o schedule image m = ap told_of (turns-course kind o schedule image m) ∙ told-by kind o (turns kind schedule o.steps schedule (joint_at_start kind o.ring image schedule) m)

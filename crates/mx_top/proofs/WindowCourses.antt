@@ -4,13 +4,14 @@ use Rattle.std.specs.Prelude.{Result}
 use Rattle.mx_plan.specs.Plan.{returns, calls, end_of}
 use Rattle.mx_plan.specs.Wild.{Course, ends, then_on, course, carried}
 use Rattle.mx_core.specs.State.{State}
-use Rattle.mx_run.specs.RunPlans.{RunPlan, RunWorld, turning, looking, running, run_plan}
+use Rattle.mx_run.specs.RunPlans.{run_plan}
 use Rattle.mx_run.specs.Runs.{no_flags}
-use Rattle.mx_run.specs.WildRuns.{window_machine, run_goes, run_course}
+use Rattle.mx_run.specs.WildRuns.{window_machine, run_by}
 use Rattle.mx_back.specs.History.{states_kept}
 use Rattle.mx_back.specs.KeptRuns.{turns_of}
-use Rattle.mx_con.specs.Session.{keeping_flags, session_goes, session_course}
-use Rattle.mx_con.specs.SessionPlans.{SessionCall, SessionSays, SessionPlan, SessionWorld, of_run, conversing, session_plan}
+use Rattle.mx_con.specs.Session.{session}
+use Rattle.mx_con.specs.SessionPlans.{session_plan}
+use Rattle.mx_con.proofs.SessionCourses.{run-window, window-course}
 use Rattle.mx_multi.proofs.TurnPlans.{plan-end}
 use Rattle.mx_watch.specs.Traces.{traces}
 use Rattle.mx_outcome.specs.declared.outcome.Outcome.{Outcome}
@@ -20,29 +21,12 @@ use Rattle.mx_top.specs.Product as page
 use Rattle.mx_top.specs.Product.{ProgramCall, ProgramWorld, on_machine, taking_turns, program_goes, at_start}
 use Rattle.mx_begin.specs.Begun.{started}
 
-run-window : {A : Type 0} (p : RunPlan A) (w : RunWorld) → course (run_goes window_machine) p w ≡ ends (end_of running p w).0 (end_of running p w).1
-unfolding course end_of running
-run-window (returns a) w = refl
-run-window (calls turning k) w = run-window (k (running.act turning w).0) (running.act turning w).1
-run-window (calls looking k) w = run-window (k (running.act looking w).0) (running.act looking w).1
-
-session-call : (o : SessionCall) (w : SessionWorld) → session_goes window_machine o w ≡ carried conversing o w
-unfolding conversing running run_course
-session-call (of_run n pass) w = ap (keeping_flags w.1) (run-window (run_plan n w.1 pass) w.0)
-session-call other w = refl
-
-session-window : {A : Type 0} (p : SessionPlan A) (w : SessionWorld) → course (session_goes window_machine) p w ≡ ends (end_of conversing p w).0 (end_of conversing p w).1
-unfolding course end_of
-session-window (returns a) w = refl
-session-window (calls o k) w =
-    ap (λ (c : Course (SessionSays o) SessionWorld). then_on (λ r v. course (session_goes window_machine) (k r) v) c) (session-call o w) ∙ session-window (k (conversing.act o w).0) (conversing.act o w).1
-
 work-call : (o : WorkCall) (w : Work) → work_goes window_machine o w ≡ carried working o w
-unfolding working run_course session_course
+unfolding working run_by session
 work-call (stepping n) w = ap (work.ran w) (run-window (run_plan n no_flags false) (w.machine, w.host))
 work-call (reporting n) w = ap (work.ran (record w { told = traces window_machine n w.machine w.host })) (run-window (run_plan n no_flags false) (w.machine, w.host))
 work-call (keeping n) w = ap (work.ran (record w { kept = states_kept (turns_of n w.machine w.host) [] })) (run-window (run_plan n no_flags false) (w.machine, w.host))
-work-call (sitting n) w = ap (work.sat w) (session-window (session_plan n) ((w.machine, w.host), no_flags))
+work-call (sitting n) w = ap (work.sat w) (window-course (session_plan n) ((w.machine, w.host), no_flags))
 work-call other w = refl
 
 pub work-window : {A : Type 0} (p : WorkPlan A) (w : Work) → course (work_goes window_machine) p w ≡ ends (end_of working p w).0 (end_of working p w).1

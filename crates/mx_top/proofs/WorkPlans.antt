@@ -9,7 +9,7 @@ use Rattle.mx_plan.specs.Wild.{Course, ends, course}
 use Rattle.mx_plan.proofs.Plans.{end_bind, end_returns, stops_first, stops_after}
 use Rattle.mx_code.specs.declared.trace.Trace.{Trace}
 use Rattle.mx_run.specs.WildRuns.{MachineKind, list_machine}
-use Rattle.mx_files.specs.Answers.{Answer, answered, GoesAs}
+use Rattle.mx_files.specs.Answers.{Answer, GoesAs}
 use Rattle.mx_files.specs.FilePlans.{Part}
 use Rattle.mx_outcome.specs.declared.outcome.Outcome.{Outcome}
 use Rattle.mx_outcome.specs.declared.outcome.Outcome.TheVariants.{OutOfMemory}
@@ -108,12 +108,12 @@ unfolding course
 returns-course kind r w = refl
 
 -- what it answers goes as it
-pub goes-by : (a : Answer) (r : Outcome) (n : HostModel) → a ≡ answered r n → GoesAs a r n
+pub goes-by : (a : Answer) (r : Outcome) (n : HostModel) → a ≡ ends r n → GoesAs a r n
 goes-by a r n e = subst (λ (x : Answer). GoesAs x r n) (sym e) (refl, refl)
 
 -- an answer and a host beside traces
-pub answer-of : (told : List Trace) (r : Outcome) (n : HostModel) (t : Outcome × HostModel) → (r, n) ≡ t → answer_of (ends t.0 (t.1, told)) ≡ answered r n
-answer-of told r n t e = ap (λ (x : Outcome × HostModel). answered x.0 x.1) (sym e)
+pub answer-of : (told : List Trace) (r : Outcome) (n : HostModel) (t : Outcome × HostModel) → (r, n) ≡ t → answer_of (ends t.0 (t.1, told)) ≡ ends r n
+answer-of told r n t e = ap (λ (x : Outcome × HostModel). ends x.0 x.1) (sym e)
 
 -- ---- both
 

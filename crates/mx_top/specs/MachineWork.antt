@@ -10,11 +10,11 @@ use Rattle.mx_ring.specs.Stack.{register}
 use Rattle.mx_run.specs.AccompaniedRuns.{AfterSteps}
 use Rattle.mx_run.specs.RunPlans.{RunWorld, running, run_plan}
 use Rattle.mx_run.specs.Runs.{FlagsOf, no_flags}
-use Rattle.mx_run.specs.WildRuns.{MachineKind, window_machine, run_course}
+use Rattle.mx_run.specs.WildRuns.{MachineKind, window_machine, run_by}
 use Rattle.mx_run.specs.declared.end.End.{End}
 use Rattle.mx_back.specs.History.{states_kept}
 use Rattle.mx_back.specs.KeptRuns.{turns_of}
-use Rattle.mx_con.specs.Session.{session_course}
+use Rattle.mx_con.specs.Session.{session}
 use Rattle.mx_con.specs.SessionPlans.{SessionWorld, conversing, session_plan}
 use Rattle.mx_con.specs.declared.end.SessionEnd.{SessionEnd}
 use Rattle.mx_watch.specs.Traces.{traces}
@@ -110,10 +110,10 @@ sat w (meets_wild v) = meets_wild (record w { machine = v.0.0; host = v.0.1 })
 
 -- what a call comes to: over a list runs and sessions may meet something wild
 abbrev pub work_goes : MachineKind → (o : WorkCall) → Work → Course (WorkSays o) Work
-work_goes kind (stepping n) w = ran w (run_course kind n no_flags false w.machine w.host)
-work_goes kind (reporting n) w = ran (record w { told = traces kind n w.machine w.host }) (run_course kind n no_flags false w.machine w.host)
-work_goes kind (keeping n) w = ran (record w { kept = states_kept (turns_of n w.machine w.host) [] }) (run_course kind n no_flags false w.machine w.host)
-work_goes kind (sitting n) w = sat w (session_course kind n w.machine no_flags w.host)
+work_goes kind (stepping n) w = ran w (run_by kind n no_flags false w.machine w.host)
+work_goes kind (reporting n) w = ran (record w { told = traces kind n w.machine w.host }) (run_by kind n no_flags false w.machine w.host)
+work_goes kind (keeping n) w = ran (record w { kept = states_kept (turns_of n w.machine w.host) [] }) (run_by kind n no_flags false w.machine w.host)
+work_goes kind (sitting n) w = sat w (session kind n w.machine no_flags w.host)
 work_goes kind other w = ends (work_act other w).0 (work_act other w).1
 
 abbrev pub WorkPlan : Type 0 → Type 0

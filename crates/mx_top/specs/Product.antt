@@ -13,7 +13,7 @@ use Rattle.mx_multi.specs.Joint.{Joint}
 use Rattle.mx_multi.specs.Joint as joint
 use Rattle.mx_multi.specs.JointTurns.{JointWorld}
 use Rattle.mx_multi.specs.MultiPlans.{multi, turns_plan}
-use Rattle.mx_multi.specs.Turns.{TurnsEnd, turns_ended, turns_wild, turns}
+use Rattle.mx_multi.specs.Turns.{turns}
 use Rattle.mx_multi.specs.declared.end.MultiEnd.{MultiEnd}
 use Rattle.mx_words.specs.Orders.{order_of}
 use Rattle.mx_words.specs.declared.order.Command.{Command}
@@ -21,7 +21,7 @@ use Rattle.mx_words.specs.declared.order.Command.TheVariants.{Run, Asm, Sim, Gen
 use Rattle.mx_words.specs.declared.order.Order.{Order}
 use Rattle.mx_words.specs.declared.order.WordsFault.{WordsFault}
 use Rattle.law_gen.specs.Generator.{generated}
-use Rattle.mx_files.specs.Answers.{Answer, answered, wild}
+use Rattle.mx_files.specs.Answers.{Answer}
 use Rattle.mx_files.specs.Assembling.{refused_with}
 use Rattle.mx_files.specs.ObjectPlans.{assemble_plan, list_plan}
 use Rattle.mx_files.specs.Schedules.{schedule_plan}
@@ -112,9 +112,9 @@ abbrev pub work_on : MachineKind → WorkPlan Outcome → Result State Outcome �
 work_on kind work (Err outcome) w = ends outcome w
 work_on kind work (Ok s) w = worked (course (work_goes kind) work (at_start s w))
 
-abbrev pub turned : Bool → List Trace → TurnsEnd → Course (MultiEnd × List Line) ProgramWorld
-turned dump told (turns_ended end j m) = ends (end, multi_lines dump end j) (m, told)
-turned dump told (turns_wild m) = meets_wild (m, told)
+abbrev pub turned : Bool → List Trace → Course MultiEnd JointWorld → Course (MultiEnd × List Line) ProgramWorld
+turned dump told (ends end w) = ends (end, multi_lines dump end w.0) (w.1, told)
+turned dump told (meets_wild w) = meets_wild (w.1, told)
 
 -- what a call comes to, by the kind of the machines: the window is seen here alone
 abbrev pub program_goes : MachineKind → (o : ProgramCall) → ProgramWorld → Course (ProgramSays o) ProgramWorld
@@ -193,8 +193,8 @@ unfoldable pub product_course : MachineKind → List Word → HostModel → Cour
 product_course kind words m = course (program_goes kind) (product_plan words) (m, [])
 
 abbrev pub answer_of : Course Outcome ProgramWorld → Answer
-answer_of (ends outcome w) = answered outcome w.0
-answer_of (meets_wild w) = wild w.0
+answer_of (ends outcome w) = ends outcome w.0
+answer_of (meets_wild w) = meets_wild w.0
 
 -- the outcome, and the host; or the host where something wild was met
 unfoldable pub product : MachineKind → List Word → HostModel → Answer

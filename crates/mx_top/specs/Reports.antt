@@ -2,6 +2,7 @@
 use Rattle.std.specs.Prelude.{ℕ, ◌≡◌, ◌≢◌, IsTrue, true, if◌then◌else◌, List, [], Option, Result, Ok, Err}
 use Rattle.std.specs.List.{range_with_len}
 use Rattle.mx_host.specs.HostModel.{HostModel, tells, contents}
+use Rattle.mx_plan.specs.Wild.{ends, meets_wild}
 use Rattle.mx_code.specs.declared.trace.Trace.{Trace}
 use Rattle.mx_run.specs.WildRuns.{MachineKind, window_machine, list_machine}
 use Rattle.mx_watch.specs.Hearing.{heard_by}
@@ -11,7 +12,7 @@ use Rattle.mx_watch.specs.declared.telling.Report.{Report}
 use Rattle.mx_words.specs.Orders.{order_of}
 use Rattle.mx_words.specs.declared.order.Order.{Order}
 use Rattle.mx_words.specs.declared.order.WordsFault.{WordsFault}
-use Rattle.mx_files.specs.Answers.{Answer, answered, wild}
+use Rattle.mx_files.specs.Answers.{Answer}
 use Rattle.mx_outcome.specs.declared.outcome.Outcome.{Outcome}
 use Rattle.mx_outcome.specs.declared.outcome.Outcome.TheVariants.{OutOfMemory}
 use Rattle.mx_begin.specs.Arguments.{Word}
@@ -49,8 +50,8 @@ HearsAs old result watchers left earlier later f =
 
 -- unless the answer meets something wild
 abbrev pub UnlessWild : Answer → Type 0 → Type 0
-UnlessWild (answered outcome m) P = P
-UnlessWild (wild m) P = Unit {0}
+UnlessWild (ends outcome m) P = P
+UnlessWild (meets_wild m) P = Unit {0}
 
 abbrev pub HearsAsList : Option HostModel → Outcome → List Watching → List Watching → List Report → List Report → (HostModel → Answer) → (HostModel → List Trace) → Type 0
 HearsAsList old result watchers left earlier later a f =

@@ -3,7 +3,8 @@ use Rattle.std.specs.Prelude.{ℕ, List, [], ◌∷◌, Result, Ok, Err}
 use Rattle.mx_host.specs.declared.faults.HostFault.{HostFault}
 use Rattle.mx_plan.specs.Plan.{returns, bind, end_of}
 use Rattle.mx_plan.specs.Calls.{HostPlan, host, need, write_plan}
-use Rattle.mx_files.specs.Answers.{Answer, plainly, and_then}
+use Rattle.mx_plan.specs.Wild.{then_on}
+use Rattle.mx_files.specs.Answers.{Answer, plainly}
 use Rattle.mx_files.specs.FilePlans.{lines_plan}
 use Rattle.mx_outcome.specs.Messages.{message_of}
 use Rattle.mx_outcome.specs.declared.outcome.Outcome.{Outcome}
@@ -44,7 +45,7 @@ reports_plan outcome (text ∷ texts) = bind (λ r. reports_plan outcome texts) 
 -- ---- what comes of an answer with them: they follow its outcome, unless it met something wild
 
 abbrev pub with_message : Answer → Answer
-with_message = and_then (λ outcome m. plainly (end_of host (message_plan outcome) m))
+with_message = then_on (λ outcome m. plainly (end_of host (message_plan outcome) m))
 
 abbrev pub with_reports : List (List ℕ) → Answer → Answer
-with_reports texts = and_then (λ outcome m. plainly (end_of host (reports_plan outcome texts) m))
+with_reports texts = then_on (λ outcome m. plainly (end_of host (reports_plan outcome texts) m))

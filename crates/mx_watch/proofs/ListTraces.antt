@@ -3,13 +3,14 @@ use Rattle.std.proofs.Common.{◌≡◌, ◌≢◌, ◌<◌, ◌≤◌, ◌+◌,
 use Rattle.std.specs.Prelude.{Result}
 use Rattle.mx_host.specs.HostModel.{HostModel}
 use Rattle.mx_plan.specs.Plan.{Comes}
+use Rattle.mx_plan.specs.Wild.{Course, ends, meets_wild}
 use Rattle.mx_core.specs.Bounds.{as_list_state}
 use Rattle.mx_core.specs.State.{State}
 use Rattle.mx_code.specs.declared.trace.Trace.{Trace}
-use Rattle.mx_run.specs.RunPlans.{running, step_plan, end_of_turn}
+use Rattle.mx_run.specs.RunPlans.{RunWorld, running, step_plan, end_of_turn}
 use Rattle.mx_run.specs.Runs.{no_flags}
 use Rattle.mx_run.specs.Turns.{Answered, turn_answer, Turn, went_on, halts, stops, turn}
-use Rattle.mx_run.specs.WildRuns.{RunEnd, run_ended, run_wild, HasWindow, list_machine, run_by, turn_is_wild, as_list_turn}
+use Rattle.mx_run.specs.WildRuns.{HasWindow, list_machine, run_by, turn_is_wild, as_list_turn}
 use Rattle.mx_run.specs.declared.end.End.{End}
 use Rattle.mx_run.specs.declared.end.End.TheVariants.{OutOfMemory}
 use Rattle.mx_run.proofs.FreeTurns.{trace-free}
@@ -22,14 +23,14 @@ use Rattle.mx_watch.specs.Traces.{traces, traces_after}
 use Rattle.mx_watch.specs.WatchedRuns.{UnlessWild}
 
 -- a fact, unless the run of the list machine as a whole meets something wild
-pub data OrWild (whole : RunEnd) (P : Type 0) : Type 0 where
+pub data OrWild (whole : Course End RunWorld) (P : Type 0) : Type 0 where
   holds : P → OrWild whole P
-  wild : (m : HostModel) → whole ≡ run_wild m → OrWild whole P
+  wild : (w : RunWorld) → whole ≡ meets_wild w → OrWild whole P
 
-pub unless-wild : (whole : RunEnd) (P Q : Type 0) → (P → Q) → OrWild whole P → UnlessWild whole Q
-unless-wild (run_ended e) P Q f (holds p) = f p
-unless-wild (run_ended e) P Q f (wild m is) = absurd (cc)
-unless-wild (run_wild m) P Q f h = tt
+pub unless-wild : (whole : Course End RunWorld) (P Q : Type 0) → (P → Q) → OrWild whole P → UnlessWild whole Q
+unless-wild (ends end w) P Q f (holds p) = f p
+unless-wild (ends end w) P Q f (wild v is) = absurd (cc)
+unless-wild (meets_wild w) P Q f h = tt
 
 -- ---- a turn
 
@@ -43,23 +44,23 @@ traces-on n i s m l h u e =
 
 -- ---- on the way
 
-went-by : (n i : ℕ) (whole : RunEnd) (s t : State) (m k : HostModel) (trace : Trace) (l next goal : Listening) (c : Bool) → turn_is_wild s ≡ c → i < n → TurnWindow s → s.touched ≡ false → turn s m ≡ went_on t k trace → next ≡ told trace l →
+went-by : (n i : ℕ) (whole : Course End RunWorld) (s t : State) (m k : HostModel) (trace : Trace) (l next goal : Listening) (c : Bool) → turn_is_wild s ≡ c → i < n → TurnWindow s → s.touched ≡ false → turn s m ≡ went_on t k trace → next ≡ told trace l →
     whole ≡ run_by list_machine (n - i) no_flags false (as_list_state s) m → watched (traces list_machine (n - i) (as_list_state s) m) l ≡ goal →
     OrWild whole (watched (traces list_machine (n - (i + 1)) (as_list_state t) k) next ≡ goal)
 unfolding watched
-went-by n i whole s t m k trace l next goal true e inside h u went is so heard = wild m (so ∙ meets-wild n i s m inside h u e)
+went-by n i whole s t m k trace l next goal true e inside h u went is so heard = wild (as_list_state s, m) (so ∙ meets-wild n i s m inside h u e)
 went-by n i whole s t m k trace l next goal false e inside h u went is so heard =
     let more = traces list_machine (n - (i + 1)) in
     holds (ap (watched (more (as_list_state t) k)) is ∙ sym (ap (λ ts. watched ts l) (traces-on n i s m inside h u e ∙ ap (λ x. traces_after more (as_list_turn x)) went)) ∙ heard)
 
-went-beside : (n i : ℕ) (whole : RunEnd) (s t : State) (m k : HostModel) (trace : Trace) (l next goal : Listening) → i < n → TurnWindow s → turn s m ≡ went_on t k trace → next ≡ told trace l →
+went-beside : (n i : ℕ) (whole : Course End RunWorld) (s t : State) (m k : HostModel) (trace : Trace) (l next goal : Listening) → i < n → TurnWindow s → turn s m ≡ went_on t k trace → next ≡ told trace l →
     Beside whole (run_by list_machine (n - i) no_flags false (as_list_state s) m) s → OrWild whole (watched (traces list_machine (n - i) (as_list_state s) m) l ≡ goal) →
     OrWild whole (watched (traces list_machine (n - (i + 1)) (as_list_state t) k) next ≡ goal)
 went-beside n i whole s t m k trace l next goal inside h went is (was_wild g e) w = wild g e
 went-beside n i whole s t m k trace l next goal inside h went is (as_list u e) (wild g x) = wild g x
 went-beside n i whole s t m k trace l next goal inside h went is (as_list u e) (holds p) = went-by n i whole s t m k trace l next goal (turn_is_wild s) refl inside h u went is e p
 
-pub went-by-list : (n i : ℕ) (whole : RunEnd) (s t : State) (m k : HostModel) (trace : Trace) (l next goal : Listening) → i < n → HasWindow s → turn s m ≡ went_on t k trace → next ≡ told trace l →
+pub went-by-list : (n i : ℕ) (whole : Course End RunWorld) (s t : State) (m k : HostModel) (trace : Trace) (l next goal : Listening) → i < n → HasWindow s → turn s m ≡ went_on t k trace → next ≡ told trace l →
     Beside whole (run_by list_machine (n - i) no_flags false (as_list_state s) m) s → OrWild whole (watched (traces list_machine (n - i) (as_list_state s) m) l ≡ goal) →
     OrWild whole (watched (traces list_machine (n - (i + 1)) (as_list_state t) k) next ≡ goal)
 went-by-list n i whole s t m k trace l next goal inside h went is b w = went-beside n i whole s t m k trace l next goal inside (list-window s h) went is b w
@@ -71,14 +72,14 @@ none-after more pc (went_on s m trace) end e = let wrong : Err end ≡ Ok tt = e
 none-after more pc (halts status s m) end e = refl
 none-after more pc (stops reason s m) end e = refl
 
-ended-by : (n i : ℕ) (whole : RunEnd) (s : State) (m : HostModel) (end : End) (l goal : Listening) (c : Bool) → turn_is_wild s ≡ c → i < n → TurnWindow s → s.touched ≡ false → Err end ≡ end_of_turn no_flags s.pc (turn_answer (turn s m)).0 →
+ended-by : (n i : ℕ) (whole : Course End RunWorld) (s : State) (m : HostModel) (end : End) (l goal : Listening) (c : Bool) → turn_is_wild s ≡ c → i < n → TurnWindow s → s.touched ≡ false → Err end ≡ end_of_turn no_flags s.pc (turn_answer (turn s m)).0 →
     whole ≡ run_by list_machine (n - i) no_flags false (as_list_state s) m → watched (traces list_machine (n - i) (as_list_state s) m) l ≡ goal → OrWild whole (l ≡ goal)
 unfolding watched
-ended-by n i whole s m end l goal true e inside h u ends so heard = wild m (so ∙ meets-wild n i s m inside h u e)
+ended-by n i whole s m end l goal true e inside h u ends so heard = wild (as_list_state s, m) (so ∙ meets-wild n i s m inside h u e)
 ended-by n i whole s m end l goal false e inside h u ends so heard =
     holds (sym (ap (λ ts. watched ts l) (traces-on n i s m inside h u e ∙ none-after (traces list_machine (n - (i + 1))) s.pc (turn s m) end ends)) ∙ heard)
 
-ended-beside : (n i : ℕ) (whole : RunEnd) (s : State) (m : HostModel) (end : End) (l goal : Listening) → i < n → TurnWindow s → Err end ≡ end_of_turn no_flags s.pc (turn_answer (turn s m)).0 →
+ended-beside : (n i : ℕ) (whole : Course End RunWorld) (s : State) (m : HostModel) (end : End) (l goal : Listening) → i < n → TurnWindow s → Err end ≡ end_of_turn no_flags s.pc (turn_answer (turn s m)).0 →
     Beside whole (run_by list_machine (n - i) no_flags false (as_list_state s) m) s → OrWild whole (watched (traces list_machine (n - i) (as_list_state s) m) l ≡ goal) → OrWild whole (l ≡ goal)
 ended-beside n i whole s m end l goal inside h ends (was_wild g e) w = wild g e
 ended-beside n i whole s m end l goal inside h ends (as_list u e) (wild g x) = wild g x
@@ -88,7 +89,7 @@ end-of-step : (s t : State) (m k : HostModel) (end : End) → (Err end, t, k) �
 unfolding run_step
 end-of-step s t m k end e = ap (λ (a : Answered (Result (Unit {0}) End)). a.0) e
 
-pub ended-by-list : (n i : ℕ) (whole : RunEnd) (s t : State) (m k : HostModel) (end : End) (l goal : Listening) → i < n → HasWindow s → end ≢ OutOfMemory →
+pub ended-by-list : (n i : ℕ) (whole : Course End RunWorld) (s t : State) (m k : HostModel) (end : End) (l goal : Listening) → i < n → HasWindow s → end ≢ OutOfMemory →
     Comes running (s, m) (t, k) (Err OutOfMemory) (Err end) (step_plan no_flags false) →
     Beside whole (run_by list_machine (n - i) no_flags false (as_list_state s) m) s → OrWild whole (watched (traces list_machine (n - i) (as_list_state s) m) l ≡ goal) → OrWild whole (l ≡ goal)
 ended-by-list n i whole s t m k end l goal inside h ne c b w =
@@ -98,9 +99,9 @@ none-left : (n i : ℕ) (s : State) (m : HostModel) (l : Listening) → n ≤ i 
 unfolding watched traces
 none-left n i s m l end = let none : n - i ≡ 0 = omega arith in ap (λ j. watched (traces list_machine j s m) l) none
 
-pub spent-by-list : (n i : ℕ) (whole : RunEnd) (s : State) (m : HostModel) (l goal : Listening) → n ≤ i → OrWild whole (watched (traces list_machine (n - i) s m) l ≡ goal) → OrWild whole (l ≡ goal)
+pub spent-by-list : (n i : ℕ) (whole : Course End RunWorld) (s : State) (m : HostModel) (l goal : Listening) → n ≤ i → OrWild whole (watched (traces list_machine (n - i) s m) l ≡ goal) → OrWild whole (l ≡ goal)
 spent-by-list n i whole s m l goal end (wild g x) = wild g x
 spent-by-list n i whole s m l goal end (holds p) = holds (sym (none-left n i s m l end) ∙ p)
 
-pub begun-by-list : (n : ℕ) (whole : RunEnd) (s : State) (m : HostModel) (l : Listening) → OrWild whole (watched (traces list_machine (n - 0) s m) l ≡ watched (traces list_machine n s m) l)
+pub begun-by-list : (n : ℕ) (whole : Course End RunWorld) (s : State) (m : HostModel) (l : Listening) → OrWild whole (watched (traces list_machine (n - 0) s m) l ≡ watched (traces list_machine n s m) l)
 begun-by-list n whole s m l = let all : n - 0 ≡ n = omega arith in rw all (holds refl)

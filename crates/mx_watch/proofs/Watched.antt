@@ -2,8 +2,10 @@
 use Rattle.std.proofs.Common.{◌≡◌, ℕ, List, [], ◌∷◌, ◌++◌, length, map, refl, sym, ◌∙◌, ap}
 use Rattle.std.specs.List.{flat_map, range_with_len}
 use Rattle.std.proofs.lemmas.List.{append-nil, length-map}
+use Rattle.mx_plan.specs.Wild.{Course, ends, meets_wild}
 use Rattle.mx_code.specs.declared.trace.Trace.{Trace}
-use Rattle.mx_run.specs.WildRuns.{RunEnd, run_ended, run_wild}
+use Rattle.mx_run.specs.RunPlans.{RunWorld}
+use Rattle.mx_run.specs.declared.end.End.{End}
 use Rattle.mx_watch.specs.Hearing.{Hears}
 use Rattle.mx_watch.specs.Listening.{listening, starting, watched}
 use Rattle.mx_watch.specs.WatchedRuns.{UnlessWild, left_with_reports}
@@ -38,10 +40,10 @@ pub hears-nobody : {A : Type 0} (f : A → Watching) (ts : List Trace) (xs : Lis
 hears-nobody f ts xs K e = rw e (none-hear ts K)
 
 -- unless the list machine meets something wild
-pub either-way : (whole : RunEnd) (P : Type 0) → P → UnlessWild whole P
-either-way (run_ended e) P p = p
-either-way (run_wild m) P p = tt
+pub either-way : (whole : Course End RunWorld) (P : Type 0) → P → UnlessWild whole P
+either-way (ends end w) P p = p
+either-way (meets_wild w) P p = tt
 
-pub unless-by : (whole : RunEnd) (P Q : Type 0) → (P → Q) → UnlessWild whole P → UnlessWild whole Q
-unless-by (run_ended e) P Q f p = f p
-unless-by (run_wild m) P Q f p = tt
+pub unless-by : (whole : Course End RunWorld) (P Q : Type 0) → (P → Q) → UnlessWild whole P → UnlessWild whole Q
+unless-by (ends end w) P Q f p = f p
+unless-by (meets_wild w) P Q f p = tt

@@ -3,14 +3,15 @@
 use Rattle.std.specs.Prelude.{ℕ, ◌≡◌, ◌≢◌, IsTrue, false, List, Option, Result, Ok, Err}
 use Rattle.mx_host.specs.HostModel.{HostModel, tells, contents}
 use Rattle.mx_plan.specs.Plan.{Comes}
+use Rattle.mx_plan.specs.Wild.{Course, ends, meets_wild}
 use Rattle.mx_core.specs.Bounds.{as_list_state}
 use Rattle.mx_core.specs.State.{State}
 use Rattle.mx_code.specs.declared.trace.Trace.{Trace}
 use Rattle.mx_run.specs.AccompaniedRuns.{list_run}
-use Rattle.mx_run.specs.RunPlans.{running, step_plan}
+use Rattle.mx_run.specs.RunPlans.{RunWorld, running, step_plan}
 use Rattle.mx_run.specs.Runs.{no_flags}
 use Rattle.mx_run.specs.Turns.{went_on, turn}
-use Rattle.mx_run.specs.WildRuns.{RunEnd, run_ended, run_wild, window_machine, list_machine}
+use Rattle.mx_run.specs.WildRuns.{window_machine, list_machine}
 use Rattle.mx_run.specs.declared.end.End.{End}
 use Rattle.mx_run.specs.declared.end.End.TheVariants.{OutOfMemory}
 use Rattle.mx_watch.specs.Hearing.{Hears}
@@ -26,9 +27,9 @@ HearsRun old before n result watchers left earlier later =
     IsTrue (tells old) → result ≢ OutOfMemory → Hears (traces window_machine n before (contents old)) watchers left earlier later
 
 -- beside the list machine: where its run ends, and so meets nothing wild
-abbrev pub UnlessWild : RunEnd → Type 0 → Type 0
-UnlessWild (run_ended e) P = P
-UnlessWild (run_wild m) P = Unit {0}
+abbrev pub UnlessWild : Course End RunWorld → Type 0 → Type 0
+UnlessWild (ends end w) P = P
+UnlessWild (meets_wild w) P = Unit {0}
 
 -- the traces of the list machine in at most n steps from the list that a state stands for
 abbrev pub list_traces : Option HostModel → State → ℕ → List Trace
