@@ -7,7 +7,7 @@ use Rattle.mx_run.specs.Runs.{no_flags}
 use Rattle.mx_run.specs.WildRuns.{MachineKind, window_machine, list_machine, run_by}
 use Rattle.mx_watch.specs.Hearing.{Hears, heard_by}
 use Rattle.mx_watch.specs.Traces.{traces}
-use Rattle.mx_watch.specs.WatchedRuns.{UnlessWild as UnlessRunWild}
+use Rattle.mx_watch.specs.WatchedRuns.{UnlessWild}
 use Rattle.mx_watch.proofs.HeardBy.{hears-by}
 use Rattle.mx_outcome.specs.declared.outcome.Outcome.TheVariants.{OutOfMemory}
 use Rattle.mx_top.specs.Product.{told_of}
@@ -46,7 +46,7 @@ kept-quiet a s r ws earlier o =
 
 -- and of this what the run makes
 pub reported-hears : (a : Option HostModel) (s : State) (r : Outcome) (ws left : List Watching) (earlier later : List Report) (o : Order) → (IsTrue (tells a) → r ≢ OutOfMemory → Hears (traces window_machine o.steps s (contents a)) ws left earlier later) →
-    (IsTrue (tells a) → r ≢ OutOfMemory → UnlessRunWild (run_by list_machine o.steps no_flags false (as_list_state s) (contents a)) (Hears (traces list_machine o.steps (as_list_state s) (contents a)) ws left earlier later)) → HearsWork a s r ws left earlier later (work.reported_plan o)
+    (IsTrue (tells a) → r ≢ OutOfMemory → UnlessWild (run_by list_machine o.steps no_flags false (as_list_state s) (contents a)) (Hears (traces list_machine o.steps (as_list_state s) (contents a)) ws left earlier later)) → HearsWork a s r ws left earlier later (work.reported_plan o)
 reported-hears a s r ws left earlier later o window list = (
   λ t ne. hears-by (traces window_machine o.steps s (contents a)) ws left earlier later (window t ne) ∙ told window_machine s,
   λ t ne.

@@ -6,7 +6,7 @@ use Rattle.mx_host.specs.HostModel.{HostModel, tells, contents}
 use Rattle.mx_plan.specs.Calls.{host}
 use Rattle.mx_plan.specs.Clauses.{CarriesOut}
 use Rattle.mx_plan.specs.Plan.{Comes}
-use Rattle.mx_plan.specs.Wild.{Course, course, ends, meets_wild}
+use Rattle.mx_plan.specs.Wild.{Course, course}
 use Rattle.mx_core.specs.Bounds.{as_list_state}
 use Rattle.mx_core.specs.State.{State}
 use Rattle.mx_code.specs.declared.trace.Trace.{Trace}
@@ -17,6 +17,8 @@ use Rattle.mx_watch.specs.Watching.{Watching}
 use Rattle.mx_watch.specs.declared.telling.Report.{Report}
 use Rattle.mx_watch.proofs.AllReported.{all-reported}
 use Rattle.mx_watch.proofs.HeardBy.{by-hears, nothing-heard}
+use Rattle.mx_watch.proofs.Watched.{either-way}
+use Rattle.mx_watch.specs.WatchedRuns.{UnlessWild}
 use Rattle.mx_words.specs.Orders.{order_of}
 use Rattle.mx_words.specs.declared.order.Order.{Order}
 use Rattle.mx_words.specs.declared.order.WordsFault.{WordsFault}
@@ -28,17 +30,13 @@ use Rattle.mx_begin.specs.BeginPlans.{begin_plan}
 use Rattle.mx_begin.specs.declared.images.Form.{Form}
 use Rattle.mx_top.specs.MachineWork.{WorkPlan, machine_plan}
 use Rattle.mx_top.specs.Product.{ProgramPlan, ProgramWorld, program_goes, run_file, work_plan, answer_of, told_of, product_traces}
-use Rattle.mx_top.specs.Reports.{AreAsked, UnlessWild, due_reports, found_reports}
+use Rattle.mx_top.specs.Reports.{AreAsked, due_reports, found_reports}
 use Rattle.mx_top.specs.WorkClauses.{HearsPlan, HearsWork, told_by, work_by}
 use Rattle.mx_top.proofs.Spoken.{traces-of}
 use Rattle.mx_top.proofs.WorkParts.{begun_by, file-course}
 use Rattle.mx_top.proofs.WorkPlans.{tells-then}
 
 -- ---- what is heard
-
-unless-told : (a : Answer) (P : Type 0) → P → UnlessWild a P
-unless-told (ends outcome m) P p = p
-unless-told (meets_wild m) P p = tt
 
 -- no traces, so that the watchers stay as they are
 quiet : (ts : List Trace) (ws : List Watching) (earlier : List Report) → ts ≡ [] → (ws, earlier) ≡ heard_by ts ws earlier
@@ -47,11 +45,11 @@ quiet ts ws earlier none = nothing-heard ws earlier ∙ ap (λ h. heard_by h ws 
 pub quiet-work : (a : Option HostModel) (s : State) (r : Outcome) (ws : List Watching) (earlier : List Report) (work : WorkPlan Outcome) → ((kind : MachineKind) (t : State) (m : HostModel) → told_of (work_by kind work t m) ≡ []) → HearsWork a s r ws ws earlier earlier work
 quiet-work a s r ws earlier work none = (
   λ t ne. quiet _ ws earlier (none window_machine s (contents a)),
-  λ t ne. unless-told _ _ (quiet _ ws earlier (none list_machine (as_list_state s) (contents a))),
+  λ t ne. either-way _ _ (quiet _ ws earlier (none list_machine (as_list_state s) (contents a))),
 )
 
 pub quiet-plan : (a : Option HostModel) (r : Outcome) (ws : List Watching) (earlier : List Report) (plan : ProgramPlan Outcome) → (IsTrue (tells a) → r ≢ OutOfMemory → (kind : MachineKind) → told_by kind plan (contents a) ≡ []) → HearsPlan a r ws ws earlier earlier plan
-quiet-plan a r ws earlier plan none = (λ t ne. quiet _ ws earlier (none t ne window_machine), λ t ne. unless-told _ _ (quiet _ ws earlier (none t ne list_machine)))
+quiet-plan a r ws earlier plan none = (λ t ne. quiet _ ws earlier (none t ne window_machine), λ t ne. either-way _ _ (quiet _ ws earlier (none t ne list_machine)))
 
 -- what is heard in a run that was begun is heard in the whole
 pub begun-heard : (a b : Option HostModel) (r : Outcome) (ws left : List Watching) (earlier later : List Report) (words : List Word) (o : Order) (form : Form) (s : State) → tells b ≡ tells a → CarriesOut a b (Err OutOfMemory) (Ok s) (begin_plan window_machine words o form) →
@@ -74,10 +72,6 @@ unbegun-heard a b r ws earlier words o form first listed = quiet-plan a r ws ear
     by : IsTrue (tells a) → r ≢ OutOfMemory → (kind : MachineKind) → told_by kind (run_file words o form) (contents a) ≡ []
     by t ne window_machine = none window_machine ne (first t)
     by t ne list_machine = none list_machine ne (listed t)
-
-pub unless-by : (a : Answer) (P Q : Type 0) → (P → Q) → UnlessWild a P → UnlessWild a Q
-unless-by (ends outcome m) P Q f p = f p
-unless-by (meets_wild m) P Q f p = tt
 
 -- from no reports
 pub from-none : (h : List Trace) (ws : List Watching) (K : List Report) (x : List Watching × List Report) → K ≡ [] → x ≡ heard_by h ws K → x ≡ heard_by h ws []

@@ -19,14 +19,13 @@ use Rattle.mx_con.specs.Session.{session}
 use Rattle.mx_con.specs.SessionPlans.{SessionWorld}
 use Rattle.mx_con.specs.declared.end.SessionEnd.{SessionEnd}
 use Rattle.mx_watch.specs.Traces.{traces}
-use Rattle.mx_watch.specs.WatchedRuns.{UnlessWild as UnlessRunWild}
+use Rattle.mx_watch.specs.WatchedRuns.{UnlessWild}
 use Rattle.mx_word.specs.Lists.{IsFront}
 use Rattle.mx_word.proofs.Fronts.{front-through}
 use Rattle.mx_files.specs.Answers.{Answer, GoesAs}
 use Rattle.mx_outcome.specs.declared.outcome.Outcome.{Outcome}
 use Rattle.mx_top.specs.MachineWork.{Work, WorkPlan, work_goes, calling, stepping, reporting, keeping, sitting, ran, sat}
 use Rattle.mx_top.specs.Product.{ProgramWorld, at_start, worked, answer_of, told_of}
-use Rattle.mx_top.specs.Reports.{UnlessWild}
 use Rattle.mx_top.specs.Runs.{outcome_of, session_outcome}
 use Rattle.mx_top.specs.WorkClauses.{work_by}
 use Rattle.mx_top.proofs.Followed.{ComesTo}
@@ -145,11 +144,11 @@ unfolding course
 session-told kind n s m work follow made = session-told-by kind n (session kind n s no_flags m) (at_start s (m, [])) work follow made
 
 -- what is heard of a run is heard of what follows it
-heard-after : (n : ℕ) (c : Course End RunWorld) (w : Work) (work : Outcome → WorkPlan Outcome) (follow : Follow) (P Q : Type 0) → Made work follow → (P → Q) → UnlessRunWild c P → UnlessWild (answer_of (after-run list_machine n work w c)) Q
+heard-after : (n : ℕ) (c : Course End RunWorld) (w : Work) (work : Outcome → WorkPlan Outcome) (follow : Follow) (P Q : Type 0) → Made work follow → (P → Q) → UnlessWild c P → UnlessWild (answer_of (after-run list_machine n work w c)) Q
 heard-after n (ends e x) w work follow P Q made f p = subst (λ (y : Course Outcome ProgramWorld). UnlessWild (answer_of y) Q) (sym ((made (outcome_of n e) (record w { machine = x.0; host = x.1 })).goes list_machine)) (f p)
 heard-after n (meets_wild x) w work follow P Q made f p = tt
 
-pub reported-heard : (n : ℕ) (s : State) (m : HostModel) (work : Outcome → WorkPlan Outcome) (follow : Follow) (P Q : Type 0) → Made work follow → (P → Q) → UnlessRunWild (run_by list_machine n no_flags false s m) P →
+pub reported-heard : (n : ℕ) (s : State) (m : HostModel) (work : Outcome → WorkPlan Outcome) (follow : Follow) (P Q : Type 0) → Made work follow → (P → Q) → UnlessWild (run_by list_machine n no_flags false s m) P →
     UnlessWild (answer_of (work_by list_machine (calling (reporting n) (λ end. work (outcome_of n end))) s m)) Q
 unfolding course
 reported-heard n s m work follow P Q made f p = heard-after n (run_by list_machine n no_flags false s m) (at_start s (m, traces list_machine n s m)) work follow P Q made f p

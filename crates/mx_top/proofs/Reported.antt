@@ -18,7 +18,8 @@ use Rattle.mx_outcome.specs.declared.outcome.Outcome.{Outcome}
 use Rattle.mx_begin.specs.Arguments.{Word}
 use Rattle.mx_top.specs.Product.{ProgramPlan, work_plan, product, product_traces}
 use Rattle.mx_top.proofs.Spoken.{product-is-said}
-use Rattle.mx_top.specs.Reports.{UnlessWild, due_reports, watched_product}
+use Rattle.mx_watch.specs.WatchedRuns.{UnlessWild}
+use Rattle.mx_top.specs.Reports.{due_reports, watched_product}
 use Rattle.mx_top.specs.Telling.{reports_plan, with_message, with_reports}
 use Rattle.mx_top.specs.WorkClauses.{Doing, KeepsSaying, answer_by}
 use Rattle.mx_top.proofs.Answering.{goes-as}

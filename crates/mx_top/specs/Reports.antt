@@ -2,11 +2,11 @@
 use Rattle.std.specs.Prelude.{ℕ, ◌≡◌, ◌≢◌, IsTrue, true, if◌then◌else◌, List, [], Option, Result, Ok, Err}
 use Rattle.std.specs.List.{range_with_len}
 use Rattle.mx_host.specs.HostModel.{HostModel, tells, contents}
-use Rattle.mx_plan.specs.Wild.{ends, meets_wild}
 use Rattle.mx_code.specs.declared.trace.Trace.{Trace}
 use Rattle.mx_run.specs.WildRuns.{MachineKind, window_machine, list_machine}
 use Rattle.mx_watch.specs.Hearing.{heard_by}
 use Rattle.mx_watch.specs.Reporting.{in_places, reports_on, texts_now}
+use Rattle.mx_watch.specs.WatchedRuns.{UnlessWild}
 use Rattle.mx_watch.specs.Watching.{Watching}
 use Rattle.mx_watch.specs.declared.telling.Report.{Report}
 use Rattle.mx_words.specs.Orders.{order_of}
@@ -48,11 +48,7 @@ abbrev pub HearsAs : Option HostModel → Outcome → List Watching → List Wat
 HearsAs old result watchers left earlier later f =
     IsTrue (tells old) → result ≢ OutOfMemory → (left, later) ≡ heard_by (f (contents old)) watchers earlier
 
--- unless the answer meets something wild
-abbrev pub UnlessWild : Answer → Type 0 → Type 0
-UnlessWild (ends outcome m) P = P
-UnlessWild (meets_wild m) P = Unit {0}
-
+-- the same, unless the answer of a is wild
 abbrev pub HearsAsList : Option HostModel → Outcome → List Watching → List Watching → List Report → List Report → (HostModel → Answer) → (HostModel → List Trace) → Type 0
 HearsAsList old result watchers left earlier later a f =
     IsTrue (tells old) → result ≢ OutOfMemory → UnlessWild (a (contents old)) ((left, later) ≡ heard_by (f (contents old)) watchers earlier)

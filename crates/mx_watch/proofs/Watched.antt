@@ -4,8 +4,6 @@ use Rattle.std.specs.List.{flat_map, range_with_len}
 use Rattle.std.proofs.lemmas.List.{append-nil, length-map}
 use Rattle.mx_plan.specs.Wild.{Course, ends, meets_wild}
 use Rattle.mx_code.specs.declared.trace.Trace.{Trace}
-use Rattle.mx_run.specs.RunPlans.{RunWorld}
-use Rattle.mx_run.specs.declared.end.End.{End}
 use Rattle.mx_watch.specs.Hearing.{Hears}
 use Rattle.mx_watch.specs.Listening.{listening, starting, watched}
 use Rattle.mx_watch.specs.WatchedRuns.{UnlessWild, left_with_reports}
@@ -40,10 +38,10 @@ pub hears-nobody : {A : Type 0} (f : A → Watching) (ts : List Trace) (xs : Lis
 hears-nobody f ts xs K e = rw e (none-hear ts K)
 
 -- unless the list machine meets something wild
-pub either-way : (whole : Course End RunWorld) (P : Type 0) → P → UnlessWild whole P
-either-way (ends end w) P p = p
+pub either-way : {A W : Type 0} (whole : Course A W) (P : Type 0) → P → UnlessWild whole P
+either-way (ends a w) P p = p
 either-way (meets_wild w) P p = tt
 
-pub unless-by : (whole : Course End RunWorld) (P Q : Type 0) → (P → Q) → UnlessWild whole P → UnlessWild whole Q
-unless-by (ends end w) P Q f p = f p
+pub unless-by : {A W : Type 0} (whole : Course A W) (P Q : Type 0) → (P → Q) → UnlessWild whole P → UnlessWild whole Q
+unless-by (ends a w) P Q f p = f p
 unless-by (meets_wild w) P Q f p = tt

@@ -8,7 +8,7 @@ use Rattle.mx_core.specs.Bounds.{as_list_state}
 use Rattle.mx_core.specs.State.{State}
 use Rattle.mx_code.specs.declared.trace.Trace.{Trace}
 use Rattle.mx_run.specs.AccompaniedRuns.{list_run}
-use Rattle.mx_run.specs.RunPlans.{RunWorld, running, step_plan}
+use Rattle.mx_run.specs.RunPlans.{running, step_plan}
 use Rattle.mx_run.specs.Runs.{no_flags}
 use Rattle.mx_run.specs.Turns.{went_on, turn}
 use Rattle.mx_run.specs.WildRuns.{window_machine, list_machine}
@@ -26,9 +26,9 @@ abbrev pub HearsRun : Option HostModel → State → ℕ → End → List Watchi
 HearsRun old before n result watchers left earlier later =
     IsTrue (tells old) → result ≢ OutOfMemory → Hears (traces window_machine n before (contents old)) watchers left earlier later
 
--- beside the list machine: where its run ends, and so meets nothing wild
-abbrev pub UnlessWild : Course End RunWorld → Type 0 → Type 0
-UnlessWild (ends end w) P = P
+-- beside the list machine: where it comes to an end, and so meets nothing wild
+abbrev pub UnlessWild : {A W : Type 0} → Course A W → Type 0 → Type 0
+UnlessWild (ends a w) P = P
 UnlessWild (meets_wild w) P = Unit {0}
 
 -- the traces of the list machine in at most n steps from the list that a state stands for

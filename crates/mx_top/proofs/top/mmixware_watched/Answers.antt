@@ -5,7 +5,8 @@ use Rattle.mx_host.specs.HostModel.{contents}
 use Rattle.mx_run.specs.WildRuns.{window_machine, list_machine}
 use Rattle.mx_words.specs.Orders.{order_of}
 use Rattle.mx_outcome.specs.declared.outcome.Outcome.TheVariants.{OutOfMemory}
-use Rattle.mx_top.proofs.Heard.{found-due, from-none, left-of, some-due, unless-by}
+use Rattle.mx_watch.proofs.Watched.{unless-by}
+use Rattle.mx_top.proofs.Heard.{found-due, from-none, left-of, some-due}
 use Rattle.mx_top.specs.Product.{product_traces, work_plan}
 use Rattle.mx_top.specs.WorkClauses.{answer_by}
 use Rattle.mx_top.proofs.Spoken.{product-is-said, traces-of, answer-is, front-is, plan-comes}
