@@ -67,7 +67,7 @@ spent-so n i w start l r = rest-spent-both n i no_flags false w start (run_plan 
 
 -- so beside the list machine, where what goes along has memory
 pub ended-listed : (n i : ℕ) (why : End) (s t u : State) (m k h : HostModel) → i < n → HasWindow s → why ≢ OutOfMemory → (Err why, (t, k)) ≡ end_of running (step_plan no_flags false) (s, m) →
-    Rest n (n - i) (s, m) (u, h) → u.touched ≡ false → GoesAsList (run_by list_machine n no_flags false (as_list_state u) h) (ended why t k)
+    Rest n (n - i) (s, m) (u, h) → u.touched ≡ false → GoesAsList (run_by list_machine n no_flags false (as_list_state u) h) why (t, k)
 ended-listed n i why s t u m k h l w ne e r o =
     run-listed n no_flags false u t h k why (ended-so n i why s t m k (u, h) l w r (record { ending = λ x. e; stopping = λ x. absurd (ne (cc)) })) ne o
 

@@ -171,8 +171,12 @@ pub ruleset following = (spent-follows, over-stays, wild-stays)
 
 -- ---- of the machine over a window
 
+abbrev end_of_run : Course End RunWorld → Ended
+end_of_run (ends end w) = ended end w.0 w.1
+end_of_run (meets_wild w) = ended OutOfMemory w.0 w.1
+
 ended-both : (x y : Ended) → run_ended x ≡ run_ended y → x ≡ y
-ended-both x y e = cc
+ended-both x y e = ap end_of_run e
 
 pub run-spent : (i j : ℕ) (f : FlagsOf) (s t : State) (m k : HostModel) → run i f false s m ≡ ended Spent t k → run (i + j) f false s m ≡ run j f false t k
 run-spent i j f s t m k e =
