@@ -5,7 +5,7 @@ use Rattle.mx_plan.specs.Plan.{returns, calls, bind, end_of, Stops}
 use Rattle.mx_plan.specs.Calls.{host, HostPlan}
 use Rattle.mx_plan.specs.Wild.{Course, ends, then_on, course, carried}
 use Rattle.mx_core.specs.State.{State}
-use Rattle.mx_run.specs.WildRuns.{run_goes}
+use Rattle.mx_run.specs.WildRuns.{run_goes, run_by}
 use Rattle.mx_run.specs.RunPlans.{turning, looking, RunWorld, RunPlan, running, run_plan}
 use Rattle.mx_run.specs.Runs.{FlagsOf}
 use Rattle.mx_run.specs.WildRuns.{MachineKind, window_machine}

@@ -75,15 +75,15 @@ none-after more pc (stops reason s m) end e = refl
 ended-by : (n i : ℕ) (whole : Course End RunWorld) (s : State) (m : HostModel) (end : End) (l goal : Listening) (c : Bool) → turn_is_wild s ≡ c → i < n → TurnWindow s → s.touched ≡ false → Err end ≡ end_of_turn no_flags s.pc (turn_answer (turn s m)).0 →
     whole ≡ run_by list_machine (n - i) no_flags false (as_list_state s) m → watched (traces list_machine (n - i) (as_list_state s) m) l ≡ goal → OrWild whole (l ≡ goal)
 unfolding watched
-ended-by n i whole s m end l goal true e inside h u ends so heard = wild (as_list_state s, m) (so ∙ meets-wild n i s m inside h u e)
-ended-by n i whole s m end l goal false e inside h u ends so heard =
-    holds (sym (ap (λ ts. watched ts l) (traces-on n i s m inside h u e ∙ none-after (traces list_machine (n - (i + 1))) s.pc (turn s m) end ends)) ∙ heard)
+ended-by n i whole s m end l goal true e inside h u over so heard = wild (as_list_state s, m) (so ∙ meets-wild n i s m inside h u e)
+ended-by n i whole s m end l goal false e inside h u over so heard =
+    holds (sym (ap (λ ts. watched ts l) (traces-on n i s m inside h u e ∙ none-after (traces list_machine (n - (i + 1))) s.pc (turn s m) end over)) ∙ heard)
 
 ended-beside : (n i : ℕ) (whole : Course End RunWorld) (s : State) (m : HostModel) (end : End) (l goal : Listening) → i < n → TurnWindow s → Err end ≡ end_of_turn no_flags s.pc (turn_answer (turn s m)).0 →
     Beside whole (run_by list_machine (n - i) no_flags false (as_list_state s) m) s → OrWild whole (watched (traces list_machine (n - i) (as_list_state s) m) l ≡ goal) → OrWild whole (l ≡ goal)
-ended-beside n i whole s m end l goal inside h ends (was_wild g e) w = wild g e
-ended-beside n i whole s m end l goal inside h ends (as_list u e) (wild g x) = wild g x
-ended-beside n i whole s m end l goal inside h ends (as_list u e) (holds p) = ended-by n i whole s m end l goal (turn_is_wild s) refl inside h u ends e p
+ended-beside n i whole s m end l goal inside h over (was_wild g e) w = wild g e
+ended-beside n i whole s m end l goal inside h over (as_list u e) (wild g x) = wild g x
+ended-beside n i whole s m end l goal inside h over (as_list u e) (holds p) = ended-by n i whole s m end l goal (turn_is_wild s) refl inside h u over e p
 
 end-of-step : (s t : State) (m k : HostModel) (end : End) → (Err end, t, k) ≡ run_step no_flags false s m → Err end ≡ end_of_turn no_flags s.pc (turn_answer (turn s m)).0
 unfolding run_step
