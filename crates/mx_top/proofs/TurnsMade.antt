@@ -7,6 +7,7 @@ use Rattle.mx_plan.specs.Wild.{Course, then_on, course, ends}
 use Rattle.mx_mmo.specs.Image.{Image}
 use Rattle.mx_run.specs.WildRuns.{MachineKind, window_machine, list_machine}
 use Rattle.mx_multi.specs.Clauses.{GoAsLists}
+use Rattle.mx_multi.specs.JointTurns.{JointWorld}
 use Rattle.mx_multi.specs.Joint.{Joint, as_list_joint}
 use Rattle.mx_multi.specs.MultiPlans.{multi, turns_plan}
 use Rattle.mx_multi.specs.Turns.{turns}
