@@ -3,7 +3,7 @@ use Rattle.std.proofs.Common.{◌≡◌, ◌≢◌, ◌⊎◌, inl, inr, ℕ, Li
 use Rattle.mx_host.specs.HostModel.{HostModel}
 use Rattle.mx_plan.specs.Calls.{host, HostPlan}
 use Rattle.mx_plan.specs.Plan.{end_of, Stops, Comes}
-use Rattle.mx_plan.specs.Wild.{Course, then_on, course, ends}
+use Rattle.mx_plan.specs.Wild.{Course, ends, meets_wild, then_on, course}
 use Rattle.mx_mmo.specs.Image.{Image}
 use Rattle.mx_run.specs.WildRuns.{MachineKind, window_machine, list_machine}
 use Rattle.mx_multi.specs.Clauses.{GoAsLists}
