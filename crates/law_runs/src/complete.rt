@@ -18,7 +18,6 @@ ghost use Rattle.mx_plan.specs.Counts.{NoneFailed, unscheduled, without_count};
 ghost use Rattle.mx_run.specs.WildRuns.{MachineKind};
 ghost use Rattle.mx_words.specs.declared.order.Command.{Command};
 ghost use Rattle.mx_words.specs.declared.order.Order.{Order};
-
 ghost use Rattle.mx_begin.specs.Arguments.{Word, word_at, arguments};
 ghost use Rattle.law_runs.specs.Complete.{HasObject, HasSource, IsGenerated, IsHalted, IsOrdered, IsPlayed, IsStarted};
 ghost use Rattle.law_runs.specs.Complete.{IsThere, IsWritten, ObjectIsThere, SourceIsThere, image_answer};

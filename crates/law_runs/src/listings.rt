@@ -21,7 +21,6 @@ ghost use Rattle.mx_stab.specs.declared.faults.StabFault.{StabFault};
 ghost use Rattle.mx_type.specs.Listing.{AreLines, IsListing};
 ghost use Rattle.mx_words.specs.declared.order.Command.{Command};
 ghost use Rattle.mx_words.specs.declared.order.Order.{Order};
-
 ghost use Rattle.mx_begin.specs.Arguments.{Word, word_at};
 ghost use Rattle.mx_top.specs.Product.{product};
 ghost use Rattle.mx_top.specs.Telling.{with_message};

@@ -9,7 +9,6 @@ ghost use Rattle.mx_plan.specs.Plan.{end_of};
 ghost use Rattle.mx_run.specs.Runs.{no_flags};
 ghost use Rattle.mx_run.specs.WildRuns.{MachineKind, window_machine, list_machine, run_by};
 ghost use Rattle.mx_watch.specs.Watching.{Watching};
-
 ghost use Rattle.mx_outcome.specs.declared.outcome.Outcome.{Outcome};
 ghost use Rattle.mx_words.specs.Orders.{order_of};
 ghost use Rattle.mx_words.specs.Values.{blocks_value, ring_value};
