@@ -10,7 +10,7 @@ use Rattle.mx_host.specs.Keeping.{Answers, ComesByFault, Keeps, OnlyAddsOutput, 
 use Rattle.mx_plan.specs.Wild.{ends, meets_wild}
 use Rattle.mx_run.specs.WildRuns.{MachineKind, window_machine, list_machine}
 use Rattle.mx_begin.specs.Arguments.{Word, arguments, word_at}
-use Rattle.mx_count.specs.Runs.{CountAnswer, CountsByKind, GoesAs as CountGoesAs}
+use Rattle.mx_count.specs.Runs.{CountAnswer, CountsByKind}
 use Rattle.mx_face.specs.Pages.{FaultsBetween, IsOfView, page_put}
 use Rattle.mx_face.specs.declared.page.Page.{Page}
 use Rattle.mx_face.proofs.Faults.{faults-nowhere}
@@ -49,7 +49,7 @@ goes-by : (y : Answer) (r : Outcome) (n : HostModel) → ends r n ≡ y → Goes
 goes-by y r n e = subst (λ z. GoesAs z r n) e (refl, refl)
 
 goes-shown : {A : Type 0} (page : A → Page) (y : CountAnswer A) (x : A) (r : Outcome) (m n : HostModel) → (r, n) ≡ page_put (page x) m → IsFront m.output n.output →
-    CountGoesAs y x m → GoesAs (page_after page y) r n
+    GoesAs y x m → GoesAs (page_after page y) r n
 goes-shown page (ends z k) x r m n shown grows goes =
     goes-by (plainly (page_put (page z) k)) r n (ap plainly (shown ∙ (λ i. page_put (page (goes.0 i)) (goes.1 i))))
 goes-shown page (meets_wild k) x r m n shown grows goes = front-through k.output m.output n.output goes grows
