@@ -1,5 +1,9 @@
 use Rattle.mx_replay.proofs.kept.go_near.Goals as goal
 
+pub returns-in_err-come_near-2-clause-kept : goal.returns-in_err-come_near-2-clause-kept
+returns-in_err-come_near-2-clause-kept c = λ p s a.
+    c.in_err-come_near-2.ensures.kept p (c.in_ok-come_near.ensures.step p s) (c.in_ok-come_near.ensures.kept p s a)
+
 pub returns-clause-kept : goal.returns-clause-kept
 returns-clause-kept c = λ p s a.
     let far = c.in_ok-come_near.ensures.step p s in
