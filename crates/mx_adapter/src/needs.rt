@@ -173,14 +173,10 @@ fn find_part_lack(
     message: &Value,
 ) -> Result<Option<Bytes>, NoMemory> {
     let needs = part_needs_of(command);
-<<<<<<< HEAD
     for (number, part) in list_at(message, "/arguments/breakpoints")
         .iter()
         .enumerate()
     {
-=======
-    for (number, part) in list_at(message, "/arguments/breakpoints").iter().enumerate() {
->>>>>>> dap/dap
         if let Some(need) = find_unmet(needs, part) {
             let mut text = Bytes::new(alloc);
             add_number(&mut text, b"breakpoints[", number as u64)?;

@@ -226,16 +226,12 @@ impl Session {
 
     /// Tells that a message is no request: it has no answer.
     fn tell_no_request(&mut self) -> Result<Flow, NoMemory> {
-<<<<<<< HEAD
         tell_text(
             self.alloc,
             &mut self.out,
             b"stderr",
             b"this is no request\n",
         )?;
-=======
-        tell_text(self.alloc, &mut self.out, b"stderr", b"this is no request\n")?;
->>>>>>> dap/dap
         Ok(Flow::Going)
     }
 
