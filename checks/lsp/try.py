@@ -117,8 +117,11 @@ def main():
     server.change(URI, PROGRAM_TEXT)
     outline = server.ask("textDocument/documentSymbol", {"textDocument": {"uri": URI}})["result"]
     want("the labels", [s["name"] for s in outline] == ["Size", "Main"], outline)
-    words = server.at("completion", URI, 2, 6)["result"]["items"]
-    want("the words", {"SETL", "Main", "GREG"} <= {w["label"] for w in words})
+    words = server.at("completion", URI, 2, 5)["result"]["items"]
+    want("all words", {"SETL", "Main", "Size", "GREG", "StdOut"} <= {w["label"] for w in words})
+    for column, found in ((7, ["SET", "SETH", "SETMH", "SETML", "SETL"]), (15, ["Size"])):
+        words = [w["label"] for w in server.at("completion", URI, 2, column)["result"]["items"]]
+        want("the words that begin so", words == found, words)
     form = server.at("signatureHelp", URI, 2, 12)["result"]
     want("SETL is written", form and form["signatures"][0]["label"] == "SETL $X,YZ", form)
     changes = server.ask("textDocument/formatting", {"textDocument": {"uri": URI}, "options": {}})

@@ -1,14 +1,11 @@
 //! The server's answers to the messages of the Language Server Protocol: each is a function of the texts that are open.
 #![tactic(auto)]
 
-mod completion;
 mod documents;
-mod hover;
 mod laws;
 mod lines;
 mod message;
 mod session;
-mod signature;
 
 pub use documents::{Document, Documents};
 pub use laws::the_text_of_a_name_is_the_last_that_came;

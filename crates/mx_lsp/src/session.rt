@@ -6,16 +6,14 @@ ghost use Rattle.mx_diagnostics.specs.Published as notices;
 ghost use Rattle.mx_wire.specs.Replies.{refusal_body};
 ghost use Rattle.mx_lsp.specs.Sessions as spec;
 
-use crate::completion::completion;
 use crate::documents::{Documents, text_of, with_text, without};
-use crate::hover::hover;
 use crate::lines::{Place, place_at};
 use crate::message::{
     Method, id_of, last_change, method_of, number_at, text_at, uri_of, wants_label,
 };
-use crate::signature::signature;
 use mx_changes::{Change, formatting_of, rename};
 use mx_diagnostics::{published, withdrawn};
+use mx_hover::{completion, hover, signature};
 use mx_references::{definition, highlights, name_range, outline, references};
 use mx_wire::{Refused, refusal_of, result_of};
 use mx_word::{Bytes, NoMemory, Sequence};
@@ -80,7 +78,7 @@ fn result_in(
     let uri = uri_of(message);
     let place = place_of_message(message, source);
     match method {
-        Method::Hover => hover(alloc, place, source),
+        Method::Hover => hover(alloc, place.line, place.from, source),
         Method::Definition => definition(alloc, uri, place.line, place.from, source),
         Method::References => {
             let has_labels = wants_label(message);
@@ -89,8 +87,8 @@ fn result_in(
         Method::Highlight => highlights(alloc, place.line, place.from, source),
         Method::PrepareRename => name_range(alloc, place.line, place.from, source),
         Method::Symbols => outline(alloc, source),
-        Method::Completion => completion(alloc, source),
-        Method::Signature => signature(alloc, place, source),
+        Method::Completion => completion(alloc, place.line, place.from, source),
+        Method::Signature => signature(alloc, place.line, place.from, source),
         _ => Bytes::copy(alloc, b"null"),
     }
 }
