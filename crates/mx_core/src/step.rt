@@ -8,8 +8,10 @@ ghost use Rattle.mx_core.specs.Kept.{state_of};
 ghost use Rattle.mx_core.specs.Step as spec;
 ghost use Rattle.mx_code.specs.Told.{answer_in};
 ghost use Rattle.mx_core.specs.Walks.{Goes};
+ghost use Rattle.mx_core.specs.Way.KeptPage.{IsHere, address_in};
 ghost use Rattle.mx_core.specs.Way.Stepping.{advanced, needs_page, step_answer, step_needs_page};
 
+use crate::along::Next;
 use crate::bounds::machines_keep_the_invariant;
 use crate::{Machine, Reason, Trace};
 use mx_alu::TrapCall;
@@ -136,7 +138,7 @@ impl Machine {
                 };
             }
             machines_keep_the_invariant(self);
-            match self.advance_quickly() {
+            match self.advance_and_keep() {
                 Advance::Went => {}
                 last => {
                     return Advanced {
@@ -153,36 +155,56 @@ impl Machine {
         }
     }
 
-    /// At most `n` steps, up to the first that is no usual one. How many of them are left. Instructions that call larger
-    /// functions are made elsewhere, which leaves more of the processor's registers to this loop.
+    /// At most `n` steps on the page of instructions that is kept, up to the first that is no usual one or leads
+    /// elsewhere. How many of the `n` are left.
     #[inline(always)]
     fn make_usual_ones(&mut self, n: u64) -> u64
         ensures goes { Goes (n - result) (state_of self.old) (state_of self.new) }
         ensures most { result ≤ n }
     {
+        match self.find_index() {
+            Some(index) => self.make_from(index, n),
+            None => n,
+        }
+    }
+
+    /// The same from the instruction with a number on, which is the next one.
+    #[inline(always)]
+    fn make_from(&mut self, first: u64, n: u64) -> u64
+        requires here { IsHere self.old first }
+        requires at { (state_of self.old).pc ≡ address_in self.old first }
+        ensures goes { Goes (n - result) (state_of self.old) (state_of self.new) }
+        ensures most { result ≤ n }
+    {
+        let mut index = first;
         let mut left = n;
         while left > 0 {
             machines_keep_the_invariant(self);
-            if !self.advance_if_usual() {
-                return left;
+            match self.advance_at(index) {
+                Next::At(j) => index = j,
+                Next::Away(j) => {
+                    self.place_at(j);
+                    return left - 1;
+                }
+                Next::Unmade => {
+                    self.place_at(index);
+                    return left;
+                }
             }
             left -= 1;
         }
+        self.place_at(index);
         0
     }
 
-    /// One step without its trace, first as a frequent one that calls others. Where it is none, the page of its
-    /// instruction is kept.
+    /// One step without its trace, after which the page of its instruction is kept.
     #[inline(always)]
-    fn advance_quickly(&mut self) -> Advance
+    fn advance_and_keep(&mut self) -> Advance
         ensures answer { result ≢ Advance.OutOfMemory →
             (result, state_of self.new) ≡ advanced (state_of self.old) (spec.step (state_of self.old)) }
         ensures memory { result ≡ Advance.OutOfMemory → state_of self.new ≡ state_of self.old }
         ensures lacks_memory { result ≡ Advance.OutOfMemory → IsTrue (step_needs_page (state_of self.old)) }
     {
-        if self.advance_if_calling() {
-            return Advance::Went;
-        }
         let answer = self.advance_general();
         self.keep_code();
         answer

@@ -27,5 +27,5 @@ loop-left-preserved c =
     let left = c.make_usual_ones-left.result in
     let made = c.args.n - left in
     let more : c.args.n - (left - 1) ≡ suc made = omega (arith, c.if-left-eq0.false, c.loop-left.invariant.0, c.make_usual_ones-left.ensures.most) in
-    let one = goes-end made s (state_of c.make_usual_ones-left.new.self) (state_of c.advance_quickly.new.self) (record { window = c.make_usual_ones-left.new.self.ring; machine = c.machines_keep_the_invariant.ensures }) (up-to c.before) (c.in-Went.ensures.answer other) in
-    (omega (arith, c.loop-left.invariant.0, c.make_usual_ones-left.ensures.most), subst (λ k. Goes k s (state_of c.advance_quickly.new.self)) (sym more) one)
+    let one = goes-end made s (state_of c.make_usual_ones-left.new.self) (state_of c.advance_and_keep.new.self) (record { window = c.make_usual_ones-left.new.self.ring; machine = c.machines_keep_the_invariant.ensures }) (up-to c.before) (c.in-Went.ensures.answer other) in
+    (omega (arith, c.loop-left.invariant.0, c.make_usual_ones-left.ensures.most), subst (λ k. Goes k s (state_of c.advance_and_keep.new.self)) (sym more) one)
