@@ -9,5 +9,7 @@ pub mod StepCounts
 pub mod StepMarks
 pub mod Choices
 pub mod UsualSteps
+mod Placed
+mod Along
 mod Walks
 pub mod BareStarts

@@ -16,7 +16,7 @@ number-new : (c : goal.After-add-arg-in-Ok-1) → c.in-Ok.page.0 ≡ c.args.a / 
 number-new c = ap (λ (p : ℕ × List ℕ). p.0) c.in-Ok.ensures
 
 place-new : (c : goal.After-add-arg-in-Ok-1) → get nat_cmp c.self.inside.places (c.args.a / 4096) ≡ None
-place-new c = not-found c.self.inside.pages.items c.self.inside.places _ (c.args.a / 4096) (ap (λ (m : Stored). m.pages) c.self.view_is) c.requires.new
+place-new c = not-found c.self.inside.pages.items c.self.inside.places c.args.self.now (c.args.a / 4096) (ap (λ (m : Stored). m.pages) c.self.view_is) c.requires.new
 
 octas-new : (c : goal.After-add-arg-in-Ok-1) → c.in-Ok.page.1 ≡ set (replicate 512 0) (c.args.a / 8 % 512) c.args.x
 octas-new c = ap (λ (p : ℕ × List ℕ). p.1) c.in-Ok.ensures

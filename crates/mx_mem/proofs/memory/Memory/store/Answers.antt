@@ -35,35 +35,35 @@ invariant_of-self c =
 pub returns-in-Some-clause-octas : goal.returns-in-Some-clause-octas
 returns-in-Some-clause-octas c =
     ap (λ pages. octa_on (view_of pages c.self.inside.places.entries)) (pages-after c)
-    ∙ stored-octas c.self.inside.pages.items c.self.inside.places _ c.args.a c.args.x c.in-Some.place c.self.invariant.indexed c.self.invariant.bounded (ap (λ (m : Stored). m.pages) c.self.view_is) c.in-Some.ensures.place
+    ∙ stored-octas c.self.inside.pages.items c.self.inside.places c.args.self.now c.args.a c.args.x c.in-Some.place c.self.invariant.indexed c.self.invariant.bounded (ap (λ (m : Stored). m.pages) c.self.view_is) c.in-Some.ensures.place
 
 pub returns-in-Some-clause-pages : goal.returns-in-Some-clause-pages
 returns-in-Some-clause-pages c =
     ap (λ pages. page_on (view_of pages c.self.inside.places.entries)) (pages-after c)
-    ∙ stored-pages c.self.inside.pages.items c.self.inside.places _ (c.args.a / 4096) (c.args.a / 8 % 512) c.args.x c.in-Some.place (ap (λ (m : Stored). m.pages) c.self.view_is) c.in-Some.ensures.place
+    ∙ stored-pages c.self.inside.pages.items c.self.inside.places c.args.self.now (c.args.a / 4096) (c.args.a / 8 % 512) c.args.x c.in-Some.place (ap (λ (m : Stored). m.pages) c.self.view_is) c.in-Some.ensures.place
 
 pub returns-in-Some-clause-count : goal.returns-in-Some-clause-count
 returns-in-Some-clause-count c =
-    let there : has_page c.args.self.now (c.args.a / 4096) ≡ true = stored-there c.self.inside.pages.items c.self.inside.places _ (c.args.a / 4096) c.in-Some.place (ap (λ (m : Stored). m.pages) c.self.view_is) c.in-Some.ensures.place in
+    let there : has_page c.args.self.now (c.args.a / 4096) ≡ true = stored-there c.self.inside.pages.items c.self.inside.places c.args.self.now (c.args.a / 4096) c.in-Some.place (ap (λ (m : Stored). m.pages) c.self.view_is) c.in-Some.ensures.place in
     ap (λ pages. count_on (view_of pages c.self.inside.places.entries)) (pages-after c)
     ∙ stored-count c.self.inside.pages.items c.self.inside.places c.args.self.now (c.args.a / 8 % 512) c.args.x c.in-Some.place (ap (λ (m : Stored). m.pages) c.self.view_is)
     ∙ grind (arith, common_steps)
 
 pub returns-in-Some-clause-full : goal.returns-in-Some-clause-full
 returns-in-Some-clause-full c =
-    let there : has_page c.args.self.now (c.args.a / 4096) ≡ true = stored-there c.self.inside.pages.items c.self.inside.places _ (c.args.a / 4096) c.in-Some.place (ap (λ (m : Stored). m.pages) c.self.view_is) c.in-Some.ensures.place in
+    let there : has_page c.args.self.now (c.args.a / 4096) ≡ true = stored-there c.self.inside.pages.items c.self.inside.places c.args.self.now (c.args.a / 4096) c.in-Some.place (ap (λ (m : Stored). m.pages) c.self.view_is) c.in-Some.ensures.place in
     grind (arith, common_steps)
 
 pub begin-requires-clause-new : goal.begin-requires-clause-new
-begin-requires-clause-new c = stored-new c.self.inside.pages.items c.self.inside.places _ (c.args.a / 4096) (ap (λ (m : Stored). m.pages) c.self.view_is) c.in-None.ensures.place
+begin-requires-clause-new c = stored-new c.self.inside.pages.items c.self.inside.places c.args.self.now (c.args.a / 4096) (ap (λ (m : Stored). m.pages) c.self.view_is) c.in-None.ensures.place
 
 pub returns-in-None-clause-there : goal.returns-in-None-clause-there
 returns-in-None-clause-there c =
-    let new = stored-new c.self.inside.pages.items c.self.inside.places _ (c.args.a / 4096) (ap (λ (m : Stored). m.pages) c.self.view_is) c.in-None.ensures.place in
+    let new = stored-new c.self.inside.pages.items c.self.inside.places c.args.self.now (c.args.a / 4096) (ap (λ (m : Stored). m.pages) c.self.view_is) c.in-None.ensures.place in
     grind (arith, common_steps)
 
 pub returns-in-Some-clause-bytes : goal.returns-in-Some-clause-bytes
-returns-in-Some-clause-bytes c = octa-bytes c.args.self.now _ c.args.a c.args.x (returns-in-Some-clause-octas c)
+returns-in-Some-clause-bytes c = octa-bytes c.args.self.now (record c.args.self.now { pages = view_of (set c.self.inside.pages.items c.in-Some.place c.put.new.self) c.self.inside.places.entries }) c.args.a c.args.x (returns-in-Some-clause-octas c)
 
 pub returns-in-None-clause-bytes : goal.returns-in-None-clause-bytes
-returns-in-None-clause-bytes c = on_ok_weaker c.begin.result (λ e. octa-bytes c.args.self.now _ c.args.a c.args.x e) c.begin.ensures.octas
+returns-in-None-clause-bytes c = on_ok_weaker c.begin.result (λ e. octa-bytes c.args.self.now c.begin.new.self c.args.a c.args.x e) c.begin.ensures.octas

@@ -55,20 +55,20 @@ invariant_of-self c =
 pub returns-in-Some-clause-octas : goal.returns-in-Some-clause-octas
 returns-in-Some-clause-octas c _ =
     ap (λ pages. octa_on (view_of pages c.self.inside.places.entries)) (pages-after c)
-    ∙ stored-octas c.self.inside.pages.items c.self.inside.places _ c.args.a (stored c) c.in-Some.place c.self.invariant.indexed c.self.invariant.bounded (ap (λ (m : Stored). m.pages) c.self.view_is) c.in-Some.ensures.place
+    ∙ stored-octas c.self.inside.pages.items c.self.inside.places c.args.self.now c.args.a (stored c) c.in-Some.place c.self.invariant.indexed c.self.invariant.bounded (ap (λ (m : Stored). m.pages) c.self.view_is) c.in-Some.ensures.place
     ∙ ap (λ o. stored_at (octa_at c.args.self.now) c.args.a (with_part c.args.part o c.args.a c.args.x)) (ap (λ m. octa_at m c.args.a) c.self.view_is)
 
 pub returns-in-Some-clause-pages : goal.returns-in-Some-clause-pages
 returns-in-Some-clause-pages c _ =
     ap (λ pages. page_on (view_of pages c.self.inside.places.entries)) (pages-after c)
-    ∙ stored-pages c.self.inside.pages.items c.self.inside.places _ (c.args.a / 4096) (c.args.a / 8 % 512) (stored c) c.in-Some.place (ap (λ (m : Stored). m.pages) c.self.view_is) c.in-Some.ensures.place
+    ∙ stored-pages c.self.inside.pages.items c.self.inside.places c.args.self.now (c.args.a / 4096) (c.args.a / 8 % 512) (stored c) c.in-Some.place (ap (λ (m : Stored). m.pages) c.self.view_is) c.in-Some.ensures.place
 
 pub returns-in-Some-clause-count : goal.returns-in-Some-clause-count
 returns-in-Some-clause-count c _ =
-    let there : has_page c.args.self.now (c.args.a / 4096) ≡ true = stored-there c.self.inside.pages.items c.self.inside.places _ (c.args.a / 4096) c.in-Some.place (ap (λ (m : Stored). m.pages) c.self.view_is) c.in-Some.ensures.place in
+    let there : has_page c.args.self.now (c.args.a / 4096) ≡ true = stored-there c.self.inside.pages.items c.self.inside.places c.args.self.now (c.args.a / 4096) c.in-Some.place (ap (λ (m : Stored). m.pages) c.self.view_is) c.in-Some.ensures.place in
     ap (λ pages. count_on (view_of pages c.self.inside.places.entries)) (pages-after c)
     ∙ stored-count c.self.inside.pages.items c.self.inside.places c.args.self.now (c.args.a / 8 % 512) (stored c) c.in-Some.place (ap (λ (m : Stored). m.pages) c.self.view_is)
     ∙ grind (arith, common_steps)
 
 pub returns-in-Some-clause-there : goal.returns-in-Some-clause-there
-returns-in-Some-clause-there c _ = stored-there c.self.inside.pages.items c.self.inside.places _ (c.args.a / 4096) c.in-Some.place (ap (λ (m : Stored). m.pages) c.self.view_is) c.in-Some.ensures.place
+returns-in-Some-clause-there c _ = stored-there c.self.inside.pages.items c.self.inside.places c.args.self.now (c.args.a / 4096) c.in-Some.place (ap (λ (m : Stored). m.pages) c.self.view_is) c.in-Some.ensures.place
