@@ -10,6 +10,6 @@ pub mod StepMarks
 pub mod Choices
 pub mod UsualSteps
 mod Placed
-mod Along
+mod KeptSteps
 mod Walks
 pub mod BareStarts

@@ -1,7 +1,7 @@
 //! Steps along the page of instructions that memory keeps. An instruction is told by its number there, and the machine's own
 //! address is set only once such steps end: until then it is that of an earlier one.
 
-ghost use Rattle.std.specs.Prelude.{◌≡◌, ◌≢◌, ◌≤◌, ◌<◌, ◌+◌, ◌%◌, ◌^◌, ℕ, IfSome, IsTrue};
+ghost use Rattle.std.specs.Prelude.{◌≡◌, ◌≢◌, ◌<◌, ◌+◌, ◌*◌, ◌%◌, ◌^◌, ℕ, IfSome};
 ghost use Rattle.mx_mem.specs.Memory.{IsCode, KeepsCode, tetra_of};
 ghost use Rattle.mx_code.specs.Instructions.{code_of, instruction};
 ghost use Rattle.mx_core.specs.Deeds.{deed_at, onward, outcome};

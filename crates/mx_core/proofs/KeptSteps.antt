@@ -1,28 +1,33 @@
 -- Steps along the page of instructions that is kept.
-use Rattle.std.proofs.Common.{◌≡◌, ◌≢◌, ◌<◌, ◌≤◌, ◌+◌, ◌*◌, ◌/◌, ◌%◌, ◌^◌, ℕ, Bool, true, false, List, ◌++◌, Ok, Err, Result, refl, sym, subst, ap, ◌∙◌, arith, ⊎_elim}
+use Rattle.std.proofs.Common.{◌≡◌, ◌≢◌, ◌<◌, ◌≤◌, ◌+◌, ◌*◌, ◌/◌, ◌%◌, ◌^◌, ℕ, suc, Bool, true, false, List, ◌++◌, Ok, Err, Result, refl, sym, subst, ap, ◌∙◌, arith, ⊎_elim}
 use Rattle.std.proofs.lemmas.Bool.{cases_lt}
+use Rattle.mx_mem.specs.Memory.{Stored, IsCode, KeepsCode}
 use Rattle.mx_ops.specs.Opcodes.{opcode_rows, opcode_names, opcode_name}
-use Rattle.mx_ring.specs.Stack.{set_overfills}
-use Rattle.mx_code.specs.Instructions.{code_of, instruction, next_of, operation_in, x_of}
+use Rattle.mx_ring.specs.Stack.{set_overfills, push_overfills, pushed, pop_underflows, popped}
+use Rattle.mx_code.specs.SpecialRegisters.{rJ}
+use Rattle.mx_code.specs.Instructions.{code_of, instruction, next_of, operation_in, x_of, yz_of}
 use Rattle.mx_code.specs.Operations.{operation_of, operation_names, load_names, store_names}
 use Rattle.mx_code.specs.declared.instruction.Instruction.{Instruction}
 use Rattle.mx_code.specs.declared.operation.Operation.{Operation}
 use Rattle.mx_code.specs.declared.operation.Operation.TheVariants as op
 use Rattle.mx_code.specs.declared.reason.Reason.{Reason}
-use Rattle.mx_code.specs.declared.reason.Reason.TheVariants.{ResumeInsert, StackFull}
-use Rattle.mx_core.specs.Deeds.{deed_at, deed_for, deed_of, onward, outcome, with_specials}
+use Rattle.mx_code.specs.declared.reason.Reason.TheVariants.{ResumeInsert, StackFull, Underflow}
+use Rattle.mx_core.specs.Bounds.{IsMachine}
+use Rattle.mx_core.specs.Walks.{Goes}
+use Rattle.mx_core.specs.Deeds.{deed_at, deed_for, deed_of, onward, outcome, with_specials, with_stack}
 use Rattle.mx_core.specs.Kept.{Kept, state_of}
-use Rattle.mx_core.specs.State.{State, octa, tetra, with_value_in}
+use Rattle.mx_core.specs.State.{State, octa, special_register, tetra, with_special, with_value_in}
 use Rattle.mx_core.specs.Step.{fetched, step}
-use Rattle.mx_core.specs.Way.Calls.{Left, left, set_outcome, settled, settled_with, unless}
+use Rattle.mx_core.specs.Way.Calls.{Left, left, pop_outcome, push_outcome, registers_popped, registers_pushed, set_outcome, settled, settled_with, unless, with_lowered_mark}
 use Rattle.mx_core.specs.Way.KeptPage.{IsHere, address_in, address_of, placed}
 use Rattle.mx_core.specs.Way.Stepping.{advanced}
 use Rattle.mx_core.specs.declared.step.Advance.TheVariants as advance
 use Rattle.mx_core.proofs.Placed.{went-placed}
-use Rattle.mx_core.proofs.Results.Answered.{made-as, set-ok}
+use Rattle.mx_core.proofs.Results.Answered.{made-as, set-ok, unless-ok}
 use Rattle.mx_core.proofs.Results.Others.{trap_outcome}
 use Rattle.mx_core.proofs.Results.Outcomes.{specials_append}
 use Rattle.mx_core.proofs.Steps.{other_deed}
+use Rattle.mx_core.proofs.Walks.{goes-end}
 
 -- an instruction other than 0 is on the page
 pub before-end : (index word code : ℕ) → index ≤ 1024 → (index ≡ 1024 → word ≡ 0) → code ≢ 0 → code ≡ word / 2 ^ 24 % 2 ^ 8 → index < 1024
@@ -112,3 +117,64 @@ pub leads-by : (k : Kept) (u t : State) (index d a : ℕ) (i : Instruction) (r :
 leads-by k u t index d a i r h at far leads made =
     let next : (address_of k.memory.code_start index + 4 * d) % 2 ^ 64 ≡ a = ap (λ b. (b + 4 * d) % 2 ^ 64) (address-plain k index h ∙ sym at) ∙ far in
     ap (λ (v : State). (Ok tt, v)) (leads ∙ ap (onward t) next) ∙ made
+
+-- PUSHJ, and POP, once the register stack has changed
+pub pushed-then : (s t v u : State) (i : Instruction) (a : ℕ) → (Ok tt, t) ≡ left s (registers_pushed s (x_of i)) → v ≡ with_special t rJ (next_of i) → u ≡ onward v a → (Ok tt, u) ≡ left s (push_outcome s i a)
+pushed-then s t v u i a e g f =
+    let ok = unless-ok (push_overfills s.stack (x_of i)) StackFull s t (with_stack s (pushed s.stack (x_of i))) e in
+    made-as (push_overfills s.stack (x_of i)) StackFull s u (onward (with_stack (with_special s rJ (next_of i)) (pushed s.stack (x_of i))) a) _ refl ok.0
+    (f ∙ ap (λ (w : State). onward w a) (g ∙ ap (λ (w : State). with_special w rJ (next_of i)) ok.1))
+
+pub popped-then : (s t u : State) (i : Instruction) → (Ok tt, t) ≡ left s (registers_popped s (x_of i)) → u ≡ onward t ((special_register s rJ + 4 * yz_of i) % 2 ^ 64) → (Ok tt, u) ≡ left s (pop_outcome s i)
+popped-then s t u i e f =
+    let ok = unless-ok (pop_underflows s.stack) Underflow s t (with_lowered_mark s (popped s.stack (x_of i))) e in
+    made-as (pop_underflows s.stack) Underflow s u (onward (with_lowered_mark s (popped s.stack (x_of i))) ((special_register s rJ + 4 * yz_of i) % 2 ^ 64)) _ refl ok.0
+    (f ∙ ap (λ (w : State). onward w ((special_register s rJ + 4 * yz_of i) % 2 ^ 64)) ok.1)
+
+-- A WALK ALONG THE PAGE
+
+pub placed-same : (s : State) (a : ℕ) → s.pc ≡ a → placed s a ≡ s
+placed-same s a e = rw (sym e) refl
+
+-- the same page stays kept
+pub code-kept : (m n : Stored) → KeepsCode m n → IsCode m → IsCode n
+code-kept m n e h = rw (e.0, e.1) h
+
+-- a machine over a window is one at each address that is a multiple of 4
+placed-machine : (k : Kept) (index : ℕ) → IsHere k index → IsMachine (state_of k) k.ring → IsMachine (placed (state_of k) (address_in k index)) k.ring
+placed-machine k index h m = record {
+  over = m.over;
+  ring = m.ring;
+  frames_are_spilled = m.frames_are_spilled;
+  pages = m.pages;
+  specials = m.specials;
+  address = let start : k.memory.code_start % 4096 ≡ 0 = h.0.1 in omega arith;
+}
+
+-- a walk to an instruction of the page, and one more step
+pub walk-away : (made : ℕ) (s : State) (k l : Kept) (index j : ℕ) → IsMachine (state_of k) k.ring → IsHere k index → KeepsCode k.memory l.memory →
+    Goes made s (placed (state_of k) (address_in k index)) →
+    (advance.Went, placed (state_of l) (address_of k.memory.code_start j)) ≡ advanced (placed (state_of k) (address_in k index)) (step (placed (state_of k) (address_in k index))) →
+    Goes (suc made) s (placed (state_of l) (address_of l.memory.code_start j))
+walk-away made s k l index j m h same goes went =
+    let from : State = placed (state_of k) (address_in k index) in
+    let to : State = placed (state_of l) (address_of k.memory.code_start j) in
+    subst (λ start. Goes (suc made) s (placed (state_of l) (address_of start j))) (sym same.0)
+    (goes-end made s from to (record { window = k.ring; machine = placed-machine k index h m }) goes went)
+
+pub walk-on : (made : ℕ) (s : State) (k l : Kept) (index j : ℕ) → IsMachine (state_of k) k.ring → IsHere k index → j ≤ 1024 → KeepsCode k.memory l.memory →
+    Goes made s (placed (state_of k) (address_in k index)) →
+    (advance.Went, placed (state_of l) (address_of k.memory.code_start j)) ≡ advanced (placed (state_of k) (address_in k index)) (step (placed (state_of k) (address_in k index))) →
+    Goes (suc made) s (placed (state_of l) (address_in l j))
+walk-on made s k l index j m h below same goes went =
+    subst (λ a. Goes (suc made) s (placed (state_of l) a)) (address-plain l j (code-kept k.memory l.memory same h.0, below)) (walk-away made s k l index j m h same goes went)
+
+-- the machine is placed where a walk ends
+pub walk-end : (made : ℕ) (s t : State) (k : Kept) (index : ℕ) → IsHere k index → Goes made s (placed (state_of k) (address_in k index)) → t ≡ placed (state_of k) (address_of k.memory.code_start index) → Goes made s t
+walk-end made s t k index h goes e = subst (Goes made s) (sym (e ∙ ap (placed (state_of k)) (address-plain k index h))) goes
+
+-- a step that was not made changed nothing
+pub walk-unmade : (made : ℕ) (s t : State) (k l : Kept) (index : ℕ) → IsHere k index → KeepsCode k.memory l.memory → state_of l ≡ state_of k → Goes made s (placed (state_of k) (address_in k index)) →
+    t ≡ placed (state_of l) (address_of l.memory.code_start index) → Goes made s t
+walk-unmade made s t k l index h same kept goes e =
+    walk-end made s t k index h goes (e ∙ ap (λ start. placed (state_of l) (address_of start index)) same.0 ∙ ap (λ (u : State). placed u (address_of k.memory.code_start index)) kept)
