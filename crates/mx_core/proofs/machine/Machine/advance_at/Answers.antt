@@ -59,3 +59,11 @@ returns-in-GoesOn-clause-made c = λ ne.
     went-at k u c.args.index word c.requires l c.read_at-word.ensures.value
     (leads-on k u s c.args.index i (outcome s (deed_at s i)) c.requires refl
     (c.step_on.ensures.leads k.memory.code_start (start-aligned k c.args.index c.requires)) (ap (left s) (sym c.in-GoesOn.ensures)))
+
+pub returns-in-Apart-clause-made : goal.returns-in-Apart-clause-made
+returns-in-Apart-clause-made c = λ ne.
+    let k : Kept = c.args.self.now in
+    let word : ℕ = c.read_at-word.result in
+    let u : State = placed (state_of c.perform_apart.new.self) (address_of k.memory.code_start (number_of c.perform_apart.result)) in
+    let l : c.args.index < 1024 = before-end c.args.index word c.in-Apart.code c.requires.1 c.read_at-word.ensures.end c.in-Apart.code-test c.in-Apart.ensures in
+    went-at k u c.args.index word c.requires l c.read_at-word.ensures.value (c.perform_apart.ensures.made ne)

@@ -37,5 +37,5 @@ returns-in-Away-clause-goes c =
 pub returns-in-Unmade-clause-goes : goal.returns-in-Unmade-clause-goes
 returns-in-Unmade-clause-goes c =
     let v = c.loop-left.invariant in
-    walk-unmade (c.args.n - c.loop-left.left) (state_of c.args.self.now) (state_of c.place_at.new.self) c.loop-left.self c.advance_at.new.self c.loop-left.index v.1 c.in-Unmade.ensures.code (c.in-Unmade.ensures.kept refl) v.2
-    c.place_at.ensures
+    walk-unmade (c.args.n - c.loop-left.left) (state_of c.args.self.now) (state_of c.place_at-in-Unmade.new.self) c.loop-left.self c.advance_at.new.self c.loop-left.index v.1 c.in-Unmade.ensures.code (c.in-Unmade.ensures.kept refl) v.2
+    c.place_at-in-Unmade.ensures

@@ -30,6 +30,6 @@ returns-then-y-eq0-clause-made c = λ _.
     let link : t ≡ with_special s rJ (z_operand s i) = c.put.ensures.state ∙ ap (with_special s rJ) c.z_operand.ensures in
     let leads : u ≡ onward (with_special s rJ (z_operand s i)) (next_of i) =
     c.step_on.ensures.leads start (start-aligned k c.args.index c.requires.here) ∙ ap (onward t) next ∙ ap (λ (w : State). onward w (next_of i)) link in
-    let x : x_of i ≡ rJ = sym c.x.ensures ∙ c.if-x.true in
+    let x : x_of i ≡ rJ = sym c.x.ensures ∙ c.if-x-eq-RJ.true in
     let y : y_of i ≡ 0 = sym c.y.ensures ∙ c.if-y-eq0.true in
     leads-as s u _ (outcome s (deed_of op.Put s i)) (put_link s i x y) leads ∙ ap (left s) (as-deed op.Put s i j is operation (λ x. cc))
