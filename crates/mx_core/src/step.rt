@@ -128,15 +128,9 @@ impl Machine {
             (result.last, state_of self.new) ≡ advanced (state_of self.new) (spec.step (state_of self.new)) }
         ensures lacks_memory { result.last ≡ Advance.OutOfMemory → IsTrue (step_needs_page (state_of self.new)) }
     {
-        let mut left = n;
+        let first = self.make_usual_ones(n);
+        let mut left = first;
         while left > 0 {
-            left = self.make_usual_ones(left);
-            if left == 0 {
-                return Advanced {
-                    made: n,
-                    last: Advance::Went,
-                };
-            }
             machines_keep_the_invariant(self);
             match self.advance_and_keep() {
                 Advance::Went => {}
@@ -147,7 +141,7 @@ impl Machine {
                     };
                 }
             }
-            left -= 1;
+            left = self.make_usual_ones(left - 1);
         }
         Advanced {
             made: n,

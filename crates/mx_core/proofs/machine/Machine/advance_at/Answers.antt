@@ -65,5 +65,5 @@ returns-in-Apart-clause-made c = λ ne.
     let k : Kept = c.args.self.now in
     let word : ℕ = c.read_at-word.result in
     let u : State = placed (state_of c.perform_apart.new.self) (address_of k.memory.code_start (number_of c.perform_apart.result)) in
-    let l : c.args.index < 1024 = before-end c.args.index word c.in-Apart.code c.requires.1 c.read_at-word.ensures.end c.in-Apart.code-test c.in-Apart.ensures in
+    let l : c.args.index < 1024 = before-end c.args.index word c.in-Apart.code c.requires.1 c.read_at-word.ensures.end c.in-Apart.code-test.1 c.in-Apart.ensures in
     went-at k u c.args.index word c.requires l c.read_at-word.ensures.value (c.perform_apart.ensures.made ne)
