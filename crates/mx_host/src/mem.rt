@@ -24,7 +24,6 @@ use std::marker::Model;
 /// Contracts see it as its model. No two of its files have one name, each slot that leads to a file
 /// leads to one that exists, and a stream has its own mode. A call fails exactly where its number,
 /// from 0, is in the failing list.
-#[derive(Drop)]
 pub struct MemHost {
     alloc: Global,
     files: Vec<StoredFile>,
@@ -35,6 +34,22 @@ pub struct MemHost {
     errors: Bytes,
     calls: u64,
     failing: Vec<u64>,
+}
+
+impl Drop for MemHost {
+    fn drop(self) {
+        let MemHost {
+            alloc: _,
+            files: _,
+            slots: _,
+            input: _,
+            input_place: _,
+            output: _,
+            errors: _,
+            calls: _,
+            failing: _,
+        } = self;
+    }
 }
 
 impl Model for MemHost {

@@ -17,13 +17,24 @@ use std::marker::Model;
 
 /// What the items of an object set up before a program runs: memory, the lines of its tetras, the global registers
 /// and the symbols. Memory has at most 65,536 pages.
-#[derive(Drop)]
 pub struct Image {
     memory: Memory,
     lines: BTreeMap<u64, u32>,
     g: u8,
     globals: Vec<u64>,
     symbols: Symbols,
+}
+
+impl Drop for Image {
+    fn drop(self) {
+        let Image {
+            memory: _,
+            lines: _,
+            g: _,
+            globals: _,
+            symbols: _,
+        } = self;
+    }
 }
 
 impl Model for Image {
@@ -58,7 +69,14 @@ impl Image {
         ensures value { result ≡ self.memory }
         ensures few { page_count result ≤ 65536 }
     {
-        self.memory
+        let Image {
+            memory,
+            lines: _,
+            g: _,
+            globals: _,
+            symbols: _,
+        } = self;
+        memory
     }
 
     /// The line of the source that the tetra at an address came from; 0 where none is known. An

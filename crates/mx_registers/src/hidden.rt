@@ -25,13 +25,24 @@ const LEAST: usize = 255;
 
 /// The hidden octas and the stack area. Contracts see the octas of the area, how many hidden ones are spilled to it,
 /// and the other hidden ones.
-#[derive(Drop)]
 pub struct Hidden {
     alloc: Global,
     list: HiddenList,
     stack: Area,
     spilled: usize,
     limit: usize,
+}
+
+impl Drop for Hidden {
+    fn drop(self) {
+        let Hidden {
+            alloc: _,
+            list: _,
+            stack: _,
+            spilled: _,
+            limit: _,
+        } = self;
+    }
 }
 
 impl Model for Hidden {
