@@ -34,7 +34,6 @@ const MOST_TETRAS: usize = 65_535;
 
 /// The names with the references that wait, the place `@`, the global registers, where the object
 /// stands, the greatest register that LOCAL named, and how much of the source there was.
-#[derive(Drop)]
 pub(crate) struct Assembly {
     alloc: Global,
     names: Names,
@@ -47,6 +46,23 @@ pub(crate) struct Assembly {
     opened: bool,
     /// At least the number of symbols that are defined.
     defined: u32,
+}
+
+impl Drop for Assembly {
+    fn drop(self) {
+        let Assembly {
+            alloc: _,
+            names: _,
+            at: _,
+            gregs: _,
+            head: _,
+            locals: _,
+            lines: _,
+            size: _,
+            opened: _,
+            defined: _,
+        } = self;
+    }
 }
 
 impl Model for Assembly {

@@ -16,13 +16,24 @@ use std::alloc::Global;
 
 /// What is known of a program: the name that is in front of the numbers of its lines; the texts of its lines, none of an
 /// object; the tetras that it loads; its symbols, in the order of their names; and its labels.
-#[derive(Drop)]
 pub struct Book {
     pub name: Bytes,
     pub lines: Sequence<Bytes>,
     pub loads: Loads,
     pub symbols: Symbols,
     pub labels: Labels,
+}
+
+impl Drop for Book {
+    fn drop(self) {
+        let Book {
+            name: _,
+            lines: _,
+            loads: _,
+            symbols: _,
+            labels: _,
+        } = self;
+    }
 }
 
 /// The book of a source with these lines and symbols.

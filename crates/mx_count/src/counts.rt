@@ -23,13 +23,24 @@ pub enum Form {
 
 /// A watcher of a run of a source that counts the steps at each address. Its report is the sheet of the run. It is
 /// never full.
-#[derive(Drop)]
 pub struct Counts {
     form: Form,
     source: Bytes,
     loads: LineCells,
     table: Table,
     alloc: Global,
+}
+
+impl Drop for Counts {
+    fn drop(self) {
+        let Counts {
+            form: _,
+            source: _,
+            loads: _,
+            table: _,
+            alloc: _,
+        } = self;
+    }
 }
 
 impl Counts {

@@ -18,13 +18,24 @@ pub struct Stops {
 
 /// What is known of the program by name, its breaks, what is watched, the last step that can be reached, and how many registers
 /// the ring has.
-#[derive(Drop)]
 pub struct Known {
     pub alloc: Global,
     pub book: Book,
     pub stops: Stops,
     pub most: u64,
     pub ring: u32,
+}
+
+impl Drop for Known {
+    fn drop(self) {
+        let Known {
+            alloc: _,
+            book: _,
+            stops: _,
+            most: _,
+            ring: _,
+        } = self;
+    }
 }
 
 impl Stops {

@@ -23,13 +23,23 @@ use std::marker::Model;
 
 /// One to eight processors on one memory. Each has registers, a register stack with its stack area, special registers and
 /// an address of its own; all else in memory is shared.
-#[derive(Drop)]
 pub struct Multi {
     pub(crate) alloc: Global,
     // Between turns none of these has memory of its own.
     pub(crate) processors: Vec<Machine>,
     pub(crate) halted: Vec<bool>,
     pub(crate) memory: Memory,
+}
+
+impl Drop for Multi {
+    fn drop(self) {
+        let Multi {
+            alloc: _,
+            processors: _,
+            halted: _,
+            memory: _,
+        } = self;
+    }
 }
 
 impl Model for Multi {

@@ -15,13 +15,24 @@ pub struct Change {
 /// What changes from one picture to another: the address of the next instruction, special registers by their codes, global
 /// registers by their numbers, the registers of the register stack from the oldest on, and octas of memory by their
 /// addresses divided by 8. Each change is an exclusive or.
-#[derive(Drop)]
 pub struct Record {
     pub next: u64,
     pub special: Sequence<Change>,
     pub global: Sequence<Change>,
     pub stacked: Sequence<Change>,
     pub octas: Sequence<Change>,
+}
+
+impl Drop for Record {
+    fn drop(self) {
+        let Record {
+            next: _,
+            special: _,
+            global: _,
+            stacked: _,
+            octas: _,
+        } = self;
+    }
 }
 
 /// Adds what changed at a place, if it did.

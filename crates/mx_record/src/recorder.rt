@@ -23,12 +23,22 @@ use std::alloc::Global;
 use std::marker::Model;
 
 /// A run whose turns are recorded: it is at a step of it, before the next turn.
-#[derive(Drop)]
 pub struct Recorder {
     alloc: Global,
     before: Replay,
     after: Replay,
     stacked: Stacked,
+}
+
+impl Drop for Recorder {
+    fn drop(self) {
+        let Recorder {
+            alloc: _,
+            before: _,
+            after: _,
+            stacked: _,
+        } = self;
+    }
 }
 
 impl Model for Recorder {

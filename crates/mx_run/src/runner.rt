@@ -20,11 +20,20 @@ use std::alloc::Global;
 use std::marker::Model;
 
 /// A machine, and the flags of tetras.
-#[derive(Drop)]
 pub struct Runner {
     alloc: Global,
     machine: Machine,
     flags: FlagMap,
+}
+
+impl Drop for Runner {
+    fn drop(self) {
+        let Runner {
+            alloc: _,
+            machine: _,
+            flags: _,
+        } = self;
+    }
 }
 
 impl Model for Runner {

@@ -37,11 +37,20 @@ fn make_stop(alloc: Global, text: &[u8], refused: Refused, is_kept: bool) -> Res
 
 /// A walk over the lines of a source: the lines that were taken so far, each with a newline, the number of the next one, and the
 /// assembler after them. Another text may be taken in the place of a line that was refused.
-#[derive(Drop)]
 pub struct Walk {
     assembler: Assembler,
     front: Bytes,
     number: u32,
+}
+
+impl Drop for Walk {
+    fn drop(self) {
+        let Walk {
+            assembler: _,
+            front: _,
+            number: _,
+        } = self;
+    }
 }
 
 impl Model for Walk {
