@@ -10,11 +10,20 @@ pub enum Value {
 }
 
 /// A complete name with its value and its serial number, which tells the order of definition.
-#[derive(Drop)]
 pub struct Symbol {
     pub name: Bytes,
     pub value: Value,
     pub serial: u32,
+}
+
+impl Drop for Symbol {
+    fn drop(self) {
+        let Symbol {
+            name: _,
+            value: _,
+            serial: _,
+        } = self;
+    }
 }
 
 /// A list of symbols.

@@ -37,12 +37,22 @@ pub enum WaitKind {
 
 /// A reference that waits for a label: what it waits for, the address of the octa or the instruction that it stands
 /// in, the line of the source, from 1, and the kind, which says where its value goes.
-#[derive(Drop)]
 pub struct Wait {
     pub who: Awaited,
     pub at: u64,
     pub line: u32,
     pub kind: WaitKind,
+}
+
+impl Drop for Wait {
+    fn drop(self) {
+        let Wait {
+            who: _,
+            at: _,
+            line: _,
+            kind: _,
+        } = self;
+    }
 }
 
 /// A list of waiting references, in the order of their making.
