@@ -1,5 +1,6 @@
 -- What an editor is told of a source: its faults, up to 20, and its warnings. (Language Server Protocol, "Diagnostic".)
-use Rattle.std.specs.Prelude.{ℕ, ◌^◌, nat_lt, List, [], ◌∷◌, ◌++◌, length, map, take, Option, None, Some, codes, if◌then◌else◌}
+use Rattle.std.specs.Prelude.{ℕ, ◌^◌, nat_lt, Bool, true, false, List, [], ◌∷◌, ◌++◌, length, map, take, Option, None, Some, codes, if◌then◌else◌}
+use Rattle.mx_files.specs.declared.refusal.Refusal.{Refusal}
 use Rattle.mx_line.specs.Lines.{lines_of}
 use Rattle.mx_marks.specs.Mending.{line_text}
 use Rattle.mx_outcome.specs.Names.{fault_name_of}
@@ -63,6 +64,11 @@ warning_diagnostic w = record {
 }
 
 -- ---- all
+
+-- a source that is not refused when it is run
+abbrev pub is_absent : Option Refusal → Bool
+is_absent None = true
+is_absent (Some refusal) = false
 
 -- 88 is the fault of a source that is too long
 unfoldable pub too_long : Diagnostic

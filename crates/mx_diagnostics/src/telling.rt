@@ -1,13 +1,16 @@
 //! The faults and the warnings of a source.
 
 ghost use Rattle.std.specs.Prelude.{◌≡◌, ◌++◌, IfOk, OnOk, length, map, take};
+ghost use Rattle.mx_view.specs.Listing.{refusal_in};
+ghost use Rattle.mx_warn.specs.Warnings.{warnings_of};
 ghost use Rattle.mx_diagnostics.specs.Diagnostics as spec;
 
 use crate::diagnostic::{Diagnostic, Diagnostics, Severity};
+use mx_files::Refusal;
 use mx_marks::line_text;
 use mx_outcome::fault_name;
 use mx_view::{ToldFault, tell_faults};
-use mx_warn::{Warning, tell_warnings};
+use mx_warn::{Warning, Warnings, tell_warnings_of};
 use mx_wire::end_of;
 use mx_word::{Bytes, NoMemory};
 use std::alloc::Global;
@@ -140,13 +143,36 @@ fn first_faults(faults: &[ToldFault]) -> &[ToldFault]
     }
 }
 
+/// Whether there is no refusal.
+fn is_absent(refused: Option<Refusal>) -> bool
+    ensures { result ≡ spec.is_absent refused }
+{
+    match refused {
+        None => true,
+        Some(_) => false,
+    }
+}
+
+/// The warnings of a source that is refused so when it is run: it is not assembled again to know whether it is.
+#[tactic(auto, using(crate::proofs::Firsts::acceptance))]
+fn warnings_after(
+    alloc: Global,
+    refused: Option<Refusal>,
+    source: &[u8],
+) -> Result<Warnings, NoMemory>
+    requires { refused ≡ refusal_in source.now }
+    ensures { IfOk result (λ told. told ≡ warnings_of source.now) }
+{
+    tell_warnings_of(alloc, is_absent(refused), source)
+}
+
 /// Adds the faults and the warnings of a source.
 fn add_all(alloc: Global, told: &mut Diagnostics, source: &[u8]) -> Result<(), NoMemory>
     ensures { OnOk result (told.new ≡ told.old ++ spec.all_of source.now) }
 {
     let found = tell_faults(alloc, source)?;
     add_faults(alloc, told, source, first_faults(found.faults.as_slice()))?;
-    let warnings = tell_warnings(alloc, source)?;
+    let warnings = warnings_after(alloc, found.refused, source)?;
     add_warnings(alloc, told, warnings.as_slice())
 }
 
