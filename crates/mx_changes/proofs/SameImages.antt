@@ -1,5 +1,5 @@
 -- Images that differ in a part.
-use Rattle.std.proofs.Common.{◌≡◌, ◌≢◌, ◌<◌, ℕ}
+use Rattle.std.proofs.Common.{◌≢◌, ◌<◌, ℕ}
 use Rattle.mx_mmo.specs.Image.{Image}
 use Rattle.mx_changes.specs.Images.{AreSame, AreSameGlobals, AreSameOctas}
 

@@ -1,6 +1,6 @@
 -- The lines of a text in their columns: label, operation, operands and comment. What is answered is an edit for each line whose layout
 -- differs, where the program stays as it is. (Language Server Protocol, "Document Formatting Request".)
-use Rattle.std.specs.Prelude.{ℕ, zero, suc, ◌+◌, ◌-◌, ◌==◌, ◌||◌, nat_lt, Bool, List, [], ◌∷◌, ◌++◌, length, take, drop, replicate, Option, None, Some, Result, Ok, Err, codes, if◌then◌else◌}
+use Rattle.std.specs.Prelude.{ℕ, ◌+◌, ◌-◌, ◌==◌, ◌||◌, nat_lt, Bool, List, [], ◌∷◌, ◌++◌, length, take, replicate, Option, None, Some, Result, Ok, codes, if◌then◌else◌}
 use Rattle.std.specs.List.{flat_map}
 use Rattle.std.specs.Str.{bytes_eq}
 use Rattle.mx_json.specs.Json.{array, string}

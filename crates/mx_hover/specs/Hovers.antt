@@ -1,6 +1,6 @@
 -- What an editor is told of a place of a text: of a name its value and the line of its label, else of the statement there what its line
 -- loads and what its operation means; elsewhere nothing. (Language Server Protocol, "Hover Request".)
-use Rattle.std.specs.Prelude.{ℕ, Bool, true, false, List, [], ◌∷◌, ◌++◌, length, Option, None, Some, codes, decimal}
+use Rattle.std.specs.Prelude.{ℕ, Bool, false, List, [], ◌∷◌, ◌++◌, length, Option, None, Some, codes, decimal}
 use Rattle.std.specs.List.{find}
 use Rattle.std.specs.Str.{bytes_eq}
 use Rattle.mx_json.specs.Json.{string}

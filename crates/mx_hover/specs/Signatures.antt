@@ -1,6 +1,6 @@
 -- How the operation at a place is written: the second line of what it means, from the operation on up to the end of the operands.
 -- (Language Server Protocol, "Signature Help Request".)
-use Rattle.std.specs.Prelude.{ℕ, ◌==◌, ◌&&◌, nat_lt, List, [], ◌∷◌, ◌++◌, Option, None, Some, codes, if◌then◌else◌}
+use Rattle.std.specs.Prelude.{ℕ, ◌==◌, ◌&&◌, nat_lt, List, ◌∷◌, ◌++◌, Option, None, Some, codes, if◌then◌else◌}
 use Rattle.mx_json.specs.Json.{string}
 use Rattle.mx_line.specs.Lines.{lines_of}
 use Rattle.mx_marks.specs.Mending.{line_text}

@@ -1,5 +1,5 @@
 -- Answers carry the marks of their requests.
-use Rattle.std.proofs.Common.{◌≡◌, ℕ, Bool, true, false, List, ◌++◌, Option, None, Some, codes, inl, inr, ◌⊎◌}
+use Rattle.std.proofs.Common.{◌≡◌, ℕ, Bool, true, false, List, ◌++◌, Option, None, Some, codes, inl, inr}
 use Rattle.mx_changes.specs.declared.renaming.Change.{Change}
 use Rattle.mx_changes.specs.declared.renaming.Change.TheVariants.{Done, Refused as RefusedChange}
 use Rattle.mx_wire.specs.Replies.{answer_front, refusal, refusal_body, result_body}
@@ -7,7 +7,7 @@ use Rattle.mx_wire.specs.declared.replies.Refused.{Refused}
 use Rattle.mx_wire.specs.declared.replies.Refused.TheVariants.{Failed, NoMemory, NoMethod, NoRequest}
 use Rattle.serde_json.specs.Data.{Data}
 use Rattle.mx_lsp.specs.Documents.{text_of}
-use Rattle.mx_lsp.specs.Messages.{IsTextOf, uri_of}
+use Rattle.mx_lsp.specs.Messages.{uri_of}
 use Rattle.mx_lsp.specs.Requests.{Carries, IsAnswer, IsAnswerAt, IsAnswerIf, IsAnswerOf, IsChangeAnswer, IsOpenAnswer, IsTextAnswer, offers, result_in}
 use Rattle.mx_lsp.specs.declared.message.Method.{Method}
 use Rattle.mx_lsp.specs.declared.message.Method.TheVariants.{Initialize, Shutdown, Exit, DidOpen, DidChange, DidClose, Hover, Definition, References, Highlight, PrepareRename, Rename, Symbols, Completion, Signature, Formatting, Other}

@@ -1,5 +1,5 @@
 -- Lines of a text one after another.
-use Rattle.std.proofs.Common.{◌≡◌, ◌≤◌, ◌<◌, ℕ, zero, suc, ◌-◌, List, [], ◌∷◌, length, take, drop, arith, refl}
+use Rattle.std.proofs.Common.{◌≡◌, ◌≤◌, ◌<◌, ℕ, zero, suc, ◌-◌, List, [], ◌∷◌, length, take, arith, refl}
 use Rattle.std.proofs.lemmas.List.{take_all}
 use Rattle.mx_frames.proofs.Parts.{none-behind}
 use Rattle.mx_line.specs.Bytes.{run}

@@ -1,7 +1,7 @@
 -- A session: the texts that are open, each as its changes have made it, and whether it was shut down. Each request is answered once, and
 -- a notification is not answered; what is sent after a change are the faults of the text as it then is. (Language Server Protocol, "Base
 -- Protocol", "Server lifecycle" and "Text Document Synchronization".)
-use Rattle.std.specs.Prelude.{◌≡◌, ℕ, Bool, true, false, List, [], ◌∷◌, ◌++◌, Option, None, Some, codes, if◌then◌else◌}
+use Rattle.std.specs.Prelude.{◌≡◌, ℕ, Bool, List, [], ◌∷◌, ◌++◌, Option, None, Some, codes, if◌then◌else◌}
 use Rattle.std.specs.Str.{is_utf8}
 use Rattle.mx_diagnostics.specs.Diagnostics.{diagnostics_of}
 use Rattle.mx_diagnostics.specs.Published.{notice}
