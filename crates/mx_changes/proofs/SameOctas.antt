@@ -24,9 +24,9 @@ pub unlike : (f g : ℕ → ℕ) (from a x b y : ℕ) → IsNextOcta f from a x 
 unlike f g from a x b y one two e ne same =
     elim (cases_lt a (2 ^ 63)) [
       | inl low ↦ let lower : b < 2 ^ 63 = omega (arith, e, low) in
-        ne (sym (one.found low) ∙ same a low one.aligned ∙ (subst (λ n. g n ≡ y) (sym e) (two.found lower)))
+          ne (sym (one.found low) ∙ same a low one.aligned ∙ (subst (λ n. g n ≡ y) (sym e) (two.found lower)))
       | inr high ↦ let top : a ≡ 2 ^ 63 = omega (arith, high, one.within) in
-        ne (one.ends top ∙ sym (two.ends (sym e ∙ top)))
+          ne (one.ends top ∙ sym (two.ends (sym e ∙ top)))
     ]
 
 pub alike : (f g : ℕ → ℕ) (from a x b y : ℕ) → IsNextOcta f from a x → IsNextOcta g from b y → a ≡ b → x ≡ y →
@@ -35,11 +35,11 @@ alike f g from a x b y one two e is q later less even =
     elim (cases_lt q a) [
       | inl below ↦ one.none q later even below ∙ sym (two.none q later even (omega (arith, e, below)))
       | inr above ↦
-        let low : a < 2 ^ 63 = grind (arith, nat_tests, above, less, one.within) in
-        let near : q < a + 8 = grind (arith, nat_tests, less, low) in
-        let here : q ≡ a = omega (arith, above, near, even, one.aligned) in
-        let there : b < 2 ^ 63 = omega (arith, e, low) in
-        ap f here ∙ one.found low ∙ is ∙ sym (two.found there) ∙ ap g (sym e ∙ sym here)
+          let low : a < 2 ^ 63 = grind (arith, nat_tests, above, less, one.within) in
+          let near : q < a + 8 = grind (arith, nat_tests, less, low) in
+          let here : q ≡ a = omega (arith, above, near, even, one.aligned) in
+          let there : b < 2 ^ 63 = omega (arith, e, low) in
+          ap f here ∙ one.found low ∙ is ∙ sym (two.found there) ∙ ap g (sym e ∙ sym here)
     ]
 
 pub goes-on : (from a : ℕ) → from ≤ a → from < 2 ^ 63 → from < after a

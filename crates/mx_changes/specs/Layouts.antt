@@ -52,8 +52,8 @@ with_field column (b ∷ bs) text = text ++ replicate (gap (length text) column)
 unfoldable pub fields : List ℕ → Cut → List ℕ
 fields line cut =
     with_field 30 (comment_of line cut)
-        (with_field 14 (part line cut.operands.from cut.operands.to)
-            (with_field 8 (part line cut.op.from cut.op.to) (label_of line cut.label)))
+    (with_field 14 (part line cut.operands.from cut.operands.to)
+    (with_field 8 (part line cut.op.from cut.op.to) (label_of line cut.label)))
 
 -- a line that has not one statement stays as it is
 abbrev pub laid_by : List ℕ → List (Result Cut LineFault) → List ℕ

@@ -124,7 +124,11 @@ fn fields(alloc: Global, line: &[u8], cut: &Cut) -> Result<Bytes, NoMemory>
 {
     let mut text = Bytes::copy(alloc, label_of(line, cut.label))?;
     add_field(&mut text, OPERATION, part(line, cut.op.from, cut.op.to))?;
-    add_field(&mut text, OPERANDS, part(line, cut.operands.from, cut.operands.to))?;
+    add_field(
+        &mut text,
+        OPERANDS,
+        part(line, cut.operands.from, cut.operands.to),
+    )?;
     add_field(&mut text, COMMENT, comment_of(line, cut))?;
     Ok(text)
 }

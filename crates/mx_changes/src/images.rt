@@ -31,13 +31,7 @@ fn next_octa(memory: &Memory, from: u64) -> (u64, u64)
 {
     match memory.next_nonzero(from) {
         None => (END, 0),
-        Some((a, x)) => {
-            if a < END {
-                (a, x)
-            } else {
-                (END, 0)
-            }
-        }
+        Some((a, x)) => { if a < END { (a, x) } else { (END, 0) } }
     }
 }
 

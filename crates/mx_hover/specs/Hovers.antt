@@ -106,7 +106,7 @@ name_hover source lines symbols names (Some o) otherwise = shown_or (name_text s
 abbrev pub hover_in : List ℕ → List ListedLine → List Symbol → List Occurrence → ℕ → ℕ → List ℕ
 hover_in source lines symbols names number from =
     name_hover source lines symbols names (occurrence_at names number from)
-        (statement_hover source lines number (statement_at (unloaded_lines source) number from))
+    (statement_hover source lines number (statement_at (unloaded_lines source) number from))
 
 -- at a place of line number
 abbrev pub hover : ℕ → ℕ → List ℕ → List ℕ

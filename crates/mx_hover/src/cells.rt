@@ -116,12 +116,7 @@ fn first_cells(cells: &[Cell]) -> &[Cell]
 }
 
 /// Adds tetras.
-fn add_cells(
-    alloc: Global,
-    text: &mut Bytes,
-    cells: &[Cell],
-    is_code: bool,
-) -> Result<(), NoMemory>
+fn add_cells(alloc: Global, text: &mut Bytes, cells: &[Cell], is_code: bool) -> Result<(), NoMemory>
     ensures { OnOk result (text.new ≡ text.old ++ flat_map (spec.cell_text is_code) cells.now) }
 {
     for cell in cells {

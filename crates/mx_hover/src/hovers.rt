@@ -154,7 +154,13 @@ fn name_text(
 {
     let mut text = Bytes::new(alloc);
     add_named(alloc, &mut text, symbols, &o.named)?;
-    add_label(alloc, &mut text, source, lines, definition_of(names, &o.named))?;
+    add_label(
+        alloc,
+        &mut text,
+        source,
+        lines,
+        definition_of(names, &o.named),
+    )?;
     Ok(text)
 }
 
@@ -192,12 +198,7 @@ fn shown(alloc: Global, told: &[u8], range: &[u8]) -> Result<Bytes, NoMemory>
 }
 
 /// What is answered: a text with the range that it is about, or otherwise this.
-fn shown_or(
-    alloc: Global,
-    told: &[u8],
-    range: &[u8],
-    otherwise: &[u8],
-) -> Result<Bytes, NoMemory>
+fn shown_or(alloc: Global, told: &[u8], range: &[u8], otherwise: &[u8]) -> Result<Bytes, NoMemory>
     ensures { IfOk result (λ text. text ≡ spec.shown_or told.now range.now otherwise.now) }
 {
     match told {

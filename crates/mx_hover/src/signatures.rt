@@ -18,13 +18,7 @@ fn without_indent(line: &[u8]) -> &[u8]
     ensures { result.now ≡ spec.without_indent line.now }
 {
     match line {
-        [a, b, form @ ..] => {
-            if *a == b' ' && *b == b' ' {
-                form
-            } else {
-                line
-            }
-        }
+        [a, b, form @ ..] => { if *a == b' ' && *b == b' ' { form } else { line } }
         _ => line,
     }
 }

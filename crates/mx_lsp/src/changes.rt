@@ -16,13 +16,7 @@ fn range_if(value: Option<&Value>) -> Option<&Value>
 {
     match value {
         None => None,
-        Some(range) => {
-            if range.is_object() {
-                Some(range)
-            } else {
-                None
-            }
-        }
+        Some(range) => { if range.is_object() { Some(range) } else { None } }
     }
 }
 
