@@ -15,11 +15,17 @@ use std::mem;
 /// How many turns lie at first between two steps that are kept.
 const STRIDE: u64 = 1 << 20;
 
-/// How many turns before a step another is kept, where one goes far to it.
-const NEAR: u64 = 1 << 16;
+/// How many turns before a step one is kept, where the way to it is long.
+const FAR: u64 = 1 << 18;
 
-/// How many steps are kept at most.
+/// How many turns before it another is kept, where the way from that one is long, too.
+const NEAR: u64 = 1 << 15;
+
+/// How many steps are kept at most, but for those before a step.
 const MOST_KEPT: usize = 16;
+
+/// How many of those there are at most.
+const MOST_NEAR: usize = 4;
 
 /// A machine with more pages is not kept.
 const MOST_PAGES: u32 = 4096;
@@ -27,7 +33,7 @@ const MOST_PAGES: u32 = 4096;
 /// A host that wrote more bytes is not kept.
 const MOST_BYTES: usize = 1 << 24;
 
-/// Some steps of a run, each at a multiple of the stride, but for one that is near those that are visited.
+/// Some steps of a run, each at a multiple of the stride, but for a few before a step that was gone to.
 #[derive(Drop)]
 pub(crate) struct Kept {
     alloc: Global,
@@ -113,12 +119,25 @@ impl Kept {
         }
     }
 
-    /// Drops the steps that are not at a multiple of the stride.
-    fn thin_out(&mut self)
+    /// Drops the steps from one on that are not at a multiple of the stride.
+    fn thin_out(&mut self, from: u64)
         ensures { (p : Program) → AreSteps p self.old → AreSteps p self.new }
     {
         let visits = mem::replace(&mut self.visits, Sequence::new(self.alloc));
-        self.visits = multiples(self.alloc, visits, self.stride);
+        self.visits = thinned(self.alloc, visits, self.stride, from);
+    }
+
+    /// Drops the steps that are not at a multiple of the stride, and then every second one, as long as too many are kept.
+    fn drop_some(&mut self)
+        ensures { (p : Program) → AreSteps p self.old → AreSteps p self.new }
+    {
+        if self.visits.as_slice().len() > MOST_KEPT {
+            self.thin_out(0);
+        }
+        if self.visits.as_slice().len() > MOST_KEPT {
+            self.stride = self.stride.saturating_mul(2);
+            self.thin_out(0);
+        }
     }
 
     /// Keeps a step that is due.
@@ -133,18 +152,24 @@ impl Kept {
             return;
         }
         add(&mut self.visits, visit);
-        if self.visits.as_slice().len() > MOST_KEPT {
-            self.stride = self.stride.saturating_mul(2);
-            self.thin_out();
+        self.drop_some();
+    }
+
+    /// From which step on those are dropped that are not at a multiple of the stride, where one at a step is kept.
+    fn first_dropped(&self, at: u64) -> u64 {
+        if self.visits.as_slice().len() < MOST_KEPT + MOST_NEAR {
+            at
+        } else {
+            0
         }
     }
 
-    /// Keeps a step that is near those that are visited, in place of another such.
+    /// Keeps a step before one that is gone to. Others from there on are dropped, if they are not at a multiple of the stride.
     pub(crate) fn keep_near(&mut self, visit: &Visit)
         ensures { (p : Program) → IsStep p visit.now → AreSteps p self.old → AreSteps p self.new }
     {
         if is_small(visit) {
-            self.thin_out();
+            self.thin_out(self.first_dropped(visit.at));
             add(&mut self.visits, visit);
         }
     }
@@ -160,16 +185,16 @@ fn add(visits: &mut Sequence<Visit>, visit: &Visit)
     }
 }
 
-/// Those of some steps that are at a multiple of the stride.
+/// Those of some steps that are at a multiple of the stride, or before a step.
 #[tactic(auto, using(crate::proofs::Keeping::keeping))]
-fn multiples(alloc: Global, visits: Sequence<Visit>, stride: u64) -> Sequence<Visit>
+fn thinned(alloc: Global, visits: Sequence<Visit>, stride: u64, from: u64) -> Sequence<Visit>
     requires { 0 < stride }
     ensures { (p : Program) → AreSteps p visits → AreSteps p result }
 {
     let mut left = Sequence::new(alloc);
     let mut rest = visits.into_vec();
     while let Some(visit) = rest.pop() {
-        if visit.at % stride == 0 {
+        if visit.at < from || visit.at % stride == 0 {
             let _kept = left.push(visit);
         }
     }
@@ -202,24 +227,30 @@ pub(crate) fn go_keeping(
     Ok(())
 }
 
-/// Goes on to a step a little before step k, where that is far, and keeps it. Out of memory the visit is at no step of the
-/// run.
-fn come_near(alloc: Global, visit: &mut Visit, kept: &mut Kept, k: u64) -> Result<(), NoMemory>
+/// Goes on to the step so many turns before step k, where that is far, and keeps it. Out of memory the visit is at no step of
+/// the run.
+fn come_near(
+    alloc: Global,
+    visit: &mut Visit,
+    kept: &mut Kept,
+    k: u64,
+    turns: u64,
+) -> Result<(), NoMemory>
     requires { visit.old.at ≤ k }
     ensures step { OnOk result ((p : Program) → IsStep p visit.old → IsStep p visit.new) }
     ensures within { OnOk result (visit.new.at ≤ k) }
     ensures kept { (p : Program) → IsStep p visit.old → AreSteps p kept.old → AreSteps p kept.new }
 {
-    if k - visit.at <= 2 * NEAR {
+    if (k - visit.at) / 2 <= turns {
         return Ok(());
     }
-    go_keeping(alloc, visit, kept, k - NEAR)?;
+    go_keeping(alloc, visit, kept, k - turns)?;
     kept.keep_near(visit);
     Ok(())
 }
 
-/// Goes on to step k, or to the last one before it, and keeps a step a little before it, too: those before step k are likely
-/// to be next. Out of memory the visit is at no step of the run.
+/// Goes on to step k, or to the last one before it, and keeps steps before it, too: those before step k are likely to be next.
+/// Out of memory the visit is at no step of the run.
 pub(crate) fn go_near(
     alloc: Global,
     visit: &mut Visit,
@@ -230,6 +261,7 @@ pub(crate) fn go_near(
     ensures step { OnOk result ((p : Program) → IsStep p visit.old → IsStep p visit.new × IsReached p k visit.new.at) }
     ensures kept { (p : Program) → IsStep p visit.old → AreSteps p kept.old → AreSteps p kept.new }
 {
-    come_near(alloc, visit, kept, k)?;
+    come_near(alloc, visit, kept, k, FAR)?;
+    come_near(alloc, visit, kept, k, NEAR)?;
     go_keeping(alloc, visit, kept, k)
 }

@@ -18,6 +18,9 @@ use mx_run::FlagMap;
 use mx_word::{NoMemory, Sequence};
 use std::alloc::Global;
 
+/// How many turns the piece has that is searched first, where one looks back.
+const FIRST_TURNS: u64 = 1 << 10;
+
 /// The local registers of a machine, from `$0` on.
 #[tactic(auto, using(crate::proofs::Locals::locals))]
 fn locals(alloc: Global, machine: &Machine) -> Result<Sequence<u64>, NoMemory>
@@ -233,20 +236,23 @@ impl Replay {
         locals(self.alloc, &visit.machine)
     }
 
-    /// The greatest step up to `until` that has a mark. Looked for from one step that is kept to the next, backwards.
+    /// The greatest step up to `until` that has a mark. Looked for backwards in pieces: a short one first, since it is mostly
+    /// near, and each after it is four times as long, but from one step that is kept up to the next at most.
     fn find_last_marked(&mut self, sought: Sought<'_>, until: u64) -> Result<Option<u64>, NoMemory>
         ensures same { self.new ≡ self.old }
         ensures last { IfOk result (IsLast self.old.program (mark_of sought.entry) until) }
     {
         let mut end = until;
+        let mut turns = FIRST_TURNS;
         while end > 0 {
-            let mut visit = self.visit_before(end - 1)?;
+            let mut visit = self.visit_near(end - 1, turns)?;
             let from = visit.at;
             let found = find_last(self.alloc, &mut visit, sought, end)?;
             if found.is_some() {
                 return Ok(found);
             }
             end = from;
+            turns = turns.saturating_mul(4);
         }
         let start = self.visit_start()?;
         if has_mark_at_start(&start.machine, sought) {

@@ -67,4 +67,18 @@ impl Replay {
         go_near(self.alloc, &mut visit, &mut self.kept, k)?;
         Ok(visit)
     }
+    /// A step before step k, from which there are few turns to it: at most as many as are asked for, or those from the nearest step
+    /// that is kept, whatever is less.
+    pub(super) fn visit_near(&mut self, k: u64, turns: u64) -> Result<Visit, NoMemory>
+        ensures same { self.new ≡ self.old }
+        ensures step { IfOk result (λ v. IsStep self.old.program v) }
+        ensures before { IfOk result (λ v. v.at ≤ k) }
+    {
+        let from = k.saturating_sub(turns);
+        if self.kept.has_between(from, k) {
+            self.visit_before(k)
+        } else {
+            self.visit(from)
+        }
+    }
 }

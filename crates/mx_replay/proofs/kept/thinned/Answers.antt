@@ -1,6 +1,6 @@
 use Rattle.std.proofs.Common.{Some, refl}
 use Rattle.mx_replay.proofs.Keeping.{rest-popped, step-popped, step-pushed}
-use Rattle.mx_replay.proofs.kept.multiples.Goals as goal
+use Rattle.mx_replay.proofs.kept.thinned.Goals as goal
 
 pub loop-visit-preserved-then-visit-stride-eq0 : goal.loop-visit-preserved-then-visit-stride-eq0
 loop-visit-preserved-then-visit-stride-eq0 c = λ p a.
