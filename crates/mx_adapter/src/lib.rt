@@ -4,11 +4,13 @@
 mod arguments;
 mod commands;
 mod launching;
+mod needs;
 mod outbox;
 mod requests;
 
 pub use arguments::{argument, flag_at, integer_at, list_at, number_at, text_at, text_in};
 pub use commands::Command;
 pub use launching::{Launch, Unread, Wishes, read_launch};
+pub use needs::find_lack;
 pub use outbox::{Answer, Bodies, Outbox};
 pub use requests::{Request, read_request};

@@ -6,7 +6,7 @@ use crate::outputs::tell_text;
 use crate::running::Work;
 use crate::stops::Reason;
 use mx_adapter::{
-    Answer, Bodies, Command, Launch, Outbox, Request, Unread, read_launch, read_request,
+    Answer, Bodies, Command, Launch, Outbox, Request, Unread, find_lack, read_launch, read_request,
 };
 use mx_debug::Session as Debugged;
 use mx_word::{Bytes, NoMemory};
@@ -99,6 +99,40 @@ fn answer_about(
     }
 }
 
+/// The answer to a request once a program is launched. It may leave work to do.
+fn answer_launched(
+    loaded: &mut Loaded,
+    work: &mut Option<Work>,
+    command: Command,
+    message: &Value,
+) -> Result<Answer, NoMemory> {
+    match command {
+        Command::ConfigurationDone => {
+            *work = Some(Work::Begin);
+            done(loaded.alloc, b"")
+        }
+        Command::Pause => done(loaded.alloc, b""),
+        _ if !is_move(command) => answer_about(loaded, work, command, message),
+        _ if loaded.is_done => refused(loaded.alloc, b"the run is done"),
+        _ => {
+            *work = Some(loaded.work_for(command, message));
+            done(loaded.alloc, b"{\"allThreadsContinued\":true}")
+        }
+    }
+}
+
+/// The answer to a request that needs no program.
+fn answer_always(alloc: Global, command: Command, message: &Value) -> Result<Answer, NoMemory> {
+    if let Some(why) = find_lack(alloc, command, message)? {
+        return Ok(Answer::Refused(why));
+    }
+    match command {
+        Command::Initialize => done(alloc, offers()),
+        Command::Threads => done(alloc, b"{\"threads\":[{\"id\":1,\"name\":\"mmix\"}]}"),
+        _ => done(alloc, b""),
+    }
+}
+
 impl Session {
     /// A session before its first message.
     pub fn new(alloc: Global) -> Session {
@@ -125,39 +159,23 @@ impl Session {
     fn answer_loaded(&mut self, command: Command, message: &Value) -> Result<Answer, NoMemory> {
         match &mut self.loaded {
             None => refused(self.alloc, b"no program is launched"),
-            Some(loaded) => {
-                if !is_move(command) {
-                    return answer_about(loaded, &mut self.work, command, message);
-                }
-                if loaded.is_done {
-                    return refused(self.alloc, b"the run is done");
-                }
-                self.work = Some(loaded.work_for(command, message));
-                done(self.alloc, b"{\"allThreadsContinued\":true}")
-            }
+            Some(loaded) => match find_lack(self.alloc, command, message)? {
+                Some(why) => Ok(Answer::Refused(why)),
+                None => answer_launched(loaded, &mut self.work, command, message),
+            },
         }
-    }
-
-    /// The answer to `configurationDone`, after which the run begins.
-    fn answer_configured(&mut self) -> Result<Answer, NoMemory> {
-        if self.loaded.is_some() {
-            self.work = Some(Work::Begin);
-        }
-        done(self.alloc, b"")
     }
 
     /// The answer to a request.
     fn answer_to(&mut self, command: Command, message: &Value) -> Result<Answer, NoMemory> {
         match command {
-            Command::Initialize => done(self.alloc, offers()),
-            Command::ConfigurationDone => self.answer_configured(),
-            Command::Threads => done(self.alloc, b"{\"threads\":[{\"id\":1,\"name\":\"mmix\"}]}"),
-            Command::SetExceptionBreakpoints
-            | Command::Pause
+            Command::Other | Command::Launch => refused(self.alloc, b"there is no such request"),
+            Command::Initialize
+            | Command::Threads
+            | Command::SetExceptionBreakpoints
             | Command::Cancel
             | Command::Terminate
-            | Command::Disconnect => done(self.alloc, b""),
-            Command::Other | Command::Launch => refused(self.alloc, b"there is no such request"),
+            | Command::Disconnect => answer_always(self.alloc, command, message),
             _ => self.answer_loaded(command, message),
         }
     }
@@ -206,6 +224,12 @@ impl Session {
         }
     }
 
+    /// Tells that a message is no request: it has no answer.
+    fn tell_no_request(&mut self) -> Result<Flow, NoMemory> {
+        tell_text(self.alloc, &mut self.out, b"stderr", b"this is no request\n")?;
+        Ok(Flow::Going)
+    }
+
     /// Refuses what is no message, and ends.
     pub fn refuse(&mut self, why: &[u8]) -> Result<Flow, NoMemory> {
         tell_text(self.alloc, &mut self.out, b"stderr", why)?;
@@ -221,7 +245,7 @@ impl Session {
         match Value::from_str(self.alloc, text) {
             Ok(message) => match read_request(self.alloc, &message)? {
                 Some(request) => self.take_request(request, &message),
-                None => Ok(Flow::Going),
+                None => self.tell_no_request(),
             },
             Err(e) => {
                 if e.is_memory() {
