@@ -31,10 +31,6 @@ name_in word = front is_no_stroke word
 abbrev pub form_in : List ℕ → List ℕ
 form_in word = past is_no_stroke word
 
--- what follows the label of a line of a source, and the blanks after it
-unfoldable pub code_of : List ℕ → List ℕ
-code_of line = without_blanks (past is_ink line)
-
 -- without white space at the end
 abbrev pub trimmed : List ℕ → List ℕ
 trimmed text = take (length text - suffix_len is_ascii_whitespace text) text

@@ -79,14 +79,6 @@ pub fn cut_form(word: &[u8]) -> (&[u8], &[u8])
     word.split_at(name_count(word))
 }
 
-/// What follows the label of a line.
-#[tactic(auto, unfolding(crate::specs::Lines::code_of))]
-pub fn skip_label(line: &[u8]) -> &[u8]
-    ensures { result.now ≡ spec.code_of line.now }
-{
-    without_blanks(ink(line).1)
-}
-
 /// A text without blanks, tabs and returns at its end.
 pub fn trim_end(text: &[u8]) -> &[u8]
     ensures { result.now ≡ spec.trimmed text.now }

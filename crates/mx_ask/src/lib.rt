@@ -8,7 +8,7 @@ mod table;
 mod units;
 mod words;
 
-pub use cutting::{cut_form, cut_word, skip_label, trim_end};
+pub use cutting::{cut_form, cut_word, trim_end};
 pub use help::{Asked, add_help, add_unasked, find_word};
 pub use numbers::{parse_address, parse_count, parse_number, parse_octa, parse_subject};
 pub use table::ROWS;

@@ -1,20 +1,20 @@
 -- One turn of a visit, and its marks.
 use Rattle.std.proofs.lemmas.Option.{same_Some}
-use Rattle.std.proofs.Common.{◌≡◌, ◌≢◌, IsTrue, ◌/◌, ℕ, true, false, Some, None, refl, subst, ◌∙◌, ap}
+use Rattle.std.proofs.Common.{◌≡◌, ◌≢◌, IsTrue, ℕ, true, false, Some, None, refl, subst, ◌∙◌, ap}
 use Rattle.std.specs.Prelude.{Option, Bool, List, ◌∷◌, ◌||◌, ◌==◌, nat_le, not}
 use Rattle.std.specs.List.{list_any}
 use Rattle.mx_host.specs.HostModel.{HostModel, tells, contents}
 use Rattle.mx_code.specs.declared.trace.Trace.{Trace}
 use Rattle.mx_core.specs.Kept.{state_of}
 use Rattle.mx_core.specs.State.{State}
-use Rattle.mx_run.specs.Runs.{FlagsOf, Ended, ended}
+use Rattle.mx_run.specs.Runs.{Ended, ended}
 use Rattle.mx_run.specs.Turns.{Answered, Turn, went_on, halts, stops, turn, turn_answer}
 use Rattle.mx_run.specs.WildRuns.{state_after}
 use Rattle.mx_run.specs.declared.end.End.{End}
 use Rattle.mx_run.specs.declared.end.End.TheVariants.{Halted, Stopped, Spent}
 use Rattle.mx_run.specs.declared.turn_answer.TurnAnswer.{TurnAnswer}
 use Rattle.mx_run.specs.declared.turn_answer.TurnAnswer.TheVariants as answer
-use Rattle.mx_replay.specs.Marks.{changes_value, changes_watched, depth, is_at_most, is_at_most_if, is_met, is_watched, meets_break, meets_flag, value_at}
+use Rattle.mx_replay.specs.Marks.{changes_value, changes_watched, depth, is_at_most, is_at_most_if, is_met, meets_break, value_at}
 use Rattle.mx_replay.specs.Visits.{MakesTurn, came_by, came_to, trace_of, turn_end, turn_from}
 use Rattle.mx_replay.specs.declared.marks.Place.{Place}
 use Rattle.mx_replay.specs.declared.stops.Break.{Break}
@@ -44,27 +44,6 @@ pub turned : (pc : ℕ) (s t : State) (m n : HostModel) (r : TurnAnswer) (e : En
 unfolding tells contents
 turned pc s t m n r e trace h f at =
     subst (λ a. (ended e t n ≡ came_by a (turn s m)) × (trace ≡ trace_of (turn s m))) at (turned-by pc t n r e trace (turn s m) (h refl (lacks-none pc r (e, trace) f)) f)
-
--- ---- whether it comes to a flag
-
-flag-by : (f : FlagsOf) (s : State) (pc : ℕ) (trace : Trace) (x : Turn) (e : Ended) → e ≡ came_by pc x → Some trace ≡ trace_of x →
-    ((f (s.pc / 4)).t || is_watched f trace || (f (e.state.pc / 4)).x) ≡ meets_flag f s x
-flag-by f s pc trace (went_on u k other) e h t =
-    let same : trace ≡ other = cc in ap (λ (x : Ended). (f (s.pc / 4)).t || is_watched f trace || (f (x.state.pc / 4)).x) h ∙ ap (λ x. (f (s.pc / 4)).t || is_watched f x || (f (u.pc / 4)).x) same
-flag-by f s pc trace (halts status u k) e h t = absurd (cc)
-flag-by f s pc trace (stops reason u k) e h t = absurd (cc)
-
-pub flag-told : (f : FlagsOf) (v w : Visit) (trace : Trace) → MakesTurn v w → Some trace ≡ trace_of (turn_from v) →
-    ((f ((state_of v.machine).pc / 4)).t || is_watched f trace || (f ((state_of w.machine).pc / 4)).x) ≡ meets_flag f (state_of v.machine) (turn_from v)
-flag-told f v w trace h t = flag-by f (state_of v.machine) (state_of v.machine).pc trace (turn_from v) (came_to w) h.came t
-
-no-flag-by : (f : FlagsOf) (s : State) (x : Turn) → None ≡ trace_of x → false ≡ meets_flag f s x
-no-flag-by f s (went_on u k other) t = absurd (cc)
-no-flag-by f s (halts status u k) t = refl
-no-flag-by f s (stops reason u k) t = refl
-
-pub no-flag-told : (f : FlagsOf) (v : Visit) → None ≡ trace_of (turn_from v) → false ≡ meets_flag f (state_of v.machine) (turn_from v)
-no-flag-told f v t = no-flag-by f (state_of v.machine) (turn_from v) t
 
 -- ---- whether it changes a value
 
@@ -119,4 +98,4 @@ stop-told watch more v w before after rest is_stop h e f g =
     ∙ ap (λ b. changes_value watch.place (state_of v.machine) (turn_from v) || b) g
     ∙ or-both (changes_value watch.place (state_of v.machine) (turn_from v)) (changes_watched more (state_of v.machine) (turn_from v)) rest
 
-pub ruleset marking = (flag-told, no-flag-told, change-told, shallow-told, shallow-if-told, break-told, no-break-told, stop-told)
+pub ruleset marking = (change-told, shallow-told, shallow-if-told, break-told, no-break-told, stop-told)

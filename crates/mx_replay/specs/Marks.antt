@@ -1,15 +1,11 @@
--- Steps that are looked for: those whose turn comes to a flag of a tetra, changes a value or comes to a break, and those at which few
--- registers are hidden.
-use Rattle.std.specs.Prelude.{ℕ, zero, suc, ◌+◌, ◌/◌, ◌%◌, ◌^◌, ◌||◌, ◌&&◌, ◌==◌, not, Bool, false, true, if◌then◌else◌, nat_le, nat_lt, int_lt, List, Option, None, Some, Result, Ok, Err}
+-- Steps that are looked for: those whose turn changes a value or comes to a break, and those at which few registers are hidden.
+use Rattle.std.specs.Prelude.{ℕ, zero, suc, ◌/◌, ◌^◌, ◌||◌, ◌&&◌, ◌==◌, not, Bool, false, true, if◌then◌else◌, nat_le, nat_lt, int_lt, List, Option, None, Some, Result, Ok, Err}
 use Rattle.std.specs.List.{list_any}
 use Rattle.mx_word.specs.Words.{signed_value}
 use Rattle.mx_host.specs.HostModel.{HostModel}
 use Rattle.mx_ring.specs.Stack.{hidden_count, register}
-use Rattle.mx_code.specs.declared.trace.Touch.{Touch}
-use Rattle.mx_code.specs.declared.trace.Trace.{Trace}
 use Rattle.mx_core.specs.State.{State, octa, special_register}
-use Rattle.mx_run.specs.FlagMaps.{flags_at}
-use Rattle.mx_run.specs.Runs.{FlagsOf, Ended}
+use Rattle.mx_run.specs.Runs.{Ended}
 use Rattle.mx_run.specs.Turns.{Turn, went_on, halts, stops, turn}
 use Rattle.mx_run.specs.WildRuns.{state_after}
 use Rattle.mx_run.specs.declared.end.End.{End}
@@ -17,7 +13,7 @@ use Rattle.mx_run.specs.declared.end.End.TheVariants.{Halted, Stopped, Broke, Tr
 use Rattle.mx_outcome.specs.declared.outcome.Outcome.{Outcome}
 use Rattle.mx_replay.specs.Programs.{step_of}
 use Rattle.mx_replay.specs.declared.marks.Sought.{Sought}
-use Rattle.mx_replay.specs.declared.marks.Sought.TheVariants.{Flags, Change, Shallow, Stops}
+use Rattle.mx_replay.specs.declared.marks.Sought.TheVariants.{Change, Shallow, Stops}
 use Rattle.mx_replay.specs.declared.marks.Place.{Place}
 use Rattle.mx_replay.specs.declared.marks.Place.TheVariants.{Register, Octa, Special}
 use Rattle.mx_replay.specs.declared.program.Program.{Program}
@@ -26,27 +22,6 @@ use Rattle.mx_replay.specs.declared.stops.Condition.{Condition}
 use Rattle.mx_replay.specs.declared.stops.Relation.{Relation}
 use Rattle.mx_replay.specs.declared.stops.Relation.TheVariants.{Equal, Unequal, Less, AtMost, Greater, AtLeast}
 use Rattle.mx_replay.specs.declared.stops.Watch.{Watch}
-
--- ---- flags
-
--- whether a touch has a tetra that a test holds of: one of eight bytes has two
-abbrev pub has_tetra : (ℕ → Bool) → Touch → Bool
-has_tetra test t = test (t.at / 4) || (nat_lt 4 t.size && test ((t.at + 4) % 2 ^ 64 / 4))
-
-abbrev pub touches : (ℕ → Bool) → Option Touch → Bool
-touches test None = false
-touches test (Some t) = has_tetra test t
-
--- whether a step reads or writes a tetra with that flag
-abbrev pub is_watched : FlagsOf → Trace → Bool
-is_watched f trace = touches (λ n. (f n).r) trace.reads || touches (λ n. (f n).w) trace.writes
-
--- Whether a turn that goes on comes to a flag: it carries out a tetra that is to be traced, reads or writes one with that
--- flag, or leads to one that is not to be carried out unseen.
-abbrev pub meets_flag : FlagsOf → State → Turn → Bool
-meets_flag f s (went_on t m trace) = (f (s.pc / 4)).t || is_watched f trace || (f (t.pc / 4)).x
-meets_flag f s (halts status t m) = false
-meets_flag f s (stops reason t m) = false
 
 -- ---- changes
 
@@ -113,10 +88,6 @@ pub record Mark : Type 0 where
   pub start : State → Bool
   pub turn : State → Turn → Bool
 
--- the turn comes to a flag
-abbrev pub comes_to_flag : FlagsOf → Mark
-comes_to_flag f = record { start = λ _. false; turn = meets_flag f }
-
 -- the turn changes the value at a place
 abbrev pub changes : Place → Mark
 changes place = record { start = λ _. false; turn = changes_value place }
@@ -157,7 +128,6 @@ is_marked p mark (suc j) = marks_after mark (step_of p j)
 
 -- the mark that the code looks for
 abbrev pub mark_of : Sought → Mark
-mark_of (Flags flags) = comes_to_flag (flags_at flags.now)
 mark_of (Change place) = changes place
 mark_of (Shallow most) = is_shallow most
 mark_of (Stops breaks watches most) = stops_at breaks.now watches.now most

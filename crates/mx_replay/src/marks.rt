@@ -2,12 +2,10 @@
 
 ghost use Rattle.std.specs.Prelude.{◌≡◌};
 ghost use Rattle.mx_core.specs.Kept.{state_of};
-ghost use Rattle.mx_run.specs.FlagMaps.{flags_at};
 ghost use Rattle.mx_replay.specs.Marks as spec;
 
 use crate::stops::{Break, Watch};
-use mx_core::{Machine, Touch, Trace};
-use mx_run::FlagMap;
+use mx_core::Machine;
 use mx_word::STACK_SEGMENT;
 
 /// A place that has a value.
@@ -24,9 +22,6 @@ pub enum Place {
 /// What a step is looked for by.
 #[derive(Clone, Copy)]
 pub(crate) enum Sought<'a> {
-    /// Its turn comes to a flag: it carries out a tetra with `t`, reads one with `r`, writes one with `w`, or leads to one
-    /// with `x`.
-    Flags(&'a FlagMap),
     /// Its turn changes the value at a place.
     Change(Place),
     /// At most this many registers are hidden there.
@@ -62,7 +57,7 @@ pub(crate) fn has_mark_at_start(machine: &Machine, sought: Sought<'_>) -> bool
     ensures { result ≡ (spec.mark_of sought.entry).start (state_of machine.now) }
 {
     match sought {
-        Sought::Flags(_) | Sought::Change(_) | Sought::Stops(_, _, _) => false,
+        Sought::Change(_) | Sought::Stops(_, _, _) => false,
         Sought::Shallow(most) => depth(machine) <= most,
     }
 }
@@ -75,32 +70,5 @@ pub fn value_at(machine: &Machine, place: Place) -> u64
         Place::Register(k) => machine.register(k),
         Place::Octa(a) => { if a < 1 << 63 { machine.octa(a) } else { 0 } }
         Place::Special(code) => { if code < 32 { machine.special(code) } else { 0 } }
-    }
-}
-
-/// Whether a step reads or writes a tetra with that flag.
-pub(crate) fn is_watched(flags: &FlagMap, trace: &Trace) -> bool
-    ensures { result ≡ spec.is_watched (flags_at flags.now) trace.now }
-{
-    has_flag_read(flags, trace.reads) || has_flag_written(flags, trace.writes)
-}
-
-/// Whether what is read has a tetra with the flag for that.
-fn has_flag_read(flags: &FlagMap, touch: Option<Touch>) -> bool
-    ensures { result ≡ spec.touches (λ n. (flags_at flags.now n).r) touch }
-{
-    match touch {
-        Some(t) => flags.flags(t.at).r || (t.size > 4 && flags.flags(t.at.wrapping_add(4)).r),
-        None => false,
-    }
-}
-
-/// Whether what is written has a tetra with the flag for that.
-fn has_flag_written(flags: &FlagMap, touch: Option<Touch>) -> bool
-    ensures { result ≡ spec.touches (λ n. (flags_at flags.now n).w) touch }
-{
-    match touch {
-        Some(t) => flags.flags(t.at).w || (t.size > 4 && flags.flags(t.at.wrapping_add(4)).w),
-        None => false,
     }
 }

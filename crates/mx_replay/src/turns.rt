@@ -2,7 +2,6 @@
 
 ghost use Rattle.std.specs.Prelude.{◌≡◌, ◌+◌, ◌<◌, ◌^◌, ◌||◌, IfOk, OnOk};
 ghost use Rattle.mx_core.specs.Kept.{state_of};
-ghost use Rattle.mx_run.specs.FlagMaps.{flags_at};
 ghost use Rattle.mx_run.specs.WildRuns.{state_after};
 ghost use Rattle.mx_replay.specs.Marks as marks;
 ghost use Rattle.mx_replay.specs.Visits as spec;
@@ -10,11 +9,11 @@ ghost use Rattle.mx_replay.specs.Programs.{IsReached};
 ghost use Rattle.mx_replay.specs.Visits.{IsStep, MakesTurn, turn_from};
 ghost use Rattle.mx_replay.specs.declared.program.Program.{Program};
 
-use crate::marks::{Place, Sought, depth, is_shallow_if, is_watched, value_at};
+use crate::marks::{Place, Sought, depth, is_shallow_if, value_at};
 use crate::stops::{Break, Watch, is_at_any_break};
 use crate::visit::{Visit, is_over};
 use mx_code::Trace;
-use mx_run::{End, FlagMap, TurnAnswer, turn};
+use mx_run::{End, TurnAnswer, turn};
 use mx_word::NoMemory;
 use std::alloc::Global;
 
@@ -63,25 +62,6 @@ pub(crate) fn make_next(alloc: Global, visit: &mut Visit) -> Result<Option<Trace
         return Err(NoMemory);
     }
     make_turn(alloc, visit)
-}
-
-/// Makes a turn, and says whether it comes to a flag.
-#[tactic(auto, using(crate::proofs::Turning::marking))]
-fn turn_to_flag(alloc: Global, visit: &mut Visit, flags: &FlagMap) -> Result<bool, NoMemory>
-    requires { visit.old.at + 1 < 2 ^ 64 }
-    ensures turn { OnOk result (MakesTurn visit.old visit.new) }
-    ensures mark { IfOk result (λ marked. marked
-        ≡ marks.meets_flag (flags_at flags.now) (state_of visit.old.machine) (turn_from visit.old)) }
-{
-    let traced = flags.flags(visit.machine.pc()).t;
-    match make_turn(alloc, visit) {
-        Ok(Some(trace)) => {
-            let leads = flags.flags(visit.machine.pc()).x;
-            Ok(traced || is_watched(flags, &trace) || leads)
-        }
-        Ok(None) => Ok(false),
-        Err(NoMemory) => Err(NoMemory),
-    }
 }
 
 /// Makes a turn, and says whether it changes the value at a place.
@@ -175,7 +155,6 @@ pub(crate) fn turn_marked(
         ≡ (marks.mark_of sought.entry).turn (state_of visit.old.machine) (turn_from visit.old)) }
 {
     match sought {
-        Sought::Flags(flags) => turn_to_flag(alloc, visit, flags),
         Sought::Change(place) => turn_changes(alloc, visit, place),
         Sought::Shallow(most) => turn_to_depth(alloc, visit, most),
         Sought::Stops(breaks, watches, most) => turn_to_stop(alloc, visit, breaks, watches, most),

@@ -1,10 +1,9 @@
 //! What is looked for in a run.
 
 ghost use Rattle.std.specs.Prelude.{◌≡◌, ◌-◌, [], None, IfOk, IsTrue, OnErr};
-ghost use Rattle.mx_run.specs.FlagMaps.{flags_at};
 ghost use Rattle.mx_core.specs.Kept.{state_of};
 ghost use Rattle.mx_replay.specs.Frames.{AreLocals, AreLocalsAt, frames_at};
-ghost use Rattle.mx_replay.specs.Marks.{changes, comes_to_flag, is_shallow, mark_of, stops_at};
+ghost use Rattle.mx_replay.specs.Marks.{changes, is_shallow, mark_of, stops_at};
 ghost use Rattle.mx_replay.specs.Searches.{FoundAt, IsLast, IsLastBefore, IsLeft, IsNext};
 
 use super::Replay;
@@ -14,7 +13,6 @@ use crate::marks::{Place, Sought, has_mark_at_start};
 use crate::searches::{find_last, find_next};
 use crate::stops::{Break, Watch};
 use mx_core::Machine;
-use mx_run::FlagMap;
 use mx_word::{NoMemory, Sequence};
 use std::alloc::Global;
 
@@ -42,46 +40,6 @@ fn is_nothing(breaks: &[Break], watches: &[Watch], most: Option<u64>) -> bool
 
 /// The next step, from the one that is shown.
 impl Replay {
-    /// Goes on to the next step whose turn comes to a flag, up to step `until`: the least step after this one. Where there
-    /// is none, it goes on as far as `until`, or to the last step before it.
-    ///
-    /// Errors: out of memory; then it is where it was, or at the start.
-    pub fn next_hit(&mut self, flags: &FlagMap, until: u64) -> Result<Option<u64>, NoMemory>
-        ensures program { self.new.program ≡ self.old.program }
-        ensures next { IfOk result (IsNext self.old.program (comes_to_flag (flags_at flags.now)) self.old.at until) }
-        ensures place { IfOk result (FoundAt self.old.program until self.old.at self.new.at) }
-        ensures err { OnErr result (IsLeft self.old.at self.new.at) }
-    {
-        self.next_marked(Sought::Flags(flags), until)
-    }
-
-    /// Goes on to the next step whose turn changed the value at a place, up to step `until`: the least step after this one.
-    /// Where there is none, it goes on as far as `until`, or to the last step before it.
-    ///
-    /// Errors: out of memory; then it is where it was, or at the start.
-    pub fn next_change(&mut self, place: Place, until: u64) -> Result<Option<u64>, NoMemory>
-        ensures program { self.new.program ≡ self.old.program }
-        ensures next { IfOk result (IsNext self.old.program (changes place) self.old.at until) }
-        ensures place { IfOk result (FoundAt self.old.program until self.old.at self.new.at) }
-        ensures err { OnErr result (IsLeft self.old.at self.new.at) }
-    {
-        self.next_marked(Sought::Change(place), until)
-    }
-
-    /// Goes on to the next step at which at most this many registers are hidden, up to step `until`: the least step after this
-    /// one. With the depth of this step that is the next step of the same call, or of one that it returned to; with one less,
-    /// the step after the return. Where there is none, it goes on as far as `until`, or to the last step before it.
-    ///
-    /// Errors: out of memory; then it is where it was, or at the start.
-    pub fn next_shallow(&mut self, at_most: u64, until: u64) -> Result<Option<u64>, NoMemory>
-        ensures program { self.new.program ≡ self.old.program }
-        ensures next { IfOk result (IsNext self.old.program (is_shallow at_most) self.old.at until) }
-        ensures place { IfOk result (FoundAt self.old.program until self.old.at self.new.at) }
-        ensures err { OnErr result (IsLeft self.old.at self.new.at) }
-    {
-        self.next_marked(Sought::Shallow(at_most), until)
-    }
-
     /// Goes on to the next step whose turn comes to one of these breaks, changes the value at a place that is watched, or leads
     /// to where at most this many registers are hidden, if that is asked; up to step `until`: the least step after this one.
     /// Where there is none, it goes on as far as `until`, or to the last step before it.
@@ -144,26 +102,6 @@ impl Replay {
 
 /// The last step before the one that is shown. It stays where it is.
 impl Replay {
-    /// The last step before this one whose turn comes to a flag: the greatest. It stays where it is.
-    ///
-    /// Errors: out of memory.
-    pub fn find_last_hit(&mut self, flags: &FlagMap) -> Result<Option<u64>, NoMemory>
-        ensures same { self.new ≡ self.old }
-        ensures last { IfOk result (IsLast self.old.program (comes_to_flag (flags_at flags.now)) (self.old.at - 1)) }
-    {
-        self.find_last_marked(Sought::Flags(flags), self.here.at.saturating_sub(1))
-    }
-
-    /// The last step before this one whose turn changed the value at a place: the greatest. It stays where it is.
-    ///
-    /// Errors: out of memory.
-    pub fn find_last_change(&mut self, place: Place) -> Result<Option<u64>, NoMemory>
-        ensures same { self.new ≡ self.old }
-        ensures last { IfOk result (IsLast self.old.program (changes place) (self.old.at - 1)) }
-    {
-        self.find_last_marked(Sought::Change(place), self.here.at.saturating_sub(1))
-    }
-
     /// The last step before this one whose turn comes to one of these breaks, changes the value at a place that is watched, or
     /// leads to where at most this many registers are hidden, if that is asked: the greatest. It stays where it is.
     ///
