@@ -113,6 +113,12 @@ on-reached p v w n k made o c count sum s = record {
 pub gone-on : (p : Program) (v w : Visit) (n k made : ℕ) (over : Bool) → over ≡ is_over v.end → over ≡ false → ComesTo (state_of v.machine) v.host n made (came_to w) → w.at ≡ v.at + made → v.at + n ≡ k → IsStep p v → IsStep p w × IsReached p k w.at
 gone-on p v w n k made over is not c count sum s = (on-step p v w n made (sym is ∙ not) c count s, on-reached p v w n k made (sym is ∙ not) c count sum s)
 
+-- some turns before a step
+pub reached-before : (p : Program) (k turns from at : ℕ) → from ≡ k - turns → IsReached p from at → at ≤ k
+reached-before p k turns from at e r = omega (arith, e, r.within)
+
+pub ruleset nearing = (reached-before)
+
 -- THE CALL THAT BEGINS
 
 pub begun-told : (p : Program) (words : List (List ℕ)) (m k : HostModel) (r : Result State Outcome) → words ≡ map string_bytes p.words → m ≡ host_of p → r ≢ Err outcome.OutOfMemory →

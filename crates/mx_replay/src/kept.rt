@@ -127,13 +127,19 @@ impl Kept {
         self.visits = thinned(self.alloc, visits, self.stride, from);
     }
 
-    /// Drops the steps that are not at a multiple of the stride, and then every second one, as long as too many are kept.
-    fn drop_some(&mut self)
+    /// Drops the steps that are not at a multiple of the stride, where too many are kept.
+    fn drop_near(&mut self)
         ensures { (p : Program) → AreSteps p self.old → AreSteps p self.new }
     {
         if self.visits.as_slice().len() > MOST_KEPT {
             self.thin_out(0);
         }
+    }
+
+    /// Drops every second step, where too many are kept.
+    fn widen(&mut self)
+        ensures { (p : Program) → AreSteps p self.old → AreSteps p self.new }
+    {
         if self.visits.as_slice().len() > MOST_KEPT {
             self.stride = self.stride.saturating_mul(2);
             self.thin_out(0);
@@ -152,7 +158,8 @@ impl Kept {
             return;
         }
         add(&mut self.visits, visit);
-        self.drop_some();
+        self.drop_near();
+        self.widen();
     }
 
     /// From which step on those are dropped that are not at a multiple of the stride, where one at a step is kept.
@@ -169,7 +176,8 @@ impl Kept {
         ensures { (p : Program) → IsStep p visit.now → AreSteps p self.old → AreSteps p self.new }
     {
         if is_small(visit) {
-            self.thin_out(self.first_dropped(visit.at));
+            let from = self.first_dropped(visit.at);
+            self.thin_out(from);
             add(&mut self.visits, visit);
         }
     }
@@ -185,6 +193,13 @@ fn add(visits: &mut Sequence<Visit>, visit: &Visit)
     }
 }
 
+/// Whether a step is left where those from one on are dropped that are not at a multiple of the stride.
+fn is_left(visit: &Visit, stride: u64, from: u64) -> bool
+    requires { 0 < stride }
+{
+    visit.at < from || visit.at % stride == 0
+}
+
 /// Those of some steps that are at a multiple of the stride, or before a step.
 #[tactic(auto, using(crate::proofs::Keeping::keeping))]
 fn thinned(alloc: Global, visits: Sequence<Visit>, stride: u64, from: u64) -> Sequence<Visit>
@@ -194,7 +209,7 @@ fn thinned(alloc: Global, visits: Sequence<Visit>, stride: u64, from: u64) -> Se
     let mut left = Sequence::new(alloc);
     let mut rest = visits.into_vec();
     while let Some(visit) = rest.pop() {
-        if visit.at < from || visit.at % stride == 0 {
+        if is_left(&visit, stride, from) {
             let _kept = left.push(visit);
         }
     }

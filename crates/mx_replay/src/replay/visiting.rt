@@ -69,6 +69,7 @@ impl Replay {
     }
     /// A step before step k, from which there are few turns to it: at most as many as are asked for, or those from the nearest step
     /// that is kept, whatever is less.
+    #[tactic(auto, using(crate::proofs::Steps::nearing))]
     pub(super) fn visit_near(&mut self, k: u64, turns: u64) -> Result<Visit, NoMemory>
         ensures same { self.new ≡ self.old }
         ensures step { IfOk result (λ v. IsStep self.old.program v) }
@@ -76,9 +77,9 @@ impl Replay {
     {
         let from = k.saturating_sub(turns);
         if self.kept.has_between(from, k) {
-            self.visit_before(k)
-        } else {
-            self.visit(from)
+            return self.visit_before(k);
         }
+        let visit = self.visit(from)?;
+        Ok(visit)
     }
 }
