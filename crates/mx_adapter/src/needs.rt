@@ -142,7 +142,12 @@ impl Need {
 
 /// The first of some needs that are not met.
 fn find_unmet(needs: &[Need], value: &Value) -> Option<Need> {
-    Some(*needs.iter().find(|need| !need.is_met(value))?)
+    for need in needs {
+        if !need.is_met(value) {
+            return Some(*need);
+        }
+    }
+    None
 }
 
 /// The name at the end of a path.
