@@ -11,7 +11,8 @@ VERSION = "22.12"
 WIDTH, HEIGHT = 1400, 900
 # in the window, with the panel 500 pixels high: its text, the line for commands below it, and the button that begins
 TEXT_LEFT, TEXT_RIGHT, TEXT_TOP, TEXT_BOTTOM, LINE = 45, 1100, 412, 842, 862
-CONTINUE = ("1190", "40")
+# where Continue is in a tool bar without icons and in one with them; nothing else at these places does anything before the run begins
+CONTINUE = (("913", "39"), ("1190", "40"))
 PROMPT = "(dap) "
 SESSION = """[Kate Plugins]
 kategdbplugin=true
@@ -111,7 +112,8 @@ class Kate:
         self.keys("mousemove", "600", "200", "click", "1")
         self.keys("key", "ctrl+F7")
         self.wait_for_text(lambda text: "waiting for user actions" in text)
-        self.keys("mousemove", *CONTINUE, "click", "1")
+        for place in CONTINUE:
+            self.keys("mousemove", *place, "click", "1")
         return self.wait_for_text(lambda text: "Current frame" in text)
 
     def read_text(self):
