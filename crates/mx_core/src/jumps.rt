@@ -1,6 +1,7 @@
 //! Instructions that go elsewhere: branches, jumps, calls and returns.
 
 ghost use Rattle.std.specs.Prelude.{◌≡◌};
+ghost use Rattle.mx_mem.specs.Memory.{KeepsCode};
 ghost use Rattle.mx_core.specs.Way.Calls as spec;
 ghost use Rattle.mx_core.specs.Way.Calls.{CarriesOut, Makes};
 ghost use Rattle.mx_code.specs.Instructions.{operation_in};
@@ -74,8 +75,9 @@ impl Machine {
     /// The register stack's part of PUSHJ and PUSHGO.
     #[tactic(auto, unfolding(crate::specs::Kept::state_of))]
     #[inline(always)]
-    fn push(&mut self, x: u8) -> Result<(), Stop>
-        ensures { Makes (λ s. spec.registers_pushed s x) result self.old self.new }
+    pub(crate) fn push(&mut self, x: u8) -> Result<(), Stop>
+        ensures made { Makes (λ s. spec.registers_pushed s x) result self.old self.new }
+        ensures code { KeepsCode self.old.memory self.new.memory }
     {
         match self.ring.push(x) {
             Ok(()) => Ok(()),
@@ -102,8 +104,9 @@ impl Machine {
     /// The register stack's part of POP.
     #[tactic(auto, using(crate::proofs::Kept::Marks::pop_marks), unfolding(crate::specs::Kept::state_of))]
     #[inline(always)]
-    fn pop_registers(&mut self, x: u8) -> Result<(), Stop>
-        ensures { Makes (λ s. spec.registers_popped s x) result self.old self.new }
+    pub(crate) fn pop_registers(&mut self, x: u8) -> Result<(), Stop>
+        ensures made { Makes (λ s. spec.registers_popped s x) result self.old self.new }
+        ensures code { KeepsCode self.old.memory self.new.memory }
     {
         know_bounds(&self.ring);
         match self.ring.pop(x) {

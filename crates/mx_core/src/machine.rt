@@ -1,7 +1,7 @@
 //! The machine's state, and what is read and written of it.
 
 ghost use Rattle.std.specs.Prelude.{◌≡◌, ◌≢◌, ◌<◌, ◌≤◌, ◌+◌, ◌^◌, ◌/◌, ◌%◌, Err, false, true};
-ghost use Rattle.mx_mem.specs.Memory.{tetra_of};
+ghost use Rattle.mx_mem.specs.Memory.{KeepsCode, tetra_of};
 ghost use Rattle.mx_ring.specs.Bounds.{IsRing};
 ghost use Rattle.mx_ring.specs.Stack as stacks;
 ghost use Rattle.mx_code.specs.SpecialRegisters.{rA};
@@ -190,7 +190,8 @@ impl Machine {
     /// $k gets a value.
     #[inline(always)]
     pub(crate) fn set(&mut self, k: u8, x: u64) -> Result<(), Stop>
-        ensures { Makes (λ s. set_outcome s k x) result self.old self.new }
+        ensures made { Makes (λ s. set_outcome s k x) result self.old self.new }
+        ensures code { KeepsCode self.old.memory self.new.memory }
     {
         match self.ring.set(k, x) {
             Ok(()) => Ok(()),
@@ -203,7 +204,8 @@ impl Machine {
     pub(crate) fn put(&mut self, code: u8, x: u64)
         requires range { code < 32 }
         requires not_ra { code ≢ rA }
-        ensures { state_of self.new ≡ spec.with_special (state_of self.old) code x }
+        ensures state { state_of self.new ≡ spec.with_special (state_of self.old) code x }
+        ensures code { KeepsCode self.old.memory self.new.memory }
     {
         self.special[usize::from(code)] = x;
     }

@@ -1,6 +1,7 @@
 //! Trips, and the events that lead to them.
 
 ghost use Rattle.std.specs.Prelude.{◌≡◌, ◌≢◌, ◌<◌, ◌+◌, ◌^◌, ◌++◌, ◌∷◌, [], Some};
+ghost use Rattle.mx_mem.specs.Memory.{KeepsCode};
 ghost use Rattle.mx_ring.specs.Stack.{set_overfills};
 ghost use Rattle.mx_code.specs.SpecialRegisters.{rA};
 ghost use Rattle.mx_core.specs.Way.Calls as spec;
@@ -62,10 +63,11 @@ impl Machine {
 
     /// A special register gets a value, where one is told.
     #[inline(always)]
-    fn put_told(&mut self, code: u8, x: Option<u64>)
+    pub(crate) fn put_told(&mut self, code: u8, x: Option<u64>)
         requires range { code < 32 }
         requires not_ra { code ≢ rA }
-        ensures { state_of self.new ≡ with_specials (state_of self.old) (if_told code x) }
+        ensures state { state_of self.new ≡ with_specials (state_of self.old) (if_told code x) }
+        ensures code { KeepsCode self.old.memory self.new.memory }
     {
         if let Some(x) = x {
             self.put(code, x);
