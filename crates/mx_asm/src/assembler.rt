@@ -41,12 +41,11 @@ impl Model for Assembler {
 }
 
 impl Assembler {
-    /// Before the first line. It is refused only out of memory.
+    /// Before the first line.
     #[tactic(auto, using(crate::proofs::InTurn::turns))]
-    pub fn new(alloc: Global) -> Result<Assembler, Refused>
+    pub fn new(alloc: Global) -> Result<Assembler, NoMemory>
         ensures start { IfOk result (λ a. a ≡ Ok spec.beginning) }
         ensures none { IfOk result (λ a. HasTaken [] a) }
-        ensures memory { IfErr result (λ refused. refused ≡ no_memory) }
     {
         Ok(Assembler {
             alloc,
@@ -76,13 +75,12 @@ impl Assembler {
         ensures fits { AreFit out.old → AreFit out.new }
         ensures refusal_again { OnErr self.old ((out.new ≡ out.old) × (self.new ≡ self.old)) }
     {
-        match self.try_line(text, out) {
-            Ok(Ok(())) => Ok(()),
-            Ok(Err(refused)) => {
+        match self.try_line(text, out)? {
+            Ok(()) => Ok(()),
+            Err(refused) => {
                 self.refused = Some(refused);
                 Err(refused)
             }
-            Err(refused) => Err(refused),
         }
     }
 

@@ -72,16 +72,12 @@ impl Model for Assembly {
 
 impl Assembly {
     /// Before the first line.
-    pub(crate) fn new(alloc: Global) -> Result<Assembly, Refused>
-        ensures start { IfOk result (λ a. a ≡ spec.beginning) }
-        ensures memory { IfErr result (λ refused. refused ≡ no_memory) }
+    pub(crate) fn new(alloc: Global) -> Result<Assembly, NoMemory>
+        ensures { IfOk result (λ a. a ≡ spec.beginning) }
     {
-        let Ok(names) = Names::new(alloc) else {
-            return Err(Refused::no_memory());
-        };
         Ok(Assembly {
             alloc,
-            names,
+            names: Names::new(alloc)?,
             at: 0,
             gregs: Gregs::new(),
             head: Head { lambda: 0, line: 0 },

@@ -14,32 +14,24 @@ use mx_word::{Awaited, Bytes, NoMemory, Value, Waits};
 use std::alloc::Global;
 
 /// Makes references wait.
-fn wait_for(names: &mut Names, waits: Waits) -> Result<(), AsmFault>
+fn wait_for(names: &mut Names, waits: Waits) -> Result<(), NoMemory>
     ensures waiting { OnOk result (names.new ≡ spec.with_waits names.old waits) }
-    ensures only { IfErr result (λ fault. fault ≡ AsmFault.OutOfMemory) }
     ensures kept { AreNames names.old.names → AreNames names.new.names }
     ensures symbols { names.new.names.symbols ≡ names.old.names.symbols }
 {
     for wait in waits.into_vec() {
-        let Ok(()) = names.wait_for(wait) else {
-            return Err(AsmFault::OutOfMemory);
-        };
+        names.wait_for(wait)?;
     }
     Ok(())
 }
 
 /// Gives and removes the references that wait for a name or a local label.
-fn take_waiting(names: &mut Names, who: &Awaited) -> Result<Waits, AsmFault>
-    ensures taken { result ≢ Err AsmFault.OutOfMemory →
-        spec.labelled_after result names.new ≡ spec.waits_taken who.now names.old }
-    ensures only { IfErr result (λ fault. fault ≡ AsmFault.OutOfMemory) }
+fn take_waiting(names: &mut Names, who: &Awaited) -> Result<Waits, NoMemory>
+    ensures taken { IfOk result (λ waits. Ok (names.new, waits) ≡ spec.waits_taken who.now names.old) }
     ensures kept { AreNames names.new.names }
     ensures symbols { names.new.names.symbols ≡ names.old.names.symbols }
 {
-    match names.take_waiting(who) {
-        Ok(waits) => Ok(waits),
-        Err(_) => Err(AsmFault::OutOfMemory),
-    }
+    names.take_waiting(who)
 }
 
 /// Defines a symbol, and takes the references that wait for it, those of its own statement among

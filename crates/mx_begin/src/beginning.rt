@@ -75,12 +75,7 @@ pub fn begin<H: Host>(
     ensures untouched { IfOk result (λ machine. (state_of machine).touched ≡ false) }
     ensures causes { PartFailsOnlyBy H.told H.faults host.old host.new result }
 {
-    let arguments = match collect_arguments(alloc, words, order) {
-        Ok(arguments) => arguments,
-        Err(_) => return Err(Outcome::OutOfMemory),
-    };
-    match read_image(alloc, host, form, word_bytes(words, order.file)) {
-        Ok(image) => start_machine(alloc, image, arguments.as_slice(), order.ring),
-        Err(outcome) => Err(outcome),
-    }
+    let arguments = collect_arguments(alloc, words, order)?;
+    let image = read_image(alloc, host, form, word_bytes(words, order.file))?;
+    start_machine(alloc, image, arguments.as_slice(), order.ring)
 }

@@ -88,8 +88,6 @@ pub fn read_image<H: Host>(
         (plans.image_file_plan form name.now) }
     ensures causes { PartFailsOnlyBy H.told H.faults host.old host.new result }
 {
-    match read_file(alloc, host, name, most_pieces(form)) {
-        Ok(bytes) => image_in(alloc, form, bytes.as_slice()),
-        Err(outcome) => Err(outcome),
-    }
+    let bytes = read_file(alloc, host, name, most_pieces(form))?;
+    image_in(alloc, form, bytes.as_slice())
 }

@@ -42,10 +42,7 @@ fn read(alloc: Global, field: &[u8]) -> Result<Exprs, ExprFault>
     let mut reader = Reader::new(alloc);
     let mut mode = Mode::Operand;
     for b in field {
-        mode = match reader.step(mode, *b) {
-            Ok(next) => next,
-            Err(fault) => return Err(fault),
-        };
+        mode = reader.step(mode, *b)?;
     }
     reader.finish(mode)
 }

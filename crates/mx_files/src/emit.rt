@@ -73,15 +73,13 @@ fn assemble_by(
     ensures fits { AreFit items.old → AreFit items.new }
     ensures trie { IfOk result (λ r. IfOk r IsPadded) }
 {
-    match take_lines(assembler, items, text) {
-        Ok(()) => match assembler.finish(items) {
-            Ok(trie) => Ok(Ok(trie)),
-            Err(refused) => match if_no_memory(&refused) {
-                Ok(()) => Ok(Err(refused)),
-                Err(e) => Err(e),
-            },
-        },
-        Err(e) => Err(e),
+    take_lines(assembler, items, text)?;
+    match assembler.finish(items) {
+        Ok(trie) => Ok(Ok(trie)),
+        Err(refused) => {
+            if_no_memory(&refused)?;
+            Ok(Err(refused))
+        }
     }
 }
 
@@ -96,10 +94,8 @@ fn assemble_into(
     ensures fits { AreFit items.old → AreFit items.new }
     ensures trie { IfOk result (λ r. IfOk r IsPadded) }
 {
-    match Assembler::new(alloc) {
-        Ok(mut assembler) => assemble_by(&mut assembler, items, text),
-        Err(_) => Err(NoMemory),
-    }
+    let mut assembler = Assembler::new(alloc)?;
+    assemble_by(&mut assembler, items, text)
 }
 
 /// The items that a source is assembled into, and its trie or refusal.
@@ -109,10 +105,8 @@ fn assembled(alloc: Global, text: &[u8]) -> Result<(Items, Result<Bytes, Refused
     ensures trie { IfOk result (λ r. IfOk r.1 IsPadded) }
 {
     let mut items = Items::new(alloc);
-    match assemble_into(alloc, &mut items, text) {
-        Ok(answer) => Ok((items, answer)),
-        Err(e) => Err(e),
-    }
+    let answer = assemble_into(alloc, &mut items, text)?;
+    Ok((items, answer))
 }
 
 /// A writer that these items were put into.
@@ -136,13 +130,9 @@ fn item_writer(alloc: Global, items: &[Item]) -> Result<Writer, NoMemory>
 fn source_object(alloc: Global, text: &[u8]) -> Result<(Bytes, Result<(), Refusal>), NoMemory>
     ensures { IfOk result (λ r. r ≡ objects.source_object text.now) }
 {
-    match assembled(alloc, text) {
-        Ok((items, answer)) => match item_writer(alloc, items.as_slice()) {
-            Ok(writer) => object_of(writer, answer),
-            Err(e) => Err(e),
-        },
-        Err(e) => Err(e),
-    }
+    let (items, answer) = assembled(alloc, text)?;
+    let writer = item_writer(alloc, items.as_slice())?;
+    object_of(writer, answer)
 }
 
 /// What was written with the end of an object after it, or with the refusal.
@@ -176,10 +166,8 @@ fn answer_of_source(answer: Result<(), Refusal>) -> Result<(), Outcome>
 fn close_object<H: Host>(host: &mut H, answer: Result<(), Refusal>) -> Result<(), Outcome>
     ensures { Works H.told H.faults host.old host.new result (plans.close_object answer) }
 {
-    match close_file(host, OBJECT_SLOT) {
-        Ok(()) => answer_of_source(answer),
-        Err(outcome) => Err(outcome),
-    }
+    close_file(host, OBJECT_SLOT)?;
+    answer_of_source(answer)
 }
 
 /// Writes the bytes of an object, and closes its file.
@@ -190,10 +178,8 @@ fn put_object<H: Host>(
 ) -> Result<(), Outcome>
     ensures { Works H.told H.faults host.old host.new result (plans.put_object (bytes.now, answer)) }
 {
-    match put_text(host, OBJECT_SLOT, bytes) {
-        Ok(()) => close_object(host, answer),
-        Err(outcome) => Err(outcome),
-    }
+    put_text(host, OBJECT_SLOT, bytes)?;
+    close_object(host, answer)
 }
 
 /// Assembles a source into the object file, which is open. The file of a source that is refused has the
@@ -201,10 +187,8 @@ fn put_object<H: Host>(
 fn put_source<H: Host>(alloc: Global, host: &mut H, text: &[u8]) -> Result<(), Outcome>
     ensures { Works H.told H.faults host.old host.new result (plans.put_source text.now) }
 {
-    match source_object(alloc, text) {
-        Ok((bytes, answer)) => put_object(host, bytes.as_slice(), answer),
-        Err(_) => Err(Outcome::OutOfMemory),
-    }
+    let (bytes, answer) = source_object(alloc, text)?;
+    put_object(host, bytes.as_slice(), answer)
 }
 
 /// Opens the file of this name as the object file.
@@ -224,10 +208,8 @@ fn open_object<H: Host>(host: &mut H, name: &[u8]) -> Result<(), Outcome>
 fn put_into<H: Host>(alloc: Global, host: &mut H, object: &[u8], text: &[u8]) -> Result<(), Outcome>
     ensures { Works H.told H.faults host.old host.new result (plans.put_into object.now text.now) }
 {
-    match open_object(host, object) {
-        Ok(()) => put_source(alloc, host, text),
-        Err(outcome) => Err(outcome),
-    }
+    open_object(host, object)?;
+    put_source(alloc, host, text)
 }
 
 /// Reads a source, and assembles it.
@@ -239,10 +221,8 @@ fn assemble<H: Host>(
 ) -> Result<(), Outcome>
     ensures { Works H.told H.faults host.old host.new result (plans.assemble_part source.now object.now) }
 {
-    match read_file(alloc, host, source, SOURCE_PIECES) {
-        Ok(text) => put_into(alloc, host, object, text.as_slice()),
-        Err(outcome) => Err(outcome),
-    }
+    let text = read_file(alloc, host, source, SOURCE_PIECES)?;
+    put_into(alloc, host, object, text.as_slice())
 }
 
 /// Assembles the source in a file into the object file of this name. Where there is no memory, the calls made by then

@@ -85,10 +85,8 @@ fn put_item<H: Host>(
         (plans.item_plan (item_text lister.old item.now)) }
     ensures lambda { OnOk result (lister.new ≡ lambda_after lister.old item.now) }
 {
-    match lister.item_into(line, item) {
-        Ok(()) => put_shown(host, line.as_slice()),
-        Err(_) => Err(Outcome::OutOfMemory),
-    }
+    lister.item_into(line, item)?;
+    put_shown(host, line.as_slice())
 }
 
 /// Lists the item that is next, and says whether one did.
@@ -115,10 +113,10 @@ fn list_next<H: Host>(
 {
     match reader.next() {
         Ok(None) => Ok(false),
-        Ok(Some(item)) => match put_item(host, lister, line, &item) {
-            Ok(()) => Ok(true),
-            Err(outcome) => Err(outcome),
-        },
+        Ok(Some(item)) => {
+            put_item(host, lister, line, &item)?;
+            Ok(true)
+        }
         Err(fault) => Err(refuse_bytes(fault)),
     }
 }
@@ -141,10 +139,8 @@ fn list_items<H: Host>(
         (plans.typed_plan (spec.still_typed lister.old reader.old))) }
 {
     loop {
-        match list_next(host, lister, line, reader) {
-            Ok(true) => {}
-            Ok(false) => return Ok(()),
-            Err(outcome) => return Err(outcome),
+        if !list_next(host, lister, line, reader)? {
+            return Ok(());
         }
     }
 }
@@ -154,10 +150,8 @@ fn put_symbol<H: Host>(host: &mut H, lister: &Lister, symbol: &Symbol) -> Result
     ensures { Works H.told H.faults host.old host.new result
         (lines.made_plan (ended (symbol_line symbol.now))) }
 {
-    match lister.symbol_line(symbol) {
-        Ok(line) => write_line(host, line.as_slice()),
-        Err(_) => Err(Outcome::OutOfMemory),
-    }
+    let line = lister.symbol_line(symbol)?;
+    write_line(host, line.as_slice())
 }
 
 /// Writes the lines of symbols.
@@ -166,10 +160,7 @@ fn put_symbols<H: Host>(host: &mut H, lister: &Lister, symbols: &[Symbol]) -> Re
         (lines.lines_plan (map (λ s. ended (symbol_line s)) symbols.now)) }
 {
     for symbol in symbols {
-        match put_symbol(host, lister, symbol) {
-            Ok(()) => {}
-            Err(outcome) => return Err(outcome),
-        }
+        put_symbol(host, lister, symbol)?;
     }
     Ok(())
 }
@@ -178,10 +169,8 @@ fn put_symbols<H: Host>(host: &mut H, lister: &Lister, symbols: &[Symbol]) -> Re
 fn put_trie<H: Host>(host: &mut H, lister: &Lister, trie: &[u8]) -> Result<(), Outcome>
     ensures { Works H.told H.faults host.old host.new result (lines.made_plan (ended (stab_line trie.now))) }
 {
-    match lister.trie_line(trie) {
-        Ok(line) => write_line(host, line.as_slice()),
-        Err(_) => Err(Outcome::OutOfMemory),
-    }
+    let line = lister.trie_line(trie)?;
+    write_line(host, line.as_slice())
 }
 
 /// Writes the lines of a trie and its symbols.
@@ -194,10 +183,8 @@ fn put_tail<H: Host>(
     ensures { Works H.told H.faults host.old host.new result
         (lines.lines_plan (spec.tail_lines trie.now symbols.now)) }
 {
-    match put_trie(host, lister, trie) {
-        Ok(()) => put_symbols(host, lister, symbols),
-        Err(outcome) => Err(outcome),
-    }
+    put_trie(host, lister, trie)?;
+    put_symbols(host, lister, symbols)
 }
 
 /// Lists what follows the items.
@@ -243,10 +230,8 @@ fn list_fed<H: Host>(alloc: Global, host: &mut H, reader: &mut Reader) -> Result
 {
     let mut lister = Lister::new(alloc);
     let mut line = Bytes::new(alloc);
-    match list_items(host, &mut lister, &mut line, reader) {
-        Ok(()) => list_end(alloc, host, &lister, reader),
-        Err(outcome) => Err(outcome),
-    }
+    list_items(host, &mut lister, &mut line, reader)?;
+    list_end(alloc, host, &lister, reader)
 }
 
 /// Lists an object, or the items before its first fault.
@@ -264,10 +249,8 @@ fn list_object<H: Host>(alloc: Global, host: &mut H, bytes: &[u8]) -> Result<(),
 fn list_whole<H: Host>(alloc: Global, host: &mut H, name: &[u8]) -> Result<(), Outcome>
     ensures { Works H.told H.faults host.old host.new result (plans.list_part name.now) }
 {
-    match read_file(alloc, host, name, OBJECT_PIECES) {
-        Ok(bytes) => list_object(alloc, host, bytes.as_slice()),
-        Err(outcome) => Err(outcome),
-    }
+    let bytes = read_file(alloc, host, name, OBJECT_PIECES)?;
+    list_object(alloc, host, bytes.as_slice())
 }
 
 /// Lists the object in the file of this name. Where there is no memory, the lines that were written stay, and no other

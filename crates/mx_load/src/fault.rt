@@ -3,6 +3,8 @@
 ghost use Rattle.std.specs.Prelude.{◌≡◌};
 ghost use Rattle.mx_load.specs.Faults.{number_of};
 
+use mx_word::NoMemory;
+
 /// Why an item of an object cannot be loaded.
 #[derive(Clone, Copy, Debug, PartialEq, Eq)]
 pub enum LoadFault {
@@ -27,5 +29,15 @@ impl LoadFault {
             LoadFault::NoFile => 96,
             LoadFault::OutOfMemory => 0,
         }
+    }
+}
+
+impl From<NoMemory> for LoadFault {
+    ghost use Rattle.mx_load.specs.declared.fault.LoadFault.TheVariants.{OutOfMemory};
+
+    ghost from_gives = { λ _ fault. fault ≡ OutOfMemory };
+
+    fn from(_error: NoMemory) -> LoadFault {
+        LoadFault::OutOfMemory
     }
 }

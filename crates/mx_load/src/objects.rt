@@ -133,10 +133,8 @@ fn load_items(reader: &mut Reader, progress: &mut Progress) -> Result<(), Object
         ≡ Err (spec.place_and_number f)) }
 {
     loop {
-        match load_next(reader, progress) {
-            Ok(true) => {}
-            Ok(false) => return Ok(()),
-            Err(fault) => return Err(fault),
+        if !load_next(reader, progress)? {
+            return Ok(());
         }
     }
 }
@@ -178,10 +176,10 @@ fn finish(alloc: Global, reader: &mut Reader, progress: Progress) -> Result<Imag
         spec.loaded_in result ≡ whole_loaded (Ok (loading_of progress, left_of reader.old)) }
 {
     match reader.finish() {
-        Ok(tail) => match read_trie(alloc, &tail) {
-            Ok(symbols) => Ok(progress.image.with_symbols(symbols)),
-            Err(fault) => Err(fault),
-        },
+        Ok(tail) => {
+            let symbols = read_trie(alloc, &tail)?;
+            Ok(progress.image.with_symbols(symbols))
+        }
         Err(fault) => Err(fault_of_bytes(fault)),
     }
 }
@@ -196,10 +194,10 @@ pub fn load_object(alloc: Global, bytes: &[u8]) -> Result<Image, ObjectFault>
     let mut reader = Reader::new(alloc);
     let mut progress = Progress::new(alloc);
     match reader.feed(bytes) {
-        Ok(()) => match load_items(&mut reader, &mut progress) {
-            Ok(()) => finish(alloc, &mut reader, progress),
-            Err(fault) => Err(fault),
-        },
+        Ok(()) => {
+            load_items(&mut reader, &mut progress)?;
+            finish(alloc, &mut reader, progress)
+        }
         Err(fault) => Err(fault_of_bytes(fault)),
     }
 }

@@ -82,13 +82,9 @@ impl Progress {
         if self.line == 0 {
             return Ok(());
         }
-        match self.image.note(self.lambda, self.line) {
-            Ok(()) => {
-                self.line = next_line(self.line);
-                Ok(())
-            }
-            Err(fault) => Err(fault),
-        }
+        self.image.note(self.lambda, self.line)?;
+        self.line = next_line(self.line);
+        Ok(())
     }
 
     /// Goes on after the tetra that was joined at lambda.
@@ -96,13 +92,9 @@ impl Progress {
         ensures { let s = loading_of self.old in result ≢ Err LoadFault.OutOfMemory →
             given result (loading_of self.new) ≡ told (after_load s (Ok s.image)) }
     {
-        match self.count_line() {
-            Ok(()) => {
-                self.lambda = (4 * (self.lambda / 4)).wrapping_add(4);
-                Ok(())
-            }
-            Err(fault) => Err(fault),
-        }
+        self.count_line()?;
+        self.lambda = (4 * (self.lambda / 4)).wrapping_add(4);
+        Ok(())
     }
 
     /// Loads a tetra at lambda.
@@ -111,10 +103,8 @@ impl Progress {
         ensures { let s = loading_of self.old in result ≢ Err LoadFault.OutOfMemory →
             given result (loading_of self.new) ≡ told (after_load s (spec.join s.image s.lambda t)) }
     {
-        match self.image.join(self.lambda, t) {
-            Ok(()) => self.advance(),
-            Err(fault) => Err(fault),
-        }
+        self.image.join(self.lambda, t)?;
+        self.advance()
     }
 
     /// Joins a tetra at an address.
@@ -141,13 +131,9 @@ impl Progress {
               named = with_name s.named number;
             }) }
     {
-        match self.named.insert(number) {
-            Ok(_) => {
-                self.selected = true;
-                Ok(())
-            }
-            Err(_) => Err(LoadFault::OutOfMemory),
-        }
+        self.named.insert(number)?;
+        self.selected = true;
+        Ok(())
     }
 
     /// Selects a file, which is named here or has to have been named before.

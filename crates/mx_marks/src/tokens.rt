@@ -194,10 +194,8 @@ pub(crate) fn from_part<'a>(
     let mut rest = text;
     let mut left = text.len();
     while left > 0 {
-        match is_wanted(alloc, kind, source, most, rest) {
-            Ok(true) => return Ok(rest),
-            Ok(false) => {}
-            Err(e) => return Err(e),
+        if is_wanted(alloc, kind, source, most, rest)? {
+            return Ok(rest);
         }
         rest = split_at_most(rest, part_length(rest)).1;
         left -= 1;

@@ -79,10 +79,8 @@ fn put_byte<M: Space>(memory: &mut M, at: u64, b: u8) -> Result<bool, TrapAnswer
     ensures stops { IfErr result StopsByPages }
     ensures rest { (M.contents memory.new).rest ≡ (M.contents memory.old).rest }
 {
-    match store_byte(memory, at, b) {
-        Ok(()) => Ok(b == b'\n'),
-        Err(answer) => Err(answer),
-    }
+    store_byte(memory, at, b)?;
+    Ok(b == b'\n')
 }
 
 /// Puts the zero byte after a line of `count` bytes.

@@ -72,10 +72,10 @@ fn read_piece<M: Space, H: Host>(
     ensures stands { Stands (H.told host.old) (H.told host.new) (H.faults host.old) (H.faults host.new) }
 {
     match read(host, slot, buffer) {
-        Ok(count) => match store_bytes(memory, at, &buffer[..count]) {
-            Ok(()) => Ok(count as u64),
-            Err(answer) => Err(answer),
-        },
+        Ok(count) => {
+            store_bytes(memory, at, &buffer[..count])?;
+            Ok(count as u64)
+        }
         Err(HostFault::OutOfMemory) => Err(TrapAnswer::OutOfMemory),
         Err(_) => Err(TrapAnswer::Value(MINUS_ONE - size)),
     }

@@ -89,13 +89,7 @@ fn read_command(command: Command, words: &[String]) -> Result<Order, WordsFault>
     let mut settings = defaults();
     let mut at = 1;
     while at < words.len() && is_option(&words[at]) {
-        match read_option(command, settings, words, at) {
-            Ok((set, next)) => {
-                settings = set;
-                at = next;
-            }
-            Err(fault) => return Err(fault),
-        }
+        (settings, at) = read_option(command, settings, words, at)?;
     }
     file(command, settings, words, at)
 }
