@@ -164,8 +164,8 @@ impl Assembly {
         waits: Waits,
     ) -> Result<Waits, AsmFault>
         requires digit { IfSome label.now LabelHasDigit }
-        ensures labelled { result ≢ Err AsmFault.OutOfMemory →
-            spec.labelled_after result (spec.naming_of self.new) ≡ spec.labelled (spec.naming_of self.old) label.now value waits }
+        ensures labelled { spec.Labels result (spec.naming_of self.new)
+            (spec.labelled (spec.naming_of self.old) label.now value waits) }
         ensures rest { OnOk result (self.new ≡
             record self.old { known = record self.old.known { names = self.new.known.names }; waiting = self.new.waiting }) }
         ensures early { IfErr result (λ fault. is_early fault ≡ true → self.new ≡ self.old) }

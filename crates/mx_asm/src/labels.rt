@@ -45,9 +45,8 @@ fn define_symbol(
 ) -> Result<Waits, AsmFault>
     requires full { IsFullName full }
     requires room { length names.old.names.symbols < 0xffff_ffff }
-    ensures labelled { result ≢ Err AsmFault.OutOfMemory →
-        spec.labelled_after result names.new ≡
-        spec.symbol_defined names.old full value waits (define_answer names.old.names full) }
+    ensures labelled { spec.Labels result names.new
+        (spec.symbol_defined names.old full value waits (define_answer names.old.names full)) }
     ensures kept { AreNames names.old.names → AreNames names.new.names }
     ensures few { length names.new.names.symbols ≤ length names.old.names.symbols + 1 }
     ensures early { IfErr result (λ fault. is_early fault ≡ true → names.new ≡ names.old) }
@@ -72,9 +71,8 @@ fn define_name(
     waits: Waits,
 ) -> Result<Waits, AsmFault>
     requires room { length names.old.names.symbols < 0xffff_ffff }
-    ensures labelled { result ≢ Err AsmFault.OutOfMemory →
-        spec.labelled_after result names.new ≡
-        spec.with_symbol_label names.old value waits (symbol_form names.old.names text.now) }
+    ensures labelled { spec.Labels result names.new
+        (spec.with_symbol_label names.old value waits (symbol_form names.old.names text.now)) }
     ensures kept { AreNames names.old.names → AreNames names.new.names }
     ensures few { length names.new.names.symbols ≤ length names.old.names.symbols + 1 }
     ensures early { IfErr result (λ fault. is_early fault ≡ true → names.new ≡ names.old) }

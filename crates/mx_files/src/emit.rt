@@ -5,14 +5,11 @@ ghost use Rattle.mx_asm.specs.Faults.{no_memory};
 ghost use Rattle.mx_asm.specs.Fitting.{AreFit, IsPadded};
 ghost use Rattle.mx_asm.specs.OnePass.{beginning};
 ghost use Rattle.mx_asm.specs.Whole.{assembled_lines, line_after};
-ghost use Rattle.mx_host.specs.Keeping.{Answers, WritesFront};
 ghost use Rattle.mx_line.specs.Lines.{lines_of};
 ghost use Rattle.mx_mmo.specs.Spelling.{written};
-ghost use Rattle.mx_plan.specs.Calls as calls;
 ghost use Rattle.mx_plan.specs.Clauses.{CarriesOut};
-ghost use Rattle.mx_plan.specs.Plan.{end_of};
 ghost use Rattle.mx_files.specs.Failing.{FailsOnlyBy};
-ghost use Rattle.mx_files.specs.Clauses.{ComesByFailing, Works};
+ghost use Rattle.mx_files.specs.Clauses.{AnswersPlan, FailsByPlan, Works, WritesFrontOfPlan};
 ghost use Rattle.mx_files.specs.ObjectPlans as plans;
 ghost use Rattle.mx_files.specs.Objects as objects;
 
@@ -230,12 +227,11 @@ fn assemble<H: Host>(
 pub fn assemble_file<H: Host>(alloc: Global, host: &mut H, source: &[u8], object: &[u8]) -> Outcome
     ensures plan { CarriesOut (H.told host.old) (H.told host.new) Outcome.OutOfMemory result
         (plans.assemble_plan source.now object.now) }
-    ensures cause { ComesByFailing (H.told host.old) Outcome.HostFault result (H.faults host.old) (H.faults host.new)
+    ensures cause { FailsByPlan H.told H.faults host.old host.new result
         (plans.assemble_part source.now object.now) }
-    ensures told { Answers (H.told host.old) (H.told host.new) Outcome.OutOfMemory result
-        (λ m. end_of calls.host (plans.assemble_plan source.now object.now) m) }
-    ensures written { WritesFront (H.told host.old) (H.told host.new) Outcome.OutOfMemory result
-        (λ m. end_of calls.host (plans.assemble_plan source.now object.now) m) }
+    ensures told { AnswersPlan H.told host.old host.new result (plans.assemble_plan source.now object.now) }
+    ensures written { WritesFrontOfPlan H.told host.old host.new result
+        (plans.assemble_plan source.now object.now) }
     ensures causes { FailsOnlyBy H.told H.faults host.old host.new result }
 {
     whole_outcome(assemble(alloc, host, source, object))

@@ -12,7 +12,7 @@ ghost use Rattle.mx_type.specs.Lines.{ended, stab_line, symbol_line};
 ghost use Rattle.mx_type.specs.Texts.{item_text};
 ghost use Rattle.mx_files.specs.Failing.{FailsOnlyBy};
 ghost use Rattle.mx_files.specs.Answers.{AnswersAs, AnswersAsList, WritesFrontOf, plainly};
-ghost use Rattle.mx_files.specs.Clauses.{ComesByFailing, Leaves, Works, is_end};
+ghost use Rattle.mx_files.specs.Clauses.{FailsByPlan, Leaves, Works, is_end};
 ghost use Rattle.mx_files.specs.FilePlans as lines;
 ghost use Rattle.mx_files.specs.ObjectPlans as plans;
 ghost use Rattle.mx_files.specs.Typed as spec;
@@ -258,8 +258,7 @@ fn list_whole<H: Host>(alloc: Global, host: &mut H, name: &[u8]) -> Result<(), O
 pub fn list_file<H: Host>(alloc: Global, host: &mut H, name: &[u8]) -> Outcome
     ensures plan { CarriesOut (H.told host.old) (H.told host.new) Outcome.OutOfMemory result
         (plans.list_plan name.now) }
-    ensures cause { ComesByFailing (H.told host.old) Outcome.HostFault result (H.faults host.old) (H.faults host.new)
-        (plans.list_part name.now) }
+    ensures cause { FailsByPlan H.told H.faults host.old host.new result (plans.list_part name.now) }
     ensures told { AnswersAs (H.told host.old) (H.told host.new) result
         (λ m. plainly (end_of calls.host (plans.list_plan name.now) m)) }
     ensures listed { AnswersAsList (H.told host.old) (H.told host.new) result

@@ -92,7 +92,7 @@ impl Names {
     /// the prefix followed by it. It is refused where it has more than 1,024 bytes.
     pub fn resolve(&self, name: &[u8]) -> Result<Bytes, NameFault>
         ensures answer { result ≢ Err NameFault.OutOfMemory →
-            result ≡ spec.fitting_form (spec.complete_form self.now.names.prefix name.now) }
+            result ≡ spec.symbol_form self.now.names name.now }
         ensures full { IfOk result (λ full. spec.IsFullName full) }
     {
         if is_complete(name) {
@@ -106,9 +106,8 @@ impl Names {
     /// changes nothing.
     pub fn set_prefix(&mut self, name: &[u8]) -> Result<(), NameFault>
         ensures answer { result ≢ Err NameFault.OutOfMemory →
-            result ≡ map_ok (λ _. tt) (spec.fitting_form (spec.complete_form self.old.names.prefix name.now)) }
-        ensures ok { OnOk result (self.new ≡
-            record self.old { names = record self.old.names { prefix = spec.complete_form self.old.names.prefix name.now } }) }
+            result ≡ map_ok (λ _. tt) (spec.symbol_form self.old.names name.now) }
+        ensures ok { OnOk result (self.new ≡ spec.with_prefix self.old (spec.full_form self.old.names name.now)) }
         ensures err { OnErr result (self.new ≡ self.old) }
         ensures kept { spec.AreNames self.new.names }
     {
@@ -125,8 +124,7 @@ impl Names {
         ensures answer { result ≢ Err NameFault.OutOfMemory → result ≡ spec.define_answer self.old.names full }
         ensures ok { OnOk result (self.new ≡ record self.old { names = spec.with_symbol self.old.names full v }) }
         ensures count { OnOk result (length self.new.names.symbols ≡ length self.old.names.symbols + 1) }
-        ensures looked_up { OnOk result ((name : List ℕ) → spec.value_of_name self.new.names name ≡
-            (if bytes_eq name full then Some v else spec.value_of_name self.old.names name)) }
+        ensures looked_up { OnOk result (spec.KnowsAlso self.old.names self.new.names full v) }
         ensures err { OnErr result (self.new ≡ self.old) }
         ensures kept { spec.AreNames self.new.names }
     {

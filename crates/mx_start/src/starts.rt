@@ -4,12 +4,11 @@ ghost use Rattle.std.specs.Prelude.{◌≡◌, ◌≢◌, ◌≤◌, ◌<◌, �
 ghost use Rattle.mx_load.specs.Kept.{image_of};
 ghost use Rattle.mx_ring.specs.Stack.{windowed};
 ghost use Rattle.mx_ring.specs.Window.{window_at_start};
-ghost use Rattle.mx_word.specs.Results.{map_ok};
 ghost use Rattle.mx_core.specs.Bare.{bare, shared_in, with_shared};
 ghost use Rattle.mx_core.specs.Kept.{state_of};
 ghost use Rattle.mx_start.specs.Images.{globals_of};
 ghost use Rattle.mx_start.specs.Start as spec;
-ghost use Rattle.mx_start.specs.Started.{begun, stored, stored_by};
+ghost use Rattle.mx_start.specs.Started.{StartsAs, stored, stored_by};
 
 use crate::StartFault;
 use crate::globals::collect_globals;
@@ -33,8 +32,7 @@ pub fn start(
     r: RingSize,
 ) -> Result<Machine, StartFault>
     requires { 1 ≤ length args.now }
-    ensures { result ≢ Err StartFault.OutOfMemory → map_ok state_of result
-        ≡ begun (spec.start (image_of image) args.now (windowed (window_at_start r))) }
+    ensures { StartsAs result (spec.start (image_of image) args.now (windowed (window_at_start r))) }
 {
     let machine = load_machine(alloc, image, args.len() as u64, r)?;
     with_arguments(alloc, machine, args)
@@ -59,8 +57,8 @@ fn without_memory(
 ) -> Result<Machine, NoMemory>
     requires bounds { 32 ≤ g }
     requires same { g ≡ image.now.g }
-    ensures { let kept = image_of image.now in IfOk result (λ m. state_of m
-        ≡ bare kept.g (globals_of kept) count (spec.pool + 8) (windowed (window_at_start r))) }
+    ensures { let kept = image_of image.now in let stack = windowed (window_at_start r) in
+        IfOk result (λ m. state_of m ≡ bare kept.g (globals_of kept) count (spec.pool + 8) stack) }
 {
     let globals = collect_globals(alloc, image)?;
     Machine::bare(alloc, g, &globals, count, POOL + 8, r)
@@ -78,8 +76,7 @@ fn with_memory(machine: Machine, memory: Memory) -> Machine
 
 /// The machine with arguments in the pool.
 fn with_arguments(alloc: Global, machine: Machine, args: &[Bytes]) -> Result<Machine, StartFault>
-    ensures { result ≢ Err StartFault.OutOfMemory → map_ok state_of result
-        ≡ begun (spec.with_octas (state_of machine) spec.pool (spec.pool_octas args.now)) }
+    ensures { StartsAs result (spec.with_octas (state_of machine) spec.pool (spec.pool_octas args.now)) }
 {
     match pool_octas(alloc, args)? {
         Some(octas) => with_octas(machine, octas.as_slice()),
@@ -89,8 +86,7 @@ fn with_arguments(alloc: Global, machine: Machine, args: &[Bytes]) -> Result<Mac
 
 /// The machine with octas in the pool.
 fn with_octas(machine: Machine, octas: &[u64]) -> Result<Machine, StartFault>
-    ensures { result ≢ Err StartFault.OutOfMemory → map_ok state_of result
-        ≡ begun (spec.with_octas (state_of machine) spec.pool octas.now) }
+    ensures { StartsAs result (spec.with_octas (state_of machine) spec.pool octas.now) }
 {
     let mut machine = machine;
     store_octas(&mut machine, POOL, octas)?;
