@@ -9,18 +9,16 @@ ghost use Rattle.mx_files.specs.FilePlans.{lines_plan};
 ghost use Rattle.mx_dump.specs.Dump as spec;
 ghost use Rattle.mx_dump.specs.Shown.{IsNextShown, shown_octa};
 
-use mx_cmd::special_name;
 use mx_core::{Machine, is_in_stack_area};
 use mx_files::write_line;
 use mx_host::Host;
+use mx_ops::codes::RS;
+use mx_ops::special_name;
 use mx_outcome::Outcome;
 use mx_ring::AREA_END;
 use mx_text::{add_decimal, octa_hex};
 use mx_word::{Bytes, NoMemory};
 use std::alloc::Global;
-
-/// The code of rS.
-const RS: u8 = 11;
 
 /// The first address that no octa has.
 const END: u64 = 1 << 63;

@@ -1,7 +1,7 @@
 use Rattle.std.proofs.Common.{refl, [], map, ap}
 use Rattle.mx_ops.specs.Predefined.{special_registers}
-use Rattle.mx_cmd.proofs.SpecialNames.{name-at}
-use Rattle.mx_cmd.proofs.specials.special_name.Goals as goal
+use Rattle.mx_ops.proofs.SpecialNames.{name-at}
+use Rattle.mx_ops.proofs.specials.special_name.Goals as goal
 
 pub returns : goal.returns
 unfolding special_registers
