@@ -14,7 +14,7 @@ use crate::Refused;
 use crate::assembly::Assembly;
 use crate::lines::take_statements;
 use mx_mmo::Items;
-use mx_word::Bytes;
+use mx_word::{Bytes, NoMemory};
 use std::alloc::Global;
 use std::marker::Model;
 

@@ -55,7 +55,7 @@ fn define_symbol(
     match names.define(full, value) {
         Ok(()) => {
             wait_for(names, waits)?;
-            take_waiting(names, &who)
+            Ok(take_waiting(names, &who)?)
         }
         Err(NameFault::OutOfMemory) => Err(AsmFault::OutOfMemory),
         Err(fault) => Err(AsmFault::Name(fault)),

@@ -9,5 +9,5 @@ mod numerals;
 mod parsing;
 
 pub use command::{Breaks, Command, Subject};
-pub use parsing::parse_command;
 pub use mx_ops::special_name;
+pub use parsing::parse_command;

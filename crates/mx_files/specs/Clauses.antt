@@ -9,7 +9,7 @@ use Rattle.mx_host.specs.declared.slots.Lead.TheVariants.{Input, Output, Errors,
 use Rattle.mx_host.specs.declared.slots.Slot.{Slot}
 use Rattle.mx_host.specs.declared.slots.Slot.TheVariants.{Closed, Open}
 use Rattle.mx_plan.specs.Calls.{HostCall, closing, reading, writing, host, HostPlan}
-use Rattle.mx_plan.specs.Clauses.{CarriesOut, CarriesOutOver, Stands}
+use Rattle.mx_plan.specs.Clauses.{CarriesOut, Stands}
 use Rattle.mx_plan.specs.Held.{Makes}
 use Rattle.mx_plan.specs.Plan.{IsRest, end_of}
 use Rattle.mx_files.specs.FilePlans.{Part}
@@ -92,7 +92,7 @@ Works told faults old new result part = WorksBetween (told old) (told new) (faul
 
 -- a part is carried out over a host
 abbrev pub CarriesOutPart : {H A : Type 0} → (H → Option HostModel) → H → H → Result A Outcome → Part A → Type 0
-CarriesOutPart told old new result part = CarriesOutOver told old new (Err OutOfMemory) result part
+CarriesOutPart told old new result part = CarriesOut (told old) (told new) (Err OutOfMemory) result part
 
 -- over a host that tells its contents, the outcome and what the host then holds are the end of a plan, unless there was no memory;
 -- where there was none, what standard output has is a front of what the plan writes

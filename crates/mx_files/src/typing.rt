@@ -138,7 +138,7 @@ fn list_items<H: Host>(
         Works H.told H.faults host.old host.new (Err outcome)
         (plans.typed_plan (spec.still_typed lister.old reader.old))) }
 {
-    loop {
+    'items: loop {
         if !list_next(host, lister, line, reader)? {
             return Ok(());
         }

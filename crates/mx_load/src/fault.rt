@@ -3,7 +3,7 @@
 ghost use Rattle.std.specs.Prelude.{◌≡◌};
 ghost use Rattle.mx_load.specs.Faults.{number_of};
 
-use mx_word::NoMemory;
+use std::alloc::{AllocError, AllocFailed};
 
 /// Why an item of an object cannot be loaded.
 #[derive(Clone, Copy, Debug, PartialEq, Eq)]
@@ -32,12 +32,22 @@ impl LoadFault {
     }
 }
 
-impl From<NoMemory> for LoadFault {
+impl From<AllocError> for LoadFault {
     ghost use Rattle.mx_load.specs.declared.fault.LoadFault.TheVariants.{OutOfMemory};
 
     ghost from_gives = { λ _ fault. fault ≡ OutOfMemory };
 
-    fn from(_error: NoMemory) -> LoadFault {
+    fn from(_error: AllocError) -> LoadFault {
+        LoadFault::OutOfMemory
+    }
+}
+
+impl<T: Drop> From<AllocFailed<T>> for LoadFault {
+    ghost use Rattle.mx_load.specs.declared.fault.LoadFault.TheVariants.{OutOfMemory};
+
+    ghost from_gives = { λ _ fault. fault ≡ OutOfMemory };
+
+    fn from(_failed: AllocFailed<T>) -> LoadFault {
         LoadFault::OutOfMemory
     }
 }

@@ -125,7 +125,7 @@ fn load_items(reader: &mut Reader, progress: &mut Progress) -> Result<(), Object
     ensures fault { result ≢ Err ObjectFault.OutOfMemory →
         IfErr result (λ f. spec.all_loaded progress.old reader.old ≡ Err (spec.place_and_number f)) }
 {
-    loop {
+    'items: loop {
         if !load_next(reader, progress)? {
             return Ok(());
         }

@@ -74,7 +74,7 @@ impl Progress {
     /// Notes the line in force for the tetra at lambda, and goes on to the next line.
     fn count_line(&mut self) -> Result<(), LoadFault>
         ensures { GoesOn result self.old self.new
-            (λ s. Ok (record s { image = noted s s.image; line = spec.next_line s.line; })) }
+            (λ s. Ok (record s { image = noted s s.image; line = spec.next_line s.line })) }
     {
         if self.line == 0 {
             return Ok(());
@@ -119,7 +119,7 @@ impl Progress {
     /// Selects a file that is named here.
     fn select_named(&mut self, number: u8) -> Result<(), LoadFault>
         ensures { GoesOn result self.old self.new
-            (λ s. Ok (record s { selected = true; named = with_name s.named number; })) }
+            (λ s. Ok (record s { selected = true; named = with_name s.named number })) }
     {
         self.named.insert(number)?;
         self.selected = true;

@@ -49,9 +49,9 @@ symbols-found = refl
 -- two functions that are the same from 0 to 31
 below-32 : (f g : ℕ → Option ℕ) → map f (range_with_len 0 32) ≡ map g (range_with_len 0 32) → (code : ℕ) → code < 32 → f code ≡ g code
 below-32 f g same code below =
-    get_or-map-range_with_len f 0 32 code code None below (omega arith)
+    sym (get_or-map-range_with_len f 0 32 code code None below (omega arith))
     ∙ ap (λ l. get_or l code None) same
-    ∙ sym (get_or-map-range_with_len g 0 32 code code None below (omega arith))
+    ∙ get_or-map-range_with_len g 0 32 code code None below (omega arith)
 
 pub code-found : (code : ℕ) → code < 32 → special_code (drop 1 (special_name code)) ≡ Some code
 code-found = below-32 code_found Some codes-found

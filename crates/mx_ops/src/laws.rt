@@ -5,7 +5,10 @@ ghost use Rattle.std.specs.List.{Contains};
 ghost use Rattle.mx_ops.specs.Opcodes.{IsCodeOf, Row, opcode_rows, own_code, rows_follow};
 ghost use Rattle.mx_ops.specs.Predefined.{predefined_value, special_code, special_name, special_registers};
 
-use crate::codes::{RA, RB, RBB, RC, RD, RE, RF, RG, RH, RI, RJ, RK, RL, RM, RN, RO, RP, RQ, RR, RS, RT, RTT, RU, RV, RW, RWW, RX, RXX, RY, RYY, RZ, RZZ};
+use crate::codes::{
+    RA, RB, RBB, RC, RD, RE, RF, RG, RH, RI, RJ, RK, RL, RM, RN, RO, RP, RQ, RR, RS, RT, RTT, RU,
+    RV, RW, RWW, RX, RXX, RY, RYY, RZ, RZZ,
+};
 
 /// The rows of the table follow one another without a gap from code 0 to code 255. Each name of a
 /// row has its codes one after the other: its own one; then, in a row marked I, one with Z as an

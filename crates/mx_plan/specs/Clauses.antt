@@ -19,13 +19,9 @@ Stands old new earlier later = (tells new ≡ tells old) × (earlier ≤ later) 
 abbrev pub CarriesOut : {A : Type 0} → Option HostModel → Option HostModel → A → A → HostPlan A → Type 0
 CarriesOut old new none result plan = IsTrue (tells old) → Comes host (contents old) (contents new) none result plan
 
--- the same of a host: `told` is what it tells, `old` and `new` are the host before and after
-abbrev pub CarriesOutOver : {H A : Type 0} → (H → Option HostModel) → H → H → A → A → HostPlan A → Type 0
-CarriesOutOver told old new none result plan = CarriesOut (told old) (told new) none result plan
-
--- the same of a call on a slot of a host
+-- the same of a call on a slot of a host: `told` is what that tells, `old` and `new` are the host before and after
 abbrev pub AnswersCall : {H A : Type 0} → (H → Option HostModel) → H → H → Result A HostFault → HostPlan (Result A HostFault) → Type 0
-AnswersCall told old new result plan = CarriesOutOver told old new (Err OutOfMemory) result plan
+AnswersCall told old new result plan = CarriesOut (told old) (told new) (Err OutOfMemory) result plan
 
 -- the same over a space and such a host: the bytes that were put stay, and the calls that were completed
 abbrev pub CarriesOutBoth : {A Rest : Type 0} → Option HostModel → Option HostModel → Contents Rest → Contents Rest → A → A → BothPlan A → Type 0

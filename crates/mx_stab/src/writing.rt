@@ -8,7 +8,6 @@ ghost use Rattle.mx_stab.specs.Grammar.{IsTrie};
 ghost use Rattle.mx_word.specs.Symbols.{InByteOrder, IsNamed};
 ghost use Rattle.std.specs.List.{AllByRecursion};
 
-use crate::StabFault;
 use crate::numbers::{append_serial, append_value, kind};
 use mx_word::{Bytes, NoMemory, Symbol, Symbols};
 use std::alloc::Global;

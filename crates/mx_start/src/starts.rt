@@ -57,8 +57,8 @@ fn without_memory(
 ) -> Result<Machine, NoMemory>
     requires bounds { 32 ≤ g }
     requires same { g ≡ image.now.g }
-    ensures { let kept = image_of image.now in let stack = windowed (window_at_start r) in
-        IfOk result (λ m. state_of m ≡ bare kept.g (globals_of kept) count (spec.pool + 8) stack) }
+    ensures { let kept = image_of image.now in IfOk result (λ m. state_of m
+        ≡ bare kept.g (globals_of kept) count (spec.pool + 8) (windowed (window_at_start r))) }
 {
     let globals = collect_globals(alloc, image)?;
     Machine::bare(alloc, g, &globals, count, POOL + 8, r)

@@ -1,13 +1,12 @@
 -- The bytes of one statement: what it places, its label's value, its effect and the next place, or its first fault.
 -- Each future reference has its target's value, or zero where there is no target (MMIXware, MMIXAL; TAOCP 1, Fascicle
 -- 1, section 1.3.2').
-use Rattle.std.specs.Prelude.{◌≡◌, ◌≢◌, ℕ, ◌+◌, ◌-◌, ◌*◌, ◌/◌, ◌%◌, ◌^◌, nat_lt, if◌then◌else◌, List, [], ◌∷◌, length, Option, None, Some, ok_or, Result, Ok, Err}
+use Rattle.std.specs.Prelude.{ℕ, ◌+◌, ◌-◌, ◌*◌, ◌/◌, ◌%◌, ◌^◌, nat_lt, if◌then◌else◌, List, [], ◌∷◌, length, Option, None, Some, ok_or, Result, Ok, Err}
 use Rattle.mx_word.specs.declared.symbols.Value.{Value}
 use Rattle.mx_word.specs.declared.symbols.Value.TheVariants.{Pure, Reg}
 use Rattle.mx_word.specs.declared.waits.Awaited.{Awaited}
 use Rattle.mx_word.specs.declared.waits.Wait.{Wait}
 use Rattle.mx_word.specs.declared.waits.WaitKind.{WaitKind}
-use Rattle.mx_word.specs.Results.{map_ok}
 use Rattle.mx_word.specs.Words.{tetra_to_bytes}
 use Rattle.mx_expr.specs.declared.faults.ExprFault.TheVariants.{NameTooLong}
 use Rattle.mx_expr.specs.Tree.{Tree, name, trees_of}
@@ -26,8 +25,7 @@ use Rattle.mx_stmt.specs.declared.statement.Statement.{Statement}
 use Rattle.mx_stmt.specs.declared.placed.Effect.{Effect}
 use Rattle.mx_stmt.specs.declared.placed.Effect.TheVariants.{Plain, Prefix, Greg, Local}
 use Rattle.mx_stmt.specs.declared.placed.Placed.{Placed}
-use Rattle.mx_stmt.specs.declared.faults.StmtFault.{StmtFault}
-use Rattle.mx_stmt.specs.declared.faults.StmtFault.TheVariants.{Expr, Operands, TooManyGregs, BadPlace, OutOfMemory}
+use Rattle.mx_stmt.specs.declared.faults.StmtFault.TheVariants.{Expr, Operands, TooManyGregs, BadPlace}
 use Rattle.mx_stmt.specs.Steps.{Answer, and_then}
 use Rattle.mx_stmt.specs.Operands.{Known, Targets, symbol_form, operand_value, register_at, pure_at}
 use Rattle.mx_stmt.specs.Forms.{form, form_by, set_form}
@@ -42,10 +40,6 @@ pub record StatementTree : Type 0 where
 
 abbrev pub statement_tree : Statement → StatementTree
 statement_tree s = record { line = s.line; label = s.label; op = s.op; operands = trees_of s.operands }
-
--- unless there was no memory, the statement that was read, or its fault, is this
-abbrev pub ReadsAs : Result Statement StmtFault → Result StatementTree StmtFault → Type 0
-ReadsAs result answer = result ≢ Err OutOfMemory → map_ok statement_tree result ≡ answer
 
 -- An effect is possible where the register of a GREG may be given its value.
 abbrev pub IsPossible : List ℕ → Effect → Type 0

@@ -2,7 +2,7 @@
 
 ghost use Rattle.std.specs.Prelude.{◌≡◌, ◌≢◌, ℕ, length, IfSome, IfOk, IfErr, Ok, Err};
 ghost use Rattle.mx_word.specs.Results.{map_ok};
-ghost use Rattle.mx_stmt.specs.Encoding.{ReadsAs, StatementTree, statement_tree};
+ghost use Rattle.mx_stmt.specs.Encoding.{StatementTree, statement_tree};
 ghost use Rattle.mx_stmt.specs.Reading as spec;
 ghost use Rattle.mx_stmt.specs.declared.faults.StmtFault.{StmtFault};
 
@@ -72,11 +72,11 @@ pub fn read_statement(
     requires { spec.CutWithin (length text.now) cut.now }
     ensures read { IfOk result (λ s. spec.IsRead (spec.fields_of text.now cut.now) line (statement_tree s)) }
     ensures only { (s : StatementTree) →
-        spec.IsRead (spec.fields_of text.now cut.now) line s → ReadsAs result (Ok s) }
+        spec.IsRead (spec.fields_of text.now cut.now) line s → spec.ReadsAs result (Ok s) }
     ensures fault { IfErr result (λ fault. fault ≢ StmtFault.OutOfMemory →
         spec.IsFault (spec.fields_of text.now cut.now) fault) }
     ensures first { (fault : StmtFault) →
-        spec.IsFault (spec.fields_of text.now cut.now) fault → ReadsAs result (Err fault) }
+        spec.IsFault (spec.fields_of text.now cut.now) fault → spec.ReadsAs result (Err fault) }
     ensures digits { IfOk result spec.StatementHasDigits }
 {
     let op = operation_for(cut.label.is_some(), slice_span(text, cut.op))?;

@@ -4,7 +4,7 @@ ghost use Rattle.std.specs.Prelude.{◌≡◌, ◌≢◌, ◌≤◌, ◌<◌, �
 ghost use Rattle.mx_plan.specs.Calls.{space};
 ghost use Rattle.mx_plan.specs.Clauses.{Stands};
 ghost use Rattle.mx_plan.specs.Plan.{Comes};
-ghost use Rattle.mx_trap.specs.Clauses.{StopsByPages};
+ghost use Rattle.mx_trap.specs.Clauses.{CarriesOutPart, CarriesOutTrap, StopsByPages};
 ghost use Rattle.mx_trap.specs.Moves as spec;
 ghost use Rattle.mx_trap.specs.Requests.{AreInBounds};
 

@@ -83,7 +83,9 @@ fn read_command(command: Command, words: &[String]) -> Result<Order, WordsFault>
     let mut settings = defaults();
     let mut at = 1;
     while at < words.len() && is_option(&words[at]) {
-        (settings, at) = read_option(command, settings, words, at)?;
+        let (set, next) = read_option(command, settings, words, at)?;
+        settings = set;
+        at = next;
     }
     file(command, settings, words, at)
 }
