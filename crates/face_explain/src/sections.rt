@@ -18,7 +18,7 @@ use mx_operations::{
 };
 
 /// A section of the table.
-#[derive(Clone, Copy, Debug, PartialEq, Eq)]
+#[derive(Clone, Copy)]
 pub(crate) enum Section {
     Lines,
     Expressions,
@@ -98,7 +98,7 @@ pub(crate) static ALL: [Section; 35] = [
 
 /// What a section has: its title, its entries, how wide its columns are in a list, and how many cells of a line have one to
 /// their right.
-#[derive(Clone, Copy, Debug)]
+#[derive(Clone, Copy)]
 pub(crate) struct Part {
     pub(crate) title: &'static str,
     pub(crate) entries: &'static [Entry],

@@ -9,7 +9,7 @@ use crate::numbers::parse_count;
 use mx_word::is_digit;
 
 /// A unit of memory.
-#[derive(Clone, Copy, Debug, PartialEq, Eq)]
+#[derive(Clone, Copy, PartialEq, Eq)]
 pub enum Unit {
     Octa,
     Tetra,

@@ -11,7 +11,7 @@ use mx_ask::{Asked, Word, add_help, add_unasked, cut_form, cut_word, find_word, 
 use mx_word::{Bytes, NoMemory};
 
 /// Whether a session goes on after a line.
-#[derive(Clone, Copy, Debug, PartialEq, Eq)]
+#[derive(Clone, Copy)]
 pub enum Flow {
     GoOn,
     Quit,

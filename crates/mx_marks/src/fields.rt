@@ -12,7 +12,7 @@ use mx_stmt::StmtFault;
 use mx_word::is_name_byte;
 
 /// A field of a statement.
-#[derive(Clone, Copy, Debug, PartialEq, Eq)]
+#[derive(Clone, Copy)]
 pub enum Field {
     Label,
     Operation,

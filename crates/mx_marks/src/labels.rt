@@ -11,7 +11,7 @@ use mx_ops::{Op, Pseudo, find};
 use mx_word::{is_digit, is_letter};
 
 /// How a label has to be like a name: the same; or alike, as where a letter differs.
-#[derive(Clone, Copy, Debug, PartialEq, Eq)]
+#[derive(Clone, Copy)]
 pub enum Likeness {
     Same,
     Alike,

@@ -16,7 +16,7 @@ use std::alloc::Global;
 
 /// The marked text of a line: how many bytes are in front of it, how many it has, and whether it is what the fault is about, and not all
 /// operands among which this is.
-#[derive(Clone, Copy, Debug, PartialEq, Eq)]
+#[derive(Clone, Copy)]
 pub struct Mark {
     pub from: usize,
     pub length: usize,

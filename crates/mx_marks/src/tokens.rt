@@ -16,7 +16,7 @@ use std::alloc::Global;
 const LARGE: u64 = 1 << 40;
 
 /// A part of operands that is wanted: a name that is no label, a local label with `F`, a number above this limit, or a label of data.
-#[derive(Clone, Copy, Debug, PartialEq, Eq)]
+#[derive(Clone, Copy)]
 pub(crate) enum Wanted {
     Unknown,
     Ahead,

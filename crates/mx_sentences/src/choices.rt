@@ -19,7 +19,7 @@ use mx_ops::find;
 use mx_word::is_letter;
 
 /// What a word is that is no operation.
-#[derive(Clone, Copy, Debug, PartialEq, Eq)]
+#[derive(Clone, Copy)]
 pub(crate) enum Unknown {
     /// A label that is not in the first column.
     Indented,

@@ -6,7 +6,7 @@ ghost use Rattle.mx_start.specs.Started.{start_number};
 use mx_word::NoMemory;
 
 /// Why a program can't start: its arguments need page 65,537, or out of memory.
-#[derive(Clone, Copy, Debug, PartialEq, Eq)]
+#[derive(Clone, Copy, Debug)]
 pub enum StartFault {
     PagesFull,
     OutOfMemory,

@@ -6,7 +6,7 @@ ghost use Rattle.mx_warn.specs.Kinds as spec;
 use mx_word::{Bytes, Sequence};
 
 /// What is odd about a place of a source.
-#[derive(Clone, Copy, Debug, PartialEq, Eq)]
+#[derive(Clone, Copy)]
 pub enum Kind {
     /// An operator and an operand follow the blank that ends the operands.
     OperatorAfterBlank,
