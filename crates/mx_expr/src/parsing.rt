@@ -39,7 +39,10 @@ fn read(alloc: Global, field: &[u8]) -> Result<Exprs, ExprFault>
     let mut reader = Reader::new(alloc);
     let mut mode = Mode::Operand;
     for b in field {
-        mode = reader.step(mode, *b)?;
+        mode = match reader.step(mode, *b) {
+            Ok(next) => next,
+            Err(fault) => return Err(fault),
+        };
     }
     reader.finish(mode)
 }

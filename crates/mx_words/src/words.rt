@@ -83,9 +83,13 @@ fn read_command(command: Command, words: &[String]) -> Result<Order, WordsFault>
     let mut settings = defaults();
     let mut at = 1;
     while at < words.len() && is_option(&words[at]) {
-        let (set, next) = read_option(command, settings, words, at)?;
-        settings = set;
-        at = next;
+        match read_option(command, settings, words, at) {
+            Ok((set, next)) => {
+                settings = set;
+                at = next;
+            }
+            Err(fault) => return Err(fault),
+        }
     }
     file(command, settings, words, at)
 }

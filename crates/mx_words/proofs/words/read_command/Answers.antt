@@ -1,5 +1,4 @@
 use Rattle.std.proofs.Common.{string_bytes, sym, ◌∙◌, arith}
-use Rattle.std.proofs.lemmas.Result.{err_from_is_err_and}
 use Rattle.mx_words.proofs.ReadOptions.{option-read, option-refused, at-file, at-end}
 use Rattle.mx_words.proofs.words.read_command.Goals.{then-loop-at-test+else-is_option, else-loop-at-test}
 use Rattle.mx_words.proofs.words.read_command.Goals as goal
@@ -7,15 +6,14 @@ use Rattle.mx_words.proofs.words.read_command.Goals as goal
 pub loop-at-preserved : goal.loop-at-preserved
 loop-at-preserved c =
     c.loop-at.invariant
-    ∙ option-read string_bytes c.args.command c.loop-at.settings _ c.loop-at.at _ c.args.words.now _ _ c.loop-at-test.true c.index-words-at.is
-    (sym c.if-is_option.ensures) c.in_ok-set.ensures.value
+    ∙ option-read string_bytes c.args.command c.loop-at.settings c.in-Ok.set c.loop-at.at c.in-Ok.next c.args.words.now _ _ c.loop-at-test.true c.index-words-at.is
+    (sym c.if-is_option.ensures) c.in-Ok.ensures.value
 
-pub returns-in_err-set-clause-value : goal.returns-in_err-set-clause-value
-returns-in_err-set-clause-value c =
-    let p = err_from_is_err_and c.from_residual.result c.from_residual.ensures.1 in
-    rw (p.1, p.2) (sym (c.loop-at.invariant
-    ∙ option-refused string_bytes c.args.command c.loop-at.settings c.loop-at.at _ c.args.words.now _ _ c.loop-at-test.true c.index-words-at.is
-    (sym c.if-is_option.ensures) c.in_err-set.ensures.value))
+pub returns-in-Err-clause-value : goal.returns-in-Err-clause-value
+returns-in-Err-clause-value c =
+    sym (c.loop-at.invariant
+    ∙ option-refused string_bytes c.args.command c.loop-at.settings c.loop-at.at c.in-Err.fault c.args.words.now _ _ c.loop-at-test.true c.index-words-at.is
+    (sym c.if-is_option.ensures) c.in-Err.ensures.value)
 
 pub returns-clause-value : goal.returns-clause-value
 returns-clause-value c =
