@@ -19,7 +19,8 @@ use Rattle.mx_core.specs.Kept.{Kept, state_of}
 use Rattle.mx_core.specs.State.{State, octa, special_register, tetra, with_special, with_value_in}
 use Rattle.mx_core.specs.Step.{fetched, step}
 use Rattle.mx_core.specs.Way.Calls.{Left, left, pop_outcome, push_outcome, registers_popped, registers_pushed, set_outcome, settled, settled_with, unless, with_lowered_mark}
-use Rattle.mx_core.specs.Way.KeptPage.{IsHere, address_in, address_of, placed}
+use Rattle.mx_core.specs.Way.KeptPage.{GoesAt, IsHere, ReadsNoCount, address_in, address_of, number_of, placed}
+use Rattle.mx_core.specs.declared.along.Next.{Next}
 use Rattle.mx_core.specs.Way.Stepping.{advanced}
 use Rattle.mx_core.specs.declared.step.Advance.TheVariants as advance
 use Rattle.mx_core.proofs.Placed.{went-placed}
@@ -63,23 +64,25 @@ goes-some s t i e = λ z. let f = sym (trapped s i z) ∙ e in absurd (cc)
 pub address-plain : (k : Kept) (index : ℕ) → IsHere k index → address_of k.memory.code_start index ≡ address_in k index
 address-plain k index h = let start = k.memory.code_start in let low : start < 0x6000_0000_0000_0000 = h.0.2 in omega (arith, h.1)
 
-pub start-aligned : (k : Kept) (index : ℕ) → IsHere k index → k.memory.code_start % 4 ≡ 0
-start-aligned k index h = let whole : k.memory.code_start % 4096 ≡ 0 = h.0.1 in omega arith
+-- an address of the page is a multiple of 4
+address-aligned : (k : Kept) (index j : ℕ) → IsHere k index → address_of k.memory.code_start j % 4 ≡ 0
+address-aligned k index j h = let whole : k.memory.code_start % 4096 ≡ 0 = h.0.1 in omega arith
 
 low-address : (start index : ℕ) → start % 4096 ≡ 0 → start < 0x6000_0000_0000_0000 → index < 1024 → start + 4 * index < 0x6000_0000_0000_0000
 low-address start index a l b = omega arith
 
-fetched-there : (s : State) (p word : ℕ) → word ≡ tetra s p → instruction p word ≡ fetched (placed s p)
+fetched-there : (s : State) (p n word : ℕ) → word ≡ tetra s p → instruction p word ≡ fetched (placed s p n)
 unfolding octa
-fetched-there s p word e = ap (instruction p) e
+fetched-there s p n word e = ap (instruction p) e
 
 -- a step that is made of the instruction with a number
-pub went-at : (k : Kept) (u : State) (index word : ℕ) → IsHere k index → index < 1024 → (index < 1024 → word ≡ tetra (state_of k) (address_in k index)) →
-    (Ok tt, u) ≡ left (state_of k) (outcome (state_of k) (deed_at (state_of k) (instruction (address_in k index) word))) →
-    (advance.Went, u) ≡ advanced (placed (state_of k) (address_in k index)) (step (placed (state_of k) (address_in k index)))
-went-at k u index word h l there e =
-    went-placed (state_of k) u (address_in k index) (instruction (address_in k index) word) (fetched-there (state_of k) (address_in k index) word (there l))
-    (low-address k.memory.code_start index h.0.1 h.0.2 l) e
+pub went-at : (k l : Kept) (index word made : ℕ) (next : Next) → IsHere k index → index < 1024 → (index < 1024 → word ≡ tetra (state_of k) (address_in k index)) →
+    ReadsNoCount (instruction (address_in k index) word) →
+    (Ok tt, onward (state_of l) (address_of k.memory.code_start (number_of next))) ≡ left (state_of k) (outcome (state_of k) (deed_at (state_of k) (instruction (address_in k index) word))) →
+    GoesAt made index next k l
+went-at k l index word made next h less there plain e =
+    went-placed (state_of k) (state_of l) (address_in k index) made (address_of k.memory.code_start (number_of next)) (instruction (address_in k index) word)
+    (fetched-there (state_of k) (address_in k index) made word (there less)) (low-address k.memory.code_start index h.0.1 h.0.2 less) (address-aligned k index (number_of next) h) plain e
 
 -- what leads to an address, of what comes to a machine there
 pub leads-as : (s u t : State) (r : Result State Reason) → r ≡ Ok t → u ≡ t → (Ok tt, u) ≡ left s r
@@ -105,18 +108,28 @@ pub as-deed : (o : Operation) (s : State) (i j : Instruction) → i ≡ j → op
 as-deed o s i j e f n =
     ap (λ (p : Operation). outcome s (deed_of p s i)) (sym f) ∙ ap (outcome s) (sym (other_deed (operation_in i) s i (λ x. n (sym f ∙ x)))) ∙ ap (λ (k : Instruction). outcome s (deed_at s k)) e
 
--- the machine goes on to the next instruction, and so many tetras further
-pub leads-on : (k : Kept) (u t : State) (index : ℕ) (i : Instruction) (r : Result State Reason) → IsHere k index → i.at ≡ address_in k index →
-    u ≡ onward t ((address_of k.memory.code_start index + 4) % 2 ^ 64) → (Ok tt, onward t (next_of i)) ≡ left (state_of k) r → (Ok tt, u) ≡ left (state_of k) r
-leads-on k u t index i r h at leads made =
-    let next : next_of i ≡ (address_of k.memory.code_start index + 4) % 2 ^ 64 = ap (λ a. (a + 4) % 2 ^ 64) (at ∙ sym (address-plain k index h)) in
-    ap (λ (v : State). (Ok tt, v)) (leads ∙ ap (onward t) (sym next)) ∙ made
+-- an operation whose step does not depend on the count of steps
+pub reads-none : (o : Operation) (i j : Instruction) → i ≡ j → operation_in i ≡ o → o ≢ op.Resume → o ≢ op.Get → ReadsNoCount j
+reads-none o i j e f r g = subst ReadsNoCount e ((λ x. r (sym f ∙ x)), (λ x. absurd (g (sym f ∙ x))))
 
-pub leads-by : (k : Kept) (u t : State) (index d a : ℕ) (i : Instruction) (r : Result State Reason) → IsHere k index → i.at ≡ address_in k index → (i.at + 4 * d) % 2 ^ 64 ≡ a →
-    u ≡ onward t ((address_of k.memory.code_start index + 4 * d) % 2 ^ 64) → (Ok tt, onward t a) ≡ left (state_of k) r → (Ok tt, u) ≡ left (state_of k) r
-leads-by k u t index d a i r h at far leads made =
+-- the machine goes on to the next instruction, and so many tetras further
+pub leads-on : (k : Kept) (t : State) (index j : ℕ) (i : Instruction) (r : Result State Reason) → IsHere k index → i.at ≡ address_in k index →
+    address_of k.memory.code_start j ≡ (address_of k.memory.code_start index + 4) % 2 ^ 64 → (Ok tt, onward t (next_of i)) ≡ left (state_of k) r →
+    (Ok tt, onward t (address_of k.memory.code_start j)) ≡ left (state_of k) r
+leads-on k t index j i r h at leads made =
+    let next : (address_of k.memory.code_start index + 4) % 2 ^ 64 ≡ next_of i = ap (λ a. (a + 4) % 2 ^ 64) (address-plain k index h ∙ sym at) in
+    ap (λ a. (Ok tt, onward t a)) (leads ∙ next) ∙ made
+
+pub leads-by : (k : Kept) (t : State) (index j d a : ℕ) (i : Instruction) (r : Result State Reason) → IsHere k index → i.at ≡ address_in k index → (i.at + 4 * d) % 2 ^ 64 ≡ a →
+    address_of k.memory.code_start j ≡ (address_of k.memory.code_start index + 4 * d) % 2 ^ 64 → (Ok tt, onward t a) ≡ left (state_of k) r →
+    (Ok tt, onward t (address_of k.memory.code_start j)) ≡ left (state_of k) r
+leads-by k t index j d a i r h at far leads made =
     let next : (address_of k.memory.code_start index + 4 * d) % 2 ^ 64 ≡ a = ap (λ b. (b + 4 * d) % 2 ^ 64) (address-plain k index h ∙ sym at) ∙ far in
-    ap (λ (v : State). (Ok tt, v)) (leads ∙ ap (onward t) next) ∙ made
+    ap (λ b. (Ok tt, onward t b)) (leads ∙ next) ∙ made
+
+-- to an address, of which a machine takes the tetra
+pub onward-aligned : (t : State) (a : ℕ) → onward t (a / 4 * 4) ≡ onward t a
+onward-aligned t a = let same : a / 4 * 4 / 4 * 4 ≡ a / 4 * 4 = omega arith in ap (λ b. record t { pc = b; steps = (t.steps + 1) % 2 ^ 64 }) same
 
 -- PUSHJ, and POP, once the register stack has changed
 pub pushed-then : (s t v u : State) (i : Instruction) (a : ℕ) → (Ok tt, t) ≡ left s (registers_pushed s (x_of i)) → v ≡ with_special t rJ (next_of i) → u ≡ onward v a → (Ok tt, u) ≡ left s (push_outcome s i a)
@@ -133,16 +146,18 @@ popped-then s t u i e f =
 
 -- A WALK ALONG THE PAGE
 
-pub placed-same : (s : State) (a : ℕ) → s.pc ≡ a → placed s a ≡ s
-placed-same s a e = rw (sym e) refl
+pub placed-same : (s : State) (a : ℕ) → s.pc ≡ a → s.steps < 2 ^ 64 → placed s a ((s.steps + 0) % 2 ^ 64) ≡ s
+placed-same s a e f =
+    let same : (s.steps + 0) % 2 ^ 64 ≡ s.steps = omega arith in
+    rw (sym e, same) refl
 
 -- the same page stays kept
 pub code-kept : (m n : Stored) → KeepsCode m n → IsCode m → IsCode n
 code-kept m n e h = rw (e.0, e.1) h
 
--- a machine over a window is one at each address that is a multiple of 4
-placed-machine : (k : Kept) (index : ℕ) → IsHere k index → IsMachine (state_of k) k.ring → IsMachine (placed (state_of k) (address_in k index)) k.ring
-placed-machine k index h m = record {
+-- a machine over a window is one at each address that is a multiple of 4, whatever steps it counts
+placed-machine : (k : Kept) (index n : ℕ) → IsHere k index → n < 2 ^ 64 → IsMachine (state_of k) k.ring → IsMachine (placed (state_of k) (address_in k index) n) k.ring
+placed-machine k index n h f m = record {
   over = m.over;
   ring = m.ring;
   frames_are_spilled = m.frames_are_spilled;
@@ -151,30 +166,41 @@ placed-machine k index h m = record {
   address = let start : k.memory.code_start % 4096 ≡ 0 = h.0.1 in omega arith;
 }
 
--- a walk to an instruction of the page, and one more step
-pub walk-away : (made : ℕ) (s : State) (k l : Kept) (index j : ℕ) → IsMachine (state_of k) k.ring → IsHere k index → KeepsCode k.memory l.memory →
-    Goes made s (placed (state_of k) (address_in k index)) →
-    (advance.Went, placed (state_of l) (address_of k.memory.code_start j)) ≡ advanced (placed (state_of k) (address_in k index)) (step (placed (state_of k) (address_in k index))) →
-    Goes (suc made) s (placed (state_of l) (address_of l.memory.code_start j))
-walk-away made s k l index j m h same goes went =
-    let from : State = placed (state_of k) (address_in k index) in
-    let to : State = placed (state_of l) (address_of k.memory.code_start j) in
-    subst (λ start. Goes (suc made) s (placed (state_of l) (address_of start j))) (sym same.0)
-    (goes-end made s from to (record { window = k.ring; machine = placed-machine k index h m }) goes went)
+-- the steps of a machine that counts them once it is done with the page
+abbrev pub steps_after : Kept → ℕ → ℕ
+steps_after k made = (k.steps + made) % 2 ^ 64
 
-pub walk-on : (made : ℕ) (s : State) (k l : Kept) (index j : ℕ) → IsMachine (state_of k) k.ring → IsHere k index → j ≤ 1024 → KeepsCode k.memory l.memory →
-    Goes made s (placed (state_of k) (address_in k index)) →
-    (advance.Went, placed (state_of l) (address_of k.memory.code_start j)) ≡ advanced (placed (state_of k) (address_in k index)) (step (placed (state_of k) (address_in k index))) →
-    Goes (suc made) s (placed (state_of l) (address_in l j))
-walk-on made s k l index j m h below same goes went =
-    subst (λ a. Goes (suc made) s (placed (state_of l) a)) (address-plain l j (code-kept k.memory l.memory same h.0, below)) (walk-away made s k l index j m h same goes went)
+-- a walk to an instruction of the page, and one more step
+pub walk-away : (made : ℕ) (s : State) (k l : Kept) (index j : ℕ) → IsMachine (state_of k) k.ring → IsHere k index → KeepsCode k.memory l.memory → l.steps ≡ k.steps →
+    Goes made s (placed (state_of k) (address_in k index) (steps_after k made)) →
+    (advance.Went, placed (state_of l) (address_of k.memory.code_start j) ((steps_after k made + 1) % 2 ^ 64))
+    ≡ advanced (placed (state_of k) (address_in k index) (steps_after k made)) (step (placed (state_of k) (address_in k index) (steps_after k made))) →
+    Goes (suc made) s (placed (state_of l) (address_of l.memory.code_start j) (steps_after l (suc made)))
+walk-away made s k l index j m h same count goes went =
+    let from : State = placed (state_of k) (address_in k index) (steps_after k made) in
+    let to : State = placed (state_of l) (address_of k.memory.code_start j) ((steps_after k made + 1) % 2 ^ 64) in
+    let steps : (steps_after k made + 1) % 2 ^ 64 ≡ steps_after l (suc made) = omega (arith, count) in
+    subst (λ n. Goes (suc made) s (placed (state_of l) (address_of l.memory.code_start j) n)) steps
+    (subst (λ start. Goes (suc made) s (placed (state_of l) (address_of start j) ((steps_after k made + 1) % 2 ^ 64))) (sym same.0)
+    (goes-end made s from to (record { window = k.ring; machine = placed-machine k index (steps_after k made) h (omega arith) m }) goes went))
+
+pub walk-on : (made : ℕ) (s : State) (k l : Kept) (index j : ℕ) → IsMachine (state_of k) k.ring → IsHere k index → j ≤ 1024 → KeepsCode k.memory l.memory → l.steps ≡ k.steps →
+    Goes made s (placed (state_of k) (address_in k index) (steps_after k made)) →
+    (advance.Went, placed (state_of l) (address_of k.memory.code_start j) ((steps_after k made + 1) % 2 ^ 64))
+    ≡ advanced (placed (state_of k) (address_in k index) (steps_after k made)) (step (placed (state_of k) (address_in k index) (steps_after k made))) →
+    Goes (suc made) s (placed (state_of l) (address_in l j) (steps_after l (suc made)))
+walk-on made s k l index j m h below same count goes went =
+    subst (λ a. Goes (suc made) s (placed (state_of l) a (steps_after l (suc made)))) (address-plain l j (code-kept k.memory l.memory same h.0, below)) (walk-away made s k l index j m h same count goes went)
 
 -- the machine is placed where a walk ends
-pub walk-end : (made : ℕ) (s t : State) (k : Kept) (index : ℕ) → IsHere k index → Goes made s (placed (state_of k) (address_in k index)) → t ≡ placed (state_of k) (address_of k.memory.code_start index) → Goes made s t
-walk-end made s t k index h goes e = subst (Goes made s) (sym (e ∙ ap (placed (state_of k)) (address-plain k index h))) goes
+pub walk-end : (made : ℕ) (s t : State) (k : Kept) (index : ℕ) → IsHere k index → Goes made s (placed (state_of k) (address_in k index) (steps_after k made)) →
+    t ≡ placed (state_of k) (address_of k.memory.code_start index) (steps_after k made) → Goes made s t
+walk-end made s t k index h goes e = subst (Goes made s) (sym (e ∙ ap (λ a. placed (state_of k) a (steps_after k made)) (address-plain k index h))) goes
 
 -- a step that was not made changed nothing
-pub walk-unmade : (made : ℕ) (s t : State) (k l : Kept) (index : ℕ) → IsHere k index → KeepsCode k.memory l.memory → state_of l ≡ state_of k → Goes made s (placed (state_of k) (address_in k index)) →
-    t ≡ placed (state_of l) (address_of l.memory.code_start index) → Goes made s t
+pub walk-unmade : (made : ℕ) (s t : State) (k l : Kept) (index : ℕ) → IsHere k index → KeepsCode k.memory l.memory → state_of l ≡ state_of k →
+    Goes made s (placed (state_of k) (address_in k index) (steps_after k made)) →
+    t ≡ placed (state_of l) (address_of l.memory.code_start index) (((state_of l).steps + made) % 2 ^ 64) → Goes made s t
 walk-unmade made s t k l index h same kept goes e =
-    walk-end made s t k index h goes (e ∙ ap (λ start. placed (state_of l) (address_of start index)) same.0 ∙ ap (λ (u : State). placed u (address_of k.memory.code_start index)) kept)
+    walk-end made s t k index h goes
+    (e ∙ ap (λ start. placed (state_of l) (address_of start index) (((state_of l).steps + made) % 2 ^ 64)) same.0 ∙ ap (λ (u : State). placed u (address_of k.memory.code_start index) ((u.steps + made) % 2 ^ 64)) kept)

@@ -1,17 +1,16 @@
 //! Usual instructions that do more than give a value or go elsewhere. Each is given with its code as a literal.
 
 ghost use Rattle.std.specs.Prelude.{◌≡◌, ◌<◌, ◌/◌, ◌%◌, ℕ, IsTrue, true};
-ghost use Rattle.mx_mem.specs.Memory.{KeepsCode};
 ghost use Rattle.mx_code.specs.Instructions.{code_of, instruction, next_of, operation_in, x_of};
 ghost use Rattle.mx_core.specs.Deeds.{deed_at, deed_of, outcome};
 ghost use Rattle.mx_core.specs.Effects.{data_address};
 ghost use Rattle.mx_core.specs.Kept.{state_of};
 ghost use Rattle.mx_core.specs.Way.Calls.{KeepsWhereNot, MakesBefore, MakesWhereTold, settled, settled_with, store_outcome, told_specials};
-ghost use Rattle.mx_core.specs.Way.KeptPage.{IsHere, IsReached, KeepsUnmade, MakesNext, address_in};
+ghost use Rattle.mx_core.specs.Way.KeptPage.{IsHere, IsReached, KeepsPlace, KeepsUnmade, MakesNext, ReadsNoCount, address_in};
 ghost use Rattle.mx_core.specs.Way.Noting.{PutsLink, StoresBelow};
 
 use crate::Machine;
-use crate::along::Next;
+use crate::along::{Next, lead_by, lead_on};
 use crate::plain::plain_answer;
 use crate::trips::{RH, RJ, RR};
 use crate::values::measure_near;
@@ -28,15 +27,16 @@ impl Machine {
         requires code { code ≡ code_of (instruction index word) }
         ensures made { MakesNext (λ s. outcome s (deed_at s (instruction (address_in self.old index) word))) result
             self.old self.new }
+        ensures plain { result ≢ Next.Unmade → ReadsNoCount (instruction (address_in self.old index) word) }
         ensures kept { KeepsUnmade result self.old self.new }
         ensures within { IsReached result }
-        ensures code { KeepsCode self.old.memory self.new.memory }
+        ensures code { KeepsPlace self.old self.new }
     {
         let i = Instruction::with_code(self.locate(index), code, word);
         match i.operation() {
             Operation::Compute => {
                 if self.give_if_plain(&i) {
-                    self.step_on(index)
+                    lead_on(index)
                 } else {
                     Next::Unmade
                 }
@@ -53,16 +53,17 @@ impl Machine {
         requires code { code ≡ code_of (instruction index word) }
         ensures made { MakesNext (λ s. outcome s (deed_at s (instruction (address_in self.old index) word))) result
             self.old self.new }
+        ensures plain { result ≢ Next.Unmade → ReadsNoCount (instruction (address_in self.old index) word) }
         ensures kept { KeepsUnmade result self.old self.new }
         ensures within { IsReached result }
-        ensures code { KeepsCode self.old.memory self.new.memory }
+        ensures code { KeepsPlace self.old self.new }
     {
         let i = Instruction::with_code(self.locate(index), code, word);
         match i.operation() {
             Operation::Go => {
                 let a = self.data_address(&i);
                 match self.set(i.x(), i.next()) {
-                    Ok(()) => self.step_to(a),
+                    Ok(()) => self.lead_to(a),
                     Err(_) => Next::Unmade,
                 }
             }
@@ -78,15 +79,16 @@ impl Machine {
         requires code { code ≡ code_of (instruction index word) }
         ensures made { MakesNext (λ s. outcome s (deed_at s (instruction (address_in self.old index) word))) result
             self.old self.new }
+        ensures plain { result ≢ Next.Unmade → ReadsNoCount (instruction (address_in self.old index) word) }
         ensures kept { KeepsUnmade result self.old self.new }
         ensures within { IsReached result }
-        ensures code { KeepsCode self.old.memory self.new.memory }
+        ensures code { KeepsPlace self.old self.new }
     {
         let i = Instruction::with_code(self.locate(index), code, word);
         match i.operation() {
             Operation::Store(how) => {
                 if self.store_register_if_near(how, &i) {
-                    self.step_on(index)
+                    lead_on(index)
                 } else {
                     Next::Unmade
                 }
@@ -103,16 +105,17 @@ impl Machine {
         requires code { code ≡ code_of (instruction index word) }
         ensures made { MakesNext (λ s. outcome s (deed_at s (instruction (address_in self.old index) word))) result
             self.old self.new }
+        ensures plain { result ≢ Next.Unmade → ReadsNoCount (instruction (address_in self.old index) word) }
         ensures kept { KeepsUnmade result self.old self.new }
         ensures within { IsReached result }
-        ensures code { KeepsCode self.old.memory self.new.memory }
+        ensures code { KeepsPlace self.old self.new }
     {
         let i = Instruction::with_code(self.locate(index), code, word);
         match i.operation() {
             Operation::PushJump => match self.push(i.x()) {
                 Ok(()) => {
                     self.put(RJ, i.next());
-                    self.step_by(index, measure_near(&i))
+                    lead_by(index, measure_near(&i))
                 }
                 Err(_) => Next::Unmade,
             },
@@ -128,16 +131,17 @@ impl Machine {
         requires code { code ≡ code_of (instruction index word) }
         ensures made { MakesNext (λ s. outcome s (deed_at s (instruction (address_in self.old index) word))) result
             self.old self.new }
+        ensures plain { result ≢ Next.Unmade → ReadsNoCount (instruction (address_in self.old index) word) }
         ensures kept { KeepsUnmade result self.old self.new }
         ensures within { IsReached result }
-        ensures code { KeepsCode self.old.memory self.new.memory }
+        ensures code { KeepsPlace self.old self.new }
     {
         let i = Instruction::with_code(self.locate(index), code, word);
         match i.operation() {
             Operation::Pop => {
                 let a = self.special(RJ).wrapping_add(4 * i.yz());
                 match self.pop_registers(i.x()) {
-                    Ok(()) => self.step_to(a),
+                    Ok(()) => self.lead_to(a),
                     Err(_) => Next::Unmade,
                 }
             }
@@ -153,16 +157,17 @@ impl Machine {
         requires code { code ≡ code_of (instruction index word) }
         ensures made { MakesNext (λ s. outcome s (deed_at s (instruction (address_in self.old index) word))) result
             self.old self.new }
+        ensures plain { result ≢ Next.Unmade → ReadsNoCount (instruction (address_in self.old index) word) }
         ensures kept { KeepsUnmade result self.old self.new }
         ensures within { IsReached result }
-        ensures code { KeepsCode self.old.memory self.new.memory }
+        ensures code { KeepsPlace self.old self.new }
     {
         let i = Instruction::with_code(self.locate(index), code, word);
         match i.operation() {
             Operation::Put => {
                 if i.x() == RJ && i.y() == 0 {
                     self.put(RJ, self.z_operand(&i));
-                    self.step_on(index)
+                    lead_on(index)
                 } else {
                     Next::Unmade
                 }
@@ -179,7 +184,7 @@ impl Machine {
         ensures made { MakesBefore (λ s. outcome s (deed_of Operation.Compute s i.now)) (next_of i.now) result
             self.old self.new }
         ensures kept { KeepsWhereNot result self.old self.new }
-        ensures code { KeepsCode self.old.memory self.new.memory }
+        ensures code { KeepsPlace self.old self.new }
     {
         let (y, z) = (self.y_operand(i), self.z_operand(i));
         match plain_answer(i.code(), y, z, self.extra()) {
@@ -193,7 +198,7 @@ impl Machine {
     fn set_answer(&mut self, k: u8, a: &Answer) -> bool
         ensures made { (n : ℕ) → MakesBefore (λ s. settled_with s k a.now.x (told_specials a.now) n) n result self.old self.new }
         ensures kept { KeepsWhereNot result self.old self.new }
-        ensures code { KeepsCode self.old.memory self.new.memory }
+        ensures code { KeepsPlace self.old self.new }
     {
         match self.set(k, a.x) {
             Ok(()) => {
@@ -211,7 +216,7 @@ impl Machine {
         ensures made { MakesBefore (λ s. outcome s (deed_of (Operation.Store how) s i.now)) (next_of i.now) result
             self.old self.new }
         ensures kept { KeepsWhereNot result self.old self.new }
-        ensures code { KeepsCode self.old.memory self.new.memory }
+        ensures code { KeepsPlace self.old self.new }
     {
         let a = self.data_address(i);
         let x = self.x_register(i);
@@ -287,7 +292,7 @@ impl Machine {
         ensures low { IsTrue result → a < 0x6000_0000_0000_0000 }
         ensures there { IsTrue result → (state_of self.old).pages (a / 4096) ≡ true }
         ensures kept { KeepsWhereNot result self.old self.new }
-        ensures code { KeepsCode self.old.memory self.new.memory }
+        ensures code { KeepsPlace self.old self.new }
     {
         self.memory.store_part_if_near(a, part, x)
     }

@@ -1,11 +1,11 @@
 //! Instructions that go elsewhere: branches, jumps, calls and returns.
 
 ghost use Rattle.std.specs.Prelude.{◌≡◌};
-ghost use Rattle.mx_mem.specs.Memory.{KeepsCode};
 ghost use Rattle.mx_core.specs.Way.Calls as spec;
 ghost use Rattle.mx_core.specs.Way.Calls.{CarriesOut, Makes};
 ghost use Rattle.mx_code.specs.Instructions.{operation_in};
 ghost use Rattle.mx_core.specs.Kept.{state_of};
+ghost use Rattle.mx_core.specs.Way.KeptPage.{KeepsPlace};
 
 use crate::bounds::know_bounds;
 use crate::trips::RJ;
@@ -77,7 +77,7 @@ impl Machine {
     #[inline(always)]
     pub(crate) fn push(&mut self, x: u8) -> Result<(), Stop>
         ensures made { Makes (λ s. spec.registers_pushed s x) result self.old self.new }
-        ensures code { KeepsCode self.old.memory self.new.memory }
+        ensures code { KeepsPlace self.old self.new }
     {
         match self.ring.push(x) {
             Ok(()) => Ok(()),
@@ -106,7 +106,7 @@ impl Machine {
     #[inline(always)]
     pub(crate) fn pop_registers(&mut self, x: u8) -> Result<(), Stop>
         ensures made { Makes (λ s. spec.registers_popped s x) result self.old self.new }
-        ensures code { KeepsCode self.old.memory self.new.memory }
+        ensures code { KeepsPlace self.old self.new }
     {
         know_bounds(&self.ring);
         match self.ring.pop(x) {

@@ -1,7 +1,7 @@
 //! The machine's state, and what is read and written of it.
 
 ghost use Rattle.std.specs.Prelude.{◌≡◌, ◌≢◌, ◌<◌, ◌≤◌, ◌+◌, ◌^◌, ◌/◌, ◌%◌, Err, false, true};
-ghost use Rattle.mx_mem.specs.Memory.{KeepsCode, tetra_of};
+ghost use Rattle.mx_mem.specs.Memory.{tetra_of};
 ghost use Rattle.mx_ring.specs.Bounds.{IsRing};
 ghost use Rattle.mx_ring.specs.Stack as stacks;
 ghost use Rattle.mx_code.specs.SpecialRegisters.{rA};
@@ -10,6 +10,7 @@ ghost use Rattle.mx_core.specs.Deeds as deeds;
 ghost use Rattle.mx_core.specs.Kept.{state_of};
 ghost use Rattle.mx_core.specs.State as spec;
 ghost use Rattle.mx_core.specs.Traps.{with_touch};
+ghost use Rattle.mx_core.specs.Way.KeptPage.{KeepsPlace};
 
 use crate::Reason;
 use crate::bounds::know_bounds;
@@ -191,7 +192,7 @@ impl Machine {
     #[inline(always)]
     pub(crate) fn set(&mut self, k: u8, x: u64) -> Result<(), Stop>
         ensures made { Makes (λ s. set_outcome s k x) result self.old self.new }
-        ensures code { KeepsCode self.old.memory self.new.memory }
+        ensures code { KeepsPlace self.old self.new }
     {
         match self.ring.set(k, x) {
             Ok(()) => Ok(()),
@@ -205,7 +206,7 @@ impl Machine {
         requires range { code < 32 }
         requires not_ra { code ≢ rA }
         ensures state { state_of self.new ≡ spec.with_special (state_of self.old) code x }
-        ensures code { KeepsCode self.old.memory self.new.memory }
+        ensures code { KeepsPlace self.old self.new }
     {
         self.special[usize::from(code)] = x;
     }

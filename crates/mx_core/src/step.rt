@@ -170,24 +170,28 @@ impl Machine {
         ensures goes { Goes (n - result) (state_of self.old) (state_of self.new) }
         ensures most { result ≤ n }
     {
+        let place = self.memory.kept_place();
         let mut index = first;
-        let mut left = n;
-        while left > 0 {
+        let mut made = 0;
+        while made < n {
             machines_keep_the_invariant(self);
-            match self.advance_at(index) {
+            match self.advance_at(place, index) {
                 Next::At(j) => index = j,
-                Next::Away(j) => {
-                    self.place_at(j);
-                    return left - 1;
+                Next::To(j) => {
+                    if j > 1024 {
+                        self.place_at(j, made + 1);
+                        return n - (made + 1);
+                    }
+                    index = j;
                 }
                 Next::Unmade => {
-                    self.place_at(index);
-                    return left;
+                    self.place_at(index, made);
+                    return n - made;
                 }
             }
-            left -= 1;
+            made += 1;
         }
-        self.place_at(index);
+        self.place_at(index, made);
         0
     }
 

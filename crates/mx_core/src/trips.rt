@@ -1,7 +1,6 @@
 //! Trips, and the events that lead to them.
 
 ghost use Rattle.std.specs.Prelude.{◌≡◌, ◌≢◌, ◌<◌, ◌+◌, ◌^◌, ◌++◌, ◌∷◌, [], Some};
-ghost use Rattle.mx_mem.specs.Memory.{KeepsCode};
 ghost use Rattle.mx_ring.specs.Stack.{set_overfills};
 ghost use Rattle.mx_code.specs.SpecialRegisters.{rA};
 ghost use Rattle.mx_core.specs.Way.Calls as spec;
@@ -11,6 +10,7 @@ ghost use Rattle.mx_core.specs.Effects.{tripping, if_told};
 ghost use Rattle.mx_code.specs.Instructions.{next_of, x_of};
 ghost use Rattle.mx_core.specs.Kept.{state_of};
 ghost use Rattle.mx_core.specs.State.{special_register, with_value_in};
+ghost use Rattle.mx_core.specs.Way.KeptPage.{KeepsPlace};
 
 use crate::{Machine, Reason};
 use mx_alu::{Answer, Event, Trip, decide, noted_events_stay_in_18_bits};
@@ -67,7 +67,7 @@ impl Machine {
         requires range { code < 32 }
         requires not_ra { code ≢ rA }
         ensures state { state_of self.new ≡ with_specials (state_of self.old) (if_told code x) }
-        ensures code { KeepsCode self.old.memory self.new.memory }
+        ensures code { KeepsPlace self.old self.new }
     {
         if let Some(x) = x {
             self.put(code, x);

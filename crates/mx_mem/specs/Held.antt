@@ -19,7 +19,12 @@ abbrev pub view_of : List (ℕ × List ℕ) → List (ℕ × ℕ) → List (ℕ 
 view_of pages places = map (λ e. (e.0, octas_in pages e.1)) places
 
 abbrev pub stored : Inside → Stored
-stored m = record { pages = view_of m.pages.items m.places.entries; code_start = m.code_start; code_size = m.code_size }
+stored m = record {
+  pages = view_of m.pages.items m.places.entries;
+  code_start = m.code_start;
+  code_size = m.code_size;
+  code_place = m.code_place;
+}
 
 -- each page is found at its place, and what is found is its place
 pub record Indexed (pages : List (ℕ × List ℕ)) (places : BTreeMap ℕ ℕ) : Type 0 where

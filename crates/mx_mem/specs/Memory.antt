@@ -11,9 +11,10 @@ use Rattle.std.specs.BTreeMap.{is_at}
 pub record Stored : Type 0 where
   -- the pages that are there, in the order of their numbers, each with its 512 octas
   pub pages : List (ℕ × List ℕ)
-  -- a page with instructions that is kept, by its first address and its size; or a size of 0 and no page
+  -- a page with instructions that is kept, by its first address, its size and its place; or a size of 0 and no page
   pub code_start : ℕ
   pub code_size : ℕ
+  pub code_place : ℕ
 
 -- an octa of a page; 0 where the page is not there
 abbrev pub octa_in : Option (List ℕ) → ℕ → ℕ
@@ -81,7 +82,7 @@ IsNextNonzero octas from (Some (a, x)) = (from ≤ a) × (a % 8 ≡ 0) × (octas
 
 -- the same page of instructions is kept
 abbrev pub KeepsCode : Stored → Stored → Type 0
-KeepsCode old new = (new.code_start ≡ old.code_start) × (new.code_size ≡ old.code_size)
+KeepsCode old new = (new.code_start ≡ old.code_start) × (new.code_size ≡ old.code_size) × (new.code_place ≡ old.code_place)
 
 -- a kept page is a whole one below Stack_Segment
 abbrev pub IsCode : Stored → Type 0

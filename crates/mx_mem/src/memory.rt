@@ -151,23 +151,33 @@ impl Memory {
         }
     }
 
-    /// The instruction with a number of the page that is kept, as `tetra` gives it; 0 for the number 1,024.
+    /// The instruction with a number of the page that is kept, whose place is given, as `tetra` gives it; 0 for the number
+    /// 1,024.
     #[inline(always)]
-    pub fn read_kept(&self, k: u64) -> u32
+    pub fn read_kept(&self, place: usize, k: u64) -> u32
         requires code { IsCode self.now }
+        requires place { place ≡ self.now.code_place }
         requires range { k ≤ 1024 }
         ensures value { k < 1024 → result ≡ tetra_at self.now (self.now.code_start + 4 * k) }
         ensures end { k ≡ 1024 → result ≡ 0 }
     {
-        self.pages[self.code_place].numbered_tetra(k as usize)
+        self.pages[place].numbered_tetra(k as usize)
     }
 
     /// The first address of the page that is kept.
     #[inline(always)]
-    pub fn start_kept(&self) -> u64
+    pub fn kept_start(&self) -> u64
         ensures { result ≡ self.now.code_start }
     {
         self.code_start
+    }
+
+    /// The place of the page that is kept, for `read_kept`.
+    #[inline(always)]
+    pub fn kept_place(&self) -> usize
+        ensures { result ≡ self.now.code_place }
+    {
+        self.code_place
     }
 
     /// The octa that `load` gives, where its page is a low one and is at the place that is remembered for it; else

@@ -305,5 +305,19 @@ fn move_fewer(values: &mut [u64], n: usize, size: usize)
     requires { n + size ≤ length values.old }
     ensures { values.new ≡ with_part values.old 0 (take size (drop n values.old)) }
 {
+    if size == FEW {
+        return move_eight(values, n);
+    }
     copy_within(values, n, n + size, 0);
+}
+
+/// Eight registers from the place `n` on become the first ones.
+#[inline(always)]
+fn move_eight(values: &mut [u64], n: usize)
+    requires { n + 8 ≤ length values.old }
+    ensures { values.new ≡ with_part values.old 0 (take 8 (drop n values.old)) }
+{
+    let mut eight = [0; FEW];
+    copy_to(&mut eight, 0, &values[n..n + FEW]);
+    copy_to(values, 0, &eight);
 }

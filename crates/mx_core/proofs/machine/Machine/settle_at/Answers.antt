@@ -1,8 +1,8 @@
 use Rattle.std.proofs.Common.{◌≡◌, ◌+◌, ◌%◌, ◌^◌, ℕ, ap, ◌∙◌}
 use Rattle.mx_core.specs.Deeds.{onward}
 use Rattle.mx_core.specs.Kept.{Kept, state_of}
-use Rattle.mx_core.specs.Way.KeptPage.{address_in, address_of, number_of, placed}
-use Rattle.mx_core.proofs.KeptSteps.{address-plain, start-aligned, settled-then}
+use Rattle.mx_core.specs.Way.KeptPage.{address_in, address_of, number_of}
+use Rattle.mx_core.proofs.KeptSteps.{address-plain, settled-then}
 use Rattle.mx_core.proofs.machine.Machine.settle_at.Goals as goal
 
 pub returns-in-Ok-clause-made : goal.returns-in-Ok-clause-made
@@ -11,6 +11,5 @@ returns-in-Ok-clause-made c = λ _.
     let start : ℕ = k.memory.code_start in
     let t = state_of c.set.new.self in
     let n : ℕ = (address_in k c.args.index + 4) % 2 ^ 64 in
-    let at : (address_of start c.args.index + 4) % 2 ^ 64 ≡ n = ap (λ a. (a + 4) % 2 ^ 64) (address-plain k c.args.index c.requires.here) in
-    settled-then (state_of k) t (placed (state_of c.step_on.new.self) (address_of start (number_of c.step_on.result))) c.args.k c.args.x n c.in-Ok.ensures.made
-    (c.step_on.ensures.leads start (start-aligned k c.args.index c.requires.here) ∙ ap (onward t) at)
+    let at : address_of start (number_of c.lead_on.result) ≡ n = c.lead_on.ensures.leads start ∙ ap (λ a. (a + 4) % 2 ^ 64) (address-plain k c.args.index c.requires.here) in
+    settled-then (state_of k) t (onward t (address_of start (number_of c.lead_on.result))) c.args.k c.args.x n c.in-Ok.ensures.made (ap (onward t) at)
