@@ -11,7 +11,7 @@ use Rattle.mx_mem.proofs.memory.Memory.read_kept.Goals as goal
 pub index-requires : goal.index-requires
 index-requires c =
     let size = ap (λ (m : Stored). m.code_size) c.self.view_is in
-    let kept = (subst (λ p. IsKept c.self.inside.code_start c.self.inside.code_size p c.self.inside.pages.items) (sym (c.requires.place ∙ ap (λ (m : Stored). m.code_place) c.self.view_is)) c.self.invariant.code) (omega (arith, size, c.requires.code.0)) in
+    let kept = (subst (λ p. IsKept c.self.inside.code_start c.self.inside.code_size p c.self.inside.pages.items) (sym (c.requires.place ∙ sym (ap (λ (m : Stored). m.code_place) c.self.view_is))) c.self.invariant.code) (omega (arith, size, c.requires.code.0)) in
     omega (arith, kept.1, c.self.inside.pages.ok.0)
 
 half : (x a d : ℕ) → d % 8 ≡ a % 8 → tetra_of x d ≡ tetra_of x a
@@ -22,7 +22,7 @@ returns-clause-value c = λ h.
     let i = c.self.inside in
     let size = ap (λ (m : Stored). m.code_size) c.self.view_is in
     let start = ap (λ (m : Stored). m.code_start) c.self.view_is in
-    let kept = (subst (λ p. IsKept c.self.inside.code_start c.self.inside.code_size p c.self.inside.pages.items) (sym (c.requires.place ∙ ap (λ (m : Stored). m.code_place) c.self.view_is)) c.self.invariant.code) (omega (arith, size, c.requires.code.0)) in
+    let kept = (subst (λ p. IsKept c.self.inside.code_start c.self.inside.code_size p c.self.inside.pages.items) (sym (c.requires.place ∙ sym (ap (λ (m : Stored). m.code_place) c.self.view_is))) c.self.invariant.code) (omega (arith, size, c.requires.code.0)) in
     let n : ℕ = number_in i.pages.items c.args.place in
     let k : ℕ = c.args.k in
     let a : ℕ = c.args.self.now.code_start + 4 * k in
