@@ -138,9 +138,11 @@ fn list_items<H: Host>(
         Works H.told H.faults host.old host.new (Err outcome)
         (plans.typed_plan (spec.still_typed lister.old reader.old))) }
 {
-    'items: loop {
-        if !list_next(host, lister, line, reader)? {
-            return Ok(());
+    loop {
+        match list_next(host, lister, line, reader) {
+            Ok(true) => {}
+            Ok(false) => return Ok(()),
+            Err(outcome) => return Err(outcome),
         }
     }
 }
