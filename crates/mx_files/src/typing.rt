@@ -113,10 +113,10 @@ fn list_next<H: Host>(
 {
     match reader.next() {
         Ok(None) => Ok(false),
-        Ok(Some(item)) => {
-            put_item(host, lister, line, &item)?;
-            Ok(true)
-        }
+        Ok(Some(item)) => match put_item(host, lister, line, &item) {
+            Ok(()) => Ok(true),
+            Err(outcome) => Err(outcome),
+        },
         Err(fault) => Err(refuse_bytes(fault)),
     }
 }
