@@ -75,12 +75,13 @@ impl Assembler {
         ensures fits { AreFit out.old → AreFit out.new }
         ensures refusal_again { OnErr self.old ((out.new ≡ out.old) × (self.new ≡ self.old)) }
     {
-        match self.try_line(text, out)? {
-            Ok(()) => Ok(()),
-            Err(refused) => {
+        match self.try_line(text, out) {
+            Ok(Ok(())) => Ok(()),
+            Ok(Err(refused)) => {
                 self.refused = Some(refused);
                 Err(refused)
             }
+            Err(refused) => Err(refused),
         }
     }
 

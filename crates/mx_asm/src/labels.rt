@@ -1,6 +1,6 @@
 //! Labels of statements, and the references that wait for them.
 
-ghost use Rattle.std.specs.Prelude.{◌≡◌, ◌≢◌, ◌<◌, ◌≤◌, ◌+◌, Ok, Err, OnOk, IfSome, IfErr, length, true};
+ghost use Rattle.std.specs.Prelude.{◌≡◌, ◌≢◌, ◌<◌, ◌≤◌, ◌+◌, Ok, Err, OnOk, IfOk, IfSome, IfErr, length, true};
 ghost use Rattle.mx_names.specs.Names.{AreNames, IsFullName, define_answer};
 ghost use Rattle.mx_stmt.specs.Operands.{symbol_form};
 ghost use Rattle.mx_stmt.specs.Reading.{LabelHasDigit};

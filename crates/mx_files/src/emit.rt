@@ -70,13 +70,15 @@ fn assemble_by(
     ensures fits { AreFit items.old → AreFit items.new }
     ensures trie { IfOk result (λ r. IfOk r IsPadded) }
 {
-    take_lines(assembler, items, text)?;
-    match assembler.finish(items) {
-        Ok(trie) => Ok(Ok(trie)),
-        Err(refused) => {
-            if_no_memory(&refused)?;
-            Ok(Err(refused))
-        }
+    match take_lines(assembler, items, text) {
+        Ok(()) => match assembler.finish(items) {
+            Ok(trie) => Ok(Ok(trie)),
+            Err(refused) => match if_no_memory(&refused) {
+                Ok(()) => Ok(Err(refused)),
+                Err(e) => Err(e),
+            },
+        },
+        Err(e) => Err(e),
     }
 }
 

@@ -49,8 +49,10 @@ fn pieces<H: Host>(alloc: Global, host: &mut H, most: u32) -> Result<Bytes, Outc
     let mut got = Bytes::new(alloc);
     let mut piece = [0u8; 4096];
     for turn in 0..most {
-        if !one_piece(host, &mut got, &mut piece)? {
-            return Ok(got);
+        match one_piece(host, &mut got, &mut piece) {
+            Ok(true) => {}
+            Ok(false) => return Ok(got),
+            Err(outcome) => return Err(outcome),
         }
     }
     Ok(got)

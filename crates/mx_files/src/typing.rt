@@ -113,10 +113,10 @@ fn list_next<H: Host>(
 {
     match reader.next() {
         Ok(None) => Ok(false),
-        Ok(Some(item)) => {
-            put_item(host, lister, line, &item)?;
-            Ok(true)
-        }
+        Ok(Some(item)) => match put_item(host, lister, line, &item) {
+            Ok(()) => Ok(true),
+            Err(outcome) => Err(outcome),
+        },
         Err(fault) => Err(refuse_bytes(fault)),
     }
 }
@@ -138,9 +138,11 @@ fn list_items<H: Host>(
         Works H.told H.faults host.old host.new (Err outcome)
         (plans.typed_plan (spec.still_typed lister.old reader.old))) }
 {
-    'items: loop {
-        if !list_next(host, lister, line, reader)? {
-            return Ok(());
+    loop {
+        match list_next(host, lister, line, reader) {
+            Ok(true) => {}
+            Ok(false) => return Ok(()),
+            Err(outcome) => return Err(outcome),
         }
     }
 }

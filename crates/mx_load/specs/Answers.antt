@@ -73,15 +73,15 @@ LoadsOn old new before after = (n : ℕ) → loaded_from (suc n) old before ≡ 
 abbrev pub all_loaded : Progress → ReaderModel → Loaded
 all_loaded progress reader = loaded_from (length reader.rest + 1) progress reader
 
--- unless there was no memory, the item at this place was loaded, or its fault is told
-abbrev pub LoadsItem : Result Bool ObjectFault → Progress → Progress → ℕ → Item → Type 0
-LoadsItem result old new place item =
-    result ≢ Err OutOfMemory → item_answer result (loading_of new) ≡ taken place (take_item (loading_of old) item)
-
 -- what stands after an item that was taken, or the fault that was answered
 abbrev pub item_answer : Result Bool ObjectFault → Loading → Result Loading (ℕ × ℕ)
 item_answer (Ok more) s = Ok s
 item_answer (Err fault) s = Err (place_and_number fault)
+
+-- unless there was no memory, the item at this place was loaded, or its fault is told
+abbrev pub LoadsItem : Result Bool ObjectFault → Progress → Progress → ℕ → Item → Type 0
+LoadsItem result old new place item =
+    result ≢ Err OutOfMemory → item_answer result (loading_of new) ≡ taken place (take_item (loading_of old) item)
 
 -- what follows an item after which a reader stands
 abbrev pub loaded_after : ℕ → ReaderModel → Result Loading (ℕ × ℕ) → Loaded

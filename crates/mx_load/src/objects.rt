@@ -125,9 +125,11 @@ fn load_items(reader: &mut Reader, progress: &mut Progress) -> Result<(), Object
     ensures fault { result ≢ Err ObjectFault.OutOfMemory →
         IfErr result (λ f. spec.all_loaded progress.old reader.old ≡ Err (spec.place_and_number f)) }
 {
-    'items: loop {
-        if !load_next(reader, progress)? {
-            return Ok(());
+    loop {
+        match load_next(reader, progress) {
+            Ok(true) => {}
+            Ok(false) => return Ok(()),
+            Err(fault) => return Err(fault),
         }
     }
 }

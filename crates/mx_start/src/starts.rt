@@ -78,9 +78,10 @@ fn with_memory(machine: Machine, memory: Memory) -> Machine
 fn with_arguments(alloc: Global, machine: Machine, args: &[Bytes]) -> Result<Machine, StartFault>
     ensures { StartsAs result (spec.with_octas (state_of machine) spec.pool (spec.pool_octas args.now)) }
 {
-    match pool_octas(alloc, args)? {
-        Some(octas) => with_octas(machine, octas.as_slice()),
-        None => Err(StartFault::PagesFull),
+    match pool_octas(alloc, args) {
+        Ok(Some(octas)) => with_octas(machine, octas.as_slice()),
+        Ok(None) => Err(StartFault::PagesFull),
+        Err(_) => Err(StartFault::OutOfMemory),
     }
 }
 

@@ -78,16 +78,20 @@ impl MemHost {
         if from.len() >= (1 << 63) - place {
             return Err(HostFault::OutOfMemory);
         }
-        self.files[at].bytes.overwrite(place, from)?;
-        self.set_slot(
-            slot,
-            Slot::Open {
-                lead: Lead::File(at),
-                mode,
-                place: place + from.len(),
-            },
-        );
-        Ok(())
+        match self.files[at].bytes.overwrite(place, from) {
+            Ok(()) => {
+                self.set_slot(
+                    slot,
+                    Slot::Open {
+                        lead: Lead::File(at),
+                        mode,
+                        place: place + from.len(),
+                    },
+                );
+                Ok(())
+            }
+            Err(_) => Err(HostFault::OutOfMemory),
+        }
     }
 
     /// Puts these bytes in a file, in place of those that it has.

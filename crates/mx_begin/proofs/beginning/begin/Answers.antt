@@ -43,15 +43,15 @@ returns-clause-causes g c = (λ had e. absurd (c.start_machine.ensures.no_host_f
 
 pub returns-in_err-image-clause-window : goal.returns-in_err-image-clause-window
 returns-in_err-image-clause-window g c =
-    let p = err_from_is_err_and c.from_residual.result c.from_residual.ensures.1 in
+    let p = err_from_is_err_and c.from_residual-in_err-image.result c.from_residual-in_err-image.ensures.1 in
     rw (p.1, p.2) (begun-uncarried _ _ _ _ _ _ _ _ c.word_bytes.ensures c.in_err-image.ensures.plan)
 
 pub returns-in_err-image-clause-list : goal.returns-in_err-image-clause-list
 returns-in_err-image-clause-list g c =
-    let p = err_from_is_err_and c.from_residual.result c.from_residual.ensures.1 in
+    let p = err_from_is_err_and c.from_residual-in_err-image.result c.from_residual-in_err-image.ensures.1 in
     rw (p.1, p.2) (begun-uncarried _ _ _ _ _ _ _ _ c.word_bytes.ensures c.in_err-image.ensures.plan)
 
 pub returns-in_err-image-clause-causes : goal.returns-in_err-image-clause-causes
 returns-in_err-image-clause-causes g c =
-    let p = err_from_is_err_and c.from_residual.result c.from_residual.ensures.1 in
+    let p = err_from_is_err_and c.from_residual-in_err-image.result c.from_residual-in_err-image.ensures.1 in
     rw (p.1, p.2) ((λ had e. c.in_err-image.ensures.causes.0 had (cc), λ n e. c.in_err-image.ensures.causes.1 n (cc), c.in_err-image.ensures.causes.2, c.in_err-image.ensures.causes.3))

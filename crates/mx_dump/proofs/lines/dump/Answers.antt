@@ -10,7 +10,7 @@ returns-in_err-put_specials g c =
 
 pub returns-in_err-put_registers : goal.returns-in_err-put_registers
 returns-in_err-put_registers g c =
-    let p = err_from_is_err_and c.from_residual.result c.from_residual.ensures.1 in
+    let p = err_from_is_err_and c.from_residual-in_err-put_registers.result c.from_residual-in_err-put_registers.ensures.1 in
     rw (p.1, p.2) (writes-registers (state_of c.args.machine.now) _ _ _ _ _ _ _ c.in_ok-put_specials.ensures c.in_err-put_registers.ensures)
 
 pub returns : goal.returns

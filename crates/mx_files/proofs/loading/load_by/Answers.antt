@@ -16,4 +16,4 @@ returns-in_err-load_lines c =
     let p = err_from_is_err_and c.from_residual.result c.from_residual.ensures.1 in
     rw (p.1, p.2) (λ some.
     source-loaded c.args.text.now (bytes-each c.args.text.now (λ i. omega (arith, c.type_inv.text i))) _ _ _ c.requires.start c.requires.none
-    (refusal-ends c.in_err-load_lines.field-0 _ _ _ ∙ ap end_loaded (c.in_err-load_lines.ensures.loaded (λ e. let none : c.in_err-load_lines.field-0 ≡ NoRoom = cc in some (ap Err none)))))
+    (refusal-ends c.in_err-load_lines.field-0.0 _ _ _ ∙ ap end_loaded (c.in_err-load_lines.ensures.loaded (λ e. let none : c.in_err-load_lines.field-0.0 ≡ NoRoom = cc in some (ap Err none)))))

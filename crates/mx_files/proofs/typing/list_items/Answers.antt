@@ -1,22 +1,19 @@
 use Rattle.std.proofs.Common.{Ok, ap}
-use Rattle.std.proofs.lemmas.Result.{err_from_is_err_and}
 use Rattle.mx_files.proofs.Parts.{works-on, leaves-all, leaves-on}
 use Rattle.mx_files.proofs.typing.list_items.Goals as goal
 
-pub items-init : goal.items-init
-items-init g c = record { read = c.requires; left = leaves-all _ _ _ }
+pub loop-outcome-init : goal.loop-outcome-init
+loop-outcome-init g c = record { read = c.requires; left = leaves-all _ _ _ }
 
-pub items-preserved : goal.items-preserved
-items-preserved g c = record {
-  read = c.in_ok-list_next.ensures.read;
-  left = leaves-on _ _ _ _ _ _ _ _ _ c.items.invariant.left (c.in_ok-list_next.ensures.more (ap Ok c.in_ok-list_next.field-0-test));
+pub loop-outcome-preserved : goal.loop-outcome-preserved
+loop-outcome-preserved g c = record {
+  read = c.in-Ok-true.ensures.read;
+  left = leaves-on _ _ _ _ _ _ _ _ _ c.loop-outcome.invariant.left (c.in-Ok-true.ensures.more (ap Ok c.in-Ok-true.field-0-test));
 }
 
-pub returns-then-not-list_next-clause-last : goal.returns-then-not-list_next-clause-last
-returns-then-not-list_next-clause-last g c =
-    leaves-on _ _ _ _ _ _ _ _ _ c.items.invariant.left (c.in_ok-list_next.ensures.last (ap Ok c.in_ok-list_next.field-0-test))
+pub returns-in-Ok-false-clause-last : goal.returns-in-Ok-false-clause-last
+returns-in-Ok-false-clause-last g c =
+    leaves-on _ _ _ _ _ _ _ _ _ c.loop-outcome.invariant.left (c.in-Ok-false.ensures.last (ap Ok c.in-Ok-false.field-0-test))
 
-pub returns-in_err-list_next-clause-ends : goal.returns-in_err-list_next-clause-ends
-returns-in_err-list_next-clause-ends g c =
-    let p = err_from_is_err_and c.from_residual.result c.from_residual.ensures.1 in
-    rw (p.1, p.2) (works-on _ _ _ _ _ _ _ _ _ c.items.invariant.left c.in_err-list_next.ensures.ends)
+pub returns-in-Err-clause-ends : goal.returns-in-Err-clause-ends
+returns-in-Err-clause-ends g c = works-on _ _ _ _ _ _ _ _ _ c.loop-outcome.invariant.left c.in-Err.ensures.ends

@@ -1,5 +1,4 @@
 use Rattle.std.proofs.Common.{[], ap, sym, ◌∙◌}
-use Rattle.std.proofs.lemmas.Result.{err_from_is_err_and}
 use Rattle.mx_mmo.specs.Whole.{items_of}
 use Rattle.mx_files.proofs.TypedLines.{refused-works, leaves-named, walk-lacks, next-leaves, next-ends, still-none, still-fault}
 use Rattle.mx_files.proofs.typing.list_next.Goals as goal
@@ -8,16 +7,15 @@ pub returns-in-Ok-None-clause-last : goal.returns-in-Ok-None-clause-last
 returns-in-Ok-None-clause-last g c = λ e.
     leaves-named _ _ _ _ (still-none c.args.lister.now c.args.reader.now c.next.new.self c.requires (rw c.in-Ok-None.field-0-is at (c.in-Ok-None.ensures.answers (λ e. cc))))
 
-pub returns-in-Ok-Some-clause-more : goal.returns-in-Ok-Some-clause-more
-returns-in-Ok-Some-clause-more g c = λ e.
+pub returns-in-Ok-clause-more : goal.returns-in-Ok-clause-more
+returns-in-Ok-clause-more g c = λ e.
     next-leaves _ _ _ _ c.args.lister.now _ c.args.reader.now c.next.new.self c.in-Ok-Some.item c.requires
-    (rw c.in-Ok-Some.field-0-is at (c.in-Ok-Some.ensures.answers (λ e. cc))) c.in_ok-put_item.ensures.lambda c.in_ok-put_item.ensures.put
+    (rw c.in-Ok-Some.field-0-is at (c.in-Ok-Some.ensures.answers (λ e. cc))) c.in-Ok.ensures.lambda c.in-Ok.ensures.put
 
-pub returns-in_err-put_item-clause-ends : goal.returns-in_err-put_item-clause-ends
-returns-in_err-put_item-clause-ends g c =
-    let p = err_from_is_err_and c.from_residual.result c.from_residual.ensures.1 in
-    rw (p.1, p.2) (next-ends _ _ _ _ c.args.lister.now c.args.reader.now c.next.new.self c.in-Ok-Some.item _ c.requires
-    (rw c.in-Ok-Some.field-0-is at (c.in-Ok-Some.ensures.answers (λ e. cc))) c.in_err-put_item.ensures.put)
+pub returns-in-Ok-Some-clause-ends : goal.returns-in-Ok-Some-clause-ends
+returns-in-Ok-Some-clause-ends g c =
+    next-ends _ _ _ _ c.args.lister.now c.args.reader.now c.next.new.self c.in-Ok-Some.item _ c.requires
+    (rw c.in-Ok-Some.field-0-is at (c.in-Ok-Some.ensures.answers (λ e. cc))) c.in-Err-put_item.ensures.put
 
 pub returns-clause-ends : goal.returns-clause-ends
 returns-clause-ends g c =

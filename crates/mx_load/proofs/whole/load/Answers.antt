@@ -15,7 +15,7 @@ returns-in_err-take-clause-meaning c =
     let items = c.args.items.now in
     let there = goes-on items c.loop-item.item-index c.item-item.result _ _ (standing c.loop-item.loader) (standing c.take.new.self) c.loop-item-test.true
     c.item-item.is c.loop-item.invariant.same (c.in_err-take.ensures.meaning (λ e. ne (cc))) in
-    let whole = ends-failed (drop (c.loop-item.item-index + 1) items) _ (standing c.take.new.self) c.in_err-take.field-0 there c.in_err-take.ensures.answer in
+    let whole = ends-failed (drop (c.loop-item.item-index + 1) items) _ (standing c.take.new.self) c.in_err-take.field-0.0 there c.in_err-take.ensures.answer in
     sym (sym (image-told (take_items items (Ok nothing))) ∙ ap image_in whole))
 
 pub loop-item-preserved : goal.loop-item-preserved
