@@ -12,11 +12,11 @@ ghost use Rattle.mx_core.specs.Way.Noting.{PutsLink, StoresBelow};
 use crate::Machine;
 use crate::along::{Next, lead_by, lead_on};
 use crate::plain::plain_answer;
-use crate::trips::{RH, RJ, RR};
 use crate::values::measure_near;
 use mx_alu::Answer;
 use mx_code::{Instruction, Operation, Storing, convert_stored, is_store_overflow, part_of_store};
 use mx_mem::Part;
+use mx_ops::codes::{RH, RJ, RR};
 
 impl Machine {
     /// MULU, DIV and DIVU in plain cases, which give more than a result.

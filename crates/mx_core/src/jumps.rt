@@ -8,9 +8,9 @@ ghost use Rattle.mx_core.specs.Kept.{state_of};
 ghost use Rattle.mx_core.specs.Way.KeptPage.{KeepsPlace};
 
 use crate::bounds::know_bounds;
-use crate::trips::RJ;
 use crate::{Machine, Reason};
 use mx_code::{Instruction, Operation, Stop, is_condition_met};
+use mx_ops::codes::RJ;
 
 impl Machine {
     /// BN to PBEV.

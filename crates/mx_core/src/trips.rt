@@ -15,23 +15,7 @@ ghost use Rattle.mx_core.specs.Way.KeptPage.{KeepsPlace};
 use crate::{Machine, Reason};
 use mx_alu::{Answer, Event, Trip, decide, noted_events_stay_in_18_bits};
 use mx_code::{Instruction, Stop};
-
-/// The codes of special registers.
-pub(crate) const RB: u8 = 0;
-
-pub(crate) const RH: u8 = 3;
-
-pub(crate) const RJ: u8 = 4;
-
-pub(crate) const RR: u8 = 6;
-
-pub(crate) const RW: u8 = 24;
-
-pub(crate) const RX: u8 = 25;
-
-pub(crate) const RY: u8 = 26;
-
-pub(crate) const RZ: u8 = 27;
+use mx_ops::codes::{RB, RH, RJ, RR, RW, RX, RY, RZ};
 
 impl Machine {
     /// rA.

@@ -16,11 +16,11 @@ ghost use Rattle.mx_core.specs.declared.step.Advance.TheVariants as advance;
 
 use crate::noting::Was;
 use crate::overwritten::{Overwritten, UsualWas};
-use crate::trips::RJ;
 use crate::undoing::machines_are_paged;
 use crate::usual::Usual;
 use crate::{Machine, Note};
 use mx_code::{Instruction, Operation, Storing};
+use mx_ops::codes::RJ;
 
 impl Machine {
     /// One step without its trace, where its instruction is a frequent one that gives a register a value, stores or goes

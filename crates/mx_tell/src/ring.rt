@@ -1,14 +1,10 @@
 //! The ring of registers as a picture.
 
 use mx_core::Machine;
+use mx_ops::codes::{RO, RS};
 use mx_pieces::{add_right, add_short_hex};
 use mx_text::add_decimal;
 use mx_word::{Bytes, NoMemory, STACK_SEGMENT};
-
-/// The codes of the special registers that tell how many octas are hidden, and how many of them are in memory.
-const HIDDEN: u8 = 10;
-
-const SPILLED: u8 = 11;
 
 /// This many registers of a ring are shown, and no more.
 const MOST: u64 = 1024;
@@ -35,8 +31,8 @@ fn ring_of(machine: &Machine, size: u64) -> Ring {
     Ring {
         size,
         locals: u64::from(machine.l()),
-        hidden: octas_before(machine.special(HIDDEN)),
-        spilled: octas_before(machine.special(SPILLED)),
+        hidden: octas_before(machine.special(RO)),
+        spilled: octas_before(machine.special(RS)),
     }
 }
 
