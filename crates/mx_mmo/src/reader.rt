@@ -96,7 +96,8 @@ impl Reader {
         if self.end() + piece.len() as u64 > LIMIT {
             return self.refuse(MmoFault::TooLong(LIMIT));
         }
-        self.hold(piece)
+        self.hold(piece)?;
+        Ok(())
     }
 
     /// The next whole item; nothing where neither a whole item nor a fault is next, and always after `stab`.
@@ -226,15 +227,11 @@ impl Reader {
     }
 
     /// Holds a piece more.
-    fn hold(&mut self, piece: &[u8]) -> Result<(), MmoFault>
+    fn hold(&mut self, piece: &[u8]) -> Result<(), NoMemory>
         requires { self.old.at + length self.old.rest + length piece.now ≤ 2 ^ 26 }
         ensures ok { OnOk result (self.new ≡ record self.old { rest = self.old.rest ++ piece.now }) }
         ensures err { OnErr result (self.new ≡ self.old) }
-        ensures memory { IfErr result (λ e. e ≡ MmoFault.OutOfMemory) }
     {
-        match self.input.add(piece) {
-            Ok(()) => Ok(()),
-            Err(_) => Err(MmoFault::OutOfMemory),
-        }
+        self.input.add(piece)
     }
 }

@@ -106,10 +106,8 @@ fn end_object(mut reader: Reader, items: Items) -> Result<Object, MmoFault>
     ensures { result ≢ Err MmoFault.OutOfMemory →
         result ≡ with_tail items (tail_of reader.phase reader.at reader.rest) }
 {
-    match reader.finish() {
-        Ok(tail) => Ok(Object { items, tail }),
-        Err(fault) => Err(fault),
-    }
+    let tail = reader.finish()?;
+    Ok(Object { items, tail })
 }
 
 /// Reads the pieces from first to last.
@@ -122,10 +120,8 @@ fn read_pieces(alloc: Global, pieces: &[Bytes]) -> Result<Object, MmoFault>
 {
     let mut reader = Reader::new(alloc);
     let mut items = Items::new(alloc);
-    match take_pieces(&mut reader, &mut items, pieces) {
-        Ok(()) => end_object(reader, items),
-        Err(fault) => Err(fault),
-    }
+    take_pieces(&mut reader, &mut items, pieces)?;
+    end_object(reader, items)
 }
 
 /// The object that comes in these pieces from first to last, or its first fault; how the bytes are cut into pieces
