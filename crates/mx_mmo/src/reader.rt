@@ -1,6 +1,6 @@
 //! Reading an object in pieces.
 
-ghost use Rattle.std.specs.Prelude.{◌≡◌, ◌≢◌, ◌≤◌, ◌+◌, ◌++◌, ◌^◌, length, drop, ◌<◌, IfOk, IfErr, IfSome, OnOk, OnErr};
+ghost use Rattle.std.specs.Prelude.{◌≡◌, ◌≢◌, ◌≤◌, ◌+◌, ◌++◌, ◌^◌, length, drop, ◌<◌, IfOk, IfSome, OnOk, OnErr};
 ghost use Rattle.std.specs.Prelude.{OnSome, None, Ok, Some};
 ghost use Rattle.mx_mmo.specs.Replies as spec;
 ghost use Rattle.mx_mmo.specs.Valid.{Fits};
@@ -10,6 +10,7 @@ use crate::input::Input;
 use crate::skipping::Scan;
 use crate::tail::read_tail;
 use crate::{Item, MmoFault, Tail};
+use mx_word::NoMemory;
 use std::alloc::Global;
 use std::marker::Model;
 
