@@ -128,12 +128,18 @@ impl Machine {
             (result.last, state_of self.new) ≡ advanced (state_of self.new) (spec.step (state_of self.new)) }
         ensures lacks_memory { result.last ≡ Advance.OutOfMemory → IsTrue (step_needs_page (state_of self.new)) }
     {
-        let first = self.make_usual_ones(n);
-        let mut left = first;
-        while left > 0 {
+        let mut left = n;
+        loop {
+            left = self.make_usual_ones(left);
+            if left == 0 {
+                return Advanced {
+                    made: n,
+                    last: Advance::Went,
+                };
+            }
             machines_keep_the_invariant(self);
             match self.advance_and_keep() {
-                Advance::Went => {}
+                Advance::Went => left -= 1,
                 last => {
                     return Advanced {
                         made: n - left,
@@ -141,11 +147,6 @@ impl Machine {
                     };
                 }
             }
-            left = self.make_usual_ones(left - 1);
-        }
-        Advanced {
-            made: n,
-            last: Advance::Went,
         }
     }
 
