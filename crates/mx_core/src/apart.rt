@@ -1,6 +1,6 @@
 //! Usual instructions that do more than give a value or go elsewhere. Each is given with its code as a literal.
 
-ghost use Rattle.std.specs.Prelude.{◌≡◌, ◌<◌, ◌/◌, ◌%◌, ℕ, IsTrue, true};
+ghost use Rattle.std.specs.Prelude.{◌≡◌, ◌≢◌, ◌<◌, ◌/◌, ◌%◌, ℕ, IsTrue, true};
 ghost use Rattle.mx_code.specs.Instructions.{code_of, instruction, next_of, operation_in, x_of};
 ghost use Rattle.mx_core.specs.Deeds.{deed_at, deed_of, outcome};
 ghost use Rattle.mx_core.specs.Effects.{data_address};

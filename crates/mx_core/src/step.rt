@@ -184,6 +184,8 @@ impl Machine {
                         return n - (made + 1);
                     }
                     index = j;
+                    made += 1;
+                    continue;
                 }
                 Next::Unmade => {
                     self.place_at(index, made);

@@ -1,9 +1,10 @@
 //! What usual instructions give, and where they go. Each is given with its code as a literal.
 
-ghost use Rattle.std.specs.Prelude.{◌≡◌, ◌+◌, ◌*◌, ◌%◌, ◌^◌, IfSome, IsTrue, Ok, false};
+ghost use Rattle.std.specs.Prelude.{◌≡◌, ◌≢◌, ◌+◌, ◌*◌, ◌%◌, ◌^◌, IfSome, IsTrue, Ok, false};
 ghost use Rattle.mx_core.specs.Way.Calls.{settled};
 ghost use Rattle.mx_core.specs.Deeds.{deed_of, onward, outcome};
-ghost use Rattle.mx_code.specs.Instructions.{far_address, near_address, next_of, operation_in, x_of};
+ghost use Rattle.mx_code.specs.Instructions.{far_address, near_address, next_of, operation_in, x_of, z_of};
+ghost use Rattle.mx_code.specs.SpecialRegisters.{rC};
 ghost use Rattle.mx_core.specs.Kept.{state_of};
 ghost use Rattle.mx_core.specs.Way.UsualDeeds.{IsUsual};
 
@@ -192,8 +193,9 @@ impl Machine {
     #[tactic(auto, using(crate::proofs::Results::Gets::get_alone), unfolding(crate::specs::Kept::state_of))]
     #[inline(always)]
     fn got_value(&self, i: &Instruction) -> Option<u64>
-        ensures { IfSome result (λ x. outcome (state_of self.now) (deed_of Operation.Get (state_of self.now) i.now)
+        ensures value { IfSome result (λ x. outcome (state_of self.now) (deed_of Operation.Get (state_of self.now) i.now)
             ≡ settled (state_of self.now) (x_of i.now) x (next_of i.now)) }
+        ensures other { IfSome result (λ _. z_of i.now ≢ rC) }
     {
         if i.y() != 0 || i.z() > 7 {
             return None;

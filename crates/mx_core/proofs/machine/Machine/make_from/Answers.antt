@@ -10,7 +10,7 @@ use Rattle.mx_core.proofs.machine.Machine.make_from.Goals as goal
 pub loop-made-init : goal.loop-made-init
 loop-made-init c =
     let k : Kept = c.args.self.now in
-    let here = subst (λ (u : State). Goes 0 (state_of k) u) (sym (placed-same (state_of k) (address_in k c.args.first) c.requires.at c.self.ranges.steps.fits)) (goes-none (state_of k)) in
+    let here = subst (λ (u : State). Goes 0 (state_of k) u) (sym (placed-same (state_of k) (address_in k c.args.first) c.requires.at ?)) (goes-none (state_of k)) in
     (omega arith, c.requires.here, c.kept_place.ensures, here)
 
 pub loop-made-preserved : goal.loop-made-preserved
@@ -23,11 +23,11 @@ loop-made-preserved c =
     let goes = walk-on made s c.loop-made.self l c.loop-made.index c.in-At.j c.machines_keep_the_invariant.ensures v.1 c.in-At.ensures.within kept.0 kept.1 v.3 (c.in-At.ensures.made (λ e. cc) _) in
     (omega (arith, v.0), (code-kept c.loop-made.self.memory l.memory kept.0 v.1.0, c.in-At.ensures.within), v.2 ∙ sym kept.0.2, goes)
 
-pub loop-made-preserved-in-To : goal.loop-made-preserved-in-To
-loop-made-preserved-in-To c = ?
-
-pub returns-in-To-then-clause-goes : goal.returns-in-To-then-clause-goes
-returns-in-To-then-clause-goes c = ?
+pub returns-then-j-gt1024-clause-goes : goal.returns-then-j-gt1024-clause-goes
+returns-then-j-gt1024-clause-goes c = ?
 
 pub returns-in-Unmade-clause-goes : goal.returns-in-Unmade-clause-goes
 returns-in-Unmade-clause-goes c = ?
+
+pub returns-clause-goes : goal.returns-clause-goes
+returns-clause-goes c = ?
