@@ -168,29 +168,35 @@ placed-machine k index n h f m = record {
 
 -- the steps of a machine that counts them once it is done with the page
 abbrev pub steps_after : Kept → ℕ → ℕ
-steps_after k made = (k.steps + made) % 2 ^ 64
+steps_after k made = ((state_of k).steps + made) % 2 ^ 64
+
+steps-kept : (k l : Kept) → l.steps ≡ k.steps → (state_of l).steps ≡ (state_of k).steps
+unfolding state_of
+steps-kept k l e = e
 
 -- a walk to an instruction of the page, and one more step
 pub walk-away : (made : ℕ) (s : State) (k l : Kept) (index j : ℕ) → IsMachine (state_of k) k.ring → IsHere k index → KeepsCode k.memory l.memory → l.steps ≡ k.steps →
     Goes made s (placed (state_of k) (address_in k index) (steps_after k made)) →
     (advance.Went, placed (state_of l) (address_of k.memory.code_start j) ((steps_after k made + 1) % 2 ^ 64))
     ≡ advanced (placed (state_of k) (address_in k index) (steps_after k made)) (step (placed (state_of k) (address_in k index) (steps_after k made))) →
-    Goes (suc made) s (placed (state_of l) (address_of l.memory.code_start j) (steps_after l (suc made)))
+    Goes (made + 1) s (placed (state_of l) (address_of l.memory.code_start j) (steps_after l (made + 1)))
 walk-away made s k l index j m h same count goes went =
     let from : State = placed (state_of k) (address_in k index) (steps_after k made) in
     let to : State = placed (state_of l) (address_of k.memory.code_start j) ((steps_after k made + 1) % 2 ^ 64) in
-    let steps : (steps_after k made + 1) % 2 ^ 64 ≡ steps_after l (suc made) = omega (arith, count) in
-    subst (λ n. Goes (suc made) s (placed (state_of l) (address_of l.memory.code_start j) n)) steps
-    (subst (λ start. Goes (suc made) s (placed (state_of l) (address_of start j) ((steps_after k made + 1) % 2 ^ 64))) (sym same.0)
-    (goes-end made s from to (record { window = k.ring; machine = placed-machine k index (steps_after k made) h (omega arith) m }) goes went))
+    let steps : (steps_after k made + 1) % 2 ^ 64 ≡ steps_after l (made + 1) = omega (arith, steps-kept k l count) in
+    let more : suc made ≡ made + 1 = omega arith in
+    let there = goes-end made s from to (record { window = k.ring; machine = placed-machine k index (steps_after k made) h (omega arith) m }) goes went in
+    subst (λ i. Goes i s (placed (state_of l) (address_of l.memory.code_start j) (steps_after l (made + 1)))) more
+    (subst (λ n. Goes (suc made) s (placed (state_of l) (address_of l.memory.code_start j) n)) steps
+    (subst (λ start. Goes (suc made) s (placed (state_of l) (address_of start j) ((steps_after k made + 1) % 2 ^ 64))) (sym same.0) there))
 
 pub walk-on : (made : ℕ) (s : State) (k l : Kept) (index j : ℕ) → IsMachine (state_of k) k.ring → IsHere k index → j ≤ 1024 → KeepsCode k.memory l.memory → l.steps ≡ k.steps →
     Goes made s (placed (state_of k) (address_in k index) (steps_after k made)) →
     (advance.Went, placed (state_of l) (address_of k.memory.code_start j) ((steps_after k made + 1) % 2 ^ 64))
     ≡ advanced (placed (state_of k) (address_in k index) (steps_after k made)) (step (placed (state_of k) (address_in k index) (steps_after k made))) →
-    Goes (suc made) s (placed (state_of l) (address_in l j) (steps_after l (suc made)))
+    Goes (made + 1) s (placed (state_of l) (address_in l j) (steps_after l (made + 1)))
 walk-on made s k l index j m h below same count goes went =
-    subst (λ a. Goes (suc made) s (placed (state_of l) a (steps_after l (suc made)))) (address-plain l j (code-kept k.memory l.memory same h.0, below)) (walk-away made s k l index j m h same count goes went)
+    subst (λ a. Goes (made + 1) s (placed (state_of l) a (steps_after l (made + 1)))) (address-plain l j (code-kept k.memory l.memory same h.0, below)) (walk-away made s k l index j m h same count goes went)
 
 -- the machine is placed where a walk ends
 pub walk-end : (made : ℕ) (s t : State) (k : Kept) (index : ℕ) → IsHere k index → Goes made s (placed (state_of k) (address_in k index) (steps_after k made)) →

@@ -12,7 +12,7 @@ ghost use Rattle.mx_core.specs.Way.KeptPage.{IsHere, address_in};
 ghost use Rattle.mx_core.specs.Way.Stepping.{advanced, needs_page, step_answer, step_needs_page};
 
 use crate::along::Next;
-use crate::bounds::machines_keep_the_invariant;
+use crate::bounds::{know_steps, machines_keep_the_invariant};
 use crate::{Machine, Reason, Trace};
 use mx_alu::TrapCall;
 use mx_code::{Instruction, Operation, Stop, Told};
@@ -171,6 +171,7 @@ impl Machine {
         ensures goes { Goes (n - result) (state_of self.old) (state_of self.new) }
         ensures most { result ≤ n }
     {
+        know_steps(self);
         let place = self.memory.kept_place();
         let mut index = first;
         let mut made = 0;

@@ -1,4 +1,4 @@
-use Rattle.std.proofs.Common.{◌≡◌, ◌≢◌, ◌+◌, ◌-◌, ℕ, suc, sym, subst, arith}
+use Rattle.std.proofs.Common.{rules, ◌≡◌, ◌≢◌, ◌+◌, ◌-◌, ℕ, suc, sym, subst, arith}
 use Rattle.std.proofs.lemmas.Grind.{common_steps}
 use Rattle.mx_core.specs.Walks.{Goes}
 use Rattle.mx_core.specs.Kept.{state_of}
@@ -32,4 +32,10 @@ returns-then-left-eq0-clause-goes c =
     subst (λ k. Goes k (state_of c.args.self.now) (state_of c.make_usual_ones-left.new.self)) whole all
 
 pub returns-in_default : goal.returns-in_default
-returns-in_default c = ?
+returns-in_default c =
+    let made : ℕ = c.args.n - c.loop-left.left in
+    let usual : ℕ = c.loop-left.left - c.make_usual_ones-left.result in
+    let whole : made + usual ≡ c.args.n - c.make_usual_ones-left.result = omega (arith, c.loop-left.invariant.0, c.make_usual_ones-left.ensures.most) in
+    let all = goes-both made usual (state_of c.args.self.now) (state_of c.loop-left.self) (state_of c.make_usual_ones-left.new.self) c.loop-left.invariant.1 c.make_usual_ones-left.ensures.goes in
+    let goes = subst (λ k. Goes k (state_of c.args.self.now) (state_of c.make_usual_ones-left.new.self)) whole all in
+    search rules
