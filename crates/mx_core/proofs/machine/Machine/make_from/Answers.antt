@@ -1,4 +1,4 @@
-use Rattle.std.proofs.Common.{◌≡◌, ◌≤◌, ◌-◌, ◌+◌, ℕ, refl, sym, subst, ◌∙◌, arith}
+use Rattle.std.proofs.Common.{◌≡◌, ◌≤◌, ◌-◌, ◌+◌, ℕ, refl, sym, subst, ap, ◌∙◌, arith}
 use Rattle.mx_core.specs.Kept.{Kept, state_of}
 use Rattle.mx_core.specs.State.{State}
 use Rattle.mx_core.specs.Walks.{Goes}
@@ -11,7 +11,7 @@ pub loop-made-init : goal.loop-made-init
 loop-made-init c =
     let k : Kept = c.args.self.now in
     let there : placed (state_of k) (address_in k c.args.first) (steps_after k 0) ≡ state_of k = placed-same (state_of k) (address_in k c.args.first) c.requires.at c.know_steps.ensures in
-    (omega arith, c.requires.here, c.kept_place-place.ensures, subst (Goes 0 (state_of k)) (sym there) (goes-none (state_of k)))
+    (omega arith, c.requires.here, c.kept_place-place.ensures ∙ ap (λ (m : Kept). m.memory.code_place) c.self.view_is, subst (Goes 0 (state_of k)) (sym there) (goes-none (state_of k)))
 
 pub loop-made-preserved : goal.loop-made-preserved
 loop-made-preserved c =
