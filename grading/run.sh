@@ -76,6 +76,43 @@ continues() {
   head -c "$(wc -c <"$2")" "$1" | cmp -s - "$2"
 }
 
+# goes back from further runs to the first one
+go_back() {
+  status=$was file=$was_file
+  if [ -n "$first" ]; then
+    rm -rf "$run"
+    run=$first first=''
+  fi
+}
+
+# Whether it was refused when it was loaded, and for what. With one step, too few to write and to halt, only the tool has
+# the status 65.
+is_refused() {
+  was_file=$file refused=''
+  ! run_again '--steps 1' || refused=$(last_words "$run/message")
+  go_back
+  [ -n "$refused" ]
+}
+
+# Whether a run that was not refused ended by a Halt, where a test takes each status. The tool and the system have some
+# of these, too: then a further run shows it. With --last a stop or spent steps have a line more, and with --report a run
+# that was ended otherwise has no report.
+has_halted() {
+  case $status in
+    65) return ;;
+    70 | 75) option='--last 1' ;;
+    6[4-9] | 7[0-6] | 12[4-9] | 1[3-9]? | 2??) option=--report ;;
+    *) return ;;
+  esac
+  was_file=$file
+  run_again "$option" && cmp -s "$run/printed" "$first/printed" && {
+    [ "$option" != --report ] || [ -n "$(reported_steps)" ]
+  }
+  answer=$?
+  go_back
+  return "$answer"
+}
+
 # The verdict of a run that seems to be stopped. Only the tool knows: a further run with --last has a line after the
 # output where the machine was stopped, and none where a solution halted. No solution sees the option, and nothing else may
 # differ.
@@ -89,12 +126,16 @@ judge_stop() {
   fi
 }
 
-# The steps of a run go to $counted, from a further one with --report: after what standard error had before comes the
-# tool's report, which lacks the last step.
+# the steps of a further run with --report, or nothing where it has no report: after what standard error had before comes
+# the tool's report, which lacks the last step
+reported_steps() {
+  continues "$run/message" "$first/message" && tail -c "+$(($(wc -c <"$first/message") + 1))" "$run/message" |
+    awk '$1 == "profile" { n += $4 } $1 == "cover" { is_whole = 1 } END { if (is_whole) printf "%d\n", n + 1 }'
+}
+
+# the steps of a run go to $counted, from a further one
 count_steps() {
-  run_again --report && cmp -s "$run/printed" "$first/printed" && continues "$run/message" "$first/message" || return
-  counted=$(tail -c "+$(($(wc -c <"$first/message") + 1))" "$run/message" |
-    awk '$1 == "profile" { n += $4 } $1 == "cover" { is_whole = 1 } END { if (is_whole) printf "%d\n", n + 1 }')
+  run_again --report && cmp -s "$run/printed" "$first/printed" && counted=$(reported_steps)
 }
 
 # assembles the source, without a run: what the tool says of it comes from the tool alone
@@ -144,25 +185,30 @@ grade_test() {
     verdict=failed detail='no folder for a run'
     if run_test ''; then
       judge
-      words=$(last_words "$run/message")
-      show_difference
+      # of what is refused the message is said already
+      [ "$verdict" = refused ] || words=$(last_words "$run/message")
+      is_kept_hidden || show_difference
       [ "$verdict" != right ] || [ -z "$count" ] || count_steps
     fi
     remove_run
     first=''
   fi
-  if [ -f "$test/hidden" ] && [ -z "$reveal" ]; then
+  if is_kept_hidden; then
     keep_hidden
   fi
   printf '%s\t%s\t%s\t%s\t%s\t%s\t%s\t%s\t%s\n' "${solution%.*}" "${test##*/}" "$verdict" "$status" "$detail" "$words" \
     "$expected" "$printed" "$counted"
 }
 
+is_kept_hidden() {
+  [ -f "$test/hidden" ] && [ -z "$reveal" ]
+}
+
 # of a hidden test only this is shown, since a solution can put what it reads into all else
 keep_hidden() {
   status='' words='' expected='' printed='' counted=''
   case $verdict:$begun in
-    right:* | failed:* | time:* | *:refused) ;;
+    right:* | failed:* | time:* | refused:* | *:refused) ;;
     *) verdict=hidden detail='not right' ;;
   esac
   [ ! -f "$test/refusal" ] || [ "$verdict" = right ] || verdict=hidden detail='not right'
@@ -170,7 +216,7 @@ keep_hidden() {
 
 # grades one solution: a row for each test
 grade_solution() {
-  room=$(pwd) solution=$1
+  room=$(pwd) solution=$1 tab=$(printf '\t')
   . "$room/settings"
   . "$room/judge.sh"
   apart='' running='' run='' hall='' first=''
@@ -182,12 +228,16 @@ grade_solution() {
   verdict=right status='' detail=''
   assemble
   remove_run
+  if [ "$shield" = none ] && [ "$(id -u)" = 0 ]; then
+    verdict=failed detail='not run: no shield, and the user is root'
+  fi
   weigh
   begun=$verdict begun_status=$status begun_detail=$detail
-  for test in "$room"/task/*/; do
-    test=${test%/}
-    grade_test
-  done
+  # a run of a test has no part of this list
+  while IFS="$tab" read -r test more <&3; do
+    test=$room/task/$test
+    grade_test 3<&-
+  done 3<"$room/tests"
 }
 
 case ${0##*/} in

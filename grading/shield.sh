@@ -10,7 +10,7 @@ mount_box() {
 # puts the test's files and the solution into the solution's folder
 fill_work() {
   [ ! -d "$test/files" ] || { cp -R "$test/files/." "$work" && chmod -R u+rwX "$work"; } || return 1
-  cp "$room/solutions/$solution" "$work/solution.${solution##*.}"
+  cp "$room/solutions/$solution" "$work/solution.${solution##*.}" && chmod u+w "$work/solution.${solution##*.}"
 }
 
 # turns into the program, under the limits
@@ -29,12 +29,13 @@ become_program() {
   exec env -i "$room/root/mmixware" "$@"
 }
 
-# the first file that is not as the test wants it
+# the first file that is not as the test wants it; a copy of it, which is no longer than the limit, goes to the folder RUN
 wrong_file() {
   [ -d "$test/written" ] || return 0
   (cd "$test/written" && find . -type f) >"$run/wanted" && sort -o "$run/wanted" "$run/wanted" || return 1
   while IFS= read -r name; do
     if ! [ -f "$work/$name" ] || ! cmp -s "$work/$name" "$test/written/$name"; then
+      [ ! -f "$work/$name" ] || head -c $((size * 1024)) "$work/$name" >"$run/file" || return 1
       printf '%s\n' "${name#./}"
       return
     fi

@@ -18,7 +18,7 @@ read_limits() {
     refuse_crlf "$task/limits"
     while read -r name value more || [ -n "$name" ]; do
       [ -n "$name" ] || continue
-      is_number "$value" && [ -z "$more" ] || fail "$task/limits: $name wants one number"
+      is_number "$value" && [ -z "$more" ] || fail "$task/limits: $name wants one whole number from 1 on"
       case $name in
         steps | time | memory | size | points) eval "$name=\${$name:-\$value}" ;;
         *) fail "$task/limits: there is no limit $name" ;;
@@ -55,7 +55,14 @@ has_number() {
   printf '%s\n' "$(cat "$1")" | grep -q -x -E "$2"
 }
 
-# how a test wants a solution to end: a status that is neither the tool's nor the system's, a stop, or a refusal
+# says of lines that end so what is legal, and hardly meant
+warn_of_crlf() {
+  if [ -z "$forgive" ] && [ -f "$1" ] && grep -q "$(printf '\r')\$" "$1"; then
+    say "$1: a line ends with CR and LF, so LF alone is not right there; --forgive takes both"
+  fi
+}
+
+# how a test wants a solution to end: a status that is neither the tool's nor the system's, any, a stop, or a refusal
 check_end() {
   ends=''
   for part in status stop refusal; do
@@ -63,8 +70,8 @@ check_end() {
   done
   case $ends in
     '') ;;
-    ' status') has_number "$1/status" '[0-9]|[1-5][0-9]|6[0-3]|7[7-9]|[89][0-9]|1[01][0-9]|12[0-3]' ||
-      fail "$1/status: a test wants a status of 0 to 63, or 77 to 123" ;;
+    ' status') has_number "$1/status" 'any|[0-9]|[1-5][0-9]|6[0-3]|7[7-9]|[89][0-9]|1[01][0-9]|12[0-3]' ||
+      fail "$1/status: a test wants a status of 0 to 63 or 77 to 123, or the word any" ;;
     ' stop' | ' refusal') has_number "$1/${ends# }" '[1-9][0-9]{0,2}' || fail "$1/${ends# } wants the number of a message" ;;
     *) fail "$1 has more than one of status, stop and refusal" ;;
   esac
@@ -99,29 +106,49 @@ check_test() {
     has_number "$1/points" '[0-9]{1,6}([.][0-9]{1,2})?' || fail "$1/points wants a number, as 2 or 0.5"
   fi
   for wanted in "$1/output" "$1/errors" "$1/written"; do
-    if [ -e "$wanted" ] && [ -n "$(find "$wanted" -type f -size +$((size * 2 - 1)))" ]; then
-      fail "$wanted has more than the limit of size"
+    if [ -e "$wanted" ] && [ -n "$(find "$wanted" -type f -size +$((size * 1024 - 1))c)" ]; then
+      fail "$wanted: a file that is wanted has to have less than $((size * 1024)) bytes, by the limit size $size"
     fi
   done
+  warn_of_crlf "$1/output"
+  warn_of_crlf "$1/errors"
+}
+
+# The tests of a folder, one a line, in the order of their names, and of numbers in these by value: a number is compared
+# by how many digits it has, and then by its digits.
+tests_in_order() {
+  for folder in "$1"/*/; do
+    folder=${folder%/}
+    printf '%s\n' "${folder##*/}"
+  done | awk '{
+    rest = $0; key = ""
+    while (match(rest, /[0-9]+/)) {
+      digits = substr(rest, RSTART, RLENGTH)
+      sub(/^0+/, "", digits)
+      key = key substr(rest, 1, RSTART - 1) sprintf("%03d", length(digits)) digits
+      rest = substr(rest, RSTART + RLENGTH)
+    }
+    print key rest "\t" $0 }' | sort | cut -f 2
 }
 
 # a line for each test: its name, its points, and whether it is hidden
 list_tests() {
-  for folder in "$room"/task/*/; do
+  tests_in_order "$room/task" >"$room/order" && while IFS= read -r folder; do
     hidden=''
-    [ ! -f "$folder/hidden" ] || hidden=hidden
-    printf '%s\t%s\t%s\n' "$(basename "$folder")" "$(cat "$folder/points" 2>/dev/null || echo 1)" "$hidden"
-  done >"$room/tests"
+    [ ! -f "$room/task/$folder/hidden" ] || hidden=hidden
+    printf '%s\t%s\t%s\n' "$folder" "$(cat "$room/task/$folder/points" 2>/dev/null || echo 1)" "$hidden"
+  done <"$room/order" >"$room/tests"
 }
 
 check_task() {
-  [ -d "$task" ] || fail "$task is no folder"
+  [ -d "$task" ] || fail "$task is not a folder"
   read_limits
   read_ignored
   tests=0
   for folder in "$task"/*/; do
     [ -d "$folder" ] || continue
-    ! is_ignored "$(basename "$folder")" || continue
+    name=${folder%/}
+    ! is_ignored "${name##*/}" || continue
     check_test "${folder%/}"
     tests=$((tests + 1))
   done
@@ -147,6 +174,8 @@ check_limits() {
     64) fail "steps $steps: the program refuses that: $said" ;;
     *) fail "$program does not run here: $said" ;;
   esac
-  said=$( (ulimit -v $((memory * 1024)) && "$program" --version) 2>&1 </dev/null) ||
-    fail "memory $memory: the program does not begin in so many MiB"
+  # the trial halts with 8, since it finds its own source
+  said=$( (ulimit -v $((memory * 1024)) && exec "$program" run --steps 1000 "$room/solutions/trial.mms" \
+    "$room/solutions/trial.mms") 2>&1 </dev/null)
+  [ $? = 8 ] || fail "memory $memory: the program does not run in so many MiB"
 }
