@@ -71,10 +71,8 @@ fn take_piece(reader: &mut Reader, items: &mut Items, piece: &[u8]) -> Result<()
     ensures fault { fed reader.old + length piece.now ≤ limit → result ≢ Err MmoFault.OutOfMemory →
         IfErr result (λ f. (with_rest items.old (with_more reader.old piece.now)).1 ≡ Err f) }
 {
-    match reader.feed(piece) {
-        Ok(()) => take_all(reader, items),
-        Err(fault) => Err(fault),
-    }
+    reader.feed(piece)?;
+    take_all(reader, items)
 }
 
 /// Feeds the pieces from first to last, and takes all items that are whole in them.
