@@ -1,4 +1,5 @@
 pub mod Rows
 pub mod Places
 pub mod Choices
+pub mod Additions
 pub mod Sentences

@@ -40,7 +40,7 @@ pub(crate) fn end_row() -> Row
         "The operands end after ",
         "their last part",
         ", where more has to follow.",
-        "No blanks are in operands: what follows a blank is a comment.",
+        "Operands contain no blanks: what follows a blank is a comment.",
     )
 }
 
@@ -205,4 +205,116 @@ pub(crate) fn foreign_row(advice: &'static str) -> Row
     ensures { spec.shown result ≡ spec.foreign_row advice.now }
 {
     parts("There is no operation ", "of this name", ".", advice)
+}
+
+/// Where a number has a point.
+#[tactic(auto, unfolding(crate::specs::Rows::point_row))]
+pub(crate) fn point_row() -> Row
+    ensures { spec.shown result ≡ spec.point_row }
+{
+    parts(
+        "",
+        "A part of the operands",
+        " does not belong here: a number has no point.",
+        "Only whole numbers can be written. Count in smaller units: 15 tenths for 1.5.",
+    )
+}
+
+/// Where an operand is missing in front of a comma.
+#[tactic(auto, unfolding(crate::specs::Rows::comma_row))]
+pub(crate) fn comma_row() -> Row
+    ensures { spec.shown result ≡ spec.comma_row }
+{
+    parts(
+        "",
+        "A comma",
+        " is not expected here: an operand is missing in front of it.",
+        "Write 0 for an operand that is not needed. Operands contain no blanks.",
+    )
+}
+
+/// Where a hexadecimal number begins as in other languages.
+#[tactic(auto, unfolding(crate::specs::Rows::hexadecimal_row))]
+pub(crate) fn hexadecimal_row() -> Row
+    ensures { spec.shown result ≡ spec.hexadecimal_row }
+{
+    parts(
+        "",
+        "A part of the operands",
+        " does not belong here: the number has ended in front of it.",
+        "A hexadecimal number begins with #: write #ff for 0xff.",
+    )
+}
+
+/// Where an operand is the name of a local label.
+#[tactic(auto, unfolding(crate::specs::Rows::ahead_row))]
+pub(crate) fn ahead_row() -> Row
+    ensures { spec.shown result ≡ spec.ahead_row }
+{
+    parts(
+        "",
+        "A part of the operands",
+        " does not belong here: 2H is written only as a label.",
+        "An operand names the next label 2H by 2F, and the last one by 2B.",
+    )
+}
+
+/// Where a string has ended.
+#[tactic(auto, unfolding(crate::specs::Rows::quote_row))]
+pub(crate) fn quote_row() -> Row
+    ensures { spec.shown result ≡ spec.quote_row }
+{
+    parts(
+        "",
+        "A part of the operands",
+        " does not belong here: a string ends at its next double quote.",
+        "For a double quote in a text write #22 outside of the string, as in \"He said \",#22,\"hi\",#22.",
+    )
+}
+
+/// Where a comment takes the place of operands.
+#[tactic(auto, unfolding(crate::specs::Rows::comment_row))]
+pub(crate) fn comment_row() -> Row
+    ensures { spec.shown result ≡ spec.comment_row }
+{
+    parts(
+        "",
+        "A part of the operands",
+        " is read as an operand, and none can begin so.",
+        "Put an operand in front of a comment, as in SWYM 0 // nothing.",
+    )
+}
+
+/// Where SET has room for a wyde.
+#[tactic(auto, unfolding(crate::specs::Rows::set_row))]
+pub(crate) fn set_row() -> Row
+    ensures { spec.shown result ≡ spec.set_row }
+{
+    parts(
+        "",
+        "A number",
+        " does not fit: a number can be 0 to 65535 here.",
+        "",
+    )
+}
+
+/// Where GETA does not reach an address.
+#[tactic(auto, unfolding(crate::specs::Rows::far_row))]
+pub(crate) fn far_row() -> Row
+    ensures { spec.shown result ≡ spec.far_row }
+{
+    parts("", "The target is too far away for GETA.", "", "")
+}
+
+/// Where a label is like Main.
+#[tactic(auto, unfolding(crate::specs::Rows::other_main_row))]
+pub(crate) fn other_main_row() -> Row
+    ensures { spec.shown result ≡ spec.other_main_row }
+{
+    parts(
+        "",
+        "There is no label Main, where a program starts.",
+        "",
+        "",
+    )
 }
