@@ -51,7 +51,7 @@ length_member length = codes ",\"length\":" ++ decimal length
 unfoldable pub mark_members : ToldFault → List ℕ
 mark_members f = line_member f.at_line ++ length_member f.length
 
--- what is wrong, which name is meant perhaps, and what mends it
+-- what is wrong, which name is meant perhaps, and how to fix it
 unfoldable pub said_members : ToldFault → List ℕ
 said_members f = codes ",\"what\":" ++ string f.what ++ codes ",\"meant\":" ++ string f.meant ++ codes ",\"help\":" ++ string f.help
 
@@ -128,7 +128,7 @@ abbrev pub meant_text : List ℕ → List ℕ
 meant_text [] = []
 meant_text (b ∷ bs) = question ++ (b ∷ bs) ++ codes "`?"
 
--- what is said of a fault: what is wrong, and what mends it
+-- what is said of a fault: what is wrong, and how to fix it
 unfoldable pub what_text : ToldFault → List ℕ
 what_text f = numbered_fault f.refused.fault ++ codes ": " ++ f.what
 

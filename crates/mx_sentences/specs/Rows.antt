@@ -1,9 +1,9 @@
--- What is said of a fault: what is wrong, with the text that is marked, and what mends it. Other numbers have no sentence.
+-- What is said of a fault: what is wrong, with the text that is marked, and how to fix it. Other numbers have no sentence.
 use Rattle.std.specs.Prelude.{ℕ, List, [], nat_lt, ◌==◌, codes, if◌then◌else◌}
 use Rattle.mx_sentences.specs.declared.rows.Row.{Row as Coded}
 
 -- A sentence is what comes before the marked text, this text, and what comes after it; the noun takes the place of a text that is not
--- known. Where nothing comes after it, the noun is the whole. And a sentence on what mends it.
+-- known. Where nothing comes after it, the noun is the whole. And a sentence on how to fix it.
 pub record Row : Type 0 where
   pub before : List ℕ
   pub noun : List ℕ

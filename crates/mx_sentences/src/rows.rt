@@ -4,7 +4,7 @@ ghost use Rattle.std.specs.Prelude.{◌≡◌};
 ghost use Rattle.mx_sentences.specs.Rows as spec;
 
 /// A sentence: what comes before the marked text, a noun for this text where it is not known, and what comes after it. Where nothing
-/// comes after it, the noun is the whole. And a sentence on what mends the fault.
+/// comes after it, the noun is the whole. And a sentence on how to fix the fault.
 #[derive(Clone, Copy)]
 pub(crate) struct Row {
     pub before: &'static str,

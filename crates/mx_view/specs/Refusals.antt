@@ -101,7 +101,7 @@ abbrev pub meant_text : List ℕ → List ℕ
 meant_text [] = []
 meant_text (b ∷ bs) = question ++ (b ∷ bs) ++ codes "`?\n"
 
--- what is wrong, which name is meant perhaps, and what mends it
+-- what is wrong, which name is meant perhaps, and how to fix it
 unfoldable pub said_text : ToldFault → List ℕ
 said_text f = codes "    " ++ f.what ++ codes "\n" ++ meant_text f.meant ++ codes "    " ++ f.help ++ codes "\n"
 

@@ -108,7 +108,7 @@ fn format_faults(alloc: Global, told: &ToldFaults) -> Result<Bytes, NoMemory>
 }
 
 /// All faults of a source as a text: each with its line, marks under what it is about, where that
-/// is known, what is wrong, and what mends it.
+/// is known, what is wrong, and how to fix it.
 pub fn list_faults(alloc: Global, source: &[u8]) -> Result<Sheet, NoMemory>
     ensures text { IfOk result (λ sheet. sheet.text ≡ spec.faults_of source.now) }
     ensures refused { IfOk result (λ sheet. sheet.refused ≡ refusal_in source.now) }

@@ -1,4 +1,4 @@
-//! Warnings of a source: what is legal MMIXAL but hardly meant.
+//! Warnings of a source: what is legal MMIXAL but probably not intended.
 #![tactic(auto)]
 
 mod ends;

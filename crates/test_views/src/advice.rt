@@ -1,4 +1,4 @@
-//! What mends a fault, row by row: slips of readers who come from other machines, each with the lines that are to be said of it. The
+//! How to fix a fault, row by row: slips of readers who come from other machines, each with the lines that are to be said of it. The
 //! operations are those of TAOCP 1, Fascicle 1.
 
 use mx_view::list_faults;
