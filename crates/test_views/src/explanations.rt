@@ -11,7 +11,7 @@ use std::alloc::Global;
 /// A word, and a part of what is answered.
 type Row = (&'static str, &'static str);
 
-static PARTS: [Row; 49] = [
+static PARTS: [Row; 53] = [
     // by number and by name, in any case
     ("43", "43 Fit: a fault of a source\n"),
     ("Fit", "43 Fit: a fault of a source\n"),
@@ -58,6 +58,17 @@ static PARTS: [Row; 49] = [
         "NOP",
         "NOP: an operation of other machines\n  SWYM does nothing.\n",
     ),
+    // parts of the language that are no rows
+    (
+        "Main",
+        "Main: a part of MMIXAL\n  A program starts at the label Main.",
+    ),
+    (
+        "@",
+        "@: a part of MMIXAL\n  The address of the statement in which it is,",
+    ),
+    ("1B", "1B: a part of MMIXAL\n  A local label."),
+    ("2F", "1F in an operand is the next 1H after the\n"),
     // an example and how it is fixed
     ("80", "  Example:  Main JMP Later\n"),
     ("80", "  Fixed:    Main JMP Later;Later TRAP 0,Halt,0\n"),
