@@ -16,7 +16,7 @@ use Rattle.mx_marks.specs.Fields.{after_comma, from_field, operands_at, word}
 use Rattle.mx_marks.specs.Labels.{first_label, is_label, labels_code}
 use Rattle.mx_marks.specs.Marks.{operation_at, room_at}
 use Rattle.mx_marks.specs.Syntax.{is_read_through}
-use Rattle.mx_sentences.specs.Rows.{Row, address_row, ahead_row, byte_row, colon_row, comma_row, comment_row, data_byte_row, data_wyde_row, end_row, far_row, foreign_row, hexadecimal_row, indented_row, later_code_row, later_row, match_row, nowhere_row, other_main_row, point_row, quote_row, remark_row, row_of, set_row, sum_row, tetra_row, wyde_row}
+use Rattle.mx_advice.specs.Rows.{Row, address_row, ahead_row, byte_row, colon_row, comma_row, comment_row, data_byte_row, data_wyde_row, end_row, far_row, foreign_row, hexadecimal_row, indented_row, later_code_row, later_row, match_row, nowhere_row, other_main_row, point_row, quote_row, remark_row, row_of, set_row, sum_row, tetra_row, wyde_row}
 
 -- whether a name is a label of the source
 abbrev pub is_defined : List ℕ → Line → Bool

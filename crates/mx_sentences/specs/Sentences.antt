@@ -20,7 +20,7 @@ use Rattle.mx_marks.specs.Marks.{marked_text, operation_at}
 use Rattle.mx_sentences.specs.Places.{mark_of, statement_place}
 use Rattle.mx_sentences.specs.Additions.{base_text, begins_letter, instead_text, main_text, reach_text, set_text}
 use Rattle.mx_sentences.specs.Choices.{is_defined, row_with, unknown_kind, whole_row}
-use Rattle.mx_sentences.specs.Rows.{Row}
+use Rattle.mx_advice.specs.Rows.{Row}
 
 -- ---- what is wrong
 

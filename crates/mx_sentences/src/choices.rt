@@ -3,15 +3,14 @@
 ghost use Rattle.std.specs.Prelude.{◌≡◌, ◌≤◌, IfSome, length};
 ghost use Rattle.std.specs.List.{list_any};
 ghost use Rattle.mx_sentences.specs.Choices as spec;
-ghost use Rattle.mx_sentences.specs.Rows.{shown};
+ghost use Rattle.mx_advice.specs.Rows.{shown};
 
-use crate::chosen::{
-    address_row, ahead_row, byte_row, colon_row, comma_row, comment_row, data_byte_row,
+use mx_advice::{
+    Row, address_row, ahead_row, byte_row, colon_row, comma_row, comment_row, data_byte_row,
     data_wyde_row, end_row, far_row, foreign_row, hexadecimal_row, indented_row, later_code_row,
-    later_row, match_row, nowhere_row, other_main_row, point_row, quote_row, remark_row, set_row,
-    sum_row, tetra_row, wyde_row,
+    later_row, match_row, nowhere_row, other_main_row, point_row, quote_row, remark_row, row_of,
+    set_row, sum_row, tetra_row, wyde_row,
 };
-use crate::rows::{Row, row_of};
 use mx_foreign::advice_on;
 use mx_marks::{
     Field, Likeness, Room, find_similar_label, from_field, is_code_label, is_label,

@@ -3,9 +3,7 @@
 
 mod additions;
 mod choices;
-mod chosen;
 mod places;
-mod rows;
 mod sentences;
 
 pub use sentences::{Remark, remark_on, remark_on_whole};

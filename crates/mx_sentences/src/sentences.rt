@@ -5,13 +5,13 @@ ghost use Rattle.mx_ops.specs.Opcodes.{operation_of};
 ghost use Rattle.mx_ops.specs.Shapes.{shapes_of};
 ghost use Rattle.mx_marks.specs.Marks.{operation_at};
 ghost use Rattle.mx_sentences.specs.Additions.{instead_text};
-ghost use Rattle.mx_sentences.specs.Rows.{shown};
+ghost use Rattle.mx_advice.specs.Rows.{shown};
 ghost use Rattle.mx_sentences.specs.Sentences as spec;
 
 use crate::additions::{add_base, add_instead, add_main, add_reach, add_set, starts_with_letter};
 use crate::choices::{Unknown, is_defined, row_with, unknown_kind, whole_row};
 use crate::places::{mark_of, statement_place};
-use crate::rows::Row;
+use mx_advice::Row;
 use mx_asm::AsmFault;
 use mx_marks::{
     Likeness, Mark, find_label_line, find_similar_label, find_similar_name, find_similar_operation,

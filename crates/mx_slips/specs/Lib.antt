@@ -9,6 +9,3 @@ pub mod Backslashes
 pub mod Bases
 pub mod Cases
 pub mod Returns
-pub mod Traps
-pub mod Stops
-pub mod Widths

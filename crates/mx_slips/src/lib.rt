@@ -10,12 +10,9 @@ mod operations;
 mod pieces;
 mod returns;
 mod sources;
-mod stops;
 mod surveys;
 mod tetras;
 mod tokens;
-mod traps;
-mod widths;
 
 pub use afters::{find_operator_after_blank, starts_with_byte};
 pub use backslashes::find_backslash;
@@ -28,9 +25,6 @@ pub use returns::{Place, find_lost_return, place_after};
 pub use sources::{
     SourceLine, SourceLines, Statement, Statements, collect_lines, collect_lines_of, read_lines,
 };
-pub use stops::{find_endless_jump, find_float};
 pub use surveys::{Survey, Use, Uses, survey_lines};
 pub use tetras::is_accepted;
 pub use tokens::{Token, Tokens};
-pub use traps::find_trap_operand;
-pub use widths::find_narrow_label;

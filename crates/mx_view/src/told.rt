@@ -2,11 +2,10 @@
 
 ghost use Rattle.std.specs.Prelude.{◌≡◌, ◌++◌, IfOk, OnOk};
 ghost use Rattle.std.specs.List.{flat_map};
-ghost use Rattle.mx_outcome.specs.Messages.{numbered_fault};
 ghost use Rattle.mx_view.specs.Listing.{refusal_in};
 ghost use Rattle.mx_view.specs.Refusals as spec;
 
-use crate::checking::{ToldFault, ToldFaults, tell_faults};
+use crate::checking::{ToldFault, tell_faults};
 use crate::view::Sheet;
 use mx_files::Refusal;
 use mx_marks::add_marks;
@@ -34,22 +33,15 @@ fn add_line(
     add_marks(text, line.as_slice(), caret, length)
 }
 
-/// Adds the front of a question.
-#[tactic(auto, unfolding(crate::specs::Refusals::question))]
-fn add_question(text: &mut Bytes) -> Result<(), NoMemory>
-    ensures { OnOk result (text.new ≡ text.old ++ spec.question) }
-{
-    text.extend(b"    Did you mean `")
-}
-
 /// Adds a name that is meant perhaps.
+#[tactic(auto, unfolding(crate::specs::Refusals::question))]
 fn add_meant(text: &mut Bytes, name: &[u8]) -> Result<(), NoMemory>
     ensures { OnOk result (text.new ≡ text.old ++ spec.meant_text name.now) }
 {
     if name.is_empty() {
         return Ok(());
     }
-    add_question(text)?;
+    text.extend(b"    Did you mean `")?;
     text.extend(name)?;
     text.extend(b"`?\n")
 }
@@ -79,15 +71,6 @@ fn add_label(text: &mut Bytes, refused: Refusal) -> Result<(), NoMemory>
     add_decimal(text, u64::from(refused.line))
 }
 
-/// Adds the number and the name of a fault.
-fn add_name(text: &mut Bytes, fault: u16) -> Result<(), NoMemory>
-    ensures { OnOk result (text.new ≡ text.old ++ numbered_fault fault) }
-{
-    add_decimal(text, u64::from(fault))?;
-    text.extend(b" ")?;
-    text.extend(fault_name(fault).as_bytes())
-}
-
 /// Adds the number of the line at fault, and the number and the name of the fault.
 #[tactic(auto, unfolding(crate::specs::Refusals::heading_text))]
 fn add_heading(text: &mut Bytes, fault: &ToldFault) -> Result<(), NoMemory>
@@ -96,7 +79,9 @@ fn add_heading(text: &mut Bytes, fault: &ToldFault) -> Result<(), NoMemory>
     text.extend(b"line ")?;
     add_decimal(text, u64::from(fault.at_line))?;
     text.extend(b": ")?;
-    add_name(text, fault.refused.fault)?;
+    add_decimal(text, u64::from(fault.refused.fault))?;
+    text.extend(b" ")?;
+    text.extend(fault_name(fault.refused.fault).as_bytes())?;
     add_label(text, fault.refused)?;
     text.extend(b"\n")
 }
@@ -131,16 +116,6 @@ fn add_cut(text: &mut Bytes, is_cut: bool) -> Result<(), NoMemory>
     }
 }
 
-/// The faults of a source as a text.
-fn format_faults(alloc: Global, told: &ToldFaults) -> Result<Bytes, NoMemory>
-    ensures { IfOk result (λ text. text ≡ spec.told_text told.now) }
-{
-    let mut text = Bytes::new(alloc);
-    add_fault_texts(&mut text, told.faults.as_slice())?;
-    add_cut(&mut text, told.is_cut)?;
-    Ok(text)
-}
-
 /// All faults of a source as a text: each with its line, marks under what it is about, where that
 /// is known, what is wrong, and how to fix it.
 pub fn list_faults(alloc: Global, source: &[u8]) -> Result<Sheet, NoMemory>
@@ -148,8 +123,11 @@ pub fn list_faults(alloc: Global, source: &[u8]) -> Result<Sheet, NoMemory>
     ensures refused { IfOk result (λ sheet. sheet.refused ≡ refusal_in source.now) }
 {
     let told = tell_faults(alloc, source)?;
+    let mut text = Bytes::new(alloc);
+    add_fault_texts(&mut text, told.faults.as_slice())?;
+    add_cut(&mut text, told.is_cut)?;
     Ok(Sheet {
-        text: format_faults(alloc, &told)?,
+        text,
         refused: told.refused,
     })
 }

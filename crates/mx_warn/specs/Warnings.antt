@@ -20,10 +20,10 @@ use Rattle.mx_slips.specs.Returns.{lost_return, place_after}
 use Rattle.mx_slips.specs.declared.returns.Place.{Place}
 use Rattle.mx_slips.specs.declared.returns.Place.TheVariants.{Outside}
 use Rattle.mx_slips.specs.Sources.{source_lines}
-use Rattle.mx_slips.specs.Stops.{endless_jump, float_instruction}
+use Rattle.mx_warn.specs.Stops.{endless_jump, float_instruction}
 use Rattle.mx_slips.specs.Surveys.{survey_of}
-use Rattle.mx_slips.specs.Traps.{trap_operand}
-use Rattle.mx_slips.specs.Widths.{narrow_label}
+use Rattle.mx_warn.specs.Traps.{trap_operand}
+use Rattle.mx_warn.specs.Widths.{narrow_label}
 use Rattle.mx_slips.specs.declared.surveys.Survey.{Survey}
 
 -- a warning of a line, if there is something to mark

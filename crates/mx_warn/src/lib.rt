@@ -5,10 +5,13 @@ mod ends;
 mod loaded;
 mod locals;
 mod overlaps;
+mod stops;
 mod telling;
 mod texts;
+mod traps;
 mod unused_bases;
 mod warnings;
+mod widths;
 
 pub use telling::{tell_warnings, tell_warnings_of};
 pub use texts::{add_other, warnings_text};

@@ -9,12 +9,15 @@ ghost use Rattle.mx_warn.specs.Warnings as spec;
 use crate::ends::data_after_code;
 use crate::locals::find_missing_label;
 use crate::overlaps::find_placed_twice;
+use crate::stops::{find_endless_jump, find_float};
+use crate::traps::find_trap_operand;
 use crate::unused_bases::find_unused_base;
 use crate::warnings::{Kind, Warning, Warnings};
+use crate::widths::find_narrow_label;
 use mx_slips::{
-    Mark, Place, SourceLine, Statement, Survey, collect_lines_of, find_backslash,
-    find_endless_jump, find_float, find_lost_return, find_narrow_label, find_operator_after_blank,
-    find_other_case, find_trap_operand, find_zero_greg, is_accepted, place_after, survey_lines,
+    Mark, Place, SourceLine, Statement, Survey, collect_lines_of, find_backslash, find_lost_return,
+    find_operator_after_blank, find_other_case, find_zero_greg, is_accepted, place_after,
+    survey_lines,
 };
 use mx_word::{Bytes, NoMemory};
 use std::alloc::Global;

@@ -1,13 +1,10 @@
 //! Instructions that a run does not get past: a jump to itself, and one on floating-point numbers.
 
 ghost use Rattle.std.specs.Prelude.{◌≡◌};
-ghost use Rattle.mx_slips.specs.Stops as spec;
+ghost use Rattle.mx_warn.specs.Stops as spec;
 
-use crate::marks::{Mark, mark_of};
-use crate::pieces::Piece;
-use crate::sources::Statement;
-use crate::tokens::Token;
 use mx_ops::{Op, find};
+use mx_slips::{Mark, Piece, Statement, Token, mark_of};
 
 /// Whether a text is the label of its statement.
 fn is_own(text: &[u8], label: &Option<Piece>) -> bool
@@ -40,7 +37,7 @@ fn target_mark(tokens: &[Token], label: &Option<Piece>) -> Option<Mark>
 
 /// The operand of JMP that jumps to itself.
 #[tactic(auto, unfolding(crate::specs::Stops::endless_jump))]
-pub fn find_endless_jump(statement: &Statement) -> Option<Mark>
+pub(crate) fn find_endless_jump(statement: &Statement) -> Option<Mark>
     ensures { result ≡ spec.endless_jump statement.now }
 {
     if statement.op.text.as_slice() == b"JMP".as_slice() {
@@ -69,7 +66,7 @@ fn is_float(operation: Option<Op>) -> bool
 
 /// The operation of a statement, if it is on floating-point numbers.
 #[tactic(auto, unfolding(crate::specs::Stops::float_instruction))]
-pub fn find_float(statement: &Statement) -> Option<Mark>
+pub(crate) fn find_float(statement: &Statement) -> Option<Mark>
     ensures { result ≡ spec.float_instruction statement.now }
 {
     let text = statement.op.text.as_slice();

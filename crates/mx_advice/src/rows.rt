@@ -1,12 +1,12 @@
 //! What is said of a fault, by its number.
 
 ghost use Rattle.std.specs.Prelude.{◌≡◌};
-ghost use Rattle.mx_sentences.specs.Rows as spec;
+ghost use Rattle.mx_advice.specs.Rows as spec;
 
 /// A sentence: what comes before the marked text, a noun for this text where it is not known, and what comes after it. Where nothing
 /// comes after it, the noun is the whole. And a sentence on how to fix the fault.
 #[derive(Clone, Copy)]
-pub(crate) struct Row {
+pub struct Row {
     pub before: &'static str,
     pub noun: &'static str,
     pub after: &'static str,
@@ -346,7 +346,7 @@ fn source_row(number: u16) -> Row
 }
 
 /// The sentence on a fault of this number.
-pub(crate) fn row_of(number: u16) -> Row
+pub fn row_of(number: u16) -> Row
     ensures { spec.shown result ≡ spec.row_of number }
 {
     if number < 10 {

@@ -1,11 +1,9 @@
 //! TRAP that calls a service by other operands than 0, the service and its handle.
 
 ghost use Rattle.std.specs.Prelude.{◌≡◌};
-ghost use Rattle.mx_slips.specs.Traps as spec;
+ghost use Rattle.mx_warn.specs.Traps as spec;
 
-use crate::marks::{Mark, mark_of};
-use crate::sources::Statement;
-use crate::tokens::Token;
+use mx_slips::{Mark, Statement, Token, mark_of};
 use mx_word::is_digit;
 
 /// Whether a name is that of a service with a handle.
@@ -96,7 +94,7 @@ fn wrong_operand(tokens: &[Token]) -> Option<Mark>
 
 /// The operand that is not in its place, if a statement is TRAP.
 #[tactic(auto, unfolding(crate::specs::Traps::trap_operand))]
-pub fn find_trap_operand(statement: &Statement) -> Option<Mark>
+pub(crate) fn find_trap_operand(statement: &Statement) -> Option<Mark>
     ensures { result ≡ spec.trap_operand statement.now }
 {
     if statement.op.text.as_slice() == b"TRAP".as_slice() {

@@ -1,12 +1,9 @@
 //! Loads and stores of an octa at a label of wydes or tetras.
 
 ghost use Rattle.std.specs.Prelude.{◌≡◌};
-ghost use Rattle.mx_slips.specs.Widths as spec;
+ghost use Rattle.mx_warn.specs.Widths as spec;
 
-use crate::marks::{Mark, mark_of};
-use crate::pieces::Piece;
-use crate::sources::{SourceLine, Statement};
-use crate::tokens::Token;
+use mx_slips::{Mark, Piece, SourceLine, Statement, Token, mark_of};
 
 /// Whether an operation loads or stores an octa.
 fn is_octa_access(op: &[u8]) -> bool
@@ -89,7 +86,7 @@ fn second_mark(lines: &[SourceLine], tokens: &[Token]) -> Option<Mark>
 
 /// The operand of a load or store of an octa that is a label of wydes or tetras.
 #[tactic(auto, unfolding(crate::specs::Widths::narrow_label))]
-pub fn find_narrow_label(lines: &[SourceLine], statement: &Statement) -> Option<Mark>
+pub(crate) fn find_narrow_label(lines: &[SourceLine], statement: &Statement) -> Option<Mark>
     ensures { result ≡ spec.narrow_label lines.now statement.now }
 {
     if is_octa_access(statement.op.text.as_slice()) {

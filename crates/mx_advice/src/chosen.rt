@@ -1,13 +1,13 @@
 //! What is said of a fault, where its number has several sentences.
 
 ghost use Rattle.std.specs.Prelude.{◌≡◌};
-ghost use Rattle.mx_sentences.specs.Rows as spec;
+ghost use Rattle.mx_advice.specs.Rows as spec;
 
 use crate::rows::{Row, parts};
 
 /// Where there is room for a byte.
 #[tactic(auto, unfolding(crate::specs::Rows::byte_row))]
-pub(crate) fn byte_row() -> Row
+pub fn byte_row() -> Row
     ensures { spec.shown result ≡ spec.byte_row }
 {
     parts(
@@ -20,7 +20,7 @@ pub(crate) fn byte_row() -> Row
 
 /// Where parentheses do not match.
 #[tactic(auto, unfolding(crate::specs::Rows::match_row))]
-pub(crate) fn match_row() -> Row
+pub fn match_row() -> Row
     ensures { spec.shown result ≡ spec.match_row }
 {
     parts(
@@ -33,7 +33,7 @@ pub(crate) fn match_row() -> Row
 
 /// Where operands end too early.
 #[tactic(auto, unfolding(crate::specs::Rows::end_row))]
-pub(crate) fn end_row() -> Row
+pub fn end_row() -> Row
     ensures { spec.shown result ≡ spec.end_row }
 {
     parts(
@@ -46,7 +46,7 @@ pub(crate) fn end_row() -> Row
 
 /// Where a name is defined in a later line only.
 #[tactic(auto, unfolding(crate::specs::Rows::later_row))]
-pub(crate) fn later_row() -> Row
+pub fn later_row() -> Row
     ensures { spec.shown result ≡ spec.later_row }
 {
     parts(
@@ -59,7 +59,7 @@ pub(crate) fn later_row() -> Row
 
 /// Where there is room for a wyde.
 #[tactic(auto, unfolding(crate::specs::Rows::wyde_row))]
-pub(crate) fn wyde_row() -> Row
+pub fn wyde_row() -> Row
     ensures { spec.shown result ≡ spec.wyde_row }
 {
     parts(
@@ -72,7 +72,7 @@ pub(crate) fn wyde_row() -> Row
 
 /// Where a TETRA has it.
 #[tactic(auto, unfolding(crate::specs::Rows::tetra_row))]
-pub(crate) fn tetra_row() -> Row
+pub fn tetra_row() -> Row
     ensures { spec.shown result ≡ spec.tetra_row }
 {
     parts(
@@ -85,7 +85,7 @@ pub(crate) fn tetra_row() -> Row
 
 /// Where a BYTE has it.
 #[tactic(auto, unfolding(crate::specs::Rows::data_byte_row))]
-pub(crate) fn data_byte_row() -> Row
+pub fn data_byte_row() -> Row
     ensures { spec.shown result ≡ spec.data_byte_row }
 {
     parts(
@@ -98,7 +98,7 @@ pub(crate) fn data_byte_row() -> Row
 
 /// Where a WYDE has it.
 #[tactic(auto, unfolding(crate::specs::Rows::data_wyde_row))]
-pub(crate) fn data_wyde_row() -> Row
+pub fn data_wyde_row() -> Row
     ensures { spec.shown result ≡ spec.data_wyde_row }
 {
     parts(
@@ -111,7 +111,7 @@ pub(crate) fn data_wyde_row() -> Row
 
 /// Where LDA has the name of an instruction that is defined in a later line.
 #[tactic(auto, unfolding(crate::specs::Rows::later_code_row))]
-pub(crate) fn later_code_row() -> Row
+pub fn later_code_row() -> Row
     ensures { spec.shown result ≡ spec.later_code_row }
 {
     parts(
@@ -124,7 +124,7 @@ pub(crate) fn later_code_row() -> Row
 
 /// Where a label is not in the first column.
 #[tactic(auto, unfolding(crate::specs::Rows::indented_row))]
-pub(crate) fn indented_row() -> Row
+pub fn indented_row() -> Row
     ensures { spec.shown result ≡ spec.indented_row }
 {
     parts(
@@ -137,7 +137,7 @@ pub(crate) fn indented_row() -> Row
 
 /// Where a comment begins with ;.
 #[tactic(auto, unfolding(crate::specs::Rows::remark_row))]
-pub(crate) fn remark_row() -> Row
+pub fn remark_row() -> Row
     ensures { spec.shown result ≡ spec.remark_row }
 {
     parts(
@@ -150,7 +150,7 @@ pub(crate) fn remark_row() -> Row
 
 /// Where a number below 0 is added or subtracted.
 #[tactic(auto, unfolding(crate::specs::Rows::sum_row))]
-pub(crate) fn sum_row() -> Row
+pub fn sum_row() -> Row
     ensures { spec.shown result ≡ spec.sum_row }
 {
     parts(
@@ -163,7 +163,7 @@ pub(crate) fn sum_row() -> Row
 
 /// Where a label of data is given for a number.
 #[tactic(auto, unfolding(crate::specs::Rows::address_row))]
-pub(crate) fn address_row() -> Row
+pub fn address_row() -> Row
     ensures { spec.shown result ≡ spec.address_row }
 {
     parts(
@@ -176,7 +176,7 @@ pub(crate) fn address_row() -> Row
 
 /// Where there is no such local label at all.
 #[tactic(auto, unfolding(crate::specs::Rows::nowhere_row))]
-pub(crate) fn nowhere_row() -> Row
+pub fn nowhere_row() -> Row
     ensures { spec.shown result ≡ spec.nowhere_row }
 {
     parts(
@@ -189,7 +189,7 @@ pub(crate) fn nowhere_row() -> Row
 
 /// Where Main has a colon.
 #[tactic(auto, unfolding(crate::specs::Rows::colon_row))]
-pub(crate) fn colon_row() -> Row
+pub fn colon_row() -> Row
     ensures { spec.shown result ≡ spec.colon_row }
 {
     parts(
@@ -201,7 +201,7 @@ pub(crate) fn colon_row() -> Row
 }
 
 /// Where another machine has the operation, and this is what MMIX has.
-pub(crate) fn foreign_row(advice: &'static str) -> Row
+pub fn foreign_row(advice: &'static str) -> Row
     ensures { spec.shown result ≡ spec.foreign_row advice.now }
 {
     parts("There is no operation ", "of this name", ".", advice)
@@ -209,7 +209,7 @@ pub(crate) fn foreign_row(advice: &'static str) -> Row
 
 /// Where a number has a point.
 #[tactic(auto, unfolding(crate::specs::Rows::point_row))]
-pub(crate) fn point_row() -> Row
+pub fn point_row() -> Row
     ensures { spec.shown result ≡ spec.point_row }
 {
     parts(
@@ -222,7 +222,7 @@ pub(crate) fn point_row() -> Row
 
 /// Where an operand is missing in front of a comma.
 #[tactic(auto, unfolding(crate::specs::Rows::comma_row))]
-pub(crate) fn comma_row() -> Row
+pub fn comma_row() -> Row
     ensures { spec.shown result ≡ spec.comma_row }
 {
     parts(
@@ -235,7 +235,7 @@ pub(crate) fn comma_row() -> Row
 
 /// Where a hexadecimal number begins as in other languages.
 #[tactic(auto, unfolding(crate::specs::Rows::hexadecimal_row))]
-pub(crate) fn hexadecimal_row() -> Row
+pub fn hexadecimal_row() -> Row
     ensures { spec.shown result ≡ spec.hexadecimal_row }
 {
     parts(
@@ -248,7 +248,7 @@ pub(crate) fn hexadecimal_row() -> Row
 
 /// Where an operand is the name of a local label.
 #[tactic(auto, unfolding(crate::specs::Rows::ahead_row))]
-pub(crate) fn ahead_row() -> Row
+pub fn ahead_row() -> Row
     ensures { spec.shown result ≡ spec.ahead_row }
 {
     parts(
@@ -261,7 +261,7 @@ pub(crate) fn ahead_row() -> Row
 
 /// Where a string has ended.
 #[tactic(auto, unfolding(crate::specs::Rows::quote_row))]
-pub(crate) fn quote_row() -> Row
+pub fn quote_row() -> Row
     ensures { spec.shown result ≡ spec.quote_row }
 {
     parts(
@@ -274,7 +274,7 @@ pub(crate) fn quote_row() -> Row
 
 /// Where a comment takes the place of operands.
 #[tactic(auto, unfolding(crate::specs::Rows::comment_row))]
-pub(crate) fn comment_row() -> Row
+pub fn comment_row() -> Row
     ensures { spec.shown result ≡ spec.comment_row }
 {
     parts(
@@ -287,7 +287,7 @@ pub(crate) fn comment_row() -> Row
 
 /// Where SET has room for a wyde.
 #[tactic(auto, unfolding(crate::specs::Rows::set_row))]
-pub(crate) fn set_row() -> Row
+pub fn set_row() -> Row
     ensures { spec.shown result ≡ spec.set_row }
 {
     parts(
@@ -300,7 +300,7 @@ pub(crate) fn set_row() -> Row
 
 /// Where GETA does not reach an address.
 #[tactic(auto, unfolding(crate::specs::Rows::far_row))]
-pub(crate) fn far_row() -> Row
+pub fn far_row() -> Row
     ensures { spec.shown result ≡ spec.far_row }
 {
     parts("", "The target is too far away for GETA.", "", "")
@@ -308,7 +308,7 @@ pub(crate) fn far_row() -> Row
 
 /// Where a label is like Main.
 #[tactic(auto, unfolding(crate::specs::Rows::other_main_row))]
-pub(crate) fn other_main_row() -> Row
+pub fn other_main_row() -> Row
     ensures { spec.shown result ≡ spec.other_main_row }
 {
     parts(

@@ -1,6 +1,6 @@
 -- What is said of a fault: what is wrong, with the text that is marked, and how to fix it. Other numbers have no sentence.
 use Rattle.std.specs.Prelude.{ℕ, List, [], nat_lt, ◌==◌, codes, if◌then◌else◌}
-use Rattle.mx_sentences.specs.declared.rows.Row.{Row as Coded}
+use Rattle.mx_advice.specs.declared.rows.Row.{Row as Coded}
 
 -- A sentence is what comes before the marked text, this text, and what comes after it; the noun takes the place of a text that is not
 -- known. Where nothing comes after it, the noun is the whole. And a sentence on how to fix it.
