@@ -126,7 +126,8 @@ fn foreign_answer(alloc: Global, word: &str) -> Result<Answer, NoMemory>
 }
 
 /// What a word means: the texts of all rows of the table whose number or name it is, in their order; upper and lower case do not
-/// matter. Where there is none, what MMIX has in place of an operation of other machines, or what Main, @ or a local label is. It refuses only where it is out of memory.
+/// matter. Where there is none, what MMIX has in place of an operation of other machines, or what Main, @ or a local label is. It refuses
+/// only where it is out of memory.
 #[tactic(auto, using(crate::proofs::WholeTable::answers), unfolding(crate::specs::Answers::answer))]
 pub fn explain(alloc: Global, word: &str) -> Result<Answer, NoMemory>
     ensures { IfOk result (λ given. given ≡ spec.answer word.now) }
