@@ -166,7 +166,7 @@ pub(crate) fn part_of(section: Section) -> Part
         Section::Loading => numbers_section("Faults of an object that is loaded", loading_rows()),
         Section::Stops => numbers_section("Reasons of a stop", stop_rows()),
         Section::Traps => numbers_section("Reasons of a stop of RESUME or TRAP", trap_rows()),
-        Section::Kinds => numbers_section("Kinds of faulty words", kind_rows()),
+        Section::Kinds => numbers_section("Command-line errors", kind_rows()),
         Section::Statuses => numbers_section("Exit statuses", status_rows()),
         Section::Inside => numbers_section("Numbers inside the program", inside_rows()),
         Section::Arithmetic => operations_section("Instructions on numbers", arithmetic_rows()),

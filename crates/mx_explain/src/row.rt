@@ -14,7 +14,7 @@ pub enum Topic {
     Object(u16),
     /// A reason why a run is stopped.
     Stop(u16),
-    /// A kind of faulty words.
+    /// A command-line error.
     Kind(u16),
     /// A warning of a source.
     Warning(u16),

@@ -51,6 +51,14 @@ fn first_length(operands: &[u8]) -> usize
     operands.iter().take_while(|b| **b != b',').count()
 }
 
+/// The operands in front of their first comma, or all.
+#[tactic(auto, using(crate::proofs::Words::fronts))]
+pub fn first_operand(operands: &[u8]) -> &[u8]
+    ensures { result.now ≡ spec.first_operand operands.now }
+{
+    operands.split_at(first_length(operands)).0
+}
+
 /// What follows the first comma of operands; no text where there is none.
 #[tactic(auto, using(crate::proofs::TokenTurns::lengths))]
 pub fn skip_past_comma(operands: &[u8]) -> &[u8]

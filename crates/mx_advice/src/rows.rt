@@ -1,12 +1,12 @@
 //! What is said of a fault, by its number.
 
 ghost use Rattle.std.specs.Prelude.{◌≡◌};
-ghost use Rattle.mx_sentences.specs.Rows as spec;
+ghost use Rattle.mx_advice.specs.Rows as spec;
 
 /// A sentence: what comes before the marked text, a noun for this text where it is not known, and what comes after it. Where nothing
-/// comes after it, the noun is the whole. And a sentence on what mends the fault.
+/// comes after it, the noun is the whole. And a sentence on how to fix the fault.
 #[derive(Clone, Copy)]
-pub(crate) struct Row {
+pub struct Row {
     pub before: &'static str,
     pub noun: &'static str,
     pub after: &'static str,
@@ -75,9 +75,9 @@ fn line_row(number: u16) -> Row
         ),
         6 => parts(
             "",
-            "An apostrophe is not followed by one character and an apostrophe.",
+            "An apostrophe is not followed by one byte and an apostrophe.",
             "",
-            "Write a text of several characters in double quotes.",
+            "Write a text of several characters in double quotes, and a character beyond ASCII, too: it has more than one byte.",
         ),
         7 => parts(
             "",
@@ -99,7 +99,7 @@ fn expression_row(number: u16) -> Row
             "",
             "A part of the operands",
             " does not belong here: an expression has ended, or none can begin so.",
-            "No blanks are in operands. Write #ff for 0xff. A jump to the local label 2H names 2F or 2B.",
+            "Operands contain no blanks. A comma separates two operands, and an operator as + or * two numbers.",
         ),
         11 => parts(
             "",
@@ -233,7 +233,7 @@ fn statement_row(number: u16) -> Row
             "",
             "No GREG has this address or one up to 255 below it.",
             "",
-            "Write GREG @ in front of the data, and once more for each further 256 bytes.",
+            "Write GREG @ right in front of the data, after their LOC, and once more for each further 256 bytes.",
         ),
         45 => parts(
             "",
@@ -346,7 +346,7 @@ fn source_row(number: u16) -> Row
 }
 
 /// The sentence on a fault of this number.
-pub(crate) fn row_of(number: u16) -> Row
+pub fn row_of(number: u16) -> Row
     ensures { spec.shown result ≡ spec.row_of number }
 {
     if number < 10 {

@@ -1,9 +1,9 @@
--- What is said of a fault: what is wrong, with the text that is marked, and what mends it. Other numbers have no sentence.
+-- What is said of a fault: what is wrong, with the text that is marked, and how to fix it. Other numbers have no sentence.
 use Rattle.std.specs.Prelude.{ℕ, List, [], nat_lt, ◌==◌, codes, if◌then◌else◌}
-use Rattle.mx_sentences.specs.declared.rows.Row.{Row as Coded}
+use Rattle.mx_advice.specs.declared.rows.Row.{Row as Coded}
 
 -- A sentence is what comes before the marked text, this text, and what comes after it; the noun takes the place of a text that is not
--- known. Where nothing comes after it, the noun is the whole. And a sentence on what mends it.
+-- known. Where nothing comes after it, the noun is the whole. And a sentence on how to fix it.
 pub record Row : Type 0 where
   pub before : List ℕ
   pub noun : List ℕ
@@ -28,14 +28,14 @@ line_row n =
     else if n == 3 then row [] (codes "The label") (codes " begins with a digit, and is no local label.") (codes "Local labels are 0H to 9H. Other labels begin with a letter.")
     else if n == 4 then row (codes "The operation ") (codes "of this statement") (codes " is followed by a character that is no blank.") (codes "Put a blank after the operation, and one in front: in the first column it is read as a label.")
     else if n == 5 then row [] (codes "A string is not closed on its line.") [] (codes "Close it by a double quote. For a double quote in a text write #22 outside of the string.")
-    else if n == 6 then row [] (codes "An apostrophe is not followed by one character and an apostrophe.") [] (codes "Write a text of several characters in double quotes.")
+    else if n == 6 then row [] (codes "An apostrophe is not followed by one byte and an apostrophe.") [] (codes "Write a text of several characters in double quotes, and a character beyond ASCII, too: it has more than one byte.")
     else if n == 7 then row [] (codes "This word") (codes " is read as a label, and no operation follows it.") (codes "Put a blank in front of an operation. For a label alone write IS @ after it.")
     else no_row
 
 -- where operands cannot be read or valued
 unfoldable pub expression_row : ℕ → Row
 expression_row n =
-    if n == 10 then row [] (codes "A part of the operands") (codes " does not belong here: an expression has ended, or none can begin so.") (codes "No blanks are in operands. Write #ff for 0xff. A jump to the local label 2H names 2F or 2B.")
+    if n == 10 then row [] (codes "A part of the operands") (codes " does not belong here: an expression has ended, or none can begin so.") (codes "Operands contain no blanks. A comma separates two operands, and an operator as + or * two numbers.")
     else if n == 11 then row [] (codes "A number is 2^64 or more.") [] (codes "Take a smaller number: the largest is #ffffffffffffffff.")
     else if n == 12 then row [] (codes "The right side of a division is 0.") [] (codes "Look at the value of the right side of / or %.")
     else if n == 13 then row [] (codes "The left side of // is not below the right side.") [] (codes "x//y makes a fraction below 1. Whole numbers are divided by /.")
@@ -64,7 +64,7 @@ statement_row n =
     else if n == 41 then row [] (codes "A number is given where a register is wanted.") [] (codes "Registers are written with $, as $2.")
     else if n == 42 then row [] (codes "A register is given where a number is wanted.") [] (codes "Only the program that runs knows what a register holds.")
     else if n == 43 then row [] (codes "A number does not fit into its place.") [] (codes "Put a number above 255 into a register: by SET up to 65535, by SETML and INCL above, by NEG below 0.")
-    else if n == 44 then row [] (codes "No GREG has this address or one up to 255 below it.") [] (codes "Write GREG @ in front of the data, and once more for each further 256 bytes.")
+    else if n == 44 then row [] (codes "No GREG has this address or one up to 255 below it.") [] (codes "Write GREG @ right in front of the data, after their LOC, and once more for each further 256 bytes.")
     else if n == 45 then row [] (codes "The target is too far away.") [] (codes "Branch around a JMP, or put the address into a register and use GO.")
     else if n == 46 then row [] (codes "The distance to the target is no multiple of 4.") [] (codes "Align the target, as by a TETRA in front of it. For the address of data use LDA and a GREG @.")
     else if n == 47 then row [] (codes "GREG has no register left above $31.") [] (codes "Let addresses that lie near each other share a GREG.")
@@ -98,7 +98,7 @@ match_row = row [] (codes "The parentheses do not match, or a string is a part o
 
 -- where operands end too early
 unfoldable pub end_row : Row
-end_row = row (codes "The operands end after ") (codes "their last part") (codes ", where more has to follow.") (codes "No blanks are in operands: what follows a blank is a comment.")
+end_row = row (codes "The operands end after ") (codes "their last part") (codes ", where more has to follow.") (codes "Operands contain no blanks: what follows a blank is a comment.")
 
 -- where a name is defined in a later line only
 unfoldable pub later_row : Row
@@ -147,6 +147,42 @@ nowhere_row = row [] (codes "A local label") (codes " refers to a local label fu
 -- where Main has a colon
 unfoldable pub colon_row : Row
 colon_row = row [] (codes "There is no label Main, where a program starts.") [] (codes "The label Main: has a colon: remove it.")
+
+-- where a number has a point
+unfoldable pub point_row : Row
+point_row = row [] (codes "A part of the operands") (codes " does not belong here: a number has no point.") (codes "Only whole numbers can be written. Count in smaller units: 15 tenths for 1.5.")
+
+-- where an operand is missing in front of a comma
+unfoldable pub comma_row : Row
+comma_row = row [] (codes "A comma") (codes " is not expected here: an operand is missing in front of it.") (codes "Write 0 for an operand that is not needed. Operands contain no blanks.")
+
+-- where a hexadecimal number begins as in other languages
+unfoldable pub hexadecimal_row : Row
+hexadecimal_row = row [] (codes "A part of the operands") (codes " does not belong here: the number has ended in front of it.") (codes "A hexadecimal number begins with #: write #ff for 0xff.")
+
+-- where an operand is the name of a local label
+unfoldable pub ahead_row : Row
+ahead_row = row [] (codes "A part of the operands") (codes " does not belong here: 2H is written only as a label.") (codes "An operand names the next label 2H by 2F, and the last one by 2B.")
+
+-- where a string has ended
+unfoldable pub quote_row : Row
+quote_row = row [] (codes "A part of the operands") (codes " does not belong here: a string ends at its next double quote.") (codes "For a double quote in a text write #22 outside of the string, as in \"He said \",#22,\"hi\",#22.")
+
+-- where a comment takes the place of operands
+unfoldable pub comment_row : Row
+comment_row = row [] (codes "A part of the operands") (codes " is read as an operand, and none can begin so.") (codes "Put an operand in front of a comment, as in SWYM 0 // nothing.")
+
+-- where SET has room for a wyde
+unfoldable pub set_row : Row
+set_row = row [] (codes "A number") (codes " does not fit: a number can be 0 to 65535 here.") []
+
+-- where GETA does not reach an address
+unfoldable pub far_row : Row
+far_row = row [] (codes "The target is too far away for GETA.") [] []
+
+-- where a label is like Main
+unfoldable pub other_main_row : Row
+other_main_row = row [] (codes "There is no label Main, where a program starts.") [] []
 
 -- where another machine has the operation, and this is what MMIX has
 abbrev pub foreign_row : List ℕ → Row
