@@ -79,7 +79,7 @@ pub static ROWS: [Row; 20] = [
         name: "watch",
         short: "wa",
         form: "watch NAME|$K|M#ADDRESS",
-        help: "stops a run after each turn that changes the value there",
+        help: "stops the run after each step that changes the value there; $K is the register that is $K now, also while calls hide it",
     },
     Row {
         word: Word::Delete,
@@ -107,7 +107,7 @@ pub static ROWS: [Row; 20] = [
         name: "who",
         short: "w",
         form: "who NAME|$K|M#ADDRESS",
-        help: "goes back to the step that made the value there",
+        help: "goes back to the step that made the value there; $K is the register that is $K now, also while calls hide it",
     },
     Row {
         word: Word::Backtrace,

@@ -7,12 +7,12 @@ use Rattle.mx_outcome.specs.declared.outcome.Outcome.{Outcome}
 use Rattle.mx_run.specs.Runs.{Ended}
 use Rattle.mx_run.specs.declared.end.End.TheVariants.{Spent}
 use Rattle.mx_replay.specs.Programs.{GoesOn, HasEnded, IsReached, is_over, step_of}
-use Rattle.mx_replay.specs.Marks.{changes, depth, stops_at}
+use Rattle.mx_replay.specs.Marks.{changes, depth, followed, stops_at}
 use Rattle.mx_replay.specs.Searches.{FoundAt, IsLast, IsNext}
 use Rattle.mx_replay.specs.declared.marks.Place.{Place}
 use Rattle.mx_ask.specs.declared.words.Word.{Word}
 use Rattle.mx_ask.specs.declared.words.Word.TheVariants as word
-use Rattle.mx_debug.specs.Going.{GoesToLast, GoesToMaker, GoesToNext, StandsBack, StandsBefore, depth_after, depth_at}
+use Rattle.mx_debug.specs.Going.{GoesToLast, GoesToMaker, GoesToNext, StandsBack, StandsBefore, depth_after, depth_at, followed_after, followed_at}
 use Rattle.mx_debug.specs.Sessions.{Debugged}
 use Rattle.mx_debug.specs.Words.{Leads, LeavesCall, goes}
 use Rattle.mx_replay.specs.declared.program.Program.{Program}
@@ -78,7 +78,15 @@ depth-told (Ok e) n h = let same : depth e.state ≡ n = cc in sym same
 pub depth-is : (d : Debugged) (p : Program) (at n : ℕ) → d.program ≡ p → d.at ≡ at → map_ok (λ (e : Ended). depth e.state) (step_of p at) ≡ Ok n → n ≡ depth_at d
 depth-is d p at n e f h = depth-told (step_of p at) n h ∙ ap depth_after (ap (λ q. step_of q at) (sym e) ∙ ap (step_of d.program) (sym f))
 
-pub ruleset depths = (depth-is)
+-- the place by which a register is followed
+follow-told : (place x : Place) (r : Result Ended Outcome) → map_ok (λ (e : Ended). followed e.state place) r ≡ Ok x → x ≡ followed_after place r
+follow-told place x (Err why) h = absurd (cc)
+follow-told place x (Ok e) h = let same : followed e.state place ≡ x = cc in sym same
+
+pub follow-is : (d : Debugged) (p : Program) (at : ℕ) (place x : Place) → d.program ≡ p → d.at ≡ at → map_ok (λ (e : Ended). followed e.state place) (step_of p at) ≡ Ok x → x ≡ followed_at d place
+follow-is d p at place x e f h = follow-told place x (step_of p at) h ∙ ap (followed_after place) (ap (λ q. step_of q at) (sym e) ∙ ap (step_of d.program) (sym f))
+
+pub ruleset depths = (depth-is, follow-is)
 
 -- to a stop that was found, and to the step that makes a value
 pub next-led : (d : Debugged) (shallow : Option ℕ) (at there : ℕ) (found : Option ℕ) → IsNext d.program (stops_at d.breaks d.watches shallow) d.at d.most found →

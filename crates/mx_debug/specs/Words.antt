@@ -8,7 +8,7 @@ use Rattle.mx_ask.specs.declared.words.Word.TheVariants as word
 use Rattle.mx_places.specs.Named.{place_in}
 use Rattle.mx_replay.specs.declared.stops.Break.{Break}
 use Rattle.mx_replay.specs.declared.stops.Watch.{Watch}
-use Rattle.mx_debug.specs.Going.{GoesTo, GoesToLast, GoesToMaker, GoesToNext, depth_at}
+use Rattle.mx_debug.specs.Going.{GoesTo, GoesToLast, GoesToMaker, GoesToNext, depth_at, followed_at}
 use Rattle.mx_debug.specs.Sessions.{Debugged, KeepsStops}
 
 -- what holds where something is said, and what holds where nothing is
@@ -31,7 +31,7 @@ pub record LeavesCall (d : Debugged) (at : ℕ) (Goes : Option ℕ → ℕ → T
 -- hidden there as here;
 -- `finish` to the step after the return from this call, and `reverse-finish` back to the step that made it;
 -- `continue` to the next break or watch, and `reverse-continue` back to the last one;
--- `who PLACE` to the step that made the value there.
+-- `who PLACE` to the step that made the value there; `$k` is the register that has this number at the step that is visited.
 -- `next` and `finish` stop at a break or a watch, too. A word that lacks its number or its place, and each other word, stays.
 abbrev pub Leads : Debugged → Word → List ℕ → ℕ → Type 0
 Leads d word.Step rest at = WhereSaid (count_in rest) (λ n. GoesTo d (d.at + n) at) (at ≡ d.at)
@@ -43,7 +43,7 @@ Leads d word.Finish rest at = LeavesCall d at (GoesToNext d)
 Leads d word.ReverseFinish rest at = LeavesCall d at (GoesToLast d)
 Leads d word.Continue rest at = GoesToNext d None at
 Leads d word.ReverseContinue rest at = GoesToLast d None at
-Leads d word.Who rest at = WhereSaid (place_in d.book rest) (λ place. GoesToMaker d place at) (at ≡ d.at)
+Leads d word.Who rest at = WhereSaid (place_in d.book rest) (λ place. GoesToMaker d (followed_at d place) at) (at ≡ d.at)
 Leads d other rest at = at ≡ d.at
 
 -- whether a word may lead to another step: those above

@@ -1,16 +1,17 @@
 //! The words that go to another step.
 
 ghost use Rattle.std.specs.Prelude.{◌≡◌, OnOk};
-ghost use Rattle.mx_debug.specs.Going.{GoesToLast, GoesToMaker, GoesToNext, depth_at};
+ghost use Rattle.mx_debug.specs.Going.{GoesToLast, GoesToMaker, GoesToNext, depth_at, followed_at};
 ghost use Rattle.mx_debug.specs.Sessions.{KeepsProgram, KeepsStops};
 ghost use Rattle.mx_debug.specs.Words.{Leads, LeavesCall};
 
+use crate::followed::{known_value, note_of};
 use crate::session::{Again, Session};
 use crate::telling::add_said;
 use mx_ask::{Word, parse_count, parse_number};
 use mx_places::{parse_place, thing_of_place};
-use mx_replay::{Place, value_at};
-use mx_tell::{add_thing, add_value};
+use mx_replay::{Place, see, value_at};
+use mx_tell::{add_thing, add_value, add_was};
 use mx_word::{Bytes, NoMemory};
 
 /// What is said where no call can be left.
@@ -43,6 +44,14 @@ impl Session {
         ensures { result ≡ depth_at self.now }
     {
         self.replay.depth()
+    }
+
+    /// The place by which a register is followed from the step that is shown.
+    #[tactic(auto, using(crate::proofs::Reaching::depths))]
+    pub(crate) fn follow(&self, place: Place) -> Place
+        ensures { result ≡ followed_at self.now place }
+    {
+        self.replay.follow(place)
     }
 
     /// Obeys `step`.
@@ -120,17 +129,19 @@ impl Session {
         out: &mut Bytes,
     ) -> Result<(), NoMemory> {
         let book = &self.known.book;
+        let thing = thing_of_place(place);
         if made.is_none() {
-            add_thing(out, book, thing_of_place(place))?;
+            add_thing(out, book, thing)?;
             return out.extend(b" has not changed since the start\n");
         }
         out.extend(b"makes ")?;
-        add_thing(out, book, thing_of_place(place))?;
+        add_thing(out, book, thing)?;
         out.extend(b" = ")?;
         add_value(out, book, value, None)?;
-        out.extend(b"  (was ")?;
-        add_value(out, book, value_at(self.replay.machine(), place), None)?;
-        out.extend(b")\n")
+        let before = see(self.replay.machine(), place);
+        add_was(out, book, thing, known_value(place, &before))?;
+        out.extend(note_of(self.known.alloc, place, &before)?.as_slice())?;
+        out.push(b'\n')
     }
 
     /// Goes to the step that makes the value at a place.
@@ -153,7 +164,7 @@ impl Session {
         ensures leads { OnOk result (Leads self.old Word.Who rest.now self.new.at) }
     {
         match parse_place(&self.known.book, rest) {
-            Some(place) => self.show_maker(place, out),
+            Some(place) => self.show_maker(self.follow(place), out),
             None => add_said(out, b"? no place: a name, $K, rX, M#ADDRESS"),
         }
     }

@@ -4,6 +4,7 @@
 mod arriving;
 mod backtrace;
 mod conditions;
+mod followed;
 mod going;
 mod known;
 mod listing;

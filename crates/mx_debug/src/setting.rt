@@ -5,12 +5,14 @@ ghost use Rattle.mx_debug.specs.Sessions.{KeepsProgram};
 ghost use Rattle.mx_debug.specs.Words.{Deletes, LeavesAllBut};
 
 use crate::conditions::add_condition;
+use crate::followed::note_of;
 use crate::known::{Known, breaks_but, watches_but};
 use crate::session::Session;
 use crate::telling::add_said;
 use mx_ask::parse_number;
+use mx_core::Machine;
 use mx_places::{Unwanted, Wanted, parse_break, parse_place, thing_of_place};
-use mx_replay::{Break, Place, Watch};
+use mx_replay::{Break, Place, Watch, see};
 use mx_tell::{add_break_row, add_place, add_watch_row};
 use mx_text::add_decimal;
 use mx_word::{Bytes, NoMemory};
@@ -29,12 +31,19 @@ fn add_break(text: &mut Bytes, known: &Known, b: &Break) -> Result<(), NoMemory>
 }
 
 /// Adds the row of what is watched.
-fn add_watch(text: &mut Bytes, known: &Known, watch: &Watch) -> Result<(), NoMemory> {
+fn add_watch(
+    text: &mut Bytes,
+    known: &Known,
+    machine: &Machine,
+    watch: &Watch,
+) -> Result<(), NoMemory> {
+    let note = note_of(known.alloc, watch.place, &see(machine, watch.place))?;
     add_watch_row(
         text,
         &known.book,
         u64::from(watch.number),
         thing_of_place(watch.place),
+        note.as_slice(),
     )
 }
 
@@ -47,14 +56,18 @@ fn add_breaks(text: &mut Bytes, known: &Known) -> Result<(), NoMemory> {
 }
 
 /// Adds the rows of all breaks and of what is watched.
-pub(crate) fn add_stops(text: &mut Bytes, known: &Known) -> Result<(), NoMemory> {
+pub(crate) fn add_stops(
+    text: &mut Bytes,
+    known: &Known,
+    machine: &Machine,
+) -> Result<(), NoMemory> {
     let stops = &known.stops;
     if stops.breaks.as_slice().is_empty() && stops.watches.as_slice().is_empty() {
         return text.extend(b"no breaks and nothing watched\n");
     }
     add_breaks(text, known)?;
     for watch in stops.watches.as_slice() {
-        add_watch(text, known, watch)?;
+        add_watch(text, known, machine, watch)?;
     }
     Ok(())
 }
@@ -97,7 +110,7 @@ impl Session {
         let number = self.known.stops.next();
         let watch = Watch { number, place };
         self.known.stops.watches.push(watch)?;
-        add_watch(out, &self.known, &watch)
+        add_watch(out, &self.known, self.replay.machine(), &watch)
     }
 
     /// Obeys `break`.
@@ -118,7 +131,7 @@ impl Session {
         ensures place { self.new.at ≡ self.old.at }
     {
         match parse_place(&self.known.book, rest) {
-            Some(place) => self.set_watch(place, out),
+            Some(place) => self.set_watch(self.follow(place), out),
             None => add_said(out, b"? nothing to watch: a name, $K, rX, M#ADDRESS"),
         }
     }

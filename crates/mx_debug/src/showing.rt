@@ -100,7 +100,7 @@ pub(crate) fn info(
     rest: &[u8],
 ) -> Result<(), NoMemory> {
     match rest {
-        b"breaks" | b"b" => add_stops(out, known),
+        b"breaks" | b"b" => add_stops(out, known, replay.machine()),
         b"output" | b"o" => show_output(out, replay),
         b"registers" | b"r" => add_registers(out, &known.book, replay.machine()),
         b"ring" => add_ring(out, replay.machine(), known.ring),

@@ -1,10 +1,11 @@
 //! What is shown of a step: what the program wrote on the way, where it is, and why it stopped there.
 
+use crate::followed::{known_value, note_of};
 use crate::known::Known;
 use mx_core::Machine;
 use mx_host::MemHost;
 use mx_places::thing_of_place;
-use mx_replay::{Replay, Watch, value_at};
+use mx_replay::{Replay, Seen, Watch, see};
 use mx_run::End;
 use mx_tell::{add_end, add_output, add_stop, add_watched};
 use mx_text::add_decimal;
@@ -102,15 +103,15 @@ pub(crate) fn add_reasons(out: &mut Bytes, replay: &Replay, known: &Known) -> Re
     add_bounds(out, replay, known)
 }
 
-/// The values that are watched.
+/// What is seen of the places that are watched.
 pub(crate) fn watched_values(
     alloc: Global,
     machine: &Machine,
     watches: &[Watch],
-) -> Result<Sequence<u64>, NoMemory> {
+) -> Result<Sequence<Seen>, NoMemory> {
     let mut values = Sequence::new(alloc);
     for watch in watches {
-        values.push(value_at(machine, watch.place))?;
+        values.push(see(machine, watch.place))?;
     }
     Ok(values)
 }
@@ -121,20 +122,22 @@ fn add_if_changed(
     machine: &Machine,
     known: &Known,
     watch: &Watch,
-    old: u64,
+    old: &Seen,
 ) -> Result<(), NoMemory> {
-    let new = value_at(machine, watch.place);
-    if new == old {
+    let place = watch.place;
+    let new = see(machine, place);
+    if !old.is_change(&new, place) {
         return Ok(());
     }
-    let number = u64::from(watch.number);
+    let note = note_of(known.alloc, place, &new)?;
     add_watched(
         out,
         &known.book,
-        number,
-        thing_of_place(watch.place),
-        old,
-        new,
+        u64::from(watch.number),
+        thing_of_place(place),
+        known_value(place, old),
+        new.value,
+        note.as_slice(),
     )
 }
 
@@ -143,10 +146,10 @@ pub(crate) fn add_all_watched(
     out: &mut Bytes,
     machine: &Machine,
     known: &Known,
-    values: &[u64],
+    values: &[Seen],
 ) -> Result<(), NoMemory> {
     for (watch, old) in known.stops.watches.as_slice().iter().zip(values) {
-        add_if_changed(out, machine, known, watch, *old)?;
+        add_if_changed(out, machine, known, watch, old)?;
     }
     Ok(())
 }

@@ -55,9 +55,10 @@ place_of (things.Number a) = octa_at a
 unfoldable pub place_in : Book → List ℕ → Option Place
 place_in book text = option_and_then place_of (named_thing book text)
 
--- and back
+-- and back; a register has the number that it had where it was asked for
 abbrev pub thing_at : Place → Thing
 thing_at (places.Register k) = things.Register k
+thing_at (places.Stacked at number) = things.Register number
 thing_at (places.Octa a) = things.Octa a
 thing_at (places.Special code) = things.Special code
 

@@ -14,12 +14,12 @@ const DATA: u64 = 0x2000_0000_0000_0000;
 /// The first address that no memory has.
 const MEMORY_END: u64 = 1 << 63;
 
-/// The place as a thing.
+/// The place as a thing: a register has the number that it had where it was asked for.
 pub fn thing_of_place(place: Place) -> Thing
     ensures { result ≡ spec.thing_at place }
 {
     match place {
-        Place::Register(k) => Thing::Register(k),
+        Place::Register(k) | Place::Stacked { at: _, number: k } => Thing::Register(k),
         Place::Octa(a) => Thing::Octa(a),
         Place::Special(code) => Thing::Special(code),
     }

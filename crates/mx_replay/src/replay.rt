@@ -12,7 +12,7 @@ mod finding;
 mod visiting;
 
 use crate::kept::{Kept, go_keeping};
-use crate::marks::depth;
+use crate::marks::{Place, depth, followed};
 use crate::program::Program;
 use crate::turns::make_next;
 use crate::visit::{Visit, start_visit};
@@ -106,6 +106,13 @@ impl Replay {
         ensures { map_ok (λ e. marks.depth e.state) (step_of self.now.program self.now.at) ≡ Ok result }
     {
         depth(&self.here.machine)
+    }
+
+    /// The place by which a register is followed from this step on: one that is not global at its place of the register stack.
+    pub fn follow(&self, place: Place) -> Place
+        ensures { map_ok (λ e. marks.followed e.state place) (step_of self.now.program self.now.at) ≡ Ok result }
+    {
+        followed(&self.here.machine, place)
     }
 
     /// Goes to step k, forth or back, or to the last step where the run ends before. It takes the time of the turns from a

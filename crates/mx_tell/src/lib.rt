@@ -27,5 +27,5 @@ pub use registers::add_registers;
 pub use ring::add_ring;
 pub use stops::add_stop;
 pub use tables::{add_break_row, add_symbols, add_watch_row};
-pub use things::{add_shown, add_thing, add_value, add_watched};
+pub use things::{add_shown, add_thing, add_value, add_was, add_watched};
 pub use values::value_of;

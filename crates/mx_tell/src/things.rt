@@ -149,6 +149,21 @@ pub fn add_shown(
     text.push(b'\n')
 }
 
+/// Adds what a thing had, if that is known: `  (was 10)`.
+pub fn add_was(
+    text: &mut Bytes,
+    book: &Book,
+    thing: Thing,
+    old: Option<u64>,
+) -> Result<(), NoMemory> {
+    let Some(old) = old else {
+        return Ok(());
+    };
+    text.extend(b"  (was ")?;
+    add_held(text, book, thing, old)?;
+    text.push(b')')
+}
+
 /// Adds what a thing has now, and what it had: `$1 (k) = 9  (was 10)`.
 pub(crate) fn add_change(
     text: &mut Bytes,
@@ -160,22 +175,27 @@ pub(crate) fn add_change(
     add_thing(text, book, thing)?;
     text.extend(b" = ")?;
     add_held(text, book, thing, new)?;
-    text.extend(b"  (was ")?;
-    add_held(text, book, thing, old)?;
-    text.extend(b")\n")
+    add_was(text, book, thing, Some(old))?;
+    text.push(b'\n')
 }
 
-/// Adds what a watched thing has now, and what it had: `watch 2: $1 (k) = 9  (was 10)`.
+/// Adds what a watched thing has now, what it had, if that is known, and a note: `watch 2: $1 (k) = 9  (was 10), here $5`.
 pub fn add_watched(
     text: &mut Bytes,
     book: &Book,
     number: u64,
     thing: Thing,
-    old: u64,
+    old: Option<u64>,
     new: u64,
+    note: &[u8],
 ) -> Result<(), NoMemory> {
     text.extend(b"watch ")?;
     add_decimal(text, number)?;
     text.extend(b": ")?;
-    add_change(text, book, thing, old, new)
+    add_thing(text, book, thing)?;
+    text.extend(b" = ")?;
+    add_held(text, book, thing, new)?;
+    add_was(text, book, thing, old)?;
+    text.extend(note)?;
+    text.push(b'\n')
 }

@@ -186,10 +186,10 @@ fn add_known(alloc: Global, text: &mut Bytes, book: &Book, what: What) -> Result
         What::Calls => add_call(alloc, text, book),
         What::Symbols => add_symbols(text, book),
         What::Break => add_break_row(text, book, 1, 0x108, b"k == 3"),
-        What::Watch => add_watch_row(text, book, 12, Thing::Octa(TEXT)),
+        What::Watch => add_watch_row(text, book, 12, Thing::Octa(TEXT), b""),
         What::Watched => {
             let old = 999_999_999_999;
-            add_watched(text, book, 2, Thing::Register(1), old, u64::MAX)
+            add_watched(text, book, 2, Thing::Register(1), Some(old), u64::MAX, b"")
         }
         What::Lines => {
             add_lines(text, book, first_line_around(12), 0x114)?;
