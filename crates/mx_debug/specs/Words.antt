@@ -25,6 +25,7 @@ pub record LeavesCall (d : Debugged) (at : ℕ) (Goes : Option ℕ → ℕ → T
   pub outside : depth_at d ≡ 0 → at ≡ d.at
 
 -- Where a word leads with what follows it:
+-- `run` from the start to the first break or watch after it, and `start` to the start;
 -- `step N` N steps on, and `reverse-step N` N steps back, but not past the start; without N it is one step;
 -- `goto K` to step K, forward or back;
 -- `next` to the next step that is in no call made from here, and `reverse-next` back to the last one: at most as many registers are
@@ -34,6 +35,8 @@ pub record LeavesCall (d : Debugged) (at : ℕ) (Goes : Option ℕ → ℕ → T
 -- `who PLACE` to the step that made the value there; `$k` is the register that has this number at the step that is visited.
 -- `next` and `finish` stop at a break or a watch, too. A word that lacks its number or its place, and each other word, stays.
 abbrev pub Leads : Debugged → Word → List ℕ → ℕ → Type 0
+Leads d word.Run rest at = GoesToNext (record d { at = 0 }) None at
+Leads d word.Start rest at = GoesTo d 0 at
 Leads d word.Step rest at = WhereSaid (count_in rest) (λ n. GoesTo d (d.at + n) at) (at ≡ d.at)
 Leads d word.ReverseStep rest at = WhereSaid (count_in rest) (λ n. at ≡ d.at - n) (at ≡ d.at)
 Leads d word.GoTo rest at = WhereSaid (number_in rest) (λ k. GoesTo d k at) (at ≡ d.at)

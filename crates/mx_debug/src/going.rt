@@ -1,15 +1,14 @@
 //! The words that go to another step.
 
-ghost use Rattle.std.specs.Prelude.{◌≡◌, OnOk};
+ghost use Rattle.std.specs.Prelude.{◌≡◌, None, OnOk};
 ghost use Rattle.mx_debug.specs.Going.{GoesToLast, GoesToMaker, GoesToNext, depth_at, followed_at};
 ghost use Rattle.mx_debug.specs.Sessions.{KeepsProgram, KeepsStops};
 ghost use Rattle.mx_debug.specs.Words.{Leads, LeavesCall};
 
-use crate::followed::{known_value, note_of};
 use crate::session::{Again, Session};
 use crate::telling::add_said;
-use mx_ask::{Word, parse_count, parse_number};
-use mx_places::{parse_place, thing_of_place};
+use mx_ask::{Word, add_unnamed, parse_count, parse_number};
+use mx_places::{known_value, note_of, parse_place, thing_of_place};
 use mx_replay::{Place, see, value_at};
 use mx_tell::{add_thing, add_value, add_was};
 use mx_word::{Bytes, NoMemory};
@@ -61,7 +60,7 @@ impl Session {
         ensures leads { OnOk result (Leads self.old Word.Step rest.now self.new.at) }
     {
         let Some(count) = parse_count(rest) else {
-            return add_said(out, b"? no number");
+            return add_said(out, b"? not a number of steps");
         };
         self.note_count(count);
         self.step_on(count, out)
@@ -74,10 +73,20 @@ impl Session {
         ensures leads { OnOk result (Leads self.old Word.ReverseStep rest.now self.new.at) }
     {
         let Some(count) = parse_count(rest) else {
-            return add_said(out, b"? no number");
+            return add_said(out, b"? not a number of steps");
         };
         self.note_count(count);
         self.step_back(count, out)
+    }
+
+    /// Obeys `run`: goes to the start without telling of it, and on.
+    fn obey_run(&mut self, out: &mut Bytes) -> Result<(), NoMemory>
+        ensures program { KeepsProgram self.old self.new }
+        ensures stops { KeepsStops self.old self.new }
+        ensures next { OnOk result (GoesToNext (record self.old { at = 0 }) None self.new.at) }
+    {
+        self.replay.go_to(0)?;
+        self.go_on(None, out)
     }
 
     /// Obeys `goto`.
@@ -88,7 +97,7 @@ impl Session {
     {
         match parse_number(rest) {
             Some(k) => self.go_to(k, out),
-            None => add_said(out, b"? no number of a step"),
+            None => add_said(out, b"? goto takes the number of a step"),
         }
     }
 
@@ -165,7 +174,11 @@ impl Session {
     {
         match parse_place(&self.known.book, rest) {
             Some(place) => self.show_maker(self.follow(place), out),
-            None => add_said(out, b"? no place: a name, $K, rX, M#ADDRESS"),
+            None => add_unnamed(
+                out,
+                rest,
+                b"? no such place: give a name, NAME+N, $K, rX or M8[ADDRESS]",
+            ),
         }
     }
 
@@ -178,6 +191,8 @@ impl Session {
         self.forget_listed();
         let depth = self.depth();
         match word {
+            Word::Run => self.obey_run(out),
+            Word::Start => self.go_to(0, out),
             Word::Step => self.obey_step(rest, out),
             Word::ReverseStep => self.obey_reverse_step(rest, out),
             Word::GoTo => self.obey_goto(rest, out),

@@ -4,7 +4,6 @@
 mod arriving;
 mod backtrace;
 mod conditions;
-mod followed;
 mod going;
 mod known;
 mod listing;

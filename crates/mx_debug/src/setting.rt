@@ -5,13 +5,12 @@ ghost use Rattle.mx_debug.specs.Sessions.{KeepsProgram};
 ghost use Rattle.mx_debug.specs.Words.{Deletes, LeavesAllBut};
 
 use crate::conditions::add_condition;
-use crate::followed::note_of;
 use crate::known::{Known, breaks_but, watches_but};
 use crate::session::Session;
 use crate::telling::add_said;
-use mx_ask::parse_number;
+use mx_ask::{add_unnamed, cut_word, parse_number};
 use mx_core::Machine;
-use mx_places::{Unwanted, Wanted, parse_break, parse_place, thing_of_place};
+use mx_places::{Unwanted, Wanted, note_of, parse_break, parse_place, thing_of_place};
 use mx_replay::{Break, Place, Watch, see};
 use mx_tell::{add_break_row, add_place, add_watch_row};
 use mx_text::add_decimal;
@@ -63,7 +62,7 @@ pub(crate) fn add_stops(
 ) -> Result<(), NoMemory> {
     let stops = &known.stops;
     if stops.breaks.as_slice().is_empty() && stops.watches.as_slice().is_empty() {
-        return text.extend(b"no breaks and nothing watched\n");
+        return text.extend(b"no breaks and no watches\n");
     }
     add_breaks(text, known)?;
     for watch in stops.watches.as_slice() {
@@ -73,13 +72,17 @@ pub(crate) fn add_stops(
 }
 
 /// Adds why a line orders no break.
-fn add_unwanted(out: &mut Bytes, why: Unwanted) -> Result<(), NoMemory> {
+fn add_unwanted(out: &mut Bytes, why: Unwanted, rest: &[u8]) -> Result<(), NoMemory> {
     match why {
-        Unwanted::Target => out.extend(
-            b"? no such place: a label, a line that loads an instruction, or #ADDRESS\n",
+        Unwanted::Target => add_unnamed(
+            out,
+            cut_word(rest).0,
+            b"? no such place: give a label, LABEL+N, a line with an instruction, or #ADDRESS",
         ),
         Unwanted::Condition => {
-            out.extend(b"? no condition: if VALUE OP N, with OP ==, !=, <, <=, > or >=\n")
+            out.extend(
+                b"? a condition is written: if VALUE OP N, where OP is ==, !=, <, <=, > or >=\n",
+            )
         }
     }
 }
@@ -121,7 +124,7 @@ impl Session {
         let pc = self.replay.machine().pc();
         match parse_break(&self.known.book, pc, rest) {
             Ok(wanted) => self.set_break(wanted, out),
-            Err(why) => add_unwanted(out, why),
+            Err(why) => add_unwanted(out, why, rest),
         }
     }
 
@@ -132,7 +135,11 @@ impl Session {
     {
         match parse_place(&self.known.book, rest) {
             Some(place) => self.set_watch(self.follow(place), out),
-            None => add_said(out, b"? nothing to watch: a name, $K, rX, M#ADDRESS"),
+            None => add_unnamed(
+                out,
+                rest,
+                b"? nothing to watch: give a name, NAME+N, $K, rX or M8[ADDRESS]",
+            ),
         }
     }
 
@@ -152,7 +159,7 @@ impl Session {
         if is_known {
             add_said(out, b"deleted")
         } else {
-            add_said(out, b"? no break and no watch has this number")
+            add_said(out, b"? no break or watch has this number")
         }
     }
 
@@ -179,7 +186,10 @@ impl Session {
         }
         match parse_number(rest) {
             Some(number) => self.delete(number, out),
-            None => add_said(out, b"? no number"),
+            None => add_said(
+                out,
+                b"? delete takes the number of a break or watch (info breaks lists them), or nothing for all",
+            ),
         }
     }
 }

@@ -1,10 +1,9 @@
 //! What is shown of a step: what the program wrote on the way, where it is, and why it stopped there.
 
-use crate::followed::{known_value, note_of};
 use crate::known::Known;
 use mx_core::Machine;
 use mx_host::MemHost;
-use mx_places::thing_of_place;
+use mx_places::{known_value, note_of, thing_of_place};
 use mx_replay::{Replay, Seen, Watch, see};
 use mx_run::End;
 use mx_tell::{add_end, add_output, add_stop, add_watched};

@@ -146,7 +146,20 @@ pub fn add_shown(
         }
     }
     add_formed(text, book, thing, value_of(machine, thing), form)?;
+    add_inside(text, thing)?;
     text.push(b'\n')
+}
+
+/// Adds that an octa is shown since it has an address that is inside it.
+fn add_inside(text: &mut Bytes, thing: Thing) -> Result<(), NoMemory> {
+    match thing {
+        Thing::Octa(a) if a % 8 != 0 => {
+            text.extend(b"  (the octa that has ")?;
+            add_short_hex(text, a)?;
+            text.extend(b")")
+        }
+        _ => Ok(()),
+    }
 }
 
 /// Adds what a thing had, if that is known: `  (was 10)`.

@@ -2,18 +2,17 @@
 
 ghost use Rattle.std.specs.Prelude.{◌≤◌};
 
-use crate::names::add_address;
-use crate::values::byte_at;
 use mx_ask::Unit;
 use mx_book::Book;
 use mx_core::Machine;
-use mx_pieces::{Style, add_characters, fill};
-use mx_text::byte_hex;
+use mx_pieces::{Style, add_characters, add_short_hex, fill};
+use mx_tell::{add_address, add_label_between, add_value, byte_at};
+use mx_text::{Form, add_decimal, byte_hex};
 use mx_word::{Bytes, NoMemory};
 use std::alloc::Global;
 
 /// This many units are shown, and no more.
-const MOST: u64 = 1024;
+pub const MOST_UNITS: u64 = 1024;
 
 /// This many bytes of a text are shown, and no more.
 const LONGEST: u64 = 200;
@@ -51,6 +50,49 @@ fn add_head(text: &mut Bytes, book: &Book, address: u64) -> Result<(), NoMemory>
     add_address(text, book, address)?;
     text.push(b':')?;
     fill(text, from, HEAD)
+}
+
+/// Adds the name of a unit of memory that is no text, and its address: `M4[#2000000000000004`.
+fn add_part_name(text: &mut Bytes, book: &Book, size: u64, at: u64) -> Result<(), NoMemory> {
+    text.extend(b"M")?;
+    add_decimal(text, size)?;
+    text.extend(b"[")?;
+    add_short_hex(text, at)?;
+    text.extend(b"]")?;
+    add_label_between(text, b" (", book, at, b")")
+}
+
+/// The unit of memory that holds an address, as a signed number; of a text its first byte.
+fn part_value(machine: &Machine, unit: Unit, a: u64) -> u64 {
+    let size = size_of(unit);
+    let at = a.wrapping_sub(a % size);
+    let mut value = if byte_at(machine, at) < 128 {
+        0
+    } else {
+        u64::MAX
+    };
+    for i in 0..size {
+        let byte = byte_at(machine, at.wrapping_add(i));
+        value = value.wrapping_mul(256).wrapping_add(u64::from(byte));
+    }
+    value
+}
+
+/// Adds the unit of memory that holds an address, and what it has as a signed number, in a form if one is asked for:
+/// `M4[#2000000000000004] (Count+4) = -1`.
+pub(crate) fn add_part(
+    text: &mut Bytes,
+    book: &Book,
+    machine: &Machine,
+    unit: Unit,
+    a: u64,
+    form: Option<Form>,
+) -> Result<(), NoMemory> {
+    let size = size_of(unit);
+    add_part_name(text, book, size, a.wrapping_sub(a % size))?;
+    text.extend(b" = ")?;
+    add_value(text, book, part_value(machine, unit, a), form)?;
+    text.extend(b"\n")
 }
 
 /// Begins a row, and ends the one before it.
@@ -160,7 +202,11 @@ pub fn add_memory(
     count: u64,
     unit: Unit,
 ) -> Result<u64, NoMemory> {
-    let count = if count < MOST { count } else { MOST };
+    let count = if count < MOST_UNITS {
+        count
+    } else {
+        MOST_UNITS
+    };
     if count == 0 {
         return Ok(from);
     }

@@ -7,7 +7,7 @@ use std::alloc::Global;
 
 /// The note on a place, where this is seen: nothing, or how the register is named there, if it has another number than where it was
 /// asked for.
-pub(crate) fn note_of(alloc: Global, place: Place, seen: &Seen) -> Result<Bytes, NoMemory> {
+pub fn note_of(alloc: Global, place: Place, seen: &Seen) -> Result<Bytes, NoMemory> {
     let mut note = Bytes::new(alloc);
     if let Place::Stacked { at, number } = place {
         add_number(&mut note, at, u64::from(number), seen)?;
@@ -29,7 +29,7 @@ fn add_number(note: &mut Bytes, at: u64, number: u64, seen: &Seen) -> Result<(),
 }
 
 /// The value that was seen at a place; nothing where the register is hidden.
-pub(crate) fn known_value(place: Place, seen: &Seen) -> Option<u64> {
+pub fn known_value(place: Place, seen: &Seen) -> Option<u64> {
     match place {
         Place::Stacked { at, number: _ } if seen.hides(at) => None,
         _ => Some(seen.value),
