@@ -6,9 +6,9 @@ ghost use Rattle.mx_replay.specs.Programs.{IsReached};
 use crate::known::Known;
 use crate::telling::{Written, add_all_watched, add_reasons, add_step, watched_values};
 use mx_core::Trace;
-use mx_replay::{Place, Replay, value_at};
+use mx_print::add_overwritten;
+use mx_replay::Replay;
 use mx_tell::{Before, add_changes};
-use mx_text::{add_decimal, tetra_hex};
 use mx_word::{Bytes, NoMemory};
 
 /// Adds what a turn changed, if there is one.
@@ -23,35 +23,6 @@ fn add_turn(
         Some(trace) => add_changes(out, &known.book, before, &trace, replay.machine()),
         None => Ok(()),
     }
-}
-
-/// The tetra that an address has in the octa that holds it.
-fn tetra_in(octa: u64, a: u64) -> u32 {
-    if a % 8 < 4 {
-        (octa >> 32) as u32
-    } else {
-        (octa % (1 << 32)) as u32
-    }
-}
-
-/// Adds that the program changed the instruction that comes next, if it did.
-pub(crate) fn add_overwritten(out: &mut Bytes, replay: &mut Replay) -> Result<(), NoMemory>
-    ensures { replay.new ≡ replay.old }
-{
-    let pc = replay.machine().pc();
-    let place = Place::Octa(pc);
-    let now = tetra_in(value_at(replay.machine(), place), pc);
-    if now == tetra_in(replay.first_value(place)?, pc) {
-        return Ok(());
-    }
-    out.extend(b"the program changed the instruction here")?;
-    if let Some(k) = replay.find_maker(place)? {
-        out.extend(b" at step ")?;
-        add_decimal(out, k.saturating_sub(1))?;
-    }
-    out.extend(b"; it is now #")?;
-    out.extend(&tetra_hex(now))?;
-    out.extend(b"\n")
 }
 
 /// Makes a turn, and tells of the step that it leads to and of what it changed.

@@ -3,8 +3,10 @@
 
 mod examined;
 mod memory;
+mod overwritten;
 mod printing;
 
 pub use examined::{MEMORY_END, parse_examined, parse_examined_units};
 pub use memory::{MOST_UNITS, add_memory};
+pub use overwritten::add_overwritten;
 pub use printing::print;
