@@ -6,7 +6,7 @@ ghost use Rattle.mx_debug.specs.Going.{GoesTo, GoesToLast, GoesToNext};
 ghost use Rattle.mx_debug.specs.Sessions.{KeepsProgram, KeepsStops};
 
 use mx_debug::Session;
-use mx_replay::{Break, Condition, Place, Seen, Watch, see};
+use mx_stops::{Break, Condition, Place, Seen, Watch, see};
 use mx_word::{NoMemory, Sequence};
 
 /// Goes to step k, but not past the last one that can be reached nor past the end.

@@ -7,9 +7,10 @@ use Rattle.mx_outcome.specs.declared.outcome.Outcome.{Outcome}
 use Rattle.mx_run.specs.Runs.{Ended}
 use Rattle.mx_run.specs.declared.end.End.TheVariants.{Spent}
 use Rattle.mx_replay.specs.Programs.{GoesOn, HasEnded, IsReached, is_over, step_of}
-use Rattle.mx_replay.specs.Marks.{changes, depth, followed, stops_at}
+use Rattle.mx_replay.specs.Marks.{changes, stops_at}
+use Rattle.mx_stops.specs.Places.{depth, followed}
 use Rattle.mx_replay.specs.Searches.{FoundAt, IsLast, IsNext}
-use Rattle.mx_replay.specs.declared.marks.Place.{Place}
+use Rattle.mx_stops.specs.declared.places.Place.{Place}
 use Rattle.mx_ask.specs.declared.words.Word.{Word}
 use Rattle.mx_ask.specs.declared.words.Word.TheVariants as word
 use Rattle.mx_debug.specs.Going.{GoesToLast, GoesToMaker, GoesToNext, StandsBack, StandsBefore, depth_after, depth_at, followed_after, followed_at}

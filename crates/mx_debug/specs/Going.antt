@@ -3,10 +3,11 @@
 use Rattle.std.specs.Prelude.{ℕ, ◌≡◌, ◌-◌, min, Option, None, Some, Result, Ok, Err}
 use Rattle.mx_run.specs.Runs.{Ended}
 use Rattle.mx_outcome.specs.declared.outcome.Outcome.{Outcome}
-use Rattle.mx_replay.specs.Marks.{changes, depth, followed, stops_at}
+use Rattle.mx_replay.specs.Marks.{changes, stops_at}
+use Rattle.mx_stops.specs.Places.{depth, followed}
 use Rattle.mx_replay.specs.Programs.{IsReached, step_of}
 use Rattle.mx_replay.specs.Searches.{FoundAt, IsLast, IsNext}
-use Rattle.mx_replay.specs.declared.marks.Place.{Place}
+use Rattle.mx_stops.specs.declared.places.Place.{Place}
 use Rattle.mx_debug.specs.Sessions.{Debugged}
 
 -- how many registers the calls that have not returned have hidden at the step that is visited: 0 where there is no such call

@@ -6,8 +6,8 @@ use Rattle.mx_ask.specs.Places.{count_in, number_in}
 use Rattle.mx_ask.specs.declared.words.Word.{Word}
 use Rattle.mx_ask.specs.declared.words.Word.TheVariants as word
 use Rattle.mx_places.specs.Named.{place_in}
-use Rattle.mx_replay.specs.declared.stops.Break.{Break}
-use Rattle.mx_replay.specs.declared.stops.Watch.{Watch}
+use Rattle.mx_stops.specs.declared.stops.Break.{Break}
+use Rattle.mx_stops.specs.declared.stops.Watch.{Watch}
 use Rattle.mx_debug.specs.Going.{GoesTo, GoesToLast, GoesToMaker, GoesToNext, depth_at, followed_at}
 use Rattle.mx_debug.specs.Sessions.{Debugged, KeepsStops}
 

@@ -3,7 +3,7 @@
 ghost use Rattle.std.specs.Prelude.{◌≡◌};
 
 use crate::session::Session;
-use mx_print::add_overwritten;
+use mx_places::add_overwritten;
 use mx_replay::{Frame, Replay};
 use mx_tell::{Call, add_backtrace};
 use mx_word::{Bytes, NoMemory, Sequence};

@@ -9,7 +9,7 @@ use crate::session::{Again, Session};
 use crate::telling::add_said;
 use mx_ask::{Word, add_unnamed, parse_count, parse_number};
 use mx_places::{known_value, note_of, parse_place, thing_of_place};
-use mx_replay::{Place, see, value_at};
+use mx_stops::{Place, see, value_at};
 use mx_tell::{add_thing, add_value, add_was};
 use mx_word::{Bytes, NoMemory};
 

@@ -5,10 +5,10 @@ ghost use Rattle.mx_debug.specs.Sessions.{KeepsProgram, KeepsStops};
 ghost use Rattle.mx_debug.specs.Words as spec;
 ghost use Rattle.mx_debug.specs.Words.{Deletes, Leads};
 
+use crate::printing::print;
 use crate::session::{Again, Session};
 use crate::showing::info;
 use mx_ask::{Asked, Word, add_help, add_unasked, cut_form, cut_word, find_word, trim_end};
-use mx_print::print;
 use mx_word::{Bytes, NoMemory};
 
 /// Whether a session goes on after a line.

@@ -11,7 +11,7 @@ use crate::telling::add_said;
 use mx_ask::{add_unnamed, cut_word, parse_number};
 use mx_core::Machine;
 use mx_places::{Unwanted, Wanted, note_of, parse_break, parse_place, thing_of_place};
-use mx_replay::{Break, Place, Watch, see};
+use mx_stops::{Break, Place, Watch, see};
 use mx_tell::{add_break_row, add_place, add_watch_row};
 use mx_text::add_decimal;
 use mx_word::{Bytes, NoMemory};
@@ -188,7 +188,7 @@ impl Session {
             Some(number) => self.delete(number, out),
             None => add_said(
                 out,
-                b"? delete takes the number of a break or watch (info breaks lists them), or nothing for all",
+                b"? delete takes the number of a break or watch, or nothing",
             ),
         }
     }

@@ -7,9 +7,10 @@ use crate::session::{Again, Session};
 use crate::setting::add_stops;
 use crate::telling::add_said;
 use mx_ask::{Unit, add_unnamed};
-use mx_print::{MEMORY_END, MOST_UNITS, add_memory, parse_examined, parse_examined_units};
+use mx_pieces::add_ring;
+use mx_places::{MEMORY_END, parse_examined, parse_examined_units};
 use mx_replay::Replay;
-use mx_tell::{add_output, add_registers, add_ring, add_symbols};
+use mx_tell::{MOST_UNITS, add_memory, add_output, add_registers, add_symbols};
 use mx_word::{Bytes, NoMemory};
 
 /// Obeys `info output`.

@@ -7,7 +7,7 @@ use mx_ask::{cut_word, parse_number};
 use mx_book::{Book, Thing};
 use mx_json::{add_number, add_string};
 use mx_places::resolve_for_display;
-use mx_replay::{Place, followed};
+use mx_stops::{Place, followed};
 use mx_tell::add_thing;
 use mx_text::{add_decimal, octa_hex};
 use mx_word::{Bytes, NoMemory};

@@ -13,8 +13,8 @@ use Rattle.mx_book.specs.declared.loads.Load.{Load}
 use Rattle.mx_book.specs.declared.things.Thing.{Thing}
 use Rattle.mx_book.specs.declared.things.Thing.TheVariants as things
 use Rattle.mx_cmd.specs.declared.command.Subject.{Subject}
-use Rattle.mx_replay.specs.declared.marks.Place.{Place}
-use Rattle.mx_replay.specs.declared.marks.Place.TheVariants as places
+use Rattle.mx_stops.specs.declared.places.Place.{Place}
+use Rattle.mx_stops.specs.declared.places.Place.TheVariants as places
 use Rattle.mx_places.specs.Sums.{base_in, bracketed, from_sum, offset_in, plus}
 use Rattle.mx_places.specs.declared.places.Target.{Target}
 

@@ -1,6 +1,6 @@
 //! A register that is followed at its place of the register stack, as it is named at a step.
 
-use mx_replay::{Place, Seen};
+use mx_stops::{Place, Seen};
 use mx_text::add_decimal;
 use mx_word::{Bytes, NoMemory};
 use std::alloc::Global;

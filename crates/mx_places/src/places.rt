@@ -6,7 +6,7 @@ ghost use Rattle.mx_places.specs.Named as spec;
 use crate::sums::{add_numbers, cut_sum, parse_brackets, parse_offset};
 use mx_ask::{Unit, parse_address, parse_number, parse_octa, parse_subject};
 use mx_book::{Book, Thing, thing_of_subject};
-use mx_replay::Place;
+use mx_stops::Place;
 use mx_word::Value;
 
 /// The first address of the data segment: a name with a value from there on stands for what is there.

@@ -9,9 +9,9 @@ use Rattle.mx_ring.specs.Stack.{local_count, register}
 use Rattle.mx_run.specs.Runs.{Ended}
 use Rattle.mx_replay.specs.Frames.{AreLocals, AreLocalsAt}
 use Rattle.mx_replay.specs.Programs.{step_of}
-use Rattle.mx_replay.specs.Marks.{value_at}
+use Rattle.mx_stops.specs.Places.{value_at}
 use Rattle.mx_replay.specs.Visits.{IsStart, IsStep, came_to}
-use Rattle.mx_replay.specs.declared.marks.Place.{Place}
+use Rattle.mx_stops.specs.declared.places.Place.{Place}
 use Rattle.mx_replay.specs.declared.program.Program.{Program}
 use Rattle.mx_replay.specs.declared.visit.Visit.{Visit}
 

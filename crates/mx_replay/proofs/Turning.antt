@@ -14,12 +14,14 @@ use Rattle.mx_run.specs.declared.end.End.{End}
 use Rattle.mx_run.specs.declared.end.End.TheVariants.{Halted, Stopped, Spent}
 use Rattle.mx_run.specs.declared.turn_answer.TurnAnswer.{TurnAnswer}
 use Rattle.mx_run.specs.declared.turn_answer.TurnAnswer.TheVariants as answer
-use Rattle.mx_replay.specs.Marks.{changes_value, changes_watched, depth, is_at_most, is_at_most_if, is_change, is_met, meets_break, seen}
+use Rattle.mx_replay.specs.Marks.{changes_value, changes_watched, is_at_most, is_at_most_if, meets_break}
+use Rattle.mx_stops.specs.Places.{depth, is_change, seen}
+use Rattle.mx_stops.specs.Stops.{is_met}
 use Rattle.mx_replay.specs.Visits.{MakesTurn, came_by, came_to, trace_of, turn_end, turn_from}
-use Rattle.mx_replay.specs.declared.marks.Place.{Place}
-use Rattle.mx_replay.specs.declared.marks.Seen.{Seen}
-use Rattle.mx_replay.specs.declared.stops.Break.{Break}
-use Rattle.mx_replay.specs.declared.stops.Watch.{Watch}
+use Rattle.mx_stops.specs.declared.places.Place.{Place}
+use Rattle.mx_stops.specs.declared.places.Seen.{Seen}
+use Rattle.mx_stops.specs.declared.stops.Break.{Break}
+use Rattle.mx_stops.specs.declared.stops.Watch.{Watch}
 use Rattle.mx_replay.specs.declared.visit.Visit.{Visit}
 
 -- ---- what a turn comes to, by its answer

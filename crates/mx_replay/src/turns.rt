@@ -9,11 +9,11 @@ ghost use Rattle.mx_replay.specs.Programs.{IsReached};
 ghost use Rattle.mx_replay.specs.Visits.{IsStep, MakesTurn, turn_from};
 ghost use Rattle.mx_replay.specs.declared.program.Program.{Program};
 
-use crate::marks::{Place, Sought, depth, is_shallow_if, see};
-use crate::stops::{Break, Watch, is_at_any_break};
+use crate::marks::{Sought, is_shallow_if};
 use crate::visit::{Visit, is_over};
 use mx_code::Trace;
 use mx_run::{End, TurnAnswer, turn};
+use mx_stops::{Break, Place, Watch, depth, is_at_any_break, see};
 use mx_word::NoMemory;
 use std::alloc::Global;
 

@@ -57,7 +57,7 @@ pub fn add_label(text: &mut Bytes, book: &Book, address: u64) -> Result<(), NoMe
 }
 
 /// Adds the label of an address after something else, between two texts, where one is near.
-pub fn add_label_between(
+pub(crate) fn add_label_between(
     text: &mut Bytes,
     front: &[u8],
     book: &Book,
@@ -75,7 +75,7 @@ pub fn add_label_between(
 }
 
 /// Adds an address with its label, as `#108 <Loop+8>`.
-pub fn add_address(text: &mut Bytes, book: &Book, address: u64) -> Result<(), NoMemory> {
+pub(crate) fn add_address(text: &mut Bytes, book: &Book, address: u64) -> Result<(), NoMemory> {
     add_short_hex(text, address)?;
     add_label_between(text, b" <", book, address, b">")
 }

@@ -37,7 +37,7 @@ pub fn value_of(machine: &Machine, thing: Thing) -> u64
 }
 
 /// The byte at an address; 0 where there is none.
-pub fn byte_at(machine: &Machine, a: u64) -> u8 {
+pub(crate) fn byte_at(machine: &Machine, a: u64) -> u8 {
     let bytes = octa_bytes(octa_at(machine, a));
     bytes[(a % 8) as usize]
 }

@@ -222,7 +222,7 @@ no breaks and no watches
     Row {
         lines: "d 1\nd x\n",
         answer: "? no break or watch has this number
-? delete takes the number of a break or watch (info breaks lists them), or nothing for all
+? delete takes the number of a break or watch, or nothing
 ",
     },
     Row {

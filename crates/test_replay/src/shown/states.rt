@@ -4,12 +4,12 @@ use crate::programs::TEXT;
 use mx_ask::Unit;
 use mx_book::{Book, Thing};
 use mx_core::Machine;
-use mx_print::add_memory;
+use mx_pieces::add_ring;
 use mx_replay::Replay;
 use mx_run::End;
 use mx_tell::{
-    Call, add_backtrace, add_break_row, add_end, add_instructions, add_lines, add_ring, add_shown,
-    add_symbols, add_watch_row, add_watched, first_line_around,
+    Call, add_backtrace, add_break_row, add_end, add_instructions, add_lines, add_memory,
+    add_shown, add_symbols, add_watch_row, add_watched, first_line_around,
 };
 use mx_text::Form;
 use mx_word::{Bytes, NoMemory, Sequence};

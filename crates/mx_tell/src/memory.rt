@@ -2,11 +2,13 @@
 
 ghost use Rattle.std.specs.Prelude.{◌≤◌};
 
+use crate::names::{add_address, add_label_between};
+use crate::things::add_value;
+use crate::values::byte_at;
 use mx_ask::Unit;
 use mx_book::Book;
 use mx_core::Machine;
 use mx_pieces::{Style, add_characters, add_short_hex, fill};
-use mx_tell::{add_address, add_label_between, add_value, byte_at};
 use mx_text::{Form, add_decimal, byte_hex};
 use mx_word::{Bytes, NoMemory};
 use std::alloc::Global;
@@ -80,7 +82,7 @@ fn part_value(machine: &Machine, unit: Unit, a: u64) -> u64 {
 
 /// Adds the unit of memory that holds an address, and what it has as a signed number, in a form if one is asked for:
 /// `M4[#2000000000000004] (Count+4) = -1`.
-pub(crate) fn add_part(
+pub fn add_part(
     text: &mut Bytes,
     book: &Book,
     machine: &Machine,

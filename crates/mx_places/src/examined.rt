@@ -1,10 +1,11 @@
-//! Which memory a line asks for.
+//! Which memory a line asks for, and in which form.
 
+use crate::moments::resolve_name_now;
+use crate::places::parse_part;
 use mx_ask::{Unit, parse_units};
 use mx_book::{Book, Thing};
 use mx_core::Machine;
-use mx_places::resolve_name_now;
-use mx_tell::value_of;
+use mx_text::Form;
 
 /// The first address that no memory has.
 pub const MEMORY_END: u64 = 1 << 63;
@@ -13,7 +14,8 @@ pub const MEMORY_END: u64 = 1 << 63;
 fn address_of(machine: &Machine, thing: Thing) -> u64 {
     match thing {
         Thing::Octa(a) | Thing::Number(a) => a,
-        Thing::Register(_) | Thing::Special(_) => value_of(machine, thing),
+        Thing::Register(k) => machine.register(k),
+        Thing::Special(code) => machine.special(code % 32),
     }
 }
 
@@ -36,5 +38,24 @@ pub fn parse_examined_units(letters: &[u8]) -> Option<(u64, Unit)> {
     match letters {
         [b'/', units @ ..] => parse_units(units),
         _ => parse_units(letters),
+    }
+}
+
+/// The form that letters after a stroke ask for, or none.
+pub fn parse_form(letters: &[u8]) -> Option<Option<Form>> {
+    match letters {
+        b"" | b"/" => Some(None),
+        b"/d" => Some(Some(Form::Decimal)),
+        b"/x" => Some(Some(Form::Hex)),
+        b"/t" => Some(Some(Form::Chars)),
+        _ => None,
+    }
+}
+
+/// The unit of memory that a text writes in brackets, and its address, if it is no octa.
+pub fn parse_small_part(book: &Book, text: &[u8]) -> Option<(Unit, u64)> {
+    match parse_part(book, text)? {
+        (Unit::Octa, _) => None,
+        part => Some(part),
     }
 }

@@ -2,7 +2,8 @@
 
 ghost use Rattle.std.specs.Prelude.{◌≡◌};
 
-use mx_replay::{Place, Replay, value_at};
+use mx_replay::Replay;
+use mx_stops::{Place, value_at};
 use mx_text::{add_decimal, tetra_hex};
 use mx_word::{Bytes, NoMemory};
 
