@@ -38,7 +38,7 @@ fn print_thing(
         None => add_unnamed(
             out,
             rest,
-            b"? nothing to show: give a name, NAME+N, $K, $K+N, rX, M8[ADDRESS] or a number",
+            b"? give NAME[+N], $K[+N], rX, M8[ADDRESS] or a number",
         ),
     }
 }

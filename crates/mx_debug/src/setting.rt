@@ -138,7 +138,7 @@ impl Session {
             None => add_unnamed(
                 out,
                 rest,
-                b"? nothing to watch: give a name, NAME+N, $K, rX or M8[ADDRESS]",
+                b"? no such place: give NAME[+N], $K, rX or M8[ADDRESS]",
             ),
         }
     }

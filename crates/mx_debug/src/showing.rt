@@ -88,7 +88,7 @@ impl Session {
             None => add_unnamed(
                 out,
                 rest,
-                b"? no memory there: give a name, NAME+N, $K, $K+N or #ADDRESS",
+                b"? no memory there: give NAME[+N], $K[+N] or #ADDRESS",
             ),
         }
     }

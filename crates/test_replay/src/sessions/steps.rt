@@ -203,8 +203,8 @@ break 2
     },
     Row {
         lines: "wa $300\nwa\n",
-        answer: "? nothing to watch: give a name, NAME+N, $K, rX or M8[ADDRESS]
-? nothing to watch: give a name, NAME+N, $K, rX or M8[ADDRESS]
+        answer: "? no such place: give NAME[+N], $K, rX or M8[ADDRESS]
+? no such place: give NAME[+N], $K, rX or M8[ADDRESS]
 ",
     },
     Row {

@@ -68,7 +68,7 @@ M8[#2000000000000008] (Text) = #646f6e650a000000
         lines: "p/q sum\np Nope\np\n",
         answer: "? no such form: /d is decimal, /x hexadecimal, /t text
 ? no symbol Nope
-? nothing to show: give a name, NAME+N, $K, $K+N, rX, M8[ADDRESS] or a number
+? give NAME[+N], $K[+N], rX, M8[ADDRESS] or a number
 ",
     },
     Row {
@@ -92,7 +92,7 @@ M8[#2000000000000000] (Total) = 5  (was 3)
         answer: "#2000000000000000 <Total>:       #0000000000000000
 ? no such units: x/NU, where U is o, t, w, b or s
 ? no symbol Nope
-? no memory there: give a name, NAME+N, $K, $K+N or #ADDRESS
+? no memory there: give NAME[+N], $K[+N] or #ADDRESS
 ",
     },
     Row {
