@@ -8,7 +8,7 @@ ghost use Rattle.mx_debug.specs.Words.{Leads, LeavesCall};
 use crate::session::{Again, Session};
 use crate::telling::add_said;
 use mx_ask::{Word, add_unnamed, parse_count, parse_number};
-use mx_places::{known_value, note_of, parse_place, thing_of_place};
+use mx_places::{PLACE_WANTED, known_value, note_of, parse_place, thing_of_place};
 use mx_stops::{Place, see, value_at};
 use mx_tell::{add_thing, add_value, add_was};
 use mx_word::{Bytes, NoMemory};
@@ -174,11 +174,7 @@ impl Session {
     {
         match parse_place(&self.known.book, rest) {
             Some(place) => self.show_maker(self.follow(place), out),
-            None => add_unnamed(
-                out,
-                rest,
-                b"? no such place: give NAME[+N], $K, rX or M8[ADDRESS]",
-            ),
+            None => add_unnamed(out, rest, PLACE_WANTED),
         }
     }
 

@@ -10,7 +10,9 @@ use crate::session::Session;
 use crate::telling::add_said;
 use mx_ask::{add_unnamed, cut_word, parse_number};
 use mx_core::Machine;
-use mx_places::{Unwanted, Wanted, note_of, parse_break, parse_place, thing_of_place};
+use mx_places::{
+    PLACE_WANTED, Unwanted, Wanted, note_of, parse_break, parse_place, thing_of_place,
+};
 use mx_stops::{Break, Place, Watch, see};
 use mx_tell::{add_break_row, add_place, add_watch_row};
 use mx_text::add_decimal;
@@ -135,11 +137,7 @@ impl Session {
     {
         match parse_place(&self.known.book, rest) {
             Some(place) => self.set_watch(self.follow(place), out),
-            None => add_unnamed(
-                out,
-                rest,
-                b"? no such place: give NAME[+N], $K, rX or M8[ADDRESS]",
-            ),
+            None => add_unnamed(out, rest, PLACE_WANTED),
         }
     }
 

@@ -19,6 +19,6 @@ pub use moments::{resolve_for_display_now, resolve_name_now};
 pub use orders::{Unwanted, Wanted, parse_break};
 pub use overwritten::add_overwritten;
 pub use places::{
-    Target, parse_part, parse_place, parse_target, resolve_for_display, resolve_name,
+    PLACE_WANTED, Target, parse_part, parse_place, parse_target, resolve_for_display, resolve_name,
     thing_of_place,
 };

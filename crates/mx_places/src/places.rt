@@ -15,6 +15,9 @@ const DATA: u64 = 0x2000_0000_0000_0000;
 /// The first address that no memory has.
 const MEMORY_END: u64 = 1 << 63;
 
+/// What is said where a text names no place.
+pub const PLACE_WANTED: &[u8] = b"? no such place: give NAME[+N], $K, rX or M8[ADDRESS]";
+
 /// The place as a thing: a register has the number that it had where it was asked for.
 pub fn thing_of_place(place: Place) -> Thing
     ensures { result ≡ spec.thing_at place }
