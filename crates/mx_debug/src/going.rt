@@ -149,7 +149,8 @@ impl Session {
         add_value(out, book, value, None)?;
         let before = see(self.replay.machine(), place);
         add_was(out, book, thing, known_value(place, &before))?;
-        out.extend(note_of(self.known.alloc, place, &before)?.as_slice())?;
+        let note = note_of(self.known.alloc, place, &before)?;
+        out.extend(note.as_slice())?;
         out.push(b'\n')
     }
 
