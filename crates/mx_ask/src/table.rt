@@ -93,7 +93,7 @@ pub static ROWS: [Row; 22] = [
         name: "watch",
         short: "wa",
         form: "watch NAME[+N]|$K|M8[ADDRESS]",
-        help: "stops after each step that changes the value there; it follows the register that is $K now, also through calls",
+        help: "stops after each step that changes the value there; follows a register through calls",
     },
     Row {
         word: Word::Delete,
@@ -107,21 +107,21 @@ pub static ROWS: [Row; 22] = [
         name: "print",
         short: "p",
         form: "print[/F] NAME[+N]|$K[+N]|rX|M8[ADDRESS]",
-        help: "shows a value; F is d for decimal, x for hexadecimal, t for text; M4, M2 and M1 show a tetra, a wyde, a byte",
+        help: "shows a value; F: d decimal, x hexadecimal, t text. M4[], M2[], M1[]: smaller parts",
     },
     Row {
         word: Word::Examine,
         name: "x",
         short: "x",
         form: "x[/NU] NAME[+N]|$K[+N]|#ADDRESS",
-        help: "shows N units of memory, at most 1024; U is o for octas, t for tetras, w for wydes, b for bytes, s for strings",
+        help: "shows N units, at most 1024; U: o octas, d in decimal, t tetras, w wydes, b bytes, s strings",
     },
     Row {
         word: Word::Who,
         name: "who",
         short: "w",
         form: "who NAME[+N]|$K|M8[ADDRESS]",
-        help: "goes back to the step that made the value there; it follows the register that is $K now, also through calls",
+        help: "goes back to the step that made the value there; follows a register through calls",
     },
     Row {
         word: Word::Backtrace,

@@ -80,7 +80,7 @@ impl Session {
         ensures { self.new ≡ self.old }
     {
         let Some((count, unit)) = parse_examined_units(letters) else {
-            return add_said(out, b"? no such units: x/NU, where U is o, t, w, b or s");
+            return add_said(out, b"? no such units: x/NU, where U is o, d, t, w, b or s");
         };
         let machine = self.replay.machine();
         match parse_examined(&self.known.book, machine, self.again.examined, rest) {

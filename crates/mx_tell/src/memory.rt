@@ -8,7 +8,7 @@ use crate::values::byte_at;
 use mx_ask::Unit;
 use mx_book::Book;
 use mx_core::Machine;
-use mx_pieces::{Style, add_characters, add_short_hex, fill};
+use mx_pieces::{Style, add_characters, add_short_hex, add_signed, fill};
 use mx_text::{Form, add_decimal, byte_hex};
 use mx_word::{Bytes, NoMemory};
 use std::alloc::Global;
@@ -27,7 +27,7 @@ fn size_of(unit: Unit) -> u64
     ensures { 1 ≤ result }
 {
     match unit {
-        Unit::Octa => 8,
+        Unit::Octa | Unit::Decimal => 8,
         Unit::Tetra => 4,
         Unit::Wyde => 2,
         Unit::Byte | Unit::Text => 1,
@@ -39,7 +39,7 @@ fn row_length(unit: Unit) -> u64
     ensures { 1 ≤ result }
 {
     match unit {
-        Unit::Octa => 2,
+        Unit::Octa | Unit::Decimal => 2,
         Unit::Tetra => 4,
         Unit::Wyde | Unit::Byte => 8,
         Unit::Text => 1,
@@ -105,10 +105,14 @@ fn begin_row(text: &mut Bytes, book: &Book, address: u64, is_first: bool) -> Res
     add_head(text, book, address)
 }
 
-/// Adds this many bytes from an address as hexadecimal digits.
-fn add_unit(text: &mut Bytes, machine: &Machine, address: u64, size: u64) -> Result<(), NoMemory> {
+/// Adds the unit at an address: as hexadecimal digits, or as a signed decimal number.
+fn add_unit(text: &mut Bytes, machine: &Machine, address: u64, unit: Unit) -> Result<(), NoMemory> {
+    if unit == Unit::Decimal {
+        text.push(b' ')?;
+        return add_signed(text, part_value(machine, unit, address));
+    }
     text.extend(b" #")?;
-    for i in 0..size {
+    for i in 0..size_of(unit) {
         text.extend(&byte_hex(byte_at(machine, address.wrapping_add(i))))?;
     }
     Ok(())
@@ -129,7 +133,7 @@ fn add_units(
         if i % row_length(unit) == 0 {
             begin_row(text, book, address, i == 0)?;
         }
-        add_unit(text, machine, address, size)?;
+        add_unit(text, machine, address, unit)?;
     }
     text.push(b'\n')
 }

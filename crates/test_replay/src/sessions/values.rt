@@ -90,7 +90,7 @@ M8[#2000000000000000] (Total) = 5  (was 3)
     Row {
         lines: "x $254\nx/9z Text\nx Nope\nx #8000000000000000\n",
         answer: "#2000000000000000 <Total>:       #0000000000000000
-? no such units: x/NU, where U is o, t, w, b or s
+? no such units: x/NU, where U is o, d, t, w, b or s
 ? no symbol Nope
 ? no memory there: give NAME[+N], $K[+N] or #ADDRESS
 ",
