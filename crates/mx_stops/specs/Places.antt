@@ -31,7 +31,7 @@ value_at (Special code) s = if nat_lt code 32 then special_register s code else 
 
 -- The place by which a register is followed from a state on: one that is not global at its place of the register stack, since its number
 -- is another register's in each call. A global register keeps its number.
-abbrev pub followed : State → Place → Place
+unfoldable pub followed : State → Place → Place
 followed s (Register k) = if nat_lt k (global_start s) then Stacked (depth s + k) k else Register k
 followed s (Stacked at number) = Stacked at number
 followed s (Octa a) = Octa a
@@ -40,7 +40,7 @@ followed s (Special code) = Special code
 -- ---- changes
 
 -- what is seen of a place in a state: how many registers are hidden, and the value
-abbrev pub seen : Place → State → Seen
+unfoldable pub seen : Place → State → Seen
 seen place s = record { depth = depth s; value = value_at place s }
 
 abbrev pub differs : Seen → Seen → Bool
@@ -63,7 +63,7 @@ changes_stacked at before after =
     if is_hidden_at at before || is_hidden_at at after then returns_to at before after else differs before after
 
 -- whether what is seen of a place before and after a turn is a change
-abbrev pub is_change : Place → Seen → Seen → Bool
+unfoldable pub is_change : Place → Seen → Seen → Bool
 is_change (Stacked at number) before after = changes_stacked at before after
 is_change (Register k) before after = differs before after
 is_change (Octa a) before after = differs before after

@@ -65,6 +65,7 @@ pub fn value_at(machine: &Machine, place: Place) -> u64
 }
 
 /// What is seen of a place.
+#[tactic(auto, unfolding(crate::specs::Places::seen))]
 pub fn see(machine: &Machine, place: Place) -> Seen
     ensures { result ≡ spec.seen place (state_of machine.now) }
 {
@@ -75,6 +76,7 @@ pub fn see(machine: &Machine, place: Place) -> Seen
 }
 
 /// The place by which a register is followed from here on: one that is not global at its place of the register stack.
+#[tactic(auto, unfolding(crate::specs::Places::followed))]
 pub fn followed(machine: &Machine, place: Place) -> Place
     ensures { result ≡ spec.followed (state_of machine.now) place }
 {
@@ -97,6 +99,7 @@ impl Seen {
 
     /// Whether a turn changes what is at a place, by what is seen before and after it: the register at a place of the register
     /// stack keeps its value while it is hidden, and a return makes that of its result.
+    #[tactic(auto, unfolding(crate::specs::Places::is_change))]
     pub fn is_change(&self, after: &Seen, place: Place) -> bool
         ensures { result ≡ spec.is_change place self.now after.now }
     {
