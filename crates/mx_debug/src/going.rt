@@ -14,7 +14,7 @@ use mx_tell::{add_thing, add_value, add_was};
 use mx_word::{Bytes, NoMemory};
 
 /// What is said where no call can be left.
-const NO_CALL: &[u8] = b"no call that has not returned";
+const NO_CALL: &[u8] = b"not inside a call";
 
 impl Session {
     /// Notes that another step is shown: `list` begins anew.

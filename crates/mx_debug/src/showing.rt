@@ -17,7 +17,7 @@ use mx_word::{Bytes, NoMemory};
 fn show_output(out: &mut Bytes, replay: &Replay) -> Result<(), NoMemory> {
     let host = replay.host();
     if host.output().is_empty() && host.errors().is_empty() {
-        return add_said(out, b"nothing is written yet");
+        return add_said(out, b"nothing has been written yet");
     }
     add_output(out, host.output())?;
     add_output(out, host.errors())

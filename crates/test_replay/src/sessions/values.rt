@@ -97,7 +97,7 @@ M8[#2000000000000000] (Total) = 5  (was 3)
     },
     Row {
         lines: "info output\ng 16\ni o\ni\n",
-        answer: "nothing is written yet
+        answer: "nothing has been written yet
 done
 step 16  sum.mms:16  Loop+24  SET $4,sum
 $255 = 5  (was #2000000000000008 <Text>)
