@@ -106,7 +106,13 @@ last-led d shallow there found l e = record { found = found; last = l; place = s
 pub maker-led : (d : Debugged) (place : Place) (there : ℕ) (found : Option ℕ) → IsLast d.program (changes place) d.at found → StandsBefore d.at there found → GoesToMaker d place there
 maker-led d place there found l s = record { found = found; last = l; stands = s }
 
-pub ruleset leading = (back-exact, next-led, last-led, maker-led)
+-- on from the start
+pub run-led : (d : Debugged) (p : Program) (here at : ℕ) → p ≡ d.program → here ≤ 0 → GoesToNext (record d { program = p; at = here }) None at → GoesToNext (record d { at = 0 }) None at
+run-led d p here at e l g =
+    let zero : here ≡ 0 = omega (arith, l) in
+    subst (λ q. GoesToNext (record d { program = q; at = 0 }) None at) e (subst (λ k. GoesToNext (record d { program = p; at = k }) None at) zero g)
+
+pub ruleset leading = (back-exact, next-led, last-led, maker-led, run-led)
 
 -- out of a call
 pub left-call : (d : Debugged) (at n : ℕ) (Goes : Option ℕ → ℕ → Type 0) → n ≡ depth_at d → n ≢ 0 → Goes (Some (n - 1)) at → LeavesCall d at Goes

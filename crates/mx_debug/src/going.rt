@@ -80,6 +80,7 @@ impl Session {
     }
 
     /// Obeys `run`: goes to the start without telling of it, and on.
+    #[tactic(auto, using(crate::proofs::Reaching::leading))]
     fn obey_run(&mut self, out: &mut Bytes) -> Result<(), NoMemory>
         ensures program { KeepsProgram self.old self.new }
         ensures stops { KeepsStops self.old self.new }
