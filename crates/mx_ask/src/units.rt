@@ -12,6 +12,8 @@ use mx_word::is_digit;
 #[derive(Clone, Copy, PartialEq, Eq)]
 pub enum Unit {
     Octa,
+    /// An octa as a signed decimal number.
+    Decimal,
     Tetra,
     Wyde,
     Byte,
@@ -25,6 +27,7 @@ fn unit_of(letter: u8) -> Option<Unit>
 {
     match letter {
         b'o' => Some(Unit::Octa),
+        b'd' => Some(Unit::Decimal),
         b't' => Some(Unit::Tetra),
         b'w' => Some(Unit::Wyde),
         b'b' => Some(Unit::Byte),

@@ -1,8 +1,9 @@
 //! The ring of registers as a picture.
 
+use crate::columns::add_right;
+use crate::numbers::add_short_hex;
 use mx_core::Machine;
 use mx_ops::codes::{RO, RS};
-use mx_pieces::{add_right, add_short_hex};
 use mx_text::add_decimal;
 use mx_word::{Bytes, NoMemory, STACK_SEGMENT};
 

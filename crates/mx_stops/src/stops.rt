@@ -3,9 +3,9 @@
 ghost use Rattle.std.specs.Prelude.{◌≡◌};
 ghost use Rattle.std.specs.List.{list_any};
 ghost use Rattle.mx_core.specs.Kept.{state_of};
-ghost use Rattle.mx_replay.specs.Marks as spec;
+ghost use Rattle.mx_stops.specs.Stops as spec;
 
-use crate::marks::{Place, value_at};
+use crate::places::{Place, value_at};
 use mx_core::Machine;
 use mx_word::signed;
 
@@ -77,7 +77,7 @@ impl Break {
 }
 
 /// Whether a machine is at one of some breaks.
-pub(crate) fn is_at_any_break(machine: &Machine, breaks: &[Break]) -> bool
+pub fn is_at_any_break(machine: &Machine, breaks: &[Break]) -> bool
     ensures { result ≡ list_any (spec.is_met (state_of machine.now)) breaks.now }
 {
     breaks.iter().any(|b| b.is_met(machine))
