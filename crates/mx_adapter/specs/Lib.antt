@@ -1,2 +1,4 @@
 pub mod Numbers
 pub mod Messages
+pub mod Commands
+pub mod Requests
