@@ -2,3 +2,4 @@ pub mod Numbers
 pub mod Messages
 pub mod Commands
 pub mod Requests
+pub mod Needs
