@@ -1,0 +1,3 @@
+pub mod Stops
+pub mod Leads
+pub mod Answered

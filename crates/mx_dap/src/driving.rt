@@ -1,7 +1,8 @@
 //! How a session of the debugger is driven by requests in place of lines: it goes to steps without telling of them, and its breaks and
 //! watches are set one by one.
 
-ghost use Rattle.std.specs.Prelude.{◌≡◌, min, OnOk};
+ghost use Rattle.std.specs.Prelude.{◌≡◌, ◌<◌, ℕ, min, OnOk};
+ghost use Rattle.mx_replay.specs.Programs.{GoesOn};
 ghost use Rattle.mx_debug.specs.Going.{GoesTo, GoesToLast, GoesToNext};
 ghost use Rattle.mx_debug.specs.Sessions.{KeepsProgram, KeepsStops};
 
@@ -152,15 +153,27 @@ fn watched_values(session: &Session) -> Result<Sequence<u64>, NoMemory> {
     Ok(values)
 }
 
+/// Goes to a step up to which the run goes on.
+#[tactic(auto, using(crate::proofs::Told::returning))]
+fn return_to(session: &mut Session, k: u64) -> Result<(), NoMemory>
+    requires { (j : ℕ) → j < k → GoesOn session.old.program j }
+    ensures program { KeepsProgram session.old session.new }
+    ensures stops { KeepsStops session.old session.new }
+    ensures place { OnOk result (session.new.at ≡ k) }
+{
+    session.replay.go_to(k)
+}
+
 /// The values that are watched as they were one step before.
 fn values_before(session: &mut Session) -> Result<Sequence<u64>, NoMemory>
     ensures program { KeepsProgram session.old session.new }
     ensures stops { KeepsStops session.old session.new }
+    ensures place { OnOk result (session.new.at ≡ session.old.at) }
 {
     let here = session.replay.step_number();
     session.replay.go_to(here.saturating_sub(1))?;
     let values = watched_values(session)?;
-    session.replay.go_to(here)?;
+    return_to(session, here)?;
     Ok(values)
 }
 
@@ -193,6 +206,7 @@ fn add_watches_met(
 pub(crate) fn find_met(session: &mut Session) -> Result<Sequence<u32>, NoMemory>
     ensures program { KeepsProgram session.old session.new }
     ensures stops { KeepsStops session.old session.new }
+    ensures place { OnOk result (session.new.at ≡ session.old.at) }
 {
     let mut numbers = Sequence::new(session.known.alloc);
     add_breaks_met(session, &mut numbers)?;

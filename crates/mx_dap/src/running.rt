@@ -1,5 +1,11 @@
 //! How a run goes on and back.
 
+ghost use Rattle.std.specs.Prelude.{◌≡◌, None, IfOk, OnOk};
+ghost use Rattle.mx_debug.specs.Going.{depth_at};
+ghost use Rattle.mx_debug.specs.Sessions.{KeepsProgram, KeepsStops};
+ghost use Rattle.mx_dap.specs.Leads.{LeadsBy, StepsBack};
+ghost use Rattle.mx_dap.specs.Stops.{TellsWhere};
+
 use crate::driving::{find_met, seek, seek_last_stop, seek_stop};
 use crate::loaded::Loaded;
 use crate::stops::Reason;
@@ -46,9 +52,17 @@ impl Loaded {
         Work::GoOn(depth, self.pause_step())
     }
 
+    /// How many registers are hidden.
+    #[tactic(auto, using(mx_debug::proofs::Reaching::depths))]
+    fn depth(&self) -> u64
+        ensures { result ≡ depth_at self.now.debugged }
+    {
+        self.debugged.replay.depth()
+    }
+
     /// What a request that goes forward asks for.
     fn forward(&self, command: Command) -> Work {
-        let depth = self.debugged.replay.depth();
+        let depth = self.depth();
         match command {
             _ if self.has_ended() => Work::Finish,
             Command::Next => self.going_on(Some(depth)),
@@ -59,15 +73,20 @@ impl Loaded {
     }
 
     /// What `stepBack` asks for: a step in the same call, or a single one.
-    fn step_back(&self, message: &Value) -> Work {
+    fn step_back(&self, message: &Value) -> Work
+        ensures { StepsBack self.now.debugged result }
+    {
         if text_at(message, "/arguments/granularity") == Some(b"instruction".as_slice()) {
             return Work::GoTo(self.step_number().saturating_sub(1));
         }
-        Work::GoBack(Some(self.debugged.replay.depth()))
+        Work::GoBack(Some(self.depth()))
     }
 
     /// What a request asks for that goes to another step.
-    pub(crate) fn work_for(&self, command: Command, message: &Value) -> Work {
+    pub(crate) fn work_for(&self, command: Command, message: &Value) -> Work
+        ensures back { command ≡ Command.StepBack → StepsBack self.now.debugged result }
+        ensures reverse { command ≡ Command.ReverseContinue → result ≡ Work.GoBack None }
+    {
         match command {
             Command::StepBack => self.step_back(message),
             Command::ReverseContinue => Work::GoBack(None),
@@ -76,7 +95,12 @@ impl Loaded {
     }
 
     /// Begins the run: it stays at the start where that is wished or a break is met, and goes on otherwise.
-    fn begin(&mut self, out: &mut Outbox) -> Result<Option<Work>, NoMemory> {
+    fn begin(&mut self, out: &mut Outbox) -> Result<Option<Work>, NoMemory>
+        ensures program { KeepsProgram self.old.debugged self.new.debugged }
+        ensures stops { KeepsStops self.old.debugged self.new.debugged }
+        ensures same { OnOk result (self.new.debugged.at ≡ self.old.debugged.at) }
+        ensures told { IfOk result (λ left. left ≡ None → TellsWhere self.new.debugged.at out.new) }
+    {
         if self.wishes.on_entry && !self.wishes.no_debug {
             self.tell_stop(out, Reason::Entry)?;
             return Ok(None);
@@ -90,12 +114,18 @@ impl Loaded {
     }
 
     /// Goes on by a piece, and tells of a stop.
+    #[tactic(auto, using(crate::proofs::Told::leading))]
     fn go_on(
         &mut self,
         out: &mut Outbox,
         depth: Option<u64>,
         until: u64,
-    ) -> Result<Option<Work>, NoMemory> {
+    ) -> Result<Option<Work>, NoMemory>
+        ensures program { KeepsProgram self.old.debugged self.new.debugged }
+        ensures stops { KeepsStops self.old.debugged self.new.debugged }
+        ensures leads { OnOk result (LeadsBy self.old.debugged (Work.GoOn depth until) self.new.debugged.at) }
+        ensures told { IfOk result (λ left. left ≡ None → TellsWhere self.new.debugged.at out.new) }
+    {
         let next = self.step_number().saturating_add(PIECE).min(until);
         let is_found = seek_stop(&mut self.debugged, depth, next)?;
         if is_found {
@@ -111,7 +141,13 @@ impl Loaded {
     }
 
     /// Does a part of what is to be done, and gives what is left of it.
-    pub(crate) fn work(&mut self, out: &mut Outbox, work: Work) -> Result<Option<Work>, NoMemory> {
+    #[tactic(auto, using(crate::proofs::Told::leading))]
+    pub(crate) fn work(&mut self, out: &mut Outbox, work: Work) -> Result<Option<Work>, NoMemory>
+        ensures program { KeepsProgram self.old.debugged self.new.debugged }
+        ensures stops { KeepsStops self.old.debugged self.new.debugged }
+        ensures leads { OnOk result (LeadsBy self.old.debugged work self.new.debugged.at) }
+        ensures told { IfOk result (λ left. left ≡ None → TellsWhere self.new.debugged.at out.new) }
+    {
         match work {
             Work::Begin => return self.begin(out),
             Work::GoOn(depth, until) => return self.go_on(out, depth, until),

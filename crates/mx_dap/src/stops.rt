@@ -1,5 +1,10 @@
 //! What is told of a stop.
 
+ghost use Rattle.std.specs.Prelude.{◌≡◌, ◌++◌, IfOk, OnOk, decimal};
+ghost use Rattle.mx_json.specs.Json.{array, further};
+ghost use Rattle.mx_debug.specs.Sessions.{KeepsProgram, KeepsStops};
+ghost use Rattle.mx_dap.specs.Stops.{IsStopBody, TellsEnd, TellsWhere};
+
 use crate::breaks::Mark;
 use crate::driving::find_met;
 use crate::loaded::Loaded;
@@ -8,6 +13,7 @@ use mx_json::{add_number, add_quoted, add_string};
 use mx_run::End;
 use mx_text::add_decimal;
 use mx_word::{Bytes, NoMemory};
+use std::alloc::Global;
 
 /// The status of a machine that stops, and of a run whose steps are spent.
 const STOPPED: u64 = 70;
@@ -55,15 +61,51 @@ fn reason_of(mark: Option<Mark>) -> Reason {
     }
 }
 
-/// Adds numbers as a list.
-fn add_numbers(text: &mut Bytes, numbers: &[u32]) -> Result<(), NoMemory> {
-    text.extend(b"[")?;
-    let mut front = b"".as_slice();
+/// Adds further numbers.
+fn add_further(text: &mut Bytes, numbers: &[u32]) -> Result<(), NoMemory>
+    ensures { OnOk result (text.new ≡ text.old ++ further decimal numbers.now) }
+{
     for number in numbers {
-        add_number(text, front, u64::from(*number))?;
-        front = b",";
+        add_number(text, b",", u64::from(*number))?;
     }
-    text.extend(b"]")
+    Ok(())
+}
+
+/// Adds numbers as a list.
+fn add_numbers(text: &mut Bytes, numbers: &[u32]) -> Result<(), NoMemory>
+    ensures { OnOk result (text.new ≡ text.old ++ array decimal numbers.now) }
+{
+    match numbers {
+        [] => text.extend(b"[]"),
+        [number, more @ ..] => {
+            add_number(text, b"[", u64::from(*number))?;
+            add_further(text, more)?;
+            text.extend(b"]")
+        }
+    }
+}
+
+/// The body of what is told of a stop.
+#[tactic(auto, using(crate::proofs::Told::telling), unfolding(crate::specs::Stops::stop_body))]
+fn stop_body(
+    alloc: Global,
+    at: u64,
+    reason: Reason,
+    said: &[u8],
+    met: &[u32],
+) -> Result<Bytes, NoMemory>
+    ensures { IfOk result (IsStopBody at) }
+{
+    let mut body = Bytes::new(alloc);
+    add_quoted(&mut body, b"{\"reason\":", name_of(reason).as_bytes())?;
+    body.extend(b",\"description\":\"step ")?;
+    add_decimal(&mut body, at)?;
+    body.extend(b"\",\"threadId\":1,\"allThreadsStopped\":true")?;
+    add_string(alloc, &mut body, b",\"text\":", said)?;
+    body.extend(b",\"hitBreakpointIds\":")?;
+    add_numbers(&mut body, met)?;
+    body.extend(b"}")?;
+    Ok(body)
 }
 
 impl Loaded {
@@ -87,29 +129,22 @@ impl Loaded {
     }
 
     /// The text of the step that is shown: its line, what its turn changed, and why it is a stop.
-    pub(crate) fn step_text(&mut self) -> Result<Bytes, NoMemory> {
+    pub(crate) fn step_text(&mut self) -> Result<Bytes, NoMemory>
+        ensures program { KeepsProgram self.old.debugged self.new.debugged }
+        ensures stops { KeepsStops self.old.debugged self.new.debugged }
+        ensures same { OnOk result (self.new.debugged.at ≡ self.old.debugged.at) }
+    {
         let mut text = Bytes::new(self.alloc);
         self.debugged.tell(&mut text)?;
         Ok(text)
     }
 
-    /// The body of what is told of a stop.
-    fn stop_body(&mut self, reason: Reason, met: &[u32]) -> Result<Bytes, NoMemory> {
-        let said = self.step_text()?;
-        let mut body = Bytes::new(self.alloc);
-        add_quoted(&mut body, b"{\"reason\":", name_of(reason).as_bytes())?;
-        body.extend(b",\"description\":\"step ")?;
-        add_decimal(&mut body, self.step_number())?;
-        body.extend(b"\",\"threadId\":1,\"allThreadsStopped\":true")?;
-        add_string(self.alloc, &mut body, b",\"text\":", said.as_slice())?;
-        body.extend(b",\"hitBreakpointIds\":")?;
-        add_numbers(&mut body, met)?;
-        body.extend(b"}")?;
-        Ok(body)
-    }
-
     /// Tells that the run is done, with its status.
-    pub(crate) fn tell_done(&mut self, out: &mut Outbox) -> Result<(), NoMemory> {
+    #[tactic(auto, using(crate::proofs::Told::telling))]
+    pub(crate) fn tell_done(&mut self, out: &mut Outbox) -> Result<(), NoMemory>
+        ensures same { self.new.debugged ≡ self.old.debugged }
+        ensures told { OnOk result (TellsEnd out.new) }
+    {
         let status = match self.end() {
             End::Halted(status) => u64::from(status),
             End::Stopped { .. } => STOPPED,
@@ -131,18 +166,22 @@ impl Loaded {
     }
 
     /// Tells of the stop where the run is, after what it wrote on the way.
-    pub(crate) fn tell_stop(
-        &mut self,
-        out: &mut Outbox,
-        otherwise: Reason,
-    ) -> Result<(), NoMemory> {
+    #[tactic(auto, using(crate::proofs::Told::telling))]
+    pub(crate) fn tell_stop(&mut self, out: &mut Outbox, otherwise: Reason) -> Result<(), NoMemory>
+        ensures program { KeepsProgram self.old.debugged self.new.debugged }
+        ensures stops { KeepsStops self.old.debugged self.new.debugged }
+        ensures same { OnOk result (self.new.debugged.at ≡ self.old.debugged.at) }
+        ensures told { OnOk result (TellsWhere self.new.debugged.at out.new) }
+    {
         self.tell_output(out)?;
         if self.is_to_end() {
             return self.tell_done(out);
         }
         let met = find_met(&mut self.debugged)?;
         let reason = self.reason_here(otherwise, met.as_slice());
-        let body = self.stop_body(reason, met.as_slice())?;
+        let said = self.step_text()?;
+        let at = self.step_number();
+        let body = stop_body(self.alloc, at, reason, said.as_slice(), met.as_slice())?;
         out.tell(b"stopped", body.as_slice())
     }
 

@@ -1,51 +1,84 @@
 //! Memory, as bytes.
 
+ghost use Rattle.std.specs.Prelude.{◌≡◌, ◌<◌, ◌≤◌, ◌+◌, ◌++◌, ◌^◌, IfOk, OnOk};
+ghost use Rattle.mx_core.specs.Kept.{state_of};
+ghost use Rattle.mx_core.specs.MachineSpace.{machine_contents};
+ghost use Rattle.mx_trap.specs.Requests.{bytes_from};
+ghost use Rattle.serde_json.specs.View.{view};
+ghost use Rattle.mx_panes.specs.Memory as spec;
+ghost use Rattle.mx_panes.specs.Memory.{ShowsMemory};
+
 use crate::scene::Scene;
 use crate::values::{MEMORY_END, add_reference, parse_reference};
 use base64::engine::general_purpose::STANDARD;
 use mx_adapter::{Answer, integer_at, number_at, text_at};
-use mx_book::Thing;
 use mx_core::Machine;
 use mx_json::{add_number, add_quoted};
-use mx_tell::value_of;
-use mx_word::{Bytes, NoMemory, octa_bytes};
+use mx_mem::Space;
+use mx_word::{Bytes, NoMemory};
 use serde_json::Value;
+use std::alloc::Global;
 
 /// How many bytes are read at most.
 const MOST: u64 = 1 << 20;
 
-/// The byte at an address; 0 where there is no memory.
-fn byte_at(machine: &Machine, a: u64) -> u8 {
-    let bytes = octa_bytes(value_of(machine, Thing::Octa(a)));
-    bytes[(a % 8) as usize]
+/// The byte at an address below 2^63.
+fn byte_at(machine: &Machine, a: u64) -> u8
+    requires { a < 2 ^ 63 }
+    ensures { result ≡ (machine_contents (state_of machine.now)).bytes a }
+{
+    match machine.byte_at(a) {
+        Ok(b) => b,
+        Err(_) => 0,
+    }
 }
 
 /// How many of so many bytes from an address on are memory.
-fn readable(address: u64, count: u64) -> u64 {
+fn readable(address: u64, count: u64) -> u64
+    ensures count { result ≡ spec.readable address count }
+    ensures below { 0 < result → address + result ≤ 2 ^ 63 }
+{
     MEMORY_END.saturating_sub(address).min(count)
 }
 
-impl Scene<'_> {
-    /// The bytes from an address on.
-    fn bytes_from(&self, address: u64, count: u64) -> Result<Bytes, NoMemory> {
-        let mut bytes = Bytes::new(self.alloc);
-        for place in 0..count {
-            bytes.push(byte_at(self.machine, address.wrapping_add(place)))?;
-        }
-        Ok(bytes)
+/// The bytes from an address on.
+#[tactic(auto, using(crate::proofs::Shown::showing))]
+fn read_bytes(alloc: Global, machine: &Machine, address: u64, count: u64) -> Result<Bytes, NoMemory>
+    requires { 0 < count → address + count ≤ 2 ^ 63 }
+    ensures { IfOk result (λ bytes. bytes ≡ bytes_from (machine_contents (state_of machine.now)).bytes address count) }
+{
+    let mut bytes = Bytes::new(alloc);
+    for place in 0..count {
+        bytes.push(byte_at(machine, address + place))?;
     }
+    Ok(bytes)
+}
 
+/// Adds how many bytes are no memory, if there are some.
+#[tactic(auto, unfolding(crate::specs::Memory::unreadable_member))]
+fn add_unreadable(text: &mut Bytes, count: u64) -> Result<(), NoMemory>
+    ensures { OnOk result (text.new ≡ text.old ++ spec.unreadable_member count) }
+{
+    if count == 0 {
+        Ok(())
+    } else {
+        add_number(text, b",\"unreadableBytes\":", count)
+    }
+}
+
+impl Scene<'_> {
     /// What is read of so many bytes from an address on.
-    fn memory_body(&self, address: u64, count: u64) -> Result<Bytes, NoMemory> {
-        let bytes = self.bytes_from(address, readable(address, count))?;
+    #[tactic(auto, unfolding(crate::specs::Memory::memory_body))]
+    fn memory_body(&self, address: u64, count: u64) -> Result<Bytes, NoMemory>
+        ensures { IfOk result (λ text. text ≡ spec.memory_body (state_of self.now.machine.now) address count) }
+    {
+        let readable = readable(address, count);
+        let bytes = read_bytes(self.alloc, self.machine, address, readable)?;
         let data = STANDARD.encode(self.alloc, bytes.as_slice())?;
         let mut text = Bytes::new(self.alloc);
         add_reference(&mut text, b"{\"address\":", address)?;
         add_quoted(&mut text, b",\"data\":", data.as_bytes())?;
-        let rest = count.saturating_sub(bytes.as_slice().len() as u64);
-        if rest != 0 {
-            add_number(&mut text, b",\"unreadableBytes\":", rest)?;
-        }
+        add_unreadable(&mut text, count.saturating_sub(readable))?;
         text.extend(b"}")?;
         Ok(text)
     }
@@ -61,7 +94,9 @@ impl Scene<'_> {
     }
 
     /// Answers `readMemory`.
-    pub fn read_memory(&self, message: &Value) -> Result<Answer, NoMemory> {
+    pub fn read_memory(&self, message: &Value) -> Result<Answer, NoMemory>
+        ensures { IfOk result (ShowsMemory (state_of self.now.machine.now) (view message.now)) }
+    {
         let count = number_at(message, "/arguments/count")
             .unwrap_or(0)
             .min(MOST);

@@ -1,8 +1,13 @@
 //! What scopes have: registers, hidden frames and symbols.
 
+ghost use Rattle.std.specs.Prelude.{◌≤◌, IfOk};
+ghost use Rattle.mx_core.specs.Kept.{state_of};
+ghost use Rattle.mx_core.specs.State.{global_start, locals};
+ghost use Rattle.mx_panes.specs.Registers.{ShowRegisters, ShowsValue};
+
 use crate::frames::{frame_address, locals_reference};
 use crate::scene::Scene;
-use crate::values::{add_reference, add_value_text, is_data};
+use crate::values::{add_reference, is_data, value_text};
 use mx_adapter::{Answer, number_at};
 use mx_book::Thing;
 use mx_cmd::special_name;
@@ -45,13 +50,9 @@ pub fn list_variables(alloc: Global, rows: &Values, message: &Value) -> Result<A
 }
 
 impl Scene<'_> {
-    /// The row of a variable: its name, what `evaluate` takes for it, which may be nothing, and its value.
-    fn row(&self, name: &[u8], asked: &[u8], value: u64) -> Result<Bytes, NoMemory> {
-        let mut shown = Bytes::new(self.alloc);
-        add_value_text(&mut shown, self.book, value)?;
+    /// What a row has after its value: what `evaluate` takes for it, which may be nothing, and where it leads.
+    fn row_end(&self, asked: &[u8], value: u64) -> Result<Bytes, NoMemory> {
         let mut text = Bytes::new(self.alloc);
-        add_string(self.alloc, &mut text, b"{\"name\":", name)?;
-        add_string(self.alloc, &mut text, b",\"value\":", shown.as_slice())?;
         if !asked.is_empty() {
             add_string(self.alloc, &mut text, b",\"evaluateName\":", asked)?;
         }
@@ -62,8 +63,24 @@ impl Scene<'_> {
         Ok(text)
     }
 
+    /// The row of a variable: its name, what `evaluate` takes for it, which may be nothing, and its value.
+    #[tactic(auto, using(crate::proofs::Shown::showing))]
+    fn row(&self, name: &[u8], asked: &[u8], value: u64) -> Result<Bytes, NoMemory>
+        ensures { IfOk result (ShowsValue value) }
+    {
+        let shown = value_text(self.alloc, self.book, value)?;
+        let end = self.row_end(asked, value)?;
+        let mut text = Bytes::new(self.alloc);
+        add_string(self.alloc, &mut text, b"{\"name\":", name)?;
+        add_string(self.alloc, &mut text, b",\"value\":", shown.as_slice())?;
+        text.extend(end.as_slice())?;
+        Ok(text)
+    }
+
     /// The row of a register with this value.
-    fn register_row(&self, k: u8, value: u64, is_now: bool) -> Result<Bytes, NoMemory> {
+    fn register_row(&self, k: u8, value: u64, is_now: bool) -> Result<Bytes, NoMemory>
+        ensures { IfOk result (ShowsValue value) }
+    {
         let mut name = Bytes::new(self.alloc);
         add_thing(&mut name, self.book, Thing::Register(k))?;
         let mut asked = Bytes::new(self.alloc);
@@ -75,11 +92,14 @@ impl Scene<'_> {
     }
 
     /// The rows of the registers from one up to another.
-    fn register_rows(&self, from: usize, to: usize) -> Result<Values, NoMemory> {
+    #[tactic(auto, using(crate::proofs::Shown::listing))]
+    fn register_rows(&self, from: usize, to: usize) -> Result<Values, NoMemory>
+        requires { to ≤ 256 }
+        ensures { IfOk result (ShowRegisters (state_of self.now.machine.now) from to) }
+    {
         let mut rows = Values::new(self.alloc);
         for k in from..to {
-            let k = (k % 256) as u8;
-            rows.push(self.register_row(k, self.machine.register(k), true)?)?;
+            rows.push(self.register_row(k as u8, self.machine.register(k as u8), true)?)?;
         }
         Ok(rows)
     }
@@ -104,12 +124,16 @@ impl Scene<'_> {
     }
 
     /// The rows of the local registers.
-    pub fn local_rows(&self) -> Result<Values, NoMemory> {
+    pub fn local_rows(&self) -> Result<Values, NoMemory>
+        ensures { IfOk result (ShowRegisters (state_of self.now.machine.now) 0 (locals (state_of self.now.machine.now))) }
+    {
         self.register_rows(0, usize::from(self.machine.l()))
     }
 
     /// The rows of the global registers.
-    pub fn global_rows(&self) -> Result<Values, NoMemory> {
+    pub fn global_rows(&self) -> Result<Values, NoMemory>
+        ensures { IfOk result (ShowRegisters (state_of self.now.machine.now) (global_start (state_of self.now.machine.now)) 256) }
+    {
         self.register_rows(usize::from(self.machine.g()), 256)
     }
 
