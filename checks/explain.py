@@ -247,7 +247,7 @@ def status_of(outcome):
 
 
 def check_status(row):
-    """The example of a status has it, and what mends it does not, where the model can tell: it has one file, the source hello.mms."""
+    """The example of a status has it, and what mends it does not, where the model can say so: it has one file, the source hello.mms."""
     for text, due in ((row.example, True), (row.mended, False)):
         if text.startswith("mmixware"):
             outcome = answer_of(shlex.split(text)[1:], b"hello.mms", b"Main TRAP 0,Halt,0\n")

@@ -1,4 +1,4 @@
-* compiled.mms: 25 million steps as a C compiler makes them without optimization: each variable stands in a frame in
+* compiled.mms: 25 million steps as a C compiler makes them without optimization: each variable is in a frame in
 * memory, texts are read and written byte by byte, functions are called by their addresses, some of them far away. Each
 * turn makes a text upper case and lower case in turn, reverses it and takes its length.
 sp      GREG  0

@@ -42,7 +42,7 @@ class Adapter(frames.Server):
         self.outputs = []
 
     def take(self):
-        """The next message. The events that tell output are kept apart, too."""
+        """The next message. The events with output are kept apart, too."""
         it = self.read()
         self.seen(it, True)
         if it["type"] == "event" and it["event"] == "output":

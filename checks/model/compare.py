@@ -60,8 +60,8 @@ def differences(left, right):
 
 
 def is_outside(case, model):
-    """Tells a case that the program does not hand to the call that is modelled, since it prints its usage where there are no words; and
-    a run that made a file under a name that no folder can hold: what a system then answers is its own."""
+    """Whether a case is not compared: one without words, for which the program prints its usage and makes no call, and one whose run
+    made a file under a name that no folder can hold, where a system answers what it likes."""
     return not case.words or any(name in ("", ".", "..") or "/" in name or "\0" in name or not name.isascii() for name in model.files)
 
 

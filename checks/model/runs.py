@@ -1,4 +1,4 @@
-"""Random programs that are run: what each is called with, and what so many steps of its run leave, as `mmixware run --steps k --dump` tells it.
+"""Random programs that are run: what each is called with, and what so many steps of its run leave, as `mmixware run --steps k --dump` prints it.
 """
 import argparse
 import os

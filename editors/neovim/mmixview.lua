@@ -1,5 +1,5 @@
 -- Faults, meaning and names of MMIXAL in neovim, by `mmixview lsp`: put `dofile("/path/to/mmixview.lua")` into init.lua.
--- `K` tells what is under the cursor, `gd` goes to the label, `gr` lists the uses of a name, `F2` changes it, `F3` sets the columns.
+-- `K` shows what is under the cursor, `gd` goes to the label, `gr` lists the uses of a name, `F2` changes it, `F3` sets the columns.
 local function start(buffer)
   local client = vim.lsp.start_client({
     name = "mmixview",

@@ -152,7 +152,7 @@ class Session:
     # steps
 
     def flagged(self, address, letter):
-        """Tells a flag of the tetra that holds an address."""
+        """Whether the tetra that holds an address has a flag."""
         return letter in self.flags.get(address // 4 * 4, "")
 
     def broken(self, trace):

@@ -23,12 +23,12 @@ class Fields(NamedTuple):
 
 
 def is_digit(byte):
-    """Tells a decimal digit."""
+    """Whether a byte is a decimal digit."""
     return 48 <= byte <= 57
 
 
 def is_letter(byte):
-    """Tells a letter: A to Z, a to z, the colon, the underscore, and every byte above 126."""
+    """Whether a byte is a letter: A to Z, a to z, the colon, the underscore, and every byte above 126."""
     return 65 <= byte <= 90 or 97 <= byte <= 122 or byte in b":_" or byte > 126
 
 

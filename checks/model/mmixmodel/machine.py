@@ -113,7 +113,7 @@ class Machine(State):
         """RESUME 0 with the top bit of rX clear performs an inserted instruction in the same step.
 
         The kind is the top byte of rX, w its low tetra, and p is 4 floor(rW/4) - 4 modulo 2^64. Kind 0 performs w as if
-        it stood at p. Kind 1 does so with rY and rZ as operands. Kind 2 writes rZ to the register X of w, and goes to
+        it were at p. Kind 1 does so with rY and rZ as operands. Kind 2 writes rZ to the register X of w, and goes to
         p + 4; nothing stops it after the two reasons of RESUME itself, and it is never wild.
         """
         rx = self.special[RX]

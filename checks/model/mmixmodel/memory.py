@@ -18,7 +18,7 @@ class Memory:
         self.pages = set()
 
     def has_room(self, address):
-        """Tells whether a store at an address needs no page too many."""
+        """Whether a store at an address needs no page too many."""
         return address >> 12 in self.pages or len(self.pages) < PAGES
 
     def octa(self, address):

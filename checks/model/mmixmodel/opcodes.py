@@ -48,7 +48,7 @@ SHAPES = (
 #   either:  a register, or a byte with the second code
 #   loose:   a register or a byte, with one code
 #   near, far:  the target of a relative address of 16 or 24 bits
-#   base:    a register, which stands for that register plus 0, or a pure address that a GREG is near
+#   base:    a register, which means that register plus 0, or a pure address that a GREG is near
 FORMS = {
     "three": (("register X", "register Y", "either Z"),),
     "registers": (("register X", "register Y", "register Z"),),

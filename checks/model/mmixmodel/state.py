@@ -18,7 +18,7 @@ SAVED = (RB, RD, RE, RH, RJ, RM, RR, RP, RW, RX, RY, RZ)
 
 
 def is_in_segment(address):
-    """Tells an address of Stack_Segment."""
+    """Whether an address is in Stack_Segment."""
     return BASE <= address < NEGATIVE
 
 
@@ -87,7 +87,7 @@ class State:
         return self.octa(address) >> (32 if address % 8 < 4 else 0) & 0xFFFFFFFF
 
     def has_room(self, address):
-        """Tells whether a store at an address needs no page too many; the stack area lies in no page."""
+        """Whether a store at an address needs no page too many; the stack area lies in no page."""
         return BASE <= address < BASE + STACK_BYTES or self.memory.has_room(address)
 
     def store(self, address, size, value):

@@ -7,8 +7,8 @@ has #10.
 The low four bits of m give the value: 0 none; 1 to 8 a pure value of that many bytes; 9 to 14 a pure value of 8 bytes
 fewer, plus 2^61; 15 a register in one byte. The serial is in base 128 with the most significant digit first, and its
 last byte has #80 added. The name of a symbol is the characters on the way from the root, where only a middle branch
-adds its node's character, and its own character. A node without a character adds nothing. A two-byte character stands
-for the UTF-8 form of its number.
+adds its node's character, and its own character. A node without a character adds nothing. A two-byte character means
+the UTF-8 form of its number.
 """
 from .expressions import Value, pure
 from .faults import Fault
