@@ -182,6 +182,9 @@ grade_solution() {
   verdict=right status='' detail=''
   assemble
   remove_run
+  if [ "$shield" = none ] && [ "$(id -u)" = 0 ]; then
+    verdict=failed detail='not run: no shield, and the user is root'
+  fi
   weigh
   begun=$verdict begun_status=$status begun_detail=$detail
   for test in "$room"/task/*/; do

@@ -10,7 +10,7 @@ mount_box() {
 # puts the test's files and the solution into the solution's folder
 fill_work() {
   [ ! -d "$test/files" ] || { cp -R "$test/files/." "$work" && chmod -R u+rwX "$work"; } || return 1
-  cp "$room/solutions/$solution" "$work/solution.${solution##*.}"
+  cp "$room/solutions/$solution" "$work/solution.${solution##*.}" && chmod u+w "$work/solution.${solution##*.}"
 }
 
 # turns into the program, under the limits

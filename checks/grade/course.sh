@@ -121,6 +121,23 @@ put random.mms 'echo hello; echo $$ >&2; stop 113'
 gives 'a stop that does not come again so' 'random.mms  0/1  1: a further run, with --last, ended in another way ("#0000000000000108: 113 Negative")' \
   1 stopped random.mms
 
+# ---- the order of the tests
+for number in 2 10 1 x9 x10 01; do
+  put "order/$number/output" hello
+done
+put right.mms 'echo hello'
+grade --json order right.mms | sed 's/.*"test":"\([^"]*\).*/\1/' | paste -sd ' ' >out
+echo '01 1 2 10 x9 x10' | diff - out >&2 || wrong 'numbers in names of tests are not ordered by value'
+
+# ---- results that cannot be written
+if [ -c /dev/full ]; then
+  for form in table csv json tap junit gradescope; do
+    "$grade" --program ./mmixware --shield none --format $form task quick.mms >/dev/full 2>said
+    got=$?
+    [ "$got" = 74 ] && grep -q 'could not be written' said || wrong "$form: results are lost with the status $got: $(cat said)"
+  done
+fi
+
 # ---- hidden tests: nothing of them is shown but whether they are right
 put secret/open/output hello
 put secret/unseen/output 'a secret'

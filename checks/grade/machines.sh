@@ -1,9 +1,14 @@
 #!/bin/sh
 # Tests that the grader spreads solutions over machines: sh checks/grade/machines.sh [GRADE]. It starts two servers of
 # OpenSSH on this machine, at ports of the loopback that are free, with keys of their own, and ends them. The program is
-# a stand-in. Where there is no sshd, GNU parallel or rsync, it says so and tests nothing. Leaves nothing behind.
+# a stand-in, which works under no shield, and that is refused for root. Begun by root, and where there is no sshd, GNU
+# parallel or rsync, it says so and tests nothing. Leaves nothing behind.
 cd "$(dirname "$0")/../.." || exit 1
 check=checks/grade/machines.sh
+if [ "$(id -u)" = 0 ]; then
+  echo "$check: nothing is tested, since this is root" >&2
+  exit 0
+fi
 . checks/grade/stand-in.sh
 PATH=$PATH:/usr/sbin:/sbin
 
@@ -14,16 +19,10 @@ for tool in sshd ssh ssh-keygen rsync parallel; do
   fi
 done
 
-# a server of root wants this folder
-made=''
-if [ "$(id -u)" = 0 ] && [ ! -d /run/sshd ]; then
-  mkdir -m 755 /run/sshd && made=/run/sshd
-fi
 end_servers() {
   for one in "$room"/pid.*; do
     [ ! -f "$one" ] || kill "$(cat "$one")"
   done
-  [ -z "$made" ] || rmdir "$made"
   cd /
   rm -rf "$room"
 }

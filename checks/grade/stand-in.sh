@@ -1,7 +1,16 @@
 # What the checks with a stand-in for the program have in common; they are begun at the top, and say in $check who they
-# are. They go on in a folder of their own, which is removed at the end.
+# are. They go on in a folder of their own, which is removed at the end. Their runs have no shield, which is refused for
+# root: begun by root they begin again as another user, with a copy of the grader that this user can read.
 top=$(pwd)
 grade=${1:-$top/grade}
+if [ "$(id -u)" = 0 ]; then
+  copy=$(mktemp -d) || exit 1
+  trap 'cd /; rm -rf "$copy"' EXIT
+  mkdir -p "$copy/checks" && cp -R checks/grade "$copy/checks" && cp "$grade" "$copy/grade" &&
+    cp -R "$(dirname "$grade")/grading" "$copy" && chmod -R a+rX "$copy" || exit 1
+  setpriv --reuid=65534 --regid=65534 --clear-groups sh "$copy/$check"
+  exit
+fi
 room=$(mktemp -d) || exit 1
 trap 'cd /; rm -rf "$room"' EXIT
 trap 'exit 1' INT TERM HUP

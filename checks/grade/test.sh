@@ -19,7 +19,18 @@ wrong() {
 }
 
 grade() {
-  "$top/grade" --program "$program" "$@" 2>"$room/said"
+  $as "$grade" --program "$program" "$@" 2>"$room/said"
+}
+
+# what is done without a shield is refused for root, and so it is done as another user, with copies that this user can read
+as='' grade=$top/grade
+become_other() {
+  [ "$(id -u)" = 0 ] || return 0
+  "$grade" --program "$program" --shield none "$room/tasks/hello" "$room/solutions/hello" >"$room/out" 2>"$room/said"
+  [ $? = 64 ] && grep -q 'refused for root' "$room/said" || wrong "root may do without a shield: $(cat "$room/said")"
+  mkdir "$room/tool" && cp -R "$top/grade" "$top/grading" "$room/tool" && cp "$program" "$room/tool/mmixware" &&
+    chown -R 65534:65534 "$room" || exit 1
+  grade=$room/tool/grade program=$room/tool/mmixware as='setpriv --reuid=65534 --regid=65534 --clear-groups'
 }
 
 # writes the solutions to files, and their verdicts, one line each, to two tables
@@ -85,6 +96,7 @@ $(cat "$room/differences")"
 is_there() {
   case $1 in
     unshare) unshare -r -m -n -i -u -p -f true 2>/dev/null ;;
+    none) ;;
     bwrap) bwrap --dev-bind / / --size 4096 --tmpfs /tmp bwrap --unshare-all --ro-bind / / true 2>/dev/null ;;
   esac
 }
@@ -105,6 +117,7 @@ check_shields() {
       done
     fi
   done
+  become_other
   # what a solution may spoil without a shield are the tasks of this room
   compare none xargs "$room/bare" "$every"
   if command -v parallel >/dev/null; then
@@ -113,18 +126,38 @@ check_shields() {
   cp checks/grade/tasks/hello/1/output "$room/tasks/hello/1/output"
 }
 
-# the order of the words, the status, and the table
+# that nothing is graded where no shield works, but with --shield none, which says what a solution can spoil
+check_none() {
+  mkdir "$room/without"
+  for name in unshare bwrap; do
+    printf '#!/bin/sh\nexit 1\n' >"$room/without/$name" && chmod 755 "$room/without" "$room/without/$name"
+  done
+  # shellcheck disable=SC2030
+  (PATH=$room/without:$PATH refused "$room/tasks/hello" "$room/solutions/hello/right.mms") || bad=1
+  grep -q 'no shield works here' "$room/said" || wrong "it is not said that no shield works: $(cat "$room/said")"
+  grade --shield none "$room/tasks/hello" "$room/solutions/hello/right.mms" >"$room/out"
+  grep -q "no shield: a solution can overwrite $room/tasks/hello\$" "$room/said" || wrong 'it is not said what can be overwritten'
+}
+
+# a shield for what is not about shields
+choose_shield() {
+  for shield in unshare bwrap none; do
+    ! is_there "$shield" || return 0
+  done
+}
+
+# the order of the arguments, the status, and the table
 check_forms() {
   hello=$room/solutions/hello
-  grade --json "$room/tasks/hello" "$hello/wrong.mms" "$hello/right.mms" >"$room/out"
+  grade --shield "$shield" --json "$room/tasks/hello" "$hello/wrong.mms" "$hello/right.mms" >"$room/out"
   [ $? = 1 ] || wrong 'the status is not 1 where a solution is wrong'
   printf '%s\n' wrong.mms right.mms >"$room/wanted"
-  sed 's/^{"solution":"[^"]*\///; s/".*//' "$room/out" | cmp -s - "$room/wanted" || wrong 'the order is not that of the words'
-  grade "$room/tasks/two" "$room/solutions/two" >"$room/out"
-  printf '%s  %s\n' both.mms 2/2 half.mms '1/2  2: another byte is printed: byte 1, line 1' >"$room/wanted"
+  sed 's/^{"solution":"[^"]*\///; s/".*//' "$room/out" | cmp -s - "$room/wanted" || wrong 'the order is not that of the arguments'
+  grade --shield "$shield" "$room/tasks/two" "$room/solutions/two" >"$room/out"
+  printf '%s  %s\n' both.mms 2/2 half.mms '1/2  2: the output differs at byte 1 (line 1)' >"$room/wanted"
   awk '{ sub(/^.*solutions\/two\//, ""); print }' "$room/out" | cmp -s - "$room/wanted" || wrong "the table is
 $(cat "$room/out")"
-  grade "$room/tasks/two" "$room/solutions/two/both.mms" >/dev/null || wrong 'the status is not 0 where all is right'
+  grade --shield "$shield" "$room/tasks/two" "$room/solutions/two/both.mms" >/dev/null || wrong 'the status is not 0 where all is right'
 }
 
 check_refusals() {
@@ -149,6 +182,8 @@ check_refusals() {
 every='hello memory fifo given written two status ends object'
 make_solutions
 check_shields
+check_none
+choose_shield
 check_forms
 check_refusals
 exit $bad
