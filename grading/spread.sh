@@ -39,4 +39,4 @@ trap : TERM
 case $(awk -W version 2>&1 </dev/null) in
   mawk*) set -- -W interactive "$@" ;;
 esac
-make_rows | tee results | awk "$@" -f rows.awk
+make_rows | tee results | awk "$@" -f rows.awk || : >unwritten
