@@ -1,6 +1,6 @@
 # Shows the rows of runs in a form: awk -v form=FORM -v rows=ROWS .. -f rows.awk. In the room are the names of the
 # solutions and the tests, each with its points; run.sh says what a row has.
-#   form      table, json, tap, junit or gradescope
+#   form      table, csv, json, tap, junit or gradescope
 #   points    what all tests together are worth, if not the sum of theirs
 #   detailed  expected beside printed, in the table
 #   counting  the steps that were used
@@ -17,6 +17,8 @@ BEGIN {
   if (points != "" && sum) for (i = 1; i <= tests; i++) worth[i] = worth[i] * points / sum
   has_points = has_points || points != ""
   if (form == "tap") printf "TAP version 13\n1..%d\n", names * tests
+  else if (form == "csv") show_csv_head()
+  else if (form == "table" && counting) show_head()
   else if (form == "junit") print "<?xml version=\"1.0\" encoding=\"UTF-8\"?>\n<testsuites>"
   show_progress()
 }
@@ -52,6 +54,7 @@ function take_row() {
   if (at < tests) return
   clear_progress()
   if (form == "table") show_in_table()
+  else if (form == "csv") show_in_csv()
   else if (form == "tap") show_tap()
   else if (form == "junit") show_suite()
   else if (form == "gradescope") show_results()
@@ -85,6 +88,11 @@ function total(what,    i, n) {
 function how_many(which,    i, n) {
   for (i = 1; i <= tests; i++) n += verdict[i] == which
   return n + 0
+}
+
+# a number with so many digits that a sum of such numbers, to two digits after the point, is right
+function exact(n) {
+  return sprintf("%.13g", n)
 }
 
 # a number with two digits after the point at most
@@ -154,7 +162,34 @@ function show_least(    i, listed) {
       printf "{\"test\":%s,\"least\":%s,\"solution\":%s}\n", quoted(label[i]), or_null(least[i]), i in by ? quoted(by[i]) : "null"
     else listed = listed " " (i in least ? least[i] : "-")
   if (form == "tap") print "# least steps:" listed
-  else if (form == "table") printf "%s  %s\n", padded("least"), substr(listed, 2) " steps"
+  else if (form == "table")
+    print padded("least", wide) "  " padded("", width_of_right()) (has_points ? "  " padded("", width_of_points()) : "") \
+      columns_of_steps(least)
+}
+
+# ---- CSV, a row for each solution
+
+# A field. In a spreadsheet what begins with one of some characters is no text; in front of a name a path stays the same.
+function field(text, front) {
+  if (text ~ /^[=+@-]/) text = front text
+  if (text ~ /[",]/) {
+    gsub(/"/, "\"\"", text)
+    text = "\"" text "\""
+  }
+  return text
+}
+
+function show_csv_head(    i, listed) {
+  for (i = 1; i <= tests; i++) listed = listed "," field(label[i], "'")
+  print "solution,right,tests,points,of" listed (counting ? ",steps" : "") ",problem"
+}
+
+# the points of each test are between those of all tests and the first problem
+function show_in_csv(    i, first, listed) {
+  first = first_wrong()
+  for (i = 1; i <= tests; i++) listed = listed "," exact(earned[i])
+  print field(name[$1], "./") "," how_many("right") "," tests "," exact(total(earned)) "," exact(total(worth)) listed \
+    (counting ? "," all_steps() : "") "," (first ? field(complaint(first), "'") : "")
 }
 
 # ---- JSON
@@ -172,7 +207,7 @@ function show_json_row(    differs) {
   differs = expected[at] != "" || printed[at] != ""
   printf "{\"solution\":%s,\"test\":%s,\"verdict\":\"%s\",\"status\":%s,\"detail\":%s,\"message\":%s,\"points\":%s,\"of\":%s," \
     "\"expected\":%s,\"printed\":%s,\"steps\":%s}\n", quoted(name[$1]), quoted(label[at]), verdict[at], or_null(status[at]),
-    quoted(detail[at]), quoted(message[at]), number(earned[at]), number(worth[at]), differs ? quoted(expected[at]) : "null",
+    quoted(detail[at]), quoted(message[at]), exact(earned[at]), exact(worth[at]), differs ? quoted(expected[at]) : "null",
     differs ? quoted(printed[at]) : "null", or_null(steps[at])
 }
 
@@ -199,7 +234,7 @@ function show_tap(    i) {
     yaml("message", message[i])
     yaml("expected", expected[i])
     yaml("printed", printed[i])
-    yaml("points", number(earned[i]) " of " number(worth[i]))
+    yaml("points", exact(earned[i]) " of " exact(worth[i]))
     yaml("steps", steps[i])
     print "  ..."
   }
@@ -223,8 +258,8 @@ function show_suite(    i) {
   printf "<testsuite name=\"%s\" tests=\"%d\" failures=\"%d\" errors=\"%d\" skipped=\"0\">\n", xml(name[$1]), tests,
     tests - how_many("right") - how_many("failed"), how_many("failed")
   printf "<properties>"
-  property("points", number(total(earned)))
-  property("of", number(total(worth)))
+  property("points", exact(total(earned)))
+  property("of", exact(total(worth)))
   if (counting) property("steps", all_steps())
   print "</properties>"
   for (i = 1; i <= tests; i++) show_case(i)
@@ -251,22 +286,29 @@ function explained(i,    text) {
 
 # ---- results.json of Gradescope
 
+# the score of all overrides the sum of those of the tests, which are rounded one by one
 function show_results(    i) {
   if (names > 1) {
-    if (over == 0) printf "{\"score\":0,\"output\":\"%d programs are there, and one is wanted\"}\n", names
+    if (over == 0) printf "{\"score\":0,\"output\":%s}\n", quoted(names " programs are there, and one is wanted: " all_names())
     return
   }
-  printf "{%s\"tests\":[", is_whole(1) ? "\"output\":" quoted(detail[1]) "," : ""
+  printf "{\"score\":%s,%s\"tests\":[", exact(total(earned)), is_whole(1) ? "\"output\":" quoted(detail[1]) "," : ""
   for (i = 1; i <= tests; i++) show_result(i)
   printf "]"
   if (counting && all_steps() != "") printf ",\"leaderboard\":[{\"name\":\"steps\",\"value\":%s,\"order\":\"asc\"}]", all_steps()
   print "}"
 }
 
+# the names of the first solutions
+function all_names(    i, listed) {
+  for (i = 1; i <= names && i <= 20; i++) listed = listed (i == 1 ? "" : ", ") name[i]
+  return listed (names > 20 ? ", ..." : "")
+}
+
 function show_result(i,    text) {
   text = verdict[i] == "right" ? "" : quoted(explained(i))
   gsub(/\n/, "\\n", text)
   printf "%s{\"name\":%s,\"score\":%s,\"max_score\":%s,\"status\":\"%s\"%s,\"visibility\":\"%s\"}", (i == 1 ? "" : ","),
-    quoted(label[i]), number(earned[i]), number(worth[i]), (verdict[i] == "right" ? "passed" : "failed"),
+    quoted(label[i]), exact(earned[i]), exact(worth[i]), (verdict[i] == "right" ? "passed" : "failed"),
     (text == "" ? "" : ",\"output\":" text), (is_hidden[i] ? "hidden" : "visible")
 }

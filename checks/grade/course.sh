@@ -144,13 +144,13 @@ put secret/unseen/output 'a secret'
 put secret/unseen/arguments unseen
 put secret/unseen/hidden ''
 put tells.mms 'echo hello; case $1 in unseen) echo told; echo told >&2; exit 9 ;; esac'
-for form in table json tap junit gradescope; do
+for form in table csv json tap junit gradescope; do
   grade --format $form --show --count secret tells.mms >out
   [ $? = 1 ] || wrong "hidden tests, $form: the status is not 1"
   ! grep -q -i -e unseen -e secret -e told -e '\b9\b' out || wrong "hidden tests, $form: something is shown: $(cat out)"
   grep -q 'hidden 1' out || wrong "hidden tests, $form: the test has no row: $(cat out)"
   grade --format $form --show --reveal secret tells.mms >out
-  grep -q unseen out && grep -q told out || wrong "hidden tests, $form: they are not revealed: $(cat out)"
+  grep -q unseen out && { [ $form = csv ] || grep -q told out; } || wrong "hidden tests, $form: they are not revealed: $(cat out)"
 done
 gives 'a hidden test in the table' 'tells.mms  1/2  hidden 1: not right' 1 secret tells.mms
 put early/a-secret/output hello
@@ -195,7 +195,25 @@ END
   echo '["hidden",[{"name":"steps","value":9,"order":"asc"}]]' | diff - out >&2 || wrong "Gradescope's results lack something"
   grade --format gradescope points half.mms whole.mms | jq -e '.score == 0 and (.tests | not)' >out ||
     wrong "Gradescope's results are of one solution"
+  grade --format gradescope points half.mms whole.mms | jq -r .output | grep -q 'one is wanted: half.mms, whole.mms$' || wrong "Gradescope's results do not name the programs"
+  grade --format gradescope task quick.mms slow.mms >out
+  [ $? = 1 ] || wrong 'two programs for Gradescope are right'
+  # tests that are worth a third, and eighths
+  for form in json gradescope; do
+    grade --format $form --points 100 order quick.mms
+  done | jq -s -c '[(.[:6] | map(.points) | add * 100 | round / 100), .[6].score, (.[6].tests | map(.score) | add * 100 | round / 100)]' >out
+  echo '[100,100,100]' | diff - out >&2 || wrong 'points that are rounded have another sum'
 fi
+
+# ---- CSV
+put "csv/a,b \"c\".mms" 'echo hello'
+put csv/d.mms 'case $1 in 2) printf "\042,\n" >&2; echo wrong ;; *) echo hello ;; esac'
+gives 'a row of CSV for each solution' 'solution,right,tests,points,of,1,2,problem
+"csv/a,b ""c"".mms",1,2,8,10,8,0,2: the output differs at byte 1 (line 1)
+csv/d.mms,1,2,8,10,8,0,"2: the output differs at byte 1 (line 1) (""\"","")"' 1 --format csv points csv
+put '=1+1.mms' 'echo hello'
+gives 'a name in CSV is no formula' 'solution,right,tests,points,of,1,2,steps,problem
+./=1+1.mms,2,2,2,2,1,1,8,' 0 --format csv --count task =1+1.mms
 grade --format tap task odd >odd.tap
 if command -v prove >/dev/null; then
   prove --exec cat odd.tap >out 2>&1
