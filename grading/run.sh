@@ -76,6 +76,43 @@ continues() {
   head -c "$(wc -c <"$2")" "$1" | cmp -s - "$2"
 }
 
+# goes back from further runs to the first one
+go_back() {
+  status=$was file=$was_file
+  if [ -n "$first" ]; then
+    rm -rf "$run"
+    run=$first first=''
+  fi
+}
+
+# Whether it was refused when it was loaded, and for what. With one step, too few to write and to halt, only the tool has
+# the status 65.
+is_refused() {
+  was_file=$file refused=''
+  ! run_again '--steps 1' || refused=$(last_words "$run/message")
+  go_back
+  [ -n "$refused" ]
+}
+
+# Whether a run that was not refused ended by a Halt, where a test takes each status. The tool and the system have some
+# of these, too: then a further run shows it. With --last a stop or spent steps have a line more, and with --report a run
+# that was ended otherwise has no report.
+has_halted() {
+  case $status in
+    65) return ;;
+    70 | 75) option='--last 1' ;;
+    6[4-9] | 7[0-6] | 12[4-9] | 1[3-9]? | 2??) option=--report ;;
+    *) return ;;
+  esac
+  was_file=$file
+  run_again "$option" && cmp -s "$run/printed" "$first/printed" && {
+    [ "$option" != --report ] || [ -n "$(reported_steps)" ]
+  }
+  answer=$?
+  go_back
+  return "$answer"
+}
+
 # The verdict of a run that seems to be stopped. Only the tool knows: a further run with --last has a line after the
 # output where the machine was stopped, and none where a solution halted. No solution sees the option, and nothing else may
 # differ.
@@ -89,12 +126,16 @@ judge_stop() {
   fi
 }
 
-# The steps of a run go to $counted, from a further one with --report: after what standard error had before comes the
-# tool's report, which lacks the last step.
+# the steps of a further run with --report, or nothing where it has no report: after what standard error had before comes
+# the tool's report, which lacks the last step
+reported_steps() {
+  continues "$run/message" "$first/message" && tail -c "+$(($(wc -c <"$first/message") + 1))" "$run/message" |
+    awk '$1 == "profile" { n += $4 } $1 == "cover" { is_whole = 1 } END { if (is_whole) printf "%d\n", n + 1 }'
+}
+
+# the steps of a run go to $counted, from a further one
 count_steps() {
-  run_again --report && cmp -s "$run/printed" "$first/printed" && continues "$run/message" "$first/message" || return
-  counted=$(tail -c "+$(($(wc -c <"$first/message") + 1))" "$run/message" |
-    awk '$1 == "profile" { n += $4 } $1 == "cover" { is_whole = 1 } END { if (is_whole) printf "%d\n", n + 1 }')
+  run_again --report && cmp -s "$run/printed" "$first/printed" && counted=$(reported_steps)
 }
 
 # assembles the source, without a run: what the tool says of it comes from the tool alone

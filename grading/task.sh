@@ -55,7 +55,14 @@ has_number() {
   printf '%s\n' "$(cat "$1")" | grep -q -x -E "$2"
 }
 
-# how a test wants a solution to end: a status that is neither the tool's nor the system's, a stop, or a refusal
+# says of lines that end so what is legal, and hardly meant
+warn_of_crlf() {
+  if [ -z "$forgive" ] && [ -f "$1" ] && grep -q "$(printf '\r')\$" "$1"; then
+    say "$1: a line ends with CR and LF, so LF alone is not right there; --forgive takes both"
+  fi
+}
+
+# how a test wants a solution to end: a status that is neither the tool's nor the system's, any, a stop, or a refusal
 check_end() {
   ends=''
   for part in status stop refusal; do
@@ -63,8 +70,8 @@ check_end() {
   done
   case $ends in
     '') ;;
-    ' status') has_number "$1/status" '[0-9]|[1-5][0-9]|6[0-3]|7[7-9]|[89][0-9]|1[01][0-9]|12[0-3]' ||
-      fail "$1/status: a test wants a status of 0 to 63, or 77 to 123" ;;
+    ' status') has_number "$1/status" 'any|[0-9]|[1-5][0-9]|6[0-3]|7[7-9]|[89][0-9]|1[01][0-9]|12[0-3]' ||
+      fail "$1/status: a test wants a status of 0 to 63 or 77 to 123, or the word any" ;;
     ' stop' | ' refusal') has_number "$1/${ends# }" '[1-9][0-9]{0,2}' || fail "$1/${ends# } wants the number of a message" ;;
     *) fail "$1 has more than one of status, stop and refusal" ;;
   esac

@@ -37,6 +37,36 @@ put empty/1/output ''
 put silent.mms ':'
 gives 'an empty line without its end is nothing' 'silent.mms  1/1' 0 --forgive empty silent.mms
 
+put ended/1/output "$(printf 'a\r')"
+put ended/1/arguments windows
+put unix.mms 'echo a'
+put windows.mms 'printf "a\r\n"'
+gives 'CR is a byte like others' 'unix.mms     0/1  1: the output differs at byte 2 (line 1)
+windows.mms  1/1' 1 ended unix.mms windows.mms
+grep -q '^grade: ended/1/output: a line ends with CR and LF' said || wrong "nothing is said of CR and LF: $(cat said)"
+gives 'CR at the end of a line is forgiven' 'unix.mms     1/1
+windows.mms  1/1' 0 --forgive ended unix.mms windows.mms
+
+# ---- a status that is left open
+put open/1/output "$(printf 'hello\nworld')"
+put open/1/status any
+left='echo hello; echo world'
+put thirteen.mms "$left; exit 13"
+put seventy.mms "$left; exit 70"
+put killed.mms "$left; exit 137"
+put stopped.mms "$left; stop 113"
+put gone.mms "$left; kill -s KILL \$\$"
+put other.mms 'echo hello; exit 13'
+gives 'each status of a halt is taken, and no other end' 'thirteen.mms  1/1
+seventy.mms   1/1
+killed.mms    1/1
+stopped.mms   0/1  1: status 70: stopped, or it halted with 70; the output is right ("#0000000000000108: 113 Negative")
+gone.mms      0/1  1: status 137: killed, or it halted with 137; the output is right
+other.mms     0/1  1: the output is too short' 1 open thirteen.mms seventy.mms killed.mms stopped.mms gone.mms other.mms
+rm open/1/status
+gives 'a status that was left is named' 'thirteen.mms  0/1  1: status 13, not 0: $255 was 13 at the halt; the output is right' 1 open thirteen.mms
+grep -q 'a file status with the word any' said || wrong "there is no hint at a status that is left open: $(cat said)"
+
 # ---- what is shown of a wrong answer
 long=$(printf '%0300d' 0)
 put shown/1/output "$(printf 'first\nsecond\nthird')"
@@ -51,6 +81,42 @@ gives 'what was expected is beside what was printed, and is bounded' "differs.mm
   2: another byte is printed: byte 301, line 1
     expected  ...${zeros}1$more...
     printed   ...${zeros}2$more..." 1 --show shown differs.mms
+
+put leaves/1/output hello
+put leaves/1/written/result.txt 'a b c'
+put missing.mms 'echo hello'
+put other.mms 'echo hello; echo a b d >result.txt'
+put short.mms 'echo hello; printf a >result.txt'
+put late.mms 'echo hello; exit 9'
+gives 'a wrong file is shown, and whether it is there' 'missing.mms  0/1
+  1: result.txt is missing
+other.mms    0/1
+  1: result.txt differs at byte 5 (line 1)
+    expected  a b c\n
+    printed   a b d\n
+short.mms    0/1
+  1: result.txt is too short
+    expected  a b c\n
+    printed   a
+late.mms     0/1
+  1: status 9, not 0: $255 was 9 at the halt; the output is right' 1 --show leaves missing.mms other.mms short.mms late.mms
+put early.mms 'echo hallo; exit 9'
+gives 'what was printed is shown where the status is wrong' 'early.mms  0/1
+  1: status 9, not 0: $255 was 9 at the halt
+    expected  hello\n
+    printed   hallo\n' 1 --show leaves early.mms
+put escapes.mms "printf '\033[1m\007\\\\ \"x\"' >&2; echo hallo"
+gives 'a message is shown like all that is shown' \
+  'escapes.mms  0/1  1: the output differs at byte 2 (line 1) ("\x1b[1m\x07\\ \"x\"")' 1 leaves escapes.mms
+
+# ---- how large what is wanted may be
+put large/1/output x
+head -c 1023 /dev/zero >large/1/output
+put large.mms 'printf "%01023d" 0'
+grade --size 1 large large.mms >out
+[ $? = 1 ] || wrong "an output below the limit is refused: $(cat said)"
+head -c 1024 /dev/zero >large/1/output
+refused 'has to have less than 1024 bytes' --size 1 large large.mms
 
 # ---- how a solution has to end
 put ends/stop/output hello
@@ -79,7 +145,7 @@ forges.mms   0/3
   stop: it halted with 70, and was not stopped ("#0000000000000108: 113 Negative")
 halts.mms    1/3
   refusal: not refused, and 39 is wanted
-  stop: not stopped, but status 0, not 70 ("a word")
+  stop: not stopped, but status 0, not 70: $255 was 0 at the halt; the output is right ("a word")
 refused.mms  1/3
   refused: line 1: 39 UnknownOpcode
 refuses.mms  0/3

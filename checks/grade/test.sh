@@ -46,6 +46,8 @@ make_solutions() {
     function put(line) {
       gsub(/@TASKS@/, room "/tasks", line); gsub(/@SOLUTIONS@/, room "/solutions", line)
       if (line == "@LONG@") line = sprintf("%5000s", "")
+      if (line == "@PAGES@") for (line = "Main TRAP 0,Halt,0"; pages < 66000; pages++)
+        line = line sprintf("\n LOC #2000000000000000+%d\n BYTE 1", 4096 * pages)
       print line >file
     }
     FNR == NR { if (on) alike = alike $0 "\n"; if ($0 == "== alike") on = 1; next }
@@ -63,7 +65,7 @@ make_solutions() {
   "$program" asm "$room/solutions/hello/right.mms" "$room/solutions/hello/object.mmo"
   echo none >"$room/solutions/hello/no-object.mmo"
   cp "$room/solutions/hello/object.mmo" "$room/solutions/hello/no-object.mmo" "$room/solutions/object"
-  printf '%s\n' 'hello object right' 'hello no-object status=65' 'object object refusal' 'object no-object right' |
+  printf '%s\n' 'hello object right' 'hello no-object refused' 'object object refusal' 'object no-object right' |
     tee -a "$room/verdicts" >>"$room/bare"
 }
 
