@@ -87,11 +87,15 @@ look_through() {
   fi
 }
 
-# copies the solutions, in the order of the words
+# copies the solutions, in the order of the arguments
 add_solutions() {
   count=0 passed=0
   : >"$room/names" && : >"$room/jobs" || fail 'no room for the solutions'
   for word; do
+    # to a command such a name is a path, and no option
+    case $word in
+      -*) word=./$word ;;
+    esac
     if [ -d "$word" ]; then
       look_through "${word%/}" 0
     elif ! [ -e "$word" ]; then

@@ -1,6 +1,6 @@
 # Prints bytes, which it reads as numbers, in one line of UTF-8: \\ means a backslash, \n and \t for the end of a line
-# and a tab, \xHH for another control character and for a byte that is no UTF-8. So two texts stay two. Where `most` is
-# given, what is longer is cut, and has ... at its end.
+# and a tab, \xHH for a byte of another control character, of one that turns the direction of a text, or of no character.
+# So two texts stay two, and none looks like another. Where `most` is given, what is longer is cut, and has ... at its end.
 
 function is_between(n, low, high) {
   return n != "" && n >= low && n <= high
@@ -18,7 +18,15 @@ function width(at,    first, second, most, i) {
   if (first == 239 && second == 191 && byte[at + 2] >= 190) return 0
   for (i = 1; i < most; i++)
     if (!is_between(byte[at + i], 128, 191)) return 0
-  return most
+  return turns(first, second, byte[at + 2]) ? 0 : most
+}
+
+# whether a character ends a line or turns the direction of a text: U+061C, U+200E and F, U+2028 to E, and U+2066 to 9
+function turns(first, second, third) {
+  if (first == 216) return second == 156
+  if (first != 226) return 0
+  if (second == 128) return is_between(third, 142, 143) || is_between(third, 168, 174)
+  return second == 129 && is_between(third, 166, 169)
 }
 
 function escaped(    out, at, i, n) {

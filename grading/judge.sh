@@ -21,7 +21,7 @@ read_report() {
   done <"$run/report"
 }
 
-# a copy in which no line has blanks at its end, and the last one has an end
+# a copy in which no line has blanks or CR at its end, and the last one has an end
 even() {
   sed 's/[[:blank:]]*$//' "$1" >"$2"
   [ -s "$2" ] && [ -z "$(tail -c 1 "$2")" ] || echo >>"$2"

@@ -9,13 +9,11 @@
 
 BEGIN {
   FS = "\t"
-  while ((getline line <"names") > 0) {
-    name[++names] = line
-    if (columns(line) > wide) wide = columns(line)
-  }
+  while ((getline line <"names") > 0) name[++names] = line
   while ((getline line <"tests") > 0) add_test(line)
   if (points != "" && sum) for (i = 1; i <= tests; i++) worth[i] = worth[i] * points / sum
   has_points = has_points || points != ""
+  wide = width_of_names()
   if (form == "tap") printf "TAP version 13\n1..%d\n", names * tests
   else if (form == "csv") show_csv_head()
   else if (form == "table" && counting) show_head()
@@ -126,24 +124,67 @@ function columns(text) {
   return length(text)
 }
 
-# a text with blanks after it, up to the width of the names
-function padded(text) {
-  return sprintf("%s%" (wide - columns(text)) "s", text, "")
-}
-
-# whether a test is shown before another: a visible one before a hidden one, of which little can be shown
-function is_told_before(i, first) {
-  return !first || is_hidden[first] && !is_hidden[i] && !revealed
-}
-
-function show_in_table(    i, first, listed) {
-  for (i = 1; i <= tests; i++) {
-    if (verdict[i] != "right" && is_told_before(i, first)) first = i
-    listed = listed (i == 1 ? "" : " ") (steps[i] == "" ? "-" : steps[i])
+# the width of the widest name, but that of no name which is much longer than the shortest one
+function width_of_names(    i, n, least, most) {
+  for (i = 1; i <= names; i++) {
+    n = columns(name[i])
+    if (i == 1 || n < least) least = n
   }
-  printf "%s  %d/%d%s%s%s\n", padded(name[$1]), how_many("right"), tests,
-    has_points ? "  " number(total(earned)) "/" number(total(worth)) : "", counting ? "  " listed " steps" : "",
-    first && !detailed ? "  " complaint(first) : ""
+  for (i = 1; i <= names; i++) {
+    n = columns(name[i])
+    if (n <= least + 40 && n > most) most = n
+  }
+  return counting && form == "table" && most < 8 ? 8 : most
+}
+
+# a text with blanks after it, up to a width; with a width below 0 they are in front of it
+function padded(text, width,    n) {
+  n = (width < 0 ? -width : width) - columns(text)
+  if (n <= 0) return text
+  return width < 0 ? sprintf("%" n "s%s", "", text) : sprintf("%s%" n "s", text, "")
+}
+
+# the head of the columns, with the name of each test where its steps are
+function show_head(    i, listed) {
+  for (i = 1; i <= tests; i++) listed = listed "  " padded(label[i], -width_of_steps(i))
+  printf "%s  %s%s%s  steps\n", padded("solution", wide), padded("right", width_of_right()),
+    has_points ? "  " padded("points", width_of_points()) : "", listed
+}
+
+function width_of_right() {
+  return counting && length(tests) < 3 ? 5 : 2 * length(tests) + 1
+}
+
+# the points of some tests may have two digits after a point
+function width_of_points(    i, n) {
+  n = 2 * length(number(total(worth))) + 1
+  for (i = 1; i <= tests; i++)
+    if (worth[i] != int(worth[i])) {
+      n += 3
+      break
+    }
+  return counting && n < 6 ? 6 : n
+}
+
+# no run has more steps than the limit
+function width_of_steps(i) {
+  return length(label[i]) > length(most_steps) ? length(label[i]) : length(most_steps)
+}
+
+# the steps of all tests, each in its column
+function columns_of_steps(of,    i, listed) {
+  for (i = 1; i <= tests; i++) listed = listed "  " padded(i in of && of[i] != "" ? of[i] : "-", -width_of_steps(i))
+  return listed
+}
+
+function show_in_table(    first, row) {
+  first = first_wrong()
+  row = padded(name[$1], wide) "  " padded(how_many("right") "/" tests, width_of_right())
+  if (has_points) row = row "  " padded(number(total(earned)) "/" number(total(worth)), width_of_points())
+  if (counting) row = row columns_of_steps(steps)
+  if (first && !detailed) row = row "  " complaint(first)
+  sub(/ +$/, "", row)
+  print row
   if (detailed && first) show_details()
 }
 

@@ -35,6 +35,7 @@ wrong_file() {
   (cd "$test/written" && find . -type f) >"$run/wanted" && sort -o "$run/wanted" "$run/wanted" || return 1
   while IFS= read -r name; do
     if ! [ -f "$work/$name" ] || ! cmp -s "$work/$name" "$test/written/$name"; then
+      [ ! -f "$work/$name" ] || head -c $((size * 1024)) "$work/$name" >"$run/file" || return 1
       printf '%s\n' "${name#./}"
       return
     fi

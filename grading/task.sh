@@ -18,7 +18,7 @@ read_limits() {
     refuse_crlf "$task/limits"
     while read -r name value more || [ -n "$name" ]; do
       [ -n "$name" ] || continue
-      is_number "$value" && [ -z "$more" ] || fail "$task/limits: $name wants one number"
+      is_number "$value" && [ -z "$more" ] || fail "$task/limits: $name wants one whole number from 1 on"
       case $name in
         steps | time | memory | size | points) eval "$name=\${$name:-\$value}" ;;
         *) fail "$task/limits: there is no limit $name" ;;
@@ -106,19 +106,38 @@ check_test() {
     has_number "$1/points" '[0-9]{1,6}([.][0-9]{1,2})?' || fail "$1/points wants a number, as 2 or 0.5"
   fi
   for wanted in "$1/output" "$1/errors" "$1/written"; do
-    if [ -e "$wanted" ] && [ -n "$(find "$wanted" -type f -size +$((size * 2 - 1)))" ]; then
-      fail "$wanted has more than the limit of size"
+    if [ -e "$wanted" ] && [ -n "$(find "$wanted" -type f -size +$((size * 1024 - 1))c)" ]; then
+      fail "$wanted: a file that is wanted has to have less than $((size * 1024)) bytes, by the limit size $size"
     fi
   done
+  warn_of_crlf "$1/output"
+  warn_of_crlf "$1/errors"
+}
+
+# The tests of a folder, one a line, in the order of their names, and of numbers in these by value: a number is compared
+# by how many digits it has, and then by its digits.
+in_order() {
+  for folder in "$1"/*/; do
+    folder=${folder%/}
+    printf '%s\n' "${folder##*/}"
+  done | awk '{
+    rest = $0; key = ""
+    while (match(rest, /[0-9]+/)) {
+      digits = substr(rest, RSTART, RLENGTH)
+      sub(/^0+/, "", digits)
+      key = key substr(rest, 1, RSTART - 1) sprintf("%03d", length(digits)) digits
+      rest = substr(rest, RSTART + RLENGTH)
+    }
+    print key rest "\t" $0 }' | sort | cut -f 2
 }
 
 # a line for each test: its name, its points, and whether it is hidden
 list_tests() {
-  for folder in "$room"/task/*/; do
+  in_order "$room/task" >"$room/order" && while IFS= read -r folder; do
     hidden=''
-    [ ! -f "$folder/hidden" ] || hidden=hidden
-    printf '%s\t%s\t%s\n' "$(basename "$folder")" "$(cat "$folder/points" 2>/dev/null || echo 1)" "$hidden"
-  done >"$room/tests"
+    [ ! -f "$room/task/$folder/hidden" ] || hidden=hidden
+    printf '%s\t%s\t%s\n' "$folder" "$(cat "$room/task/$folder/points" 2>/dev/null || echo 1)" "$hidden"
+  done <"$room/order" >"$room/tests"
 }
 
 check_task() {
@@ -154,6 +173,8 @@ check_limits() {
     64) fail "steps $steps: the program refuses that: $said" ;;
     *) fail "$program does not run here: $said" ;;
   esac
-  said=$( (ulimit -v $((memory * 1024)) && "$program" --version) 2>&1 </dev/null) ||
-    fail "memory $memory: the program does not begin in so many MiB"
+  # the trial halts with 8, since it finds its own source
+  said=$( (ulimit -v $((memory * 1024)) && exec "$program" run --steps 1000 "$room/solutions/trial.mms" \
+    "$room/solutions/trial.mms") 2>&1 </dev/null)
+  [ $? = 8 ] || fail "memory $memory: the program does not run in so many MiB"
 }

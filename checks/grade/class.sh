@@ -92,7 +92,7 @@ put bounds/1/output hello
 put bounds/limits 'steps 1000000000001'
 refused 'steps 1000000000001: the program refuses that: usage fault 5 BadNumber' bounds class/ada
 refused 'steps 1000000000001: the program refuses that' --steps 1000000000001 task class/ada
-refused 'memory 1: the program does not begin' --memory 1 task class/ada
+refused 'memory 1: the program does not run' --memory 1 task class/ada
 for part in limits 1/arguments 1/status; do
   rm -f bounds/limits
   put "bounds/$part" "$(printf 'steps 1000\r')"
@@ -112,6 +112,50 @@ put left/1/written/notes 'mine'
 gives 'others are not passed over' 'writes.mms  0/1  1: notes is another, or is not there' 1 left writes.mms
 put left/ignored '.DS_Store Thumbs.db .git notes'
 gives 'a task says which names are passed over' 'writes.mms  1/1' 0 left writes.mms
+
+# ---- names that begin with a dash, and -- before them
+mkdir -p dashes
+for name in -h12g --json; do
+  put "dashes/$name/a.mms" 'echo hello'
+done
+put dashes/-e.mms 'echo hello'
+cd dashes || exit 1
+gives 'a name with a dash in front is a path' './--json/a.mms  1/1
+./-e.mms        1/1
+./-h12g/a.mms   1/1' 0 ../task *
+gives 'what comes after -- is no option' './--json/a.mms  1/1
+./-e.mms        1/1
+./-h12g/a.mms   1/1' 0 -- ../task -- *
+cd ..
+
+# ---- a link to a folder, where a solution has its folder
+put linked/ada/count.mms 'echo hello'
+ln -s ada linked/ben
+gives 'a link to a folder is a row' 'linked/ada/count.mms  1/1
+linked/ben            0/1  not graded: it is a link, and may lead to what is not its own' 1 task linked
+
+# ---- one long name leaves the others as narrow as they are
+long=$(printf '%080d' 0)
+put "wide/$long.mms" 'echo hello'
+put wide/a.mms 'echo hello'
+put wide/bcd.mms 'echo hello'
+gives 'a name that is much longer than the others' "wide/$long.mms  1/1
+wide/a.mms    1/1
+wide/bcd.mms  1/1" 0 task wide
+
+# ---- characters that turn the direction of a text, or are none
+put "$(printf 'turned/a\342\200\256smm.mms')" 'echo hello'
+gives 'a name does not turn the text' 'turned/a\xe2\x80\xaesmm.mms  1/1' 0 task turned
+put "$(printf 'turned/a\342\200\256smm.mms')" 'printf "\342\201\246\330\234\342\200\257"'
+gives 'nor does what is printed' 'turned/a\xe2\x80\xaesmm.mms  0/1
+  1: the output differs at byte 1 (line 1)
+    expected  hello\n
+    printed   \xe2\x81\xa6\xd8\x9c'"$(printf '\342\200\257')" 1 --show task turned
+
+# ---- where the work is done
+mkdir here
+TMPDIR=here gives 'the folder for the work may be relative' 'odd/a.mms  1/1' 0 task odd/a.mms
+[ -z "$(ls here)" ] || wrong 'a relative folder for the work has something left'
 
 # ---- signals
 for name in 1 2 3 4; do

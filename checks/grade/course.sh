@@ -172,17 +172,19 @@ put quick.mms 'steps=9; echo hello'
 put slow.mms 'steps=20; echo hello'
 put claims.mms 'steps=30; echo profile 00 TRAP 1 >&2; echo hello'
 put wrong.mms 'steps=5; echo hallo'
-gives 'steps are those of the tool' 'quick.mms   2/2  9 9 steps
-slow.mms    2/2  20 20 steps
-claims.mms  2/2  30 30 steps
-wrong.mms   0/2  - - steps  1: another byte is printed: byte 2, line 1
-least       9 9 steps' 1 --count task quick.mms slow.mms claims.mms wrong.mms
+gives 'steps are those of the tool' 'solution    right        1        2  steps
+quick.mms   2/2          9        9
+slow.mms    2/2         20       20
+claims.mms  2/2         30       30
+wrong.mms   0/2          -        -  1: the output differs at byte 2 (line 1)
+least                    9        9' 1 --count task quick.mms slow.mms claims.mms wrong.mms
 
 put stopped/1/output hello
 put stopped/1/stop 113
 put stopped.mms 'steps=12; echo hello; stop 113'
-gives 'the steps up to a stop' 'stopped.mms  1/1  12 steps
-least        12 steps' 0 --count stopped stopped.mms
+gives 'the steps up to a stop' 'solution     right        1  steps
+stopped.mms  1/1         12
+least                    12' 0 --count stopped stopped.mms
 put random.mms 'echo hello; echo $$ >&2; stop 113'
 gives 'a stop that does not come again so' 'random.mms  0/1  1: a further run, with --last, ended in another way ("#0000000000000108: 113 Negative")' \
   1 stopped random.mms
