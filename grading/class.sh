@@ -50,7 +50,7 @@ add_entry() {
   if [ -L "$1" ]; then
     add_solution "$1" 'it is a link, and may lead to what is not its own'
   elif ! [ -f "$1" ]; then
-    add_solution "$1" 'it is no file'
+    add_solution "$1" 'it is not a regular file'
   elif ! [ -r "$1" ]; then
     add_solution "$1" 'it cannot be read'
   else
@@ -71,6 +71,9 @@ look_through() {
       continue
     elif [ -d "$entry" ] && ! [ -L "$entry" ]; then
       look_through "$entry" $(($2 + 1))
+    elif [ -d "$entry" ] && [ "$2" = 0 ]; then
+      # it stands where a solution has its folder
+      add_entry "$entry"
     elif is_named_so "$entry"; then
       add_entry "$entry"
     else
@@ -103,7 +106,7 @@ add_solutions() {
     elif ! is_named_so "$word"; then
       add_solution "$word" 'its name is not that of a program, see --suffix'
     elif ! [ -f "$word" ] || ! [ -r "$word" ]; then
-      add_solution "$word" 'it is no file that can be read'
+      add_solution "$word" 'it is not a regular file that can be read'
     else
       add_solution "$word"
     fi

@@ -10,7 +10,7 @@ shown() {
 
 # the last line that a run wrote on standard error: for people, and no part of a verdict
 last_words() {
-  [ ! -s "$1" ] || tail -c 200 "$1" | tail -n 1 | tr '\t' ' ' | tr -cd '[:print:]'
+  [ ! -s "$1" ] || shown "$(tail -c 200 "$1" | tail -n 1 | tr -d '\000')"
 }
 
 # what the last line of the run's report says goes to $status and $file
@@ -23,7 +23,7 @@ read_report() {
 
 # a copy in which no line has blanks or CR at its end, and the last one has an end
 even() {
-  sed 's/[[:blank:]]*$//' "$1" >"$2"
+  sed "s/[[:blank:]$(printf '\r')]*\$//" "$1" >"$2"
   [ -s "$2" ] && [ -z "$(tail -c 1 "$2")" ] || echo >>"$2"
 }
 
@@ -37,17 +37,17 @@ is_alike() {
   cmp -s "$left" "$right"
 }
 
-# how the first file differs from the second, in which something was printed or written
+# how what has a name differs, in the file $left, from what is wanted of it, in $right
 difference() {
-  at=$(cmp "$left" "$right" 2>/dev/null | sed -n 's/.*differ: [a-z]* \([0-9]*\), line \([0-9]*\).*/byte \1, line \2/p')
+  at=$(cmp "$left" "$right" 2>/dev/null | sed -n 's/.*differ: [a-z]* \([0-9]*\), line \([0-9]*\).*/byte \1 (line \2)/p')
   if ! [ -s "$left" ]; then
-    echo "nothing is $1"
+    echo "$1 is empty"
   elif [ -n "$at" ]; then
-    echo "another byte is $1: $at"
+    echo "$1 differs at $at"
   elif [ "$(wc -c <"$left")" -lt "$(wc -c <"$right")" ]; then
-    echo "less is $1"
+    echo "$1 is too short"
   else
-    echo "more is $1"
+    echo "$1 is too long"
   fi
 }
 
@@ -102,15 +102,19 @@ is_ended_so() {
 # the verdict of a run that ended
 compare() {
   if [ "$(wc -c <"$run/printed")" -ge $((size * 1024)) ]; then
-    verdict=size detail="$size KiB or more are printed"
+    verdict=size detail="printed $size KiB or more"
   elif ! is_ended_so; then
     return
   elif ! is_alike "$run/printed" "$test/output"; then
-    verdict=output detail=$(difference printed)
+    verdict=output detail=$(difference 'the output')
   elif [ -f "$test/errors" ] && own_errors && ! is_alike "$run/errors" "$test/errors"; then
-    verdict=errors detail="$(difference written) on standard error"
+    verdict=errors detail=$(difference 'standard error')
+  elif [ -n "$file" ] && ! [ -f "$run/file" ]; then
+    left=''
+    verdict=file detail="$(shown "$file") is missing"
   elif [ -n "$file" ]; then
-    verdict=file detail="$(shown "$file") is another, or is not there"
+    left=$run/file right=$test/written/$file
+    verdict=file detail=$(difference "$(shown "$file")")
   elif [ -f "$test/stop" ]; then
     judge_stop
   else
@@ -128,7 +132,7 @@ judge() {
   if ! head -c 65536 /dev/zero >"$run/canary" 2>/dev/null; then
     verdict=failed detail='no room for files'
   elif [ "$ended" != 0 ] && [ "$took" -ge "$time" ]; then
-    verdict=time detail="the time is over: $time s"
+    verdict=time detail="the time limit of $time s was reached"
   elif [ "$ended" != 0 ] || ! read_report; then
     verdict=failed detail="not run: $(last_words "$run/shield")"
   else
@@ -141,10 +145,17 @@ piece() {
   tail -c "+$2" "$1" | head -c 121 | od -An -v -tu1 | awk -v most=120 -f "$room/escape.awk"
 }
 
-# what was expected and what was printed, from the line on where they differ, or from 40 bytes before that
+# What was expected and what was printed, from the line on where they differ, or from 40 bytes before that. Where a run
+# ended otherwise than it has to, it may have printed what it has to.
 show_difference() {
   case $verdict in
-    output | errors) ;;
+    output | errors | file) [ -f "$left" ] || return ;;
+    status | stop | size | time)
+      if is_alike "$run/printed" "$test/output"; then
+        detail="$detail; the output is right"
+        return
+      fi
+      ;;
     *) return ;;
   esac
   at=$(cmp "$left" "$right" 2>/dev/null | sed -n 's/.*differ: [a-z]* \([0-9]*\),.*/\1/p')

@@ -11,6 +11,7 @@ BEGIN {
   FS = "\t"
   while ((getline line <"names") > 0) name[++names] = line
   while ((getline line <"tests") > 0) add_test(line)
+  while ((getline line <"settings") > 0) if (line ~ /^steps=/) most_steps = substr(line, 7)
   if (points != "" && sum) for (i = 1; i <= tests; i++) worth[i] = worth[i] * points / sum
   has_points = has_points || points != ""
   wide = width_of_names()
@@ -114,8 +115,17 @@ function all_steps(    i) {
 # ---- the table
 
 # what is said of a test that is not right
-function complaint(i) {
-  return (is_whole(i) ? "" : label[i] ": ") detail[i] (message[i] == "" ? "" : " (\"" message[i] "\")")
+function complaint(i,    text) {
+  text = message[i]
+  gsub(/"/, "\\\"", text)
+  return (is_whole(i) ? "" : label[i] ": ") detail[i] (text == "" ? "" : " (\"" text "\")")
+}
+
+# the first test that is not right, where one that may be shown goes before a hidden one; or 0
+function first_wrong(    i, first) {
+  for (i = 1; i <= tests; i++)
+    if (verdict[i] != "right" && (!first || is_hidden[first] && !is_hidden[i] && !revealed)) first = i
+  return first + 0
 }
 
 # the columns that a text in UTF-8 takes: its bytes, but for those that go on with a character

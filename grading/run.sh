@@ -186,24 +186,28 @@ grade_test() {
     if run_test ''; then
       judge
       words=$(last_words "$run/message")
-      show_difference
+      is_kept_hidden || show_difference
       [ "$verdict" != right ] || [ -z "$count" ] || count_steps
     fi
     remove_run
     first=''
   fi
-  if [ -f "$test/hidden" ] && [ -z "$reveal" ]; then
+  if is_kept_hidden; then
     keep_hidden
   fi
   printf '%s\t%s\t%s\t%s\t%s\t%s\t%s\t%s\t%s\n' "${solution%.*}" "${test##*/}" "$verdict" "$status" "$detail" "$words" \
     "$expected" "$printed" "$counted"
 }
 
+is_kept_hidden() {
+  [ -f "$test/hidden" ] && [ -z "$reveal" ]
+}
+
 # of a hidden test only this is shown, since a solution can put what it reads into all else
 keep_hidden() {
   status='' words='' expected='' printed='' counted=''
   case $verdict:$begun in
-    right:* | failed:* | time:* | *:refused) ;;
+    right:* | failed:* | time:* | refused:* | *:refused) ;;
     *) verdict=hidden detail='not right' ;;
   esac
   [ ! -f "$test/refusal" ] || [ "$verdict" = right ] || verdict=hidden detail='not right'
@@ -211,7 +215,7 @@ keep_hidden() {
 
 # grades one solution: a row for each test
 grade_solution() {
-  room=$(pwd) solution=$1
+  room=$(pwd) solution=$1 tab=$(printf '\t')
   . "$room/settings"
   . "$room/judge.sh"
   apart='' running='' run='' hall='' first=''
@@ -228,10 +232,11 @@ grade_solution() {
   fi
   weigh
   begun=$verdict begun_status=$status begun_detail=$detail
-  for test in "$room"/task/*/; do
-    test=${test%/}
-    grade_test
-  done
+  # a run of a test has no part of this list
+  while IFS="$tab" read -r test more <&3; do
+    test=$room/task/$test
+    grade_test 3<&-
+  done 3<"$room/tests"
 }
 
 case ${0##*/} in

@@ -29,7 +29,7 @@ become_program() {
   exec env -i "$room/root/mmixware" "$@"
 }
 
-# the first file that is not as the test wants it
+# the first file that is not as the test wants it; a copy of it, which is no longer than the limit, goes to the folder RUN
 wrong_file() {
   [ -d "$test/written" ] || return 0
   (cd "$test/written" && find . -type f) >"$run/wanted" && sort -o "$run/wanted" "$run/wanted" || return 1

@@ -141,13 +141,14 @@ list_tests() {
 }
 
 check_task() {
-  [ -d "$task" ] || fail "$task is no folder"
+  [ -d "$task" ] || fail "$task is not a folder"
   read_limits
   read_ignored
   tests=0
   for folder in "$task"/*/; do
     [ -d "$folder" ] || continue
-    ! is_ignored "$(basename "$folder")" || continue
+    name=${folder%/}
+    ! is_ignored "${name##*/}" || continue
     check_test "${folder%/}"
     tests=$((tests + 1))
   done

@@ -29,10 +29,10 @@ put class/gus/count.mms 'echo hello'
 put class/gus/.DS_Store 'of the system'
 put class/readme 'no program'
 gives 'each of a class has a row' 'class/ada/count.mms  1/1
-class/ben/Count.MMS  0/1  1: another byte is printed: byte 2, line 1
+class/ben/Count.MMS  0/1  1: the output differs at byte 2 (line 1)
 class/cleo           0/1  not graded: the folder has no program
 class/dan            0/1  not graded: the folder has no program
-class/eve/count.mms  0/1  not graded: it is no file
+class/eve/count.mms  0/1  not graded: it is not a regular file
 class/fay/count.mms  0/1  not graded: it is a link, and may lead to what is not its own
 class/gus/count.mms  1/1' 1 task class
 says 'what is passed over is named' 'grade: passed over: class/cleo/count.txt
@@ -57,7 +57,7 @@ put "$(printf 'odd/d\te.mms')" 'echo hallo'
 put odd/f.mms 'REFUSED 39'
 gives 'a name may have any byte' 'odd/a.mms     1/1
 odd/b\nc.mms  1/1
-odd/d\te.mms  0/1  1: another byte is printed: byte 2, line 1
+odd/d\te.mms  0/1  1: the output differs at byte 2 (line 1)
 odd/f.mms     0/1  refused: line 1: 39 UnknownOpcode
 odd/none.mms  0/1  not graded: there is no such file
 class/readme  0/1  not graded: its name is not that of a program, see --suffix
@@ -109,7 +109,7 @@ put left/.git/config 'of a repository'
 put writes.mms 'echo written >out; echo hello'
 gives 'names of systems are passed over in a task' 'writes.mms  1/1' 0 left writes.mms
 put left/1/written/notes 'mine'
-gives 'others are not passed over' 'writes.mms  0/1  1: notes is another, or is not there' 1 left writes.mms
+gives 'others are not passed over' 'writes.mms  0/1  1: notes is missing' 1 left writes.mms
 put left/ignored '.DS_Store Thumbs.db .git notes'
 gives 'a task says which names are passed over' 'writes.mms  1/1' 0 left writes.mms
 

@@ -14,12 +14,12 @@ put points/2/points 0.5
 put half.mms 'echo hello'
 put whole.mms 'case $1 in 2) echo other ;; *) echo hello ;; esac'
 put points/2/arguments 2
-gives 'points are added' 'half.mms   1/2  2/2.5  2: another byte is printed: byte 1, line 1
+gives 'points are added' 'half.mms   1/2  2/2.5       2: the output differs at byte 1 (line 1)
 whole.mms  2/2  2.5/2.5' 1 points half.mms whole.mms
-gives 'they are weights of what the task is worth' 'half.mms  1/2  80/100  2: another byte is printed: byte 1, line 1' 1 \
+gives 'they are weights of what the task is worth' 'half.mms  1/2  80/100   2: the output differs at byte 1 (line 1)' 1 \
   --points 100 points half.mms
 put points/limits 'points 10'
-gives 'the task says what it is worth' 'half.mms  1/2  8/10  2: another byte is printed: byte 1, line 1' 1 points half.mms
+gives 'the task says what it is worth' 'half.mms  1/2  8/10   2: the output differs at byte 1 (line 1)' 1 points half.mms
 for number in many 1.234 -1; do
   put points/1/points "$number"
   refused 'points/1/points wants a number' points half.mms
@@ -30,9 +30,9 @@ put points/1/points 2
 put blanks/1/output "$(printf 'a  b\nc')"
 put trailing.mms 'printf "a  b \t\nc"'
 put inner.mms 'printf "a b\nc\n"'
-gives 'without a word no byte is forgiven' 'trailing.mms  0/1  1: another byte is printed: byte 5, line 1' 1 blanks trailing.mms
+gives 'without a word no byte is forgiven' 'trailing.mms  0/1  1: the output differs at byte 5 (line 1)' 1 blanks trailing.mms
 gives 'blanks at ends of lines and a last end of a line' 'trailing.mms  1/1
-inner.mms     0/1  1: another byte is printed: byte 3, line 1' 1 --forgive blanks trailing.mms inner.mms
+inner.mms     0/1  1: the output differs at byte 3 (line 1)' 1 --forgive blanks trailing.mms inner.mms
 put empty/1/output ''
 put silent.mms ':'
 gives 'an empty line without its end is nothing' 'silent.mms  1/1' 0 --forgive empty silent.mms
@@ -75,10 +75,10 @@ put shown/2/arguments long
 put differs.mms 'case $1 in long) printf %s "'"${long}2$long"'" ;; *) printf "first\nsec\377nd\nthird\n" ;; esac'
 zeros=$(printf '%040d' 0) more=$(printf '%079d' 0)
 gives 'what was expected is beside what was printed, and is bounded' "differs.mms  0/2
-  1: another byte is printed: byte 10, line 2
+  1: the output differs at byte 10 (line 2)
     expected  second\\nthird\\n
     printed   sec\\xffnd\\nthird\\n
-  2: another byte is printed: byte 301, line 1
+  2: the output differs at byte 301 (line 1)
     expected  ...${zeros}1$more...
     printed   ...${zeros}2$more..." 1 --show shown differs.mms
 
@@ -134,15 +134,15 @@ put refuses.mms 'REFUSED 40'
 gives 'a test may want a stop, a refusal, or words on standard error' 'stops.mms    2/3
   refusal: not refused, and 39 is wanted
 other.mms    0/3
-  errors: another byte is written: byte 6, line 1 on standard error ("a worm")
+  errors: standard error differs at byte 6 (line 1) ("a worm")
     expected  a word\n
     printed   a worm\n
   refusal: not refused, and 39 is wanted
-  stop: not stopped with 113, but #0000000000000108: 117 Negative ("#0000000000000108: 117 Negative")
+  stop: not stopped with 113, but #0000000000000108: 117 Negative; the output is right ("#0000000000000108: 117 Negative")
 forges.mms   0/3
-  errors: status 70: stopped, or it halted with 70 ("#0000000000000108: 113 Negative")
+  errors: status 70: stopped, or it halted with 70; the output is right ("#0000000000000108: 113 Negative")
   refusal: not refused, and 39 is wanted
-  stop: it halted with 70, and was not stopped ("#0000000000000108: 113 Negative")
+  stop: it halted with 70, and was not stopped; the output is right ("#0000000000000108: 113 Negative")
 halts.mms    1/3
   refusal: not refused, and 39 is wanted
   stop: not stopped, but status 0, not 70: $255 was 0 at the halt; the output is right ("a word")
@@ -153,8 +153,8 @@ refuses.mms  0/3
 put ends/stop/errors 'a word'
 put both.mms 'echo hello; echo a word >&2; stop 113'
 put glued.mms 'echo hello; printf "a word\n" >&2; printf x >&2; stop 113'
-gives 'the line of the tool is no word of the program' 'both.mms   1/3  errors: status 70: stopped, or it halted with 70 ("#0000000000000108: 113 Negative")
-glued.mms  0/3  errors: status 70: stopped, or it halted with 70 ("x#0000000000000108: 113 Negative")' 1 ends both.mms glued.mms
+gives 'the line of the tool is no word of the program' 'both.mms   1/3  errors: status 70: stopped, or it halted with 70; the output is right ("#0000000000000108: 113 Negative")
+glued.mms  0/3  errors: status 70: stopped, or it halted with 70; the output is right ("x#0000000000000108: 113 Negative")' 1 ends both.mms glued.mms
 put faulty/1/output hello
 for part in stop/x refusal/1 stop/1000; do
   put "faulty/1/${part%/*}" "${part#*/}"
@@ -225,14 +225,14 @@ put early/a-secret/output hello
 put early/a-secret/hidden ''
 put early/b-shown/output other
 put neither.mms 'echo neither'
-gives 'what may be shown is told first' 'neither.mms  0/2  b-shown: another byte is printed: byte 1, line 1' 1 early neither.mms
+gives 'what may be shown is told first' 'neither.mms  0/2  b-shown: the output differs at byte 1 (line 1)' 1 early neither.mms
 
 # ---- words and columns
 put plain/1/output hello
 put plain/2/output other
 put plain/2/arguments 2
 put 'zoë.mms' 'echo hello'
-gives 'columns are counted by characters, and a value may follow an equals sign' 'zoë.mms    1/2  2: another byte is printed: byte 1, line 1
+gives 'columns are counted by characters, and a value may follow an equals sign' 'zoë.mms    1/2  2: the output differs at byte 1 (line 1)
 whole.mms  2/2' 1 --format=table --steps=1000 plain 'zoë.mms' whole.mms
 
 # ---- forms; a name may have what matters in each of them
@@ -256,7 +256,7 @@ END
     jq -c '.tests[] | [.name, .score, .max_score, .status, .visibility, .output]' >out
   cat >wanted <<'END'
 ["1",8,8,"passed","visible",null]
-["2",0,2,"failed","visible","another byte is printed: byte 1, line 1\nexpected: other\\n\nprinted:  hello\\n"]
+["2",0,2,"failed","visible","the output differs at byte 1 (line 1)\nexpected: other\\n\nprinted:  hello\\n"]
 END
   diff wanted out >&2 || wrong "Gradescope's results differ"
   grade --format gradescope --count secret quick.mms | jq -c '[.tests[1].visibility, .leaderboard]' >out
@@ -292,7 +292,7 @@ if command -v xmllint >/dev/null; then
   xmllint --noout --schema "$top/checks/grade/junit.xsd" odd.xml 2>out || wrong "JUnit is not valid: $(cat out)"
   xmllint --xpath 'concat(//testsuite[1]/@name, " ", count(//testcase), " ", count(//failure), " ", count(//error),
     " ", //testsuite[2]/testcase[1]/failure)' odd.xml >out
-  printf '%s\n' "$shown 6 2 2 another byte is printed: byte 1, line 1" 'expected: hello\n' 'printed:  <&"' | diff - out >&2 ||
+  printf '%s\n' "$shown 6 2 2 the output differs at byte 1 (line 1)" 'expected: hello\n' 'printed:  <&"' | diff - out >&2 ||
     wrong "JUnit's XML differs"
 fi
 

@@ -84,8 +84,8 @@ gives 'solutions are spread, and come in their order' 'class/a.mms        2/2
 class/b.mms        2/2
 class/c.mms        2/2
 class/d.mms        2/2
-class/e.mms        0/2  1: another byte is printed: byte 2, line 1
-class/f\n\xff.mms  1/2  2: another byte is printed: byte 1, line 1
+class/e.mms        0/2  1: the output differs at byte 2 (line 1)
+class/f\n\xff.mms  1/2  2: the output differs at byte 1 (line 1)
 class/f.mms        2/2
 class/g.mms        2/2
 class/h.mms        2/2' 1 --sshlogin 2/one,2/two task class

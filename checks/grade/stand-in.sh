@@ -20,7 +20,7 @@ PARALLEL_HOME=$room/parallel
 export TMPDIR PARALLEL_HOME
 bad=0
 as=
-cp checks/grade/fake-mmixware "$room/mmixware"
+cp checks/grade/fake-mmixware "$room/mmixware" && chmod 755 "$room/mmixware"
 cd "$room" || exit 1
 
 wrong() {

@@ -103,7 +103,7 @@ is_there() {
   esac
 }
 
-# that words or a task are refused with the status 64
+# that arguments or a task are refused with the status 64
 refused() {
   grade "$@" >"$room/out"
   status=$?
