@@ -20,16 +20,16 @@ in_order() {
 make_rows() {
   trap : TERM
   if [ "$with" != parallel ]; then
-    xargs -P "$jobs" -n 1 sh -c 'sh ./run.sh grade_solution "$1" >"result.$1"; echo "$1"' job <jobs | in_order
+    xargs -P "$jobs" -n 1 sh -c 'sh ./run.sh grade_solution "$1" >"result.$1"; echo "$1"' job <jobs 2>&9 9>&- | in_order
   elif [ -z "$sshlogin" ]; then
-    parallel -k -j "$jobs" --termseq TERM,5000,KILL,25 sh ./run.sh grade_solution '{}' <jobs
+    parallel -k -j "$jobs" --termseq TERM,5000,KILL,25 sh ./run.sh grade_solution '{}' <jobs 2>&9 9>&-
   else
     # each machine gets a copy of all, which each job unpacks for itself; after a signal GNU parallel gives a job there no
     # time to remove its folders, so the job is out of its reach, and `grade` ends it
     parallel -k -j "$jobs" --termseq TERM,5000,KILL,25 --sshlogin "$sshlogin" --workdir "$(cat away)" \
       --basefile "$PWD/./files.tar" \
       'mkdir {#} && cd {#} && tar -xf ../files.tar &&
-        $(setsid -w true 2>/dev/null && echo setsid -w) sh ./run.sh grade_solution {}; cd .. && rm -rf {#}' <jobs
+        $(setsid -w true 2>/dev/null && echo setsid -w) sh ./run.sh grade_solution {}; cd .. && rm -rf {#}' <jobs 2>&9 9>&-
   fi
 }
 
@@ -39,4 +39,6 @@ trap : TERM
 case $(awk -W version 2>&1 </dev/null) in
   mawk*) set -- -W interactive "$@" ;;
 esac
-make_rows | tee results | awk "$@" -f rows.awk || : >unwritten
+# a shell says of each process that a signal has ended it; only what the processes say is wanted
+exec 9>&2 2>/dev/null
+make_rows | tee results | awk "$@" -f rows.awk 2>&9 9>&- || : >unwritten

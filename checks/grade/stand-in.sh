@@ -102,6 +102,7 @@ ends_by() {
   got=$?
   took=$((($(date +%s%N) - sent) / 1000000))
   [ "$got" = "$due" ] || wrong "$name, $with: the status is $got, not $due"
+  ! grep -q Terminated "$room/said" || wrong "$name, $with: processes are named that the signal ended"
   # another machine has its end a little later
   [ $# = 0 ] || waits is_clean
   all_gone || wrong "$name, $with: programs run on"
