@@ -58,7 +58,7 @@ done
 folder=$(basename "$PWD")
 ./install "$room/there" 2>/dev/null || wrong 'the release is not installed'
 for file in bin/mmixware bin/mmixview bin/grade share/man/man1/mmixware.1 share/man/man1/mmixview.1 share/man/man1/grade.1 \
-  share/mmixware/grading/run.sh share/mmixware/grading/rows.awk share/mmixware/debug.words share/vim/vimfiles/syntax/mmixal.vim \
+  share/mmixware/grading/run.sh share/mmixware/grading/rows.awk share/mmixware/debug.words share/doc/mmixware/docs/GRADING.md share/vim/vimfiles/syntax/mmixal.vim \
   share/emacs/site-lisp/mmixal-mode.el share/texmf/tex/latex/mmixal/mmixal.sty \
   share/bash-completion/completions/grade share/bash-completion/completions/mmixview \
   share/bash-completion/completions/mmixware share/zsh/site-functions/_mmixware; do

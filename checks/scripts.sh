@@ -37,7 +37,7 @@ make_repository() {
   cp "$here/mmixware" "$here/mmixview" "$here/install" "$here/try" "$here/release" "$here/grade" "$1"
   cp "$here"/packaging/*.sh "$1/packaging"
   cp -R "$here/grading" "$1"
-  cp "$here"/docs/*.1 "$1/docs"
+  cp "$here"/docs/*.1 "$here/docs/GRADING.md" "$1/docs"
   cp -R "$here/completion" "$here/editors" "$1"
 }
 
@@ -278,6 +278,7 @@ install: to/share/zsh/site-functions/_mmixview
 install: to/share/man/man1/grade.1
 install: to/share/bash-completion/completions/grade
 install: to/share/zsh/site-functions/_grade
+install: to/share/doc/mmixware/docs/GRADING.md
 install: to/share/mmixware/debug.words
 install: to/share/vim/vimfiles/syntax/mmixal.vim
 install: to/share/vim/vimfiles/ftdetect/mmixal.vim
@@ -295,6 +296,12 @@ prints 'built a
 status 0' to/bin/mmixware a
 prints "$(repo/grade --help)
 status 0" to/bin/grade --help
+
+# the grader that is installed names the page that is; root has a refusal that does
+if [ "$(id -u)" = 0 ]; then
+  to/bin/grade --shield none task a.mms 2>&1 | grep -q -F "$(readlink -f to)/share/doc/mmixware/docs/GRADING.md" ||
+    wrong 'grade does not name the page that is installed'
+fi
 
 # the manual page and the completion of the grader have each of its options
 for option in $(repo/grade --help | grep -o -e '--[a-z]*'); do
