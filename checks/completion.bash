@@ -81,8 +81,10 @@ offers 'check|count|dap|debug|explain|list|lsp|page|where' mmixview help ''
 
 offers programs grade ''
 offers '--shield|--show|--size|--sshlogin|--steps|--suffix' grade --s
-offers 'gradescope|json|junit|table|tap' grade --format ''
+offers 'csv|gradescope|json|junit|table|tap' grade --format ''
 offers unshare grade --json --shield u
+offers programs grade --json -- ''
+offers 'a.mms|b c.mms|d.mmo|programs' grade programs -- ''
 offers '' grade --points ''
 offers 'a.mms|b c.mms|d.mmo|programs' grade --program x --show programs ''
 offers 'a.mms|b c.mms|d.mmo|notes|programs' grade --program ''

@@ -5,7 +5,7 @@ _grade_has_task() {
   local at=1
   while [ "$at" -lt "$COMP_CWORD" ]; do
     case ${COMP_WORDS[at]} in
-      --json | --show | --count | --forgive | --reveal) ;;
+      -- | --json | --show | --count | --forgive | --reveal) ;;
       --*) at=$((at + 1)) ;;
       *) return 0 ;;
     esac
@@ -17,7 +17,7 @@ _grade_has_task() {
 _grade() {
   local word=${COMP_WORDS[COMP_CWORD]} words=''
   case ${COMP_WORDS[COMP_CWORD - 1]} in
-    --format) words='table json tap junit gradescope' ;;
+    --format) words='table csv json tap junit gradescope' ;;
     --with) words='parallel xargs' ;;
     --shield) words='unshare bwrap none' ;;
     --program)
