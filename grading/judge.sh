@@ -61,7 +61,7 @@ meaning() {
     153) echo "status 153: more than $size KiB were written, or it halted with 153" ;;
     6[4-9] | 7[0-6]) echo "status $1: the tool failed, or it halted with $1" ;;
     12[4-9] | 1[3-9]? | 2??) echo "status $1: killed, or it halted with $1" ;;
-    *) echo "status $1, not $2: \$255 was $1 at the halt" ;;
+    *) echo "status $1, not $2: the low byte of \$255 at the halt" ;;
   esac
 }
 

@@ -185,7 +185,8 @@ grade_test() {
     verdict=failed detail='no folder for a run'
     if run_test ''; then
       judge
-      words=$(last_words "$run/message")
+      # of what is refused the message is said already
+      [ "$verdict" = refused ] || words=$(last_words "$run/message")
       is_kept_hidden || show_difference
       [ "$verdict" != right ] || [ -z "$count" ] || count_steps
     fi

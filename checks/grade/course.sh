@@ -64,7 +64,7 @@ stopped.mms   0/1  1: status 70: stopped, or it halted with 70; the output is ri
 gone.mms      0/1  1: status 137: killed, or it halted with 137; the output is right
 other.mms     0/1  1: the output is too short' 1 open thirteen.mms seventy.mms killed.mms stopped.mms gone.mms other.mms
 rm open/1/status
-gives 'a status that was left is named' 'thirteen.mms  0/1  1: status 13, not 0: $255 was 13 at the halt; the output is right' 1 open thirteen.mms
+gives 'a status that was left is named' 'thirteen.mms  0/1  1: status 13, not 0: the low byte of $255 at the halt; the output is right' 1 open thirteen.mms
 grep -q 'a file status with the word any' said || wrong "there is no hint at a status that is left open: $(cat said)"
 
 # ---- what is shown of a wrong answer
@@ -99,10 +99,10 @@ short.mms    0/1
     expected  a b c\n
     printed   a
 late.mms     0/1
-  1: status 9, not 0: $255 was 9 at the halt; the output is right' 1 --show leaves missing.mms other.mms short.mms late.mms
+  1: status 9, not 0: the low byte of $255 at the halt; the output is right' 1 --show leaves missing.mms other.mms short.mms late.mms
 put early.mms 'echo hallo; exit 9'
 gives 'what was printed is shown where the status is wrong' 'early.mms  0/1
-  1: status 9, not 0: $255 was 9 at the halt
+  1: status 9, not 0: the low byte of $255 at the halt
     expected  hello\n
     printed   hallo\n' 1 --show leaves early.mms
 put escapes.mms "printf '\033[1m\007\\\\ \"x\"' >&2; echo hallo"
@@ -145,7 +145,7 @@ forges.mms   0/3
   stop: it halted with 70, and was not stopped; the output is right ("#0000000000000108: 113 Negative")
 halts.mms    1/3
   refusal: not refused, and 39 is wanted
-  stop: not stopped, but status 0, not 70: $255 was 0 at the halt; the output is right ("a word")
+  stop: not stopped, but status 0, not 70: the low byte of $255 at the halt; the output is right ("a word")
 refused.mms  1/3
   refused: line 1: 39 UnknownOpcode
 refuses.mms  0/3
