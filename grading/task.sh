@@ -116,7 +116,7 @@ check_test() {
 
 # The tests of a folder, one a line, in the order of their names, and of numbers in these by value: a number is compared
 # by how many digits it has, and then by its digits.
-in_order() {
+tests_in_order() {
   for folder in "$1"/*/; do
     folder=${folder%/}
     printf '%s\n' "${folder##*/}"
@@ -133,7 +133,7 @@ in_order() {
 
 # a line for each test: its name, its points, and whether it is hidden
 list_tests() {
-  in_order "$room/task" >"$room/order" && while IFS= read -r folder; do
+  tests_in_order "$room/task" >"$room/order" && while IFS= read -r folder; do
     hidden=''
     [ ! -f "$room/task/$folder/hidden" ] || hidden=hidden
     printf '%s\t%s\t%s\n' "$folder" "$(cat "$room/task/$folder/points" 2>/dev/null || echo 1)" "$hidden"
