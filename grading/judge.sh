@@ -10,7 +10,7 @@ shown() {
 
 # the last line that a run wrote on standard error: for people, and no part of a verdict
 last_words() {
-  [ ! -s "$1" ] || shown "$(tail -c 200 "$1" | tail -n 1 | tr -d '\000')"
+  [ ! -s "$1" ] || tail -c 200 "$1" | tail -n 1 | tr -d '\n' | od -An -v -tu1 | awk -f "$room/escape.awk"
 }
 
 # what the last line of the run's report says goes to $status and $file

@@ -183,7 +183,7 @@ function width_of_steps(i) {
 
 # the steps of all tests, each in its column
 function columns_of_steps(of,    i, listed) {
-  for (i = 1; i <= tests; i++) listed = listed "  " padded(i in of && of[i] != "" ? of[i] : "-", -width_of_steps(i))
+  for (i = 1; i <= tests; i++) listed = listed "  " padded((i in of) && of[i] != "" ? of[i] : "-", -width_of_steps(i))
   return listed
 }
 

@@ -20,7 +20,8 @@ in_order() {
 make_rows() {
   trap : TERM
   if [ "$with" != parallel ]; then
-    xargs -P "$jobs" -n 1 sh -c 'sh ./run.sh grade_solution "$1" >"result.$1"; echo "$1"' job <jobs 2>&9 9>&- | in_order
+    xargs -P "$jobs" -n 1 sh -c 'sh ./run.sh grade_solution "$1" >"result.$1"; echo "$1"' job <jobs 2>&9 9>&- |
+      in_order 2>&9 9>&-
   elif [ -z "$sshlogin" ]; then
     parallel -k -j "$jobs" --termseq TERM,5000,KILL,25 sh ./run.sh grade_solution '{}' <jobs 2>&9 9>&-
   else
@@ -41,4 +42,4 @@ case $(awk -W version 2>&1 </dev/null) in
 esac
 # a shell says of each process that a signal has ended it; only what the processes say is wanted
 exec 9>&2 2>/dev/null
-make_rows | tee results | awk "$@" -f rows.awk 2>&9 9>&- || : >unwritten
+make_rows | tee results 2>&9 9>&- | awk "$@" -f rows.awk 2>&9 9>&- || : >unwritten

@@ -105,9 +105,9 @@ gives 'what was printed is shown where the status is wrong' 'early.mms  0/1
   1: status 9, not 0: the low byte of $255 at the halt
     expected  hello\n
     printed   hallo\n' 1 --show leaves early.mms
-put escapes.mms "printf '\033[1m\007\\\\ \"x\"' >&2; echo hallo"
+put escapes.mms "printf '\033[1m\007\000\\\\ \"x\"' >&2; echo hallo"
 gives 'a message is shown like all that is shown' \
-  'escapes.mms  0/1  1: the output differs at byte 2 (line 1) ("\x1b[1m\x07\\ \"x\"")' 1 leaves escapes.mms
+  'escapes.mms  0/1  1: the output differs at byte 2 (line 1) ("\x1b[1m\x07\x00\\ \"x\"")' 1 leaves escapes.mms
 
 # ---- how large what is wanted may be
 put large/1/output x
