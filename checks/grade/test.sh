@@ -46,8 +46,6 @@ make_solutions() {
     function put(line) {
       gsub(/@TASKS@/, room "/tasks", line); gsub(/@SOLUTIONS@/, room "/solutions", line)
       if (line == "@LONG@") line = sprintf("%5000s", "")
-      if (line == "@PAGES@") for (line = "Main TRAP 0,Halt,0"; pages < 66000; pages++)
-        line = line sprintf("\n LOC #2000000000000000+%d\n BYTE 1", 4096 * pages)
       print line >file
     }
     FNR == NR { if (on) alike = alike $0 "\n"; if ($0 == "== alike") on = 1; next }
