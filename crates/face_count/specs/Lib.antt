@@ -1,3 +1,0 @@
-pub mod CountJson
-pub mod ObjectJson
-pub mod CountPages

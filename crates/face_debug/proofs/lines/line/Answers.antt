@@ -1,5 +1,0 @@
-use Rattle.mx_face.proofs.Parts.{part-failed-after}
-use Rattle.face_debug.proofs.lines.line.Goals as goal
-
-pub returns-in-Err : goal.returns-in-Err
-returns-in-Err g c = part-failed-after _ _ _ _ _ _ _ c.loop-turn.invariant c.in-Err.ensures

@@ -1,5 +1,0 @@
-use Rattle.mx_face.proofs.Parts.{whole-failed-after}
-use Rattle.face_debug.proofs.talking.answer_input.Goals as goal
-
-pub returns-in-Err : goal.returns-in-Err
-returns-in-Err g c = whole-failed-after _ _ _ _ _ _ _ c.loop-turn.invariant c.in-Err.ensures

@@ -1,4 +1,0 @@
-pub mod NearTurns
-pub mod WholeTable
-pub mod ListTurns
-pub mod Covered

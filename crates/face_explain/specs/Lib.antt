@@ -1,6 +1,0 @@
-pub mod Near
-pub mod Tables
-pub mod Answers
-pub mod Lists
-pub mod Known
-pub mod ExplainPages

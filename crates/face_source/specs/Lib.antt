@@ -1,3 +1,0 @@
-pub mod SourceJson
-pub mod SourcePages
-pub mod ViewPages

@@ -1,3 +1,0 @@
-pub mod ShownStatements
-pub mod Generator
-pub mod Program

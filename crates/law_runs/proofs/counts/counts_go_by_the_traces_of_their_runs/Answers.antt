@@ -1,5 +1,0 @@
-use Rattle.law_runs.proofs.CountedAnswers.{sheet-is}
-use Rattle.law_runs.proofs.counts.counts_go_by_the_traces_of_their_runs.Goals as goal
-
-pub returns : goal.returns
-returns c = sheet-is

@@ -1,5 +1,0 @@
-use Rattle.law_runs.proofs.ReadAlike.{short-alike}
-use Rattle.law_runs.proofs.counts.sources_are_read_alike.Goals as goal
-
-pub returns : goal.returns
-returns c = short-alike

@@ -1,5 +1,0 @@
- LOC #100
-Text BYTE 104,105,10,0
-Main GETA $255,Text
- TRAP 0,7,1
- TRAP 0,0,0

@@ -1,4 +1,0 @@
-pub mod Histories
-pub mod Rows
-pub mod KeptSteps
-pub mod KeptLists

@@ -1,4 +1,0 @@
-pub mod Pools
-pub mod StartedMachines
-pub mod Parts
-pub mod Beginnings

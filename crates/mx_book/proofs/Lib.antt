@@ -1,3 +1,0 @@
-pub mod Nearest
-pub mod Earliest
-pub mod WorkedRows

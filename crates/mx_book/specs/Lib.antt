@@ -1,5 +1,0 @@
-pub mod Loads
-pub mod Labels
-pub mod Books
-pub mod Things
-pub mod Lookups

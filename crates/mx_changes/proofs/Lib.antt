@@ -1,4 +1,0 @@
-pub mod ChangeTurns
-pub mod Layouts
-pub mod Leads
-pub mod SameImages

@@ -1,4 +1,0 @@
-pub mod Changes
-pub mod Images
-pub mod Layouts
-pub mod Names

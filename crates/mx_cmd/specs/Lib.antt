@@ -1,3 +1,0 @@
-pub mod Numerals
-pub mod Specials
-pub mod Commands

@@ -1,9 +1,0 @@
-pub mod Judgement
-pub mod ConsoleTexts
-pub mod Replies
-pub mod LinePlans
-pub mod SessionPlans
-pub mod Session
-pub mod Taking
-pub mod Clauses
-pub mod Told

@@ -1,7 +1,0 @@
--- The list does the same as the window that it stands for, where nothing is wild.
-pub mod Effects
-pub mod Refusals
-pub mod Steps
-pub mod Wild
-pub mod Quiet
-pub mod Seen

@@ -1,8 +1,0 @@
-use Rattle.std.proofs.Common.{Err}
-use Rattle.mx_core.specs.Kept.{state_of}
-use Rattle.mx_core.proofs.Results.Pages.{lacks_noted}
-use Rattle.mx_core.proofs.machine.Machine.store_noted.Goals as goal
-
-pub returns-in-Err-clause-lacks_memory : goal.returns-in-Err-clause-lacks_memory
-returns-in-Err-clause-lacks_memory c =
-    lacks_noted (state_of c.args.self.now) c.args.i.now c.args.how c.args.a c.args.x c.args.status (Err c.in-Err.stop) c.requires.address c.in-Err.ensures.lacks_memory c.in-Err.ensures.room

@@ -1,9 +1,0 @@
--- The code's way: in which order and by which steps of its own it does what the definitions say.
-pub mod Calls
-pub mod Parts
-pub mod Stepping
-pub mod Search
-pub mod Changed
-pub mod UsualDeeds
-pub mod NoteParts
-pub mod Noting

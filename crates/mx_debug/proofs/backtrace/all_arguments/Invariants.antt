@@ -1,8 +1,0 @@
-use Rattle.std.proofs.Common.{◌≡◌}
-use Rattle.mx_debug.proofs.backtrace.all_arguments.Given as goal
-
-abbrev pub invariant-loop-frame : goal.invariant-loop-frame
-invariant-loop-frame l =
-    (goal.iterator-loop-frame).can_next l.frame-iterator ×
-    (goal.iterator-loop-frame).is_finite l.frame-iterator ×
-    (l.replay ≡ l.fn.replay)

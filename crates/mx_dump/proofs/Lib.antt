@@ -1,2 +1,0 @@
-pub mod DumpLines
-pub mod Dumps

@@ -1,6 +1,0 @@
-pub mod Topics
-pub mod Matching
-pub mod Operands
-pub mod Facts
-pub mod Texts
-pub mod Parts

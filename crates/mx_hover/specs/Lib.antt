@@ -1,6 +1,0 @@
-pub mod Completions
-pub mod Hovers
-pub mod Loads
-pub mod Meanings
-pub mod Signatures
-pub mod Statements

@@ -1,9 +1,0 @@
-pub mod Bytes
-pub mod Cutting
-pub mod Faults
-pub mod Fields
-pub mod Lines
-pub mod Pieces
-pub mod Source
-pub mod Spans
-pub mod Statements

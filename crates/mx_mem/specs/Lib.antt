@@ -1,9 +1,0 @@
-pub mod Memory
-pub mod Fault
-pub mod Count
-pub mod Held
-pub mod Dropping
-pub mod Low
-pub mod Parts
-pub mod Space
-pub mod Tetras

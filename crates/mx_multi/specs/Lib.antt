@@ -1,9 +1,0 @@
-pub mod Joint
-pub mod Parts
-pub mod JointTurns
-pub mod Schedules
-pub mod MultiPlans
-pub mod Turns
-pub mod Clauses
-pub mod Folds
-pub mod Stretches

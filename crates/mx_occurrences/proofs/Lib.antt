@@ -1,3 +1,0 @@
-pub mod NameTurns
-pub mod InPlace
-pub mod Ascending

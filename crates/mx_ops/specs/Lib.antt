@@ -1,4 +1,0 @@
-pub mod Tables
-pub mod Opcodes
-pub mod Shapes
-pub mod Predefined

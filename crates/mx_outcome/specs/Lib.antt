@@ -1,4 +1,0 @@
-pub mod Kinds
-pub mod Status
-pub mod Names
-pub mod Messages

@@ -1,3 +1,0 @@
-pub mod Descriptors
-pub mod Opening
-pub mod Streams

@@ -1,7 +1,0 @@
-use Rattle.mx_core.specs.Kept.{state_of}
-use Rattle.mx_record.specs.Following.{Tells}
-use Rattle.mx_record.specs.Pictures as spec
-use Rattle.mx_record.proofs.registers.special_changes.Given as goal
-
-abbrev pub invariant-loop-code : goal.invariant-loop-code
-invariant-loop-code l = Tells l.changes (spec.special_shown (state_of l.old)) (spec.special_shown (state_of l.new)) 0 l.code

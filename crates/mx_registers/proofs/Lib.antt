@@ -1,9 +1,0 @@
-pub mod Areas
-pub mod Eight
-pub mod Few
-pub mod ListParts
-pub mod OctaLists
-pub mod Octas
-pub mod Returned
-pub mod Spilled
-pub mod Values

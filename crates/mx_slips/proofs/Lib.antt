@@ -1,5 +1,0 @@
-pub mod TokenTurns
-pub mod SourceTurns
-pub mod CaseTests
-pub mod LoadTurns
-pub mod WorkedRows

@@ -1,4 +1,0 @@
-pub mod Lines
-pub mod Lambda
-pub mod Listing
-pub mod Texts

@@ -1,9 +1,0 @@
-pub mod Cells
-pub mod Rows
-pub mod Listing
-pub mod InTurn
-pub mod Search
-pub mod Mending
-pub mod Refusals
-pub mod Loads
-pub mod ListingParts

@@ -1,2 +1,0 @@
-pub mod WarningTurns
-pub mod WorkedRows

@@ -1,9 +1,0 @@
-pub mod Kinds
-pub mod Lists
-pub mod Octas
-pub mod Ranges
-pub mod Results
-pub mod Segments
-pub mod Symbols
-pub mod Waits
-pub mod Words

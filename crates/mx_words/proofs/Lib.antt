@@ -1,8 +1,0 @@
-pub mod Places
-pub mod Chosen
-pub mod Behind
-pub mod ReadOptions
-pub mod Parsed
-pub mod Complete
-pub mod Sound
-pub mod OrderedBlocks
