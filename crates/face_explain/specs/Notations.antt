@@ -21,6 +21,6 @@ unfoldable pub local_says : List ℕ
 local_says = codes "A local label. 1H in front of a statement labels it, with any digit for 1,\n  and may be there again and again. 1F in an operand is the next 1H after the\n  statement, and 1B the last one before it."
 
 -- no text of another word
-abbrev pub notation_of : List ℕ → List ℕ
+unfoldable pub notation_of : List ℕ → List ℕ
 notation_of word =
     if is_main word then main_says else if bytes_eq word (codes "@") then here_says else if is_local word then local_says else []

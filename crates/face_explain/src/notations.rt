@@ -47,6 +47,7 @@ fn local_says() -> &'static str
 }
 
 /// What is said of a word that is a part of the language and no row of the table; no text of another word.
+#[tactic(auto, unfolding(crate::specs::Notations::notation_of))]
 pub(crate) fn notation_on(word: &[u8]) -> &'static str
     ensures { result.now ≡ spec.notation_of word.now }
 {

@@ -129,7 +129,10 @@ impl Loaded {
         }
         let name = text_in(wanted, "dataId").unwrap_or(b"");
         match watched_place(&self.debugged.known.book, name) {
-            Some(place) => self.set_watch(self.debugged.replay.follow(place)),
+            Some(place) => {
+                let followed = self.debugged.replay.follow(place);
+                self.set_watch(followed)
+            }
             None => self.scene().unset_row(0, b"there is no such place"),
         }
     }

@@ -14,8 +14,7 @@ use mx_places::{
     PLACE_WANTED, Unwanted, Wanted, note_of, parse_break, parse_place, thing_of_place,
 };
 use mx_stops::{Break, Place, Watch, see};
-use mx_tell::{add_break_row, add_place, add_watch_row};
-use mx_text::add_decimal;
+use mx_tell::{add_break_row, add_watch_row};
 use mx_word::{Bytes, NoMemory};
 
 /// Adds the row of a break.

@@ -1,18 +1,19 @@
 -- What a text names in a state: a register with a number added or taken away, too, as in `$253-12`.
 use Rattle.std.specs.Prelude.{ℕ, List, Option, None, Some}
 use Rattle.std.specs.Option.{option_map, option_or}
-use Rattle.mx_ring.specs.Stack.{register}
 use Rattle.mx_core.specs.State.{State}
 use Rattle.mx_book.specs.declared.book.Book.{Book}
 use Rattle.mx_book.specs.declared.things.Thing.{Thing}
 use Rattle.mx_book.specs.declared.things.Thing.TheVariants as things
+use Rattle.mx_stops.specs.declared.places.Place.TheVariants as places
+use Rattle.mx_stops.specs.Places.{value_at}
 use Rattle.mx_places.specs.Named.{named_thing, shown_thing}
 use Rattle.mx_places.specs.Sums.{base_in, from_sum, offset_in, plus}
 
 -- what a register has
 abbrev pub held : State → Option Thing → Option ℕ
 held s None = None
-held s (Some (things.Register k)) = Some (register s.stack k)
+held s (Some (things.Register k)) = Some (value_at (places.Register k) s)
 held s (Some (things.Special code)) = None
 held s (Some (things.Octa a)) = None
 held s (Some (things.Number n)) = None

@@ -1,7 +1,6 @@
 -- The local registers, one after another, and those of a step of a run.
-use Rattle.std.proofs.Common.{◌≡◌, ◌<◌, ◌≤◌, ◌+◌, ◌⊎◌, inl, inr, ℕ, List, [], ◌∷◌, ◌++◌, length, Ok, arith, refl, sym, subst, ◌∙◌, ap}
+use Rattle.std.proofs.Common.{◌≡◌, ◌<◌, ℕ, List, length, Ok, sym, subst, ◌∙◌, ap}
 use Rattle.std.specs.Prelude.{slice_index}
-use Rattle.std.proofs.lemmas.Grind.{common_steps}
 use Rattle.mx_word.specs.Results.{map_ok}
 use Rattle.mx_core.specs.Kept.{state_of}
 use Rattle.mx_core.specs.State.{State}

@@ -1,7 +1,7 @@
 -- One turn of a visit, and its marks.
 use Rattle.std.proofs.lemmas.Option.{same_Some}
 use Rattle.std.proofs.Common.{◌≡◌, ◌≢◌, IsTrue, ℕ, true, false, Some, None, refl, subst, ◌∙◌, ap}
-use Rattle.std.specs.Prelude.{Option, Bool, List, ◌∷◌, ◌||◌, ◌==◌, nat_le, not}
+use Rattle.std.specs.Prelude.{Option, Bool, List, ◌∷◌, ◌||◌, nat_le}
 use Rattle.std.specs.List.{list_any}
 use Rattle.mx_host.specs.HostModel.{HostModel, tells, contents}
 use Rattle.mx_code.specs.declared.trace.Trace.{Trace}

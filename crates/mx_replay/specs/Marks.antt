@@ -1,5 +1,5 @@
 -- Steps that are looked for: those whose turn changes a value or comes to a break, and those at which few registers are hidden.
-use Rattle.std.specs.Prelude.{ℕ, zero, suc, ◌||◌, Bool, false, true, nat_le, List, Option, None, Some, Result, Ok, Err}
+use Rattle.std.specs.Prelude.{ℕ, zero, suc, ◌||◌, Bool, false, nat_le, List, Option, None, Some, Result, Ok, Err}
 use Rattle.std.specs.List.{list_any}
 use Rattle.mx_host.specs.HostModel.{HostModel}
 use Rattle.mx_core.specs.State.{State}

@@ -22,17 +22,24 @@ begins_digit (b ∷ bs) = is_digit b
 unfoldable pub short_negative : Line → Line → Line
 short_negative register digits = codes "Take NEG " ++ register ++ codes "," ++ digits ++ codes "."
 
+unfoldable pub set_end : Line → Line
+set_end register = codes " and NEG " ++ register ++ codes "," ++ register ++ codes "."
+
 unfoldable pub long_negative : Line → Line → Line
-long_negative register digits =
-    codes "Take SET " ++ register ++ codes "," ++ digits ++ codes " and NEG " ++ register ++ codes "," ++ register ++ codes "."
+long_negative register digits = codes "Take SET " ++ register ++ codes "," ++ digits ++ set_end register
 
 abbrev pub negative_text : Line → Line → Line
 negative_text register digits = if nat_lt (length digits) 3 then short_negative register digits else long_negative register digits
 
 -- a large one
+unfoldable pub setml_front : Line → Line
+setml_front register = codes "Take SETML " ++ register ++ codes ","
+
+unfoldable pub incl_front : Line → Line
+incl_front register = codes ">>16 and INCL " ++ register ++ codes ","
+
 unfoldable pub large_text : Line → Line → Line
-large_text register number =
-    codes "Take SETML " ++ register ++ codes "," ++ number ++ codes ">>16 and INCL " ++ register ++ codes "," ++ number ++ codes "&#ffff."
+large_text register number = setml_front register ++ number ++ incl_front register ++ number ++ codes "&#ffff."
 
 -- 45 is a minus
 abbrev pub number_text : Line → Line → Line
@@ -99,8 +106,11 @@ base_text line place = number_address_text (operation_at line place) (operands_a
 
 -- ---- a label that is like Main
 
-unfoldable pub label_text : Line → ℕ → Line
-label_text label number = codes "The label `" ++ label ++ codes "` in line " ++ decimal number
+unfoldable pub label_front : Line → Line
+label_front label = codes "The label `" ++ label ++ codes "` in line "
+
+abbrev pub label_text : Line → ℕ → Line
+label_text label number = label_front label ++ decimal number
 
 abbrev pub main_end : Line → Line
 main_end label =

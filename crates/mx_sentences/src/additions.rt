@@ -28,6 +28,20 @@ fn starts_with_digit(text: &[u8]) -> bool
     }
 }
 
+/// Adds a name between two texts.
+pub(crate) fn add_between(
+    text: &mut Bytes,
+    front: &[u8],
+    name: &[u8],
+    back: &[u8],
+) -> Result<(), NoMemory>
+    ensures { OnOk result (text.new ≡ text.old ++ (front.now ++ name.now ++ back.now)) }
+{
+    text.extend(front)?;
+    text.extend(name)?;
+    text.extend(back)
+}
+
 /// Adds what makes a small number below 0 in a register.
 #[tactic(auto, unfolding(crate::specs::Additions::short_negative))]
 fn add_short_negative(text: &mut Bytes, register: &[u8], digits: &[u8]) -> Result<(), NoMemory>
@@ -40,6 +54,18 @@ fn add_short_negative(text: &mut Bytes, register: &[u8], digits: &[u8]) -> Resul
     text.extend(b".")
 }
 
+/// Adds the instruction that turns the sign of a register.
+#[tactic(auto, unfolding(crate::specs::Additions::set_end))]
+fn add_set_end(text: &mut Bytes, register: &[u8]) -> Result<(), NoMemory>
+    ensures { OnOk result (text.new ≡ text.old ++ spec.set_end register.now) }
+{
+    text.extend(b" and NEG ")?;
+    text.extend(register)?;
+    text.extend(b",")?;
+    text.extend(register)?;
+    text.extend(b".")
+}
+
 /// Adds what makes a number below 0 in a register.
 #[tactic(auto, unfolding(crate::specs::Additions::long_negative))]
 fn add_long_negative(text: &mut Bytes, register: &[u8], digits: &[u8]) -> Result<(), NoMemory>
@@ -49,11 +75,7 @@ fn add_long_negative(text: &mut Bytes, register: &[u8], digits: &[u8]) -> Result
     text.extend(register)?;
     text.extend(b",")?;
     text.extend(digits)?;
-    text.extend(b" and NEG ")?;
-    text.extend(register)?;
-    text.extend(b",")?;
-    text.extend(register)?;
-    text.extend(b".")
+    add_set_end(text, register)
 }
 
 /// Adds what makes a number below 0 with these digits.
@@ -67,18 +89,30 @@ fn add_negative(text: &mut Bytes, register: &[u8], digits: &[u8]) -> Result<(), 
     }
 }
 
+/// Adds the instruction that sets the high part of a number, up to its number.
+#[tactic(auto, unfolding(crate::specs::Additions::setml_front))]
+fn add_setml_front(text: &mut Bytes, register: &[u8]) -> Result<(), NoMemory>
+    ensures { OnOk result (text.new ≡ text.old ++ spec.setml_front register.now) }
+{
+    add_between(text, b"Take SETML ", register, b",")
+}
+
+/// Adds the instruction that adds the low part of a number, up to its number.
+#[tactic(auto, unfolding(crate::specs::Additions::incl_front))]
+fn add_incl_front(text: &mut Bytes, register: &[u8]) -> Result<(), NoMemory>
+    ensures { OnOk result (text.new ≡ text.old ++ spec.incl_front register.now) }
+{
+    add_between(text, b">>16 and INCL ", register, b",")
+}
+
 /// Adds what makes a large number in a register.
 #[tactic(auto, unfolding(crate::specs::Additions::large_text))]
 fn add_large(text: &mut Bytes, register: &[u8], number: &[u8]) -> Result<(), NoMemory>
     ensures { OnOk result (text.new ≡ text.old ++ spec.large_text register.now number.now) }
 {
-    text.extend(b"Take SETML ")?;
-    text.extend(register)?;
-    text.extend(b",")?;
+    add_setml_front(text, register)?;
     text.extend(number)?;
-    text.extend(b">>16 and INCL ")?;
-    text.extend(register)?;
-    text.extend(b",")?;
+    add_incl_front(text, register)?;
     text.extend(number)?;
     text.extend(b"&#ffff.")
 }
@@ -265,14 +299,19 @@ pub(crate) fn add_base(text: &mut Bytes, line: &[u8], place: usize) -> Result<()
     }
 }
 
+/// Adds a label, up to the number of its line.
+#[tactic(auto, unfolding(crate::specs::Additions::label_front))]
+fn add_label_front(text: &mut Bytes, label: &[u8]) -> Result<(), NoMemory>
+    ensures { OnOk result (text.new ≡ text.old ++ spec.label_front label.now) }
+{
+    add_between(text, b"The label `", label, b"` in line ")
+}
+
 /// Adds a label with its line.
-#[tactic(auto, unfolding(crate::specs::Additions::label_text))]
 fn add_label(text: &mut Bytes, label: &[u8], number: u64) -> Result<(), NoMemory>
     ensures { OnOk result (text.new ≡ text.old ++ spec.label_text label.now number) }
 {
-    text.extend(b"The label `")?;
-    text.extend(label)?;
-    text.extend(b"` in line ")?;
+    add_label_front(text, label)?;
     add_decimal(text, number)
 }
 

@@ -8,7 +8,9 @@ ghost use Rattle.mx_sentences.specs.Additions.{instead_text};
 ghost use Rattle.mx_advice.specs.Rows.{shown};
 ghost use Rattle.mx_sentences.specs.Sentences as spec;
 
-use crate::additions::{add_base, add_instead, add_main, add_reach, add_set, starts_with_letter};
+use crate::additions::{
+    add_base, add_between, add_instead, add_main, add_reach, add_set, starts_with_letter,
+};
 use crate::choices::{Unknown, is_defined, row_with, unknown_kind, whole_row};
 use crate::places::{mark_of, statement_place};
 use mx_advice::Row;
@@ -112,15 +114,6 @@ fn add_takes(text: &mut Bytes, operation: &[u8], operands: &[u8]) -> Result<(), 
     text.extend(b" takes ")?;
     text.extend(operands)?;
     text.extend(b".")
-}
-
-/// Adds a name between two texts.
-fn add_between(text: &mut Bytes, front: &[u8], name: &[u8], back: &[u8]) -> Result<(), NoMemory>
-    ensures { OnOk result (text.new ≡ text.old ++ (front.now ++ name.now ++ back.now)) }
-{
-    text.extend(front)?;
-    text.extend(name)?;
-    text.extend(back)
 }
 
 /// Adds what puts the address of a label of data into a register.

@@ -139,7 +139,7 @@ k                   $1
     ),
     (
         What::Shown(Thing::Octa(TEXT + 3), Some(Form::Hex)),
-        "M8[#2000000000000000] (Text) = #05620aff00000000
+        "M8[#2000000000000000] (Text) = #05620aff00000000  (the octa that has #2000000000000003)
 ",
     ),
 ];
