@@ -335,7 +335,7 @@ for tool in mmixware mmixview; do
     done
   done
   for word in $(commands_of "$tool"); do
-    grep -q "^| .*\`$tool $word[ \`]" "$here/README.md" || wrong "README.md has no $tool $word in its table"
+    grep -q "^| .*\`$tool ${word}[ \`]" "$here/README.md" || wrong "README.md has no $tool $word in its table"
   done
 done
 
