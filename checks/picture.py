@@ -21,7 +21,7 @@ AREAS = [
     ("program", "mx_words mx_outcome mx_files mx_begin mx_dump mx_top mmixware"),
     (
         "views",
-        "mx_marks mx_sentences mx_walk mx_view mx_slips mx_warn mx_costs mx_count mx_object mx_ask mx_replay mx_record "
+        "mx_marks mx_advice mx_sentences mx_walk mx_view mx_slips mx_warn mx_costs mx_count mx_object mx_ask mx_stops mx_replay mx_record "
         "mx_json mx_face mx_explain mx_operations mx_messages mx_book mx_pieces mx_tell mx_places mx_debug mx_foreign "
         "page_parts mx_inputs page_run face_source face_check face_count face_explain face_debug face_page mx_frames "
         "mx_wire mx_occurrences mx_diagnostics mx_references mx_changes mx_hover mx_lsp mx_serve face_lsp mx_adapter mx_panes "

@@ -67,6 +67,20 @@ def sources():
                 yield os.path.join(folder, name)
 
 
+def place(text, position):
+    """How many characters of a text are before a position; the texts here have one unit for each."""
+    lines = text.split("\n")
+    return sum(len(line) + 1 for line in lines[: position["line"]]) + min(position["character"], len(lines[position["line"]]))
+
+
+def edited(text, edits):
+    """A text after edits, which are all of the text before them."""
+    for edit in sorted(edits, key=lambda e: place(text, e["range"]["start"]), reverse=True):
+        start, end = (place(text, edit["range"][side]) for side in ("start", "end"))
+        text = text[:start] + edit["newText"] + text[end:]
+    return text
+
+
 PROGRAM_TEXT = """\tLOC #100
 Size\tIS 10
 Main\tSETL $1,Size
@@ -125,7 +139,7 @@ def main():
     form = server.at("signatureHelp", URI, 2, 12)["result"]
     want("SETL is written", form and form["signatures"][0]["label"] == "SETL $X,YZ", form)
     changes = server.ask("textDocument/formatting", {"textDocument": {"uri": URI}, "options": {}})
-    rows = changes["result"][0]["newText"].splitlines()
+    rows = edited(PROGRAM_TEXT, changes["result"]).splitlines()
     want("the columns", rows[:2] + rows[6:] == ["        LOC   #100", "Size    IS    10", "2H      TRAP  0,Halt,0        end"], rows)
     want("places beyond a line", "error" not in server.at("hover", URI, 3, 1000) and "error" not in server.at("hover", URI, 1000, 0))
     want("no such request", server.ask("workspace/none", {})["error"]["code"] == -32601)

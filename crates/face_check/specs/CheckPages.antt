@@ -1,11 +1,13 @@
 -- What `check` has to say of a source: its faults, and then its warnings, unless none are asked for, as a text, as JSON, or as lines of
 -- the form that the GNU coding standards have for messages of compilers ("Formatting Error Messages").
-use Rattle.std.specs.Prelude.{ℕ, ◌+◌, ◌==◌, ◌&&◌, nat_le, nat_lt, not, Bool, List, [], ◌∷◌, ◌++◌, take, Option, None, Some, if◌then◌else◌, codes, decimal}
-use Rattle.std.specs.List.{flat_map}
+use Rattle.std.specs.Prelude.{ℕ, ◌+◌, ◌==◌, ◌&&◌, nat_le, nat_lt, not, Bool, is_some, List, [], ◌∷◌, ◌++◌, take, Option, None, Some, if◌then◌else◌, codes, decimal}
+use Rattle.std.specs.List.{flat_map, list_any}
 use Rattle.mx_face.specs.Pages.{outcome_of}
 use Rattle.mx_face.specs.RefusalJson.{refusal_members}
+use Rattle.mx_face.specs.Visible.{visible_text}
 use Rattle.mx_face.specs.declared.page.Page.{Page}
 use Rattle.mx_json.specs.Json.{array, flag, number_if, object_of, quoted, string, string_if}
+use Rattle.mx_object.specs.Listing.{begins_as_object}
 use Rattle.mx_outcome.specs.Messages.{numbered_fault}
 use Rattle.mx_view.specs.Listing.{refusal_in}
 use Rattle.mx_view.specs.Refusals.{faults_in, faults_of}
@@ -51,7 +53,7 @@ length_member length = codes ",\"length\":" ++ decimal length
 unfoldable pub mark_members : ToldFault → List ℕ
 mark_members f = line_member f.at_line ++ length_member f.length
 
--- what is wrong, which name is meant perhaps, and what mends it
+-- what is wrong, which name is meant perhaps, and how to fix it
 unfoldable pub said_members : ToldFault → List ℕ
 said_members f = codes ",\"what\":" ++ string f.what ++ codes ",\"meant\":" ++ string f.meant ++ codes ",\"help\":" ++ string f.help
 
@@ -128,7 +130,7 @@ abbrev pub meant_text : List ℕ → List ℕ
 meant_text [] = []
 meant_text (b ∷ bs) = question ++ (b ∷ bs) ++ codes "`?"
 
--- what is said of a fault: what is wrong, and what mends it
+-- what is said of a fault: what is wrong, and how to fix it
 unfoldable pub what_text : ToldFault → List ℕ
 what_text f = numbered_fault f.refused.fault ++ codes ": " ++ f.what
 
@@ -177,10 +179,31 @@ warnings_in no_warnings source = if no_warnings then [] else warnings_of source
 unfoldable pub warnings_after : Bool → List ℕ → List ℕ
 warnings_after no_warnings source = if no_warnings then [] else warnings_text source
 
+-- what is said of a file that is no source: of an object, and of one that is refused and has a byte 0
+abbrev pub is_nul : ℕ → Bool
+is_nul b = b == 0
+
+unfoldable pub of_object : List ℕ
+of_object = codes "this is an object, and no source: mmixview list shows it, and mmixware sim runs it\n"
+
+unfoldable pub of_no_text : List ℕ
+of_no_text = codes "this is no text, for it has a byte 0: save a source as UTF-8\n"
+
+abbrev pub no_source : Bool → List ℕ → List ℕ
+no_source is_refused source =
+    if begins_as_object source then of_object else if is_refused && list_any is_nul source then of_no_text else []
+
+-- this, or else what is said of a source
+abbrev pub said_of : List ℕ → List ℕ → List ℕ
+said_of [] text = visible_text text
+said_of (b ∷ bs) text = b ∷ bs
+
 abbrev pub check_text : Form → Bool → List ℕ → List ℕ → List ℕ
-check_text Text no_warnings name source = faults_of source ++ warnings_after no_warnings source
+check_text Text no_warnings name source =
+    said_of (no_source (is_some (refusal_in source)) source) (faults_of source ++ warnings_after no_warnings source)
 check_text Json no_warnings name source = check_json (faults_in source) (warnings_in no_warnings source)
-check_text Gnu no_warnings name source = faults_lines name (faults_in source) ++ warnings_lines name (warnings_in no_warnings source)
+check_text Gnu no_warnings name source =
+    visible_text (faults_lines name (faults_in source) ++ warnings_lines name (warnings_in no_warnings source))
 
 -- The faults are what `check` is asked for: no message is told beside them. Warnings do not change the outcome.
 unfoldable pub check_page : Form → Bool → List ℕ → List ℕ → Page

@@ -69,7 +69,7 @@ fn add_mark(text: &mut Bytes, fault: &ToldFault) -> Result<(), NoMemory>
     add_length(text, fault.length)
 }
 
-/// Adds what is wrong, which name is meant perhaps, and what mends it.
+/// Adds what is wrong, which name is meant perhaps, and how to fix it.
 #[tactic(auto, unfolding(crate::specs::CheckPages::said_members))]
 fn add_said(alloc: Global, text: &mut Bytes, fault: &ToldFault) -> Result<(), NoMemory>
     ensures { OnOk result (text.new ≡ text.old ++ spec.said_members fault.now) }

@@ -1,7 +1,9 @@
 //! The faults and the warnings of the source in a file.
 
-ghost use Rattle.std.specs.Prelude.{◌≡◌, ◌++◌, [], IfOk};
+ghost use Rattle.std.specs.Prelude.{◌≡◌, ◌++◌, [], IfOk, is_some};
+ghost use Rattle.std.specs.List.{list_any};
 ghost use Rattle.mx_face.specs.Pages.{FaultsOnlyBy, IsOfView, page_put, shown_file};
+ghost use Rattle.mx_face.specs.Visible.{visible_text as shown_text};
 ghost use Rattle.mx_host.specs.Keeping.{Answers};
 ghost use Rattle.mx_view.specs.Listing.{refusal_in};
 ghost use Rattle.mx_view.specs.Refusals.{faults_in, faults_of};
@@ -11,8 +13,9 @@ use crate::faults::Form;
 use crate::gnu::add_lines;
 use crate::json::add_check;
 use crate::warning_lines::add_warnings;
-use mx_face::{Page, outcome_of, put_page, read_source, tell};
+use mx_face::{Page, outcome_of, put_page, read_source, tell, visible_text};
 use mx_host::Host;
+use mx_object::is_object;
 use mx_outcome::Outcome;
 use mx_view::{Sheet, list_faults, tell_faults};
 use mx_warn::{Warnings, tell_warnings, warnings_text};
@@ -41,8 +44,77 @@ fn warnings_after(alloc: Global, no_warnings: bool, source: &[u8]) -> Result<Byt
     warnings_text(alloc, source)
 }
 
-/// The faults and the warnings as a text.
+/// Whether a byte is 0.
+fn is_nul(b: u8) -> bool
+    ensures { result ≡ spec.is_nul b }
+{
+    b == 0
+}
+
+/// Whether there is a byte 0.
+fn has_nul(source: &[u8]) -> bool
+    ensures { result ≡ list_any spec.is_nul source.now }
+{
+    source.iter().any(|b| is_nul(*b))
+}
+
+/// What is said of an object.
+#[tactic(auto, unfolding(crate::specs::CheckPages::of_object))]
+fn of_object() -> &'static [u8]
+    ensures { result.now ≡ spec.of_object }
+{
+    b"this is an object, and no source: mmixview list shows it, and mmixware sim runs it\n"
+}
+
+/// What is said of a file that is no text.
+#[tactic(auto, unfolding(crate::specs::CheckPages::of_no_text))]
+fn of_no_text() -> &'static [u8]
+    ensures { result.now ≡ spec.of_no_text }
+{
+    b"this is no text, for it has a byte 0: save a source as UTF-8\n"
+}
+
+/// What is said of a file that is no source; no text of a source.
+fn no_source(is_refused: bool, source: &[u8]) -> &'static [u8]
+    ensures { result.now ≡ spec.no_source is_refused source.now }
+{
+    if is_object(source) {
+        of_object()
+    } else if is_refused && has_nul(source) {
+        of_no_text()
+    } else {
+        b""
+    }
+}
+
+/// What is said of a file that is no source, or else a text with its control characters by their numbers.
+fn said_of(alloc: Global, other: &[u8], text: &[u8]) -> Result<Bytes, NoMemory>
+    ensures { IfOk result (λ said. said ≡ spec.said_of other.now text.now) }
+{
+    if other.is_empty() {
+        visible_text(alloc, text)
+    } else {
+        Bytes::copy(alloc, other)
+    }
+}
+
+/// The faults and the warnings as a text, or that a file is no source.
 fn check_as_text(alloc: Global, no_warnings: bool, source: &[u8]) -> Result<Sheet, NoMemory>
+    ensures text { IfOk result (λ sheet. sheet.text ≡ spec.said_of (spec.no_source (is_some (refusal_in source.now)) source.now)
+        (faults_of source.now ++ spec.warnings_after no_warnings source.now)) }
+    ensures refused { IfOk result (λ sheet. sheet.refused ≡ refusal_in source.now) }
+{
+    let sheet = list_all(alloc, no_warnings, source)?;
+    let other = no_source(sheet.refused.is_some(), source);
+    let text = said_of(alloc, other, sheet.text.as_slice())?;
+    Ok(Sheet {
+        text,
+        refused: sheet.refused,
+    })
+}
+
+/// The faults and the warnings as a text.
+fn list_all(alloc: Global, no_warnings: bool, source: &[u8]) -> Result<Sheet, NoMemory>
     ensures text { IfOk result (λ sheet.
         sheet.text ≡ faults_of source.now ++ spec.warnings_after no_warnings source.now) }
     ensures refused { IfOk result (λ sheet. sheet.refused ≡ refusal_in source.now) }
@@ -83,8 +155,8 @@ fn faults_as_lines(alloc: Global, name: &[u8], source: &[u8]) -> Result<Sheet, N
     })
 }
 
-/// The faults and the warnings as lines for editors.
-fn check_as_lines(
+/// The faults and the warnings as lines.
+fn list_all_lines(
     alloc: Global,
     no_warnings: bool,
     name: &[u8],
@@ -98,6 +170,25 @@ fn check_as_lines(
     let warnings = warnings_in(alloc, no_warnings, source)?;
     add_warnings(&mut sheet.text, name, warnings.as_slice())?;
     Ok(sheet)
+}
+
+/// The faults and the warnings as lines for editors, with control characters by their numbers.
+fn check_as_lines(
+    alloc: Global,
+    no_warnings: bool,
+    name: &[u8],
+    source: &[u8],
+) -> Result<Sheet, NoMemory>
+    ensures text { IfOk result (λ sheet. sheet.text ≡ shown_text (spec.faults_lines name.now (faults_in source.now)
+        ++ spec.warnings_lines name.now (spec.warnings_in no_warnings source.now))) }
+    ensures refused { IfOk result (λ sheet. sheet.refused ≡ refusal_in source.now) }
+{
+    let sheet = list_all_lines(alloc, no_warnings, name, source)?;
+    let text = visible_text(alloc, sheet.text.as_slice())?;
+    Ok(Sheet {
+        text,
+        refused: sheet.refused,
+    })
 }
 
 /// The faults and the warnings in one of the forms.

@@ -16,7 +16,7 @@ use Rattle.mx_outcome.specs.declared.outcome.Outcome.{Outcome}
 use Rattle.mx_outcome.specs.declared.outcome.Outcome.TheVariants as ends
 use Rattle.mx_warn.specs.Kinds.{kind_name, kind_number}
 use Rattle.mx_warn.specs.declared.warnings.Kind.{Kind as Odd}
-use Rattle.mx_warn.specs.declared.warnings.Kind.TheVariants.{OperatorAfterBlank, BackslashInString, NoLabelBefore, PlacedTwice, GregOfZero, UnusedBase, DataAfterCode, OtherCase, LostReturn}
+use Rattle.mx_warn.specs.declared.warnings.Kind.TheVariants.{OperatorAfterBlank, BackslashInString, NoLabelBefore, PlacedTwice, GregOfZero, UnusedBase, DataAfterCode, OtherCase, LostReturn, TrapOperands, EndlessJump, FloatInstruction, NarrowLabel}
 use Rattle.mx_explain.specs.declared.row.Topic.{Topic}
 use Rattle.mx_explain.specs.declared.row.Topic.TheVariants.{Source, Object, Stop, Kind, Warning, Status, Inside, Operation, Unperformed, Symbol}
 use Rattle.mx_explain.specs.Topics.{Row, number_of, name_of, topic_name}
@@ -198,6 +198,10 @@ warning-there UnusedBase = refl
 warning-there DataAfterCode = refl
 warning-there OtherCase = refl
 warning-there LostReturn = refl
+warning-there TrapOperands = refl
+warning-there EndlessJump = refl
+warning-there FloatInstruction = refl
+warning-there NarrowLabel = refl
 
 status-there : (o : Outcome) → is_its_own o ≡ false → has (is_status (status_of o)) ≡ true
 unfolding table sections line_rows expression_rows statement_rows place_rows source_rows warning_rows object_rows trie_rows loading_rows stop_rows trap_rows kind_rows status_rows inside_rows arithmetic_rows comparison_rows bit_rows byte_rows wyde_rows branch_rows set_rows load_rows store_rows hint_rows jump_rows system_rows float_rows more_float_rows pseudo_rows register_rows more_register_rows event_rows file_rows service_rows other_rows

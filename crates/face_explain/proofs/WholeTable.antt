@@ -60,7 +60,7 @@ row-some : (row : Row) → 0 < length (row_text row)
 unfolding row_text
 row-some row =
     longer _ (back row.topic row.name)
-    (longer _ (part (codes "  Mended:   ") row.mended)
+    (longer _ (part (codes "  Fixed:    ") row.mended)
     (longer _ (part (codes "  Example:  ") row.example) (longer _ (sentences row.says) (longer _ (front row.topic row.name) (head-some row)))))
 
 -- ---- the answer

@@ -1,5 +1,5 @@
 -- What is answered on a word: the texts of the rows of the table that it is about, or what MMIX has in place of an operation of other
--- machines.
+-- machines, or what is said of another part of MMIXAL.
 use Rattle.std.specs.Prelude.{ℕ, List, [], ◌∷◌, ◌++◌, codes, if◌then◌else◌}
 use Rattle.std.specs.List.{flat_map}
 use Rattle.mx_foreign.specs.Foreign.{advice_of}
@@ -7,6 +7,7 @@ use Rattle.mx_explain.specs.Topics.{Row, name_of}
 use Rattle.mx_explain.specs.Matching.{fits, found}
 use Rattle.mx_explain.specs.Texts.{row_text}
 use Rattle.face_explain.specs.Near.{is_near}
+use Rattle.face_explain.specs.Notations.{notation_of}
 use Rattle.face_explain.specs.Tables.{table, part_of}
 use Rattle.face_explain.specs.declared.sections.Section.{Section}
 use Rattle.face_explain.specs.declared.answer.Answer.{Answer}
@@ -50,9 +51,18 @@ unknown_text word = codes "error: " ++ word ++ codes " is not explained" ++ advi
 unfoldable pub foreign_text : List ℕ → List ℕ → List ℕ
 foreign_text word advice = word ++ codes ": an operation of other machines\n  " ++ advice ++ codes "\n"
 
+-- what is said of another part of MMIXAL
+unfoldable pub notation_text : List ℕ → List ℕ → List ℕ
+notation_text word says = word ++ codes ": a part of MMIXAL\n  " ++ says ++ codes "\n"
+
+-- of a word that no row is about, and no operation of other machines, where this is said of it, if it is such a part
+abbrev pub notation_answer : List ℕ → List ℕ → Answer
+notation_answer word [] = Unknown (unknown_text word)
+notation_answer word (b ∷ bs) = Explained (notation_text word (b ∷ bs))
+
 -- of a word that no row is about, where this is what MMIX has, if it is such an operation
 abbrev pub foreign_answer : List ℕ → List ℕ → Answer
-foreign_answer word [] = Unknown (unknown_text word)
+foreign_answer word [] = notation_answer word (notation_of word)
 foreign_answer word (b ∷ bs) = Explained (foreign_text word (b ∷ bs))
 
 abbrev pub answer_with : List ℕ → List Row → Answer

@@ -8,7 +8,7 @@ use Rattle.mx_outcome.specs.declared.outcome.Outcome.{Outcome}
 use Rattle.mx_outcome.specs.declared.outcome.Outcome.TheVariants as ends
 use Rattle.mx_warn.specs.Kinds.{kind_name, kind_number}
 use Rattle.mx_warn.specs.declared.warnings.Kind.{Kind as Odd}
-use Rattle.mx_warn.specs.declared.warnings.Kind.TheVariants.{OperatorAfterBlank, BackslashInString, NoLabelBefore, PlacedTwice, GregOfZero, UnusedBase, DataAfterCode, OtherCase, LostReturn}
+use Rattle.mx_warn.specs.declared.warnings.Kind.TheVariants.{OperatorAfterBlank, BackslashInString, NoLabelBefore, PlacedTwice, GregOfZero, UnusedBase, DataAfterCode, OtherCase, LostReturn, TrapOperands, EndlessJump, FloatInstruction, NarrowLabel}
 use Rattle.mx_explain.specs.declared.row.Topic.{Topic}
 use Rattle.mx_explain.specs.declared.row.Topic.TheVariants.{Source, Object, Stop, Kind, Warning, Status, Inside, Operation, Unperformed, Symbol}
 use Rattle.mx_explain.specs.Topics.{Row}
@@ -27,7 +27,7 @@ is_fault_topic n other = false
 abbrev pub is_fault : ℕ → Row → Bool
 is_fault n row = is_fault_topic n row.topic
 
--- whether it is a kind of faulty words of this number
+-- whether it is a command-line error of this number
 abbrev pub is_kind_topic : ℕ → Topic → Bool
 is_kind_topic n (Kind number) = number == n
 is_kind_topic n other = false
@@ -82,7 +82,7 @@ explains word test = list_any test (found word table)
 abbrev pub odd_kinds : List Odd
 odd_kinds =
     OperatorAfterBlank ∷ BackslashInString ∷ NoLabelBefore ∷ PlacedTwice ∷ GregOfZero ∷ UnusedBase ∷ DataAfterCode ∷ OtherCase
-    ∷ LostReturn ∷ []
+    ∷ LostReturn ∷ TrapOperands ∷ EndlessJump ∷ FloatInstruction ∷ NarrowLabel ∷ []
 
 abbrev pub outcomes : List Outcome
 outcomes =

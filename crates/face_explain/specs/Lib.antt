@@ -1,5 +1,6 @@
 pub mod Near
 pub mod Tables
+pub mod Notations
 pub mod Answers
 pub mod Lists
 pub mod Known

@@ -5,8 +5,10 @@ ghost use Rattle.std.specs.List.{flat_map};
 ghost use Rattle.mx_explain.specs.Topics.{row, seen};
 ghost use Rattle.mx_foreign.specs.Foreign.{advice_of};
 ghost use Rattle.face_explain.specs.Answers as spec;
+ghost use Rattle.face_explain.specs.Notations.{notation_of};
 
 use crate::nearest::unknown_text;
+use crate::notations::notation_on;
 use crate::sections::{Section, all, part_of};
 use mx_explain::{Entry, Row, add_row, is_number_or_name_of, row_of};
 use mx_foreign::advice_on;
@@ -89,19 +91,43 @@ fn foreign_text(alloc: Global, word: &str, advice: &str) -> Result<Bytes, NoMemo
     Ok(text)
 }
 
+/// What is said of another part of MMIXAL.
+#[tactic(auto, unfolding(crate::specs::Answers::notation_text))]
+fn notation_text(alloc: Global, word: &str, says: &str) -> Result<Bytes, NoMemory>
+    ensures { IfOk result (λ text. text ≡ spec.notation_text word.now says.now) }
+{
+    let mut text = Bytes::copy(alloc, word.as_bytes())?;
+    text.extend(b": a part of MMIXAL\n  ")?;
+    text.extend(says.as_bytes())?;
+    text.push(b'\n')?;
+    Ok(text)
+}
+
+/// What is answered on a word that no row is about, and that is no operation of other machines.
+fn notation_answer(alloc: Global, word: &str) -> Result<Answer, NoMemory>
+    ensures { IfOk result (λ given. given ≡ spec.notation_answer word.now (notation_of word.now)) }
+{
+    let says = notation_on(word.as_bytes());
+    if says.is_empty() {
+        return Ok(Answer::Unknown(unknown_text(alloc, word)?));
+    }
+    Ok(Answer::Explained(notation_text(alloc, word, says)?))
+}
+
 /// What is answered on a word that no row is about.
 fn foreign_answer(alloc: Global, word: &str) -> Result<Answer, NoMemory>
     ensures { IfOk result (λ given. given ≡ spec.foreign_answer word.now (advice_of word.now)) }
 {
     let advice = advice_on(word.as_bytes());
     if advice.is_empty() {
-        return Ok(Answer::Unknown(unknown_text(alloc, word)?));
+        return notation_answer(alloc, word);
     }
     Ok(Answer::Explained(foreign_text(alloc, word, advice)?))
 }
 
 /// What a word means: the texts of all rows of the table whose number or name it is, in their order; upper and lower case do not
-/// matter. Where there is none, what MMIX has in place of an operation of other machines. It refuses only where it is out of memory.
+/// matter. Where there is none, what MMIX has in place of an operation of other machines, or what Main, @ or a local label is. It refuses
+/// only where it is out of memory.
 #[tactic(auto, using(crate::proofs::WholeTable::answers), unfolding(crate::specs::Answers::answer))]
 pub fn explain(alloc: Global, word: &str) -> Result<Answer, NoMemory>
     ensures { IfOk result (λ given. given ≡ spec.answer word.now) }

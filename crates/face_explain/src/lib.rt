@@ -6,6 +6,7 @@ mod columns;
 mod laws;
 mod near;
 mod nearest;
+mod notations;
 mod sections;
 mod showing;
 

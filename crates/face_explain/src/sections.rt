@@ -18,7 +18,7 @@ use mx_operations::{
 };
 
 /// A section of the table.
-#[derive(Clone, Copy, Debug, PartialEq, Eq)]
+#[derive(Clone, Copy)]
 pub(crate) enum Section {
     Lines,
     Expressions,
@@ -98,7 +98,7 @@ pub(crate) static ALL: [Section; 35] = [
 
 /// What a section has: its title, its entries, how wide its columns are in a list, and how many cells of a line have one to
 /// their right.
-#[derive(Clone, Copy, Debug)]
+#[derive(Clone, Copy)]
 pub(crate) struct Part {
     pub(crate) title: &'static str,
     pub(crate) entries: &'static [Entry],
@@ -166,7 +166,7 @@ pub(crate) fn part_of(section: Section) -> Part
         Section::Loading => numbers_section("Faults of an object that is loaded", loading_rows()),
         Section::Stops => numbers_section("Reasons of a stop", stop_rows()),
         Section::Traps => numbers_section("Reasons of a stop of RESUME or TRAP", trap_rows()),
-        Section::Kinds => numbers_section("Kinds of faulty words", kind_rows()),
+        Section::Kinds => numbers_section("Command-line errors", kind_rows()),
         Section::Statuses => numbers_section("Exit statuses", status_rows()),
         Section::Inside => numbers_section("Numbers inside the program", inside_rows()),
         Section::Arithmetic => operations_section("Instructions on numbers", arithmetic_rows()),

@@ -66,7 +66,7 @@ pub fn add_what(alloc: Global, text: &mut Bytes, row: Option<Row>) -> Result<(),
     add_string(alloc, text, b",\"what\":", line.as_slice())
 }
 
-/// Adds an example of what was stopped or refused, and what mends it, if there is a row on it.
+/// Adds an example of what was stopped or refused, and how to fix it, if there is a row on it.
 pub fn add_help(alloc: Global, text: &mut Bytes, row: Option<Row>) -> Result<(), NoMemory> {
     let Some(row) = row else {
         return text.extend(b"\"help\":null");
@@ -74,7 +74,7 @@ pub fn add_help(alloc: Global, text: &mut Bytes, row: Option<Row>) -> Result<(),
     let mut line = Bytes::new(alloc);
     line.extend(b"Example: ")?;
     add_line(&mut line, row.example)?;
-    line.extend(b". Mended: ")?;
+    line.extend(b". Fixed: ")?;
     add_line(&mut line, row.mended)?;
     add_string(alloc, text, b"\"help\":", line.as_slice())
 }

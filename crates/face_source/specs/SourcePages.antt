@@ -1,6 +1,7 @@
 -- What `list` and `where` have to say of a source.
 use Rattle.std.specs.Prelude.{ℕ, Bool, true, false, List, [], ◌∷◌, ◌++◌, Option, None, Some, codes}
 use Rattle.mx_face.specs.Pages.{outcome_of}
+use Rattle.mx_face.specs.Visible.{visible_text}
 use Rattle.mx_face.specs.declared.page.Page.{Page}
 use Rattle.mx_files.specs.Assembling.{refused_with}
 use Rattle.mx_files.specs.declared.refusal.Refusal.{Refusal}
@@ -20,7 +21,7 @@ abbrev pub listed_in : Wanted → List ℕ → Listed
 listed_in wanted source = record { lines = lines_listed wanted source; symbols = symbols_listed source; refused = refusal_in source }
 
 abbrev pub list_text : Bool → List ℕ → List ℕ
-list_text false source = listing_of source
+list_text false source = visible_text (listing_of source)
 list_text true source = listing_json (listed_in All source)
 
 -- the text, and the message of the refusal

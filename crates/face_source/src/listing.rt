@@ -1,6 +1,6 @@
 //! The listing of a source or an object.
 
-ghost use Rattle.std.specs.Prelude.{◌≡◌, ◌++◌, IfOk, OnOk, true};
+ghost use Rattle.std.specs.Prelude.{◌≡◌, ◌++◌, IfOk, OnOk, false, true};
 ghost use Rattle.mx_face.specs.Pages.{FaultsOnlyBy, IsOfView, page_put};
 ghost use Rattle.mx_host.specs.Keeping.{Answers};
 ghost use Rattle.mx_view.specs.Listing.{refusal_in};
@@ -11,7 +11,7 @@ ghost use Rattle.face_source.specs.ViewPages.{list_view, shown_view};
 use crate::json::{add_lines, add_symbols};
 use crate::object::list_page_of;
 use crate::reading::read_view;
-use mx_face::{Page, add_refusal, outcome_of, put_page, tell};
+use mx_face::{Page, add_refusal, outcome_of, put_page, tell, visible_text};
 use mx_host::Host;
 use mx_json::add_flag;
 use mx_object::is_object;
@@ -56,6 +56,19 @@ fn listing_as_json(alloc: Global, source: &[u8]) -> Result<Sheet, NoMemory>
     })
 }
 
+/// The listing as a text, with control characters by their numbers.
+fn listing_as_text(alloc: Global, source: &[u8]) -> Result<Sheet, NoMemory>
+    ensures text { IfOk result (λ sheet. sheet.text ≡ spec.list_text false source.now) }
+    ensures refused { IfOk result (λ sheet. sheet.refused ≡ refusal_in source.now) }
+{
+    let sheet = listing(alloc, source)?;
+    let text = visible_text(alloc, sheet.text.as_slice())?;
+    Ok(Sheet {
+        text,
+        refused: sheet.refused,
+    })
+}
+
 /// The listing as a text or as JSON.
 fn sheet(alloc: Global, is_json: bool, source: &[u8]) -> Result<Sheet, NoMemory>
     ensures text { IfOk result (λ sheet. sheet.text ≡ spec.list_text is_json source.now) }
@@ -64,7 +77,7 @@ fn sheet(alloc: Global, is_json: bool, source: &[u8]) -> Result<Sheet, NoMemory>
     if is_json {
         return listing_as_json(alloc, source);
     }
-    listing(alloc, source)
+    listing_as_text(alloc, source)
 }
 
 /// What `list` has to say of a source.

@@ -1,5 +1,5 @@
 -- Messages are numbered one after another.
-use Rattle.std.proofs.Common.{◌≡◌, ◌≤◌, ◌+◌, ◌-◌, ◌++◌, ℕ, List, [], ◌∷◌, true, arith, length-append, subst, rules}
+use Rattle.std.proofs.Common.{◌≡◌, ◌+◌, ◌-◌, ◌++◌, ℕ, List, [], ◌∷◌, true, arith, length-append, subst, rules}
 use Rattle.std.specs.Prelude.{nat_eq, length}
 use Rattle.std.specs.List.{starts_with}
 use Rattle.mx_adapter.specs.Numbers.{AreLast, are_numbered, front}

@@ -1,2 +1,5 @@
 pub mod Numbers
 pub mod Messages
+pub mod Commands
+pub mod Requests
+pub mod Needs

@@ -1,7 +1,6 @@
 -- The messages that are sent: each is an object of JSON whose first member is its number, and a response names its request.
 -- (Debug Adapter Protocol, "Base Protocol".)
-use Rattle.std.specs.Prelude.{ℕ, ◌≡◌, ◌≤◌, ◌+◌, ◌-◌, ◌&&◌, nat_eq, Bool, true, false, List, [], ◌∷◌, ◌++◌, length, codes, decimal}
-use Rattle.std.specs.List.{starts_with}
+use Rattle.std.specs.Prelude.{ℕ, ◌+◌, Bool, true, false, List, [], ◌∷◌, ◌++◌, codes, decimal}
 use Rattle.mx_json.specs.Json.{flag, string}
 use Rattle.mx_adapter.specs.declared.outbox.Answer.{Answer}
 use Rattle.mx_adapter.specs.declared.outbox.Answer.TheVariants.{Done, Refused}

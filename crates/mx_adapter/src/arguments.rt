@@ -1,5 +1,9 @@
 //! The arguments of a request. A value of another type than the one that is asked for counts as missing.
 
+ghost use Rattle.std.specs.Prelude.{◌≡◌, option_map};
+ghost use Rattle.serde_json.specs.View.{view};
+ghost use Rattle.mx_adapter.specs.Requests as spec;
+
 use serde_json::Value;
 
 /// The argument of a request at a path, if there is one that is not `null`.
@@ -14,12 +18,16 @@ pub fn text_in<'a>(value: &'a Value, name: &'static str) -> Option<&'a [u8]> {
 }
 
 /// A text at a path.
-pub fn text_at<'a>(message: &'a Value, path: &str) -> Option<&'a [u8]> {
+pub fn text_at<'a>(message: &'a Value, path: &str) -> Option<&'a [u8]>
+    ensures { option_map (λ text. text.now) result ≡ spec.text_in path.now (view message.now) }
+{
     Some(message.pointer(path)?.as_str()?.as_bytes())
 }
 
 /// A number at a path.
-pub fn number_at(message: &Value, path: &str) -> Option<u64> {
+pub fn number_at(message: &Value, path: &str) -> Option<u64>
+    ensures { result ≡ spec.number_in path.now (view message.now) }
+{
     message.pointer(path)?.as_u64()
 }
 

@@ -1,5 +1,11 @@
 //! Requests.
 
+ghost use Rattle.std.specs.Prelude.{◌≡◌, IfOk, IfSome, IsSome, List, Some, true, ℕ, option_map};
+ghost use Rattle.serde_json.specs.View.{view};
+ghost use Rattle.mx_adapter.specs.Commands.{named};
+ghost use Rattle.mx_adapter.specs.Requests as spec;
+ghost use Rattle.mx_adapter.specs.Requests.{IsRequest};
+
 use crate::commands::{Command, command_named};
 use mx_word::{Bytes, NoMemory};
 use serde_json::Value;
@@ -13,18 +19,27 @@ pub struct Request {
     pub command: Command,
 }
 
-/// The name of a request, where a message is one.
-fn name_of(message: &Value) -> Option<&[u8]> {
-    if let Some(kind) = message.get("type") {
-        if kind.as_str() != Some("request") {
-            return None;
-        }
+/// Whether a message is a request by what it says that it is, or says nothing.
+fn may_be_request(message: &Value) -> bool
+    ensures { (name : List ℕ) → IsRequest name (view message.now) → result ≡ true }
+{
+    match message.get("type") {
+        None => true,
+        Some(kind) => matches!(kind.as_str(), Some("request")),
     }
+}
+
+/// The name that a message has for what is asked.
+fn name_of(message: &Value) -> Option<&[u8]>
+    ensures { option_map (λ name. name.now) result ≡ spec.name_of (view message.now) }
+{
     Some(message.get("command")?.as_str()?.as_bytes())
 }
 
 /// The number of a message; 0 where it has none.
-fn seq_of(message: &Value) -> u64 {
+fn seq_of(message: &Value) -> u64
+    ensures { result ≡ spec.seq_of (view message.now) }
+{
     match message.get("seq") {
         None => 0,
         Some(seq) => seq.as_u64().unwrap_or(0),
@@ -32,7 +47,15 @@ fn seq_of(message: &Value) -> u64 {
 }
 
 /// The request that a message is, if it is one.
-pub fn read_request(alloc: Global, message: &Value) -> Result<Option<Request>, NoMemory> {
+pub fn read_request(alloc: Global, message: &Value) -> Result<Option<Request>, NoMemory>
+    ensures asked { (name : List ℕ) → IsRequest name (view message.now) → IfOk result IsSome }
+    ensures name { IfOk result (λ r. IfSome r (λ q. spec.name_of (view message.now) ≡ Some q.name)) }
+    ensures command { IfOk result (λ r. IfSome r (λ q. q.command ≡ named q.name)) }
+    ensures seq { IfOk result (λ r. IfSome r (λ q. q.seq ≡ spec.seq_of (view message.now))) }
+{
+    if !may_be_request(message) {
+        return Ok(None);
+    }
     let Some(name) = name_of(message) else {
         return Ok(None);
     };

@@ -13,7 +13,7 @@ pub enum Event {
 }
 
 /// The special registers that an instruction reads: the dividend's high half rD and the mask rM.
-#[derive(Clone, Copy, Debug, PartialEq, Eq)]
+#[derive(Clone, Copy, Debug)]
 pub struct Extra {
     pub d: u64,
     pub m: u64,

@@ -1,7 +1,7 @@
 //! The names of the instructions, in the order of their codes.
 
 /// The names from #18 to #3f, each with two codes.
-#[derive(Clone, Copy, Debug, PartialEq, Eq)]
+#[derive(Clone, Copy)]
 pub(crate) enum Arithmetic {
     Mul,
     Mulu,
@@ -26,7 +26,7 @@ pub(crate) enum Arithmetic {
 }
 
 /// The names from #c0 to #df, each with two codes.
-#[derive(Clone, Copy, Debug, PartialEq, Eq)]
+#[derive(Clone, Copy)]
 pub(crate) enum Bitwise {
     Or,
     Orn,
@@ -48,7 +48,7 @@ pub(crate) enum Bitwise {
 
 /// The names from #e0 to #ef without the wyde that they mean, each with four codes: for the high
 /// wyde, the medium high, the medium low and the low one.
-#[derive(Clone, Copy, Debug, PartialEq, Eq)]
+#[derive(Clone, Copy)]
 pub(crate) enum Wyde {
     Set,
     Inc,
@@ -57,7 +57,7 @@ pub(crate) enum Wyde {
 }
 
 /// The conditions of the branches, in the order of their codes: each has two in a row of sixteen.
-#[derive(Clone, Copy, Debug, PartialEq, Eq)]
+#[derive(Clone, Copy)]
 pub(crate) enum Condition {
     Negative,
     Zero,

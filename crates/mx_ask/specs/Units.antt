@@ -4,11 +4,11 @@ use Rattle.mx_word.specs.Kinds.{is_digit}
 use Rattle.mx_cmd.specs.Numerals.{front, past}
 use Rattle.mx_ask.specs.Places.{count_in}
 use Rattle.mx_ask.specs.declared.units.Unit.{Unit}
-use Rattle.mx_ask.specs.declared.units.Unit.TheVariants.{Octa, Tetra, Wyde, Byte, Text}
+use Rattle.mx_ask.specs.declared.units.Unit.TheVariants.{Octa, Decimal, Tetra, Wyde, Byte, Text}
 
 abbrev pub unit_of : ℕ → Option Unit
 unit_of b =
-    if b == 111 then Some Octa else if b == 116 then Some Tetra else if b == 119 then Some Wyde else if b == 98 then Some Byte
+    if b == 111 then Some Octa else if b == 100 then Some Decimal else if b == 116 then Some Tetra else if b == 119 then Some Wyde else if b == 98 then Some Byte
     else if b == 115 then Some Text else None
 
 -- the unit of what follows the number: an octa where nothing does

@@ -1,7 +1,7 @@
 //! How words are found by what is written of them, and explained.
 
 use crate::table::ROWS;
-use crate::words::{Row, find_row};
+use crate::words::{Row, find_row, usual_name};
 use mx_word::{Bytes, NoMemory};
 
 /// How far the names of words reach in the list of all.
@@ -42,6 +42,7 @@ fn find_by_beginning(name: &[u8]) -> Asked {
 
 /// The word that is written so: by its name, its short form, or the beginning of its name.
 pub fn find_word(name: &[u8]) -> Asked {
+    let name = usual_name(name);
     match find_row(&ROWS, name) {
         Some(row) => Asked::Word(row),
         None => find_by_beginning(name),
@@ -50,7 +51,7 @@ pub fn find_word(name: &[u8]) -> Asked {
 
 /// Adds that several words begin like this, and which.
 fn add_ambiguous(out: &mut Bytes, name: &[u8]) -> Result<(), NoMemory> {
-    out.extend(b"? several words begin like this:")?;
+    out.extend(b"? several commands begin like this:")?;
     for row in &ROWS {
         if has_beginning(row, name) {
             out.extend(b" ")?;
@@ -60,14 +61,42 @@ fn add_ambiguous(out: &mut Bytes, name: &[u8]) -> Result<(), NoMemory> {
     out.extend(b"\n")
 }
 
-/// Adds why no word is meant.
+/// The hexadecimal digits.
+const DIGITS: &[u8; 16] = b"0123456789abcdef";
+
+/// The control byte that begins what an arrow key sends.
+const ESCAPE: u8 = 0x1b;
+
+/// Adds a byte as it was written; one that controls a terminal as its digits.
+fn add_byte(out: &mut Bytes, b: u8) -> Result<(), NoMemory> {
+    if b >= 32 && b != 127 {
+        return out.push(b);
+    }
+    out.extend(b"\\x")?;
+    out.push(DIGITS[usize::from(b / 16)])?;
+    out.push(DIGITS[usize::from(b % 16)])
+}
+
+/// Adds a text as it was written, but for bytes that control a terminal.
+pub fn add_written(out: &mut Bytes, text: &[u8]) -> Result<(), NoMemory> {
+    for b in text {
+        add_byte(out, *b)?;
+    }
+    Ok(())
+}
+
+/// Adds why no command is meant.
 pub fn add_unasked(out: &mut Bytes, name: &[u8], is_ambiguous: bool) -> Result<(), NoMemory> {
     if is_ambiguous {
         return add_ambiguous(out, name);
     }
-    out.extend(b"? no word ")?;
-    out.extend(name)?;
-    out.extend(b": help lists all\n")
+    out.extend(b"? no such command: ")?;
+    add_written(out, name)?;
+    out.extend(b" (help lists all)\n")?;
+    if name.contains(&ESCAPE) {
+        out.extend(b"? arrow keys are not read here; rlwrap mmixview debug ... has them\n")?;
+    }
+    Ok(())
 }
 
 /// Adds blanks up to a width.

@@ -9,9 +9,11 @@ use crate::numbers::parse_count;
 use mx_word::is_digit;
 
 /// A unit of memory.
-#[derive(Clone, Copy, Debug, PartialEq, Eq)]
+#[derive(Clone, Copy, PartialEq, Eq)]
 pub enum Unit {
     Octa,
+    /// An octa as a signed decimal number.
+    Decimal,
     Tetra,
     Wyde,
     Byte,
@@ -25,6 +27,7 @@ fn unit_of(letter: u8) -> Option<Unit>
 {
     match letter {
         b'o' => Some(Unit::Octa),
+        b'd' => Some(Unit::Decimal),
         b't' => Some(Unit::Tetra),
         b'w' => Some(Unit::Wyde),
         b'b' => Some(Unit::Byte),

@@ -5,8 +5,12 @@ ghost use Rattle.std.specs.Option.{option_map};
 ghost use Rattle.mx_ask.specs.Words as spec;
 
 /// What a word of the debugger asks for.
-#[derive(Clone, Copy, Debug, PartialEq, Eq)]
+#[derive(Clone, Copy, PartialEq, Eq)]
 pub enum Word {
+    /// Run from the start to the first break or watch.
+    Run,
+    /// Go to the start.
+    Start,
     /// Go on by steps.
     Step,
     /// Go back by steps.
@@ -71,4 +75,16 @@ pub fn find_row<'a>(rows: &'a [Row], name: &[u8]) -> Option<&'a Row>
     ensures { option_map (λ row. row.now) result ≡ spec.row_of name.now rows.now }
 {
     rows.iter().find(|row| has_name(row, name))
+}
+
+/// The name of a command under another name, by which users of gdb may know it.
+pub(crate) fn usual_name(name: &[u8]) -> &[u8] {
+    match name {
+        b"where" => b"backtrace",
+        b"stepi" | b"si" => b"step",
+        b"nexti" | b"ni" => b"next",
+        b"reverse-stepi" | b"rsi" => b"reverse-step",
+        b"reverse-nexti" | b"rni" => b"reverse-next",
+        _ => name,
+    }
 }

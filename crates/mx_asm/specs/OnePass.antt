@@ -1,6 +1,6 @@
 -- The same in one pass: each statement by what is known when it comes, each label with the references that wait for it then.
 -- (MMIXware, the part on MMIXAL: future references; TAOCP 1, Fascicle 1, section 1.3.2'.)
-use Rattle.std.specs.Prelude.{ℕ, zero, suc, ◌+◌, ◌-◌, ◌/◌, ◌^◌, max, nat_lt, Bool, true, false, if◌then◌else◌, List, [], ◌∷◌, ◌++◌, length, slice_set, Option, None, Some, Result, Ok, Err}
+use Rattle.std.specs.Prelude.{◌≡◌, ◌≢◌, ℕ, zero, suc, ◌+◌, ◌-◌, ◌/◌, ◌^◌, max, nat_lt, Bool, true, false, if◌then◌else◌, List, [], ◌∷◌, ◌++◌, length, slice_set, Option, None, Some, Result, Ok, Err}
 use Rattle.mx_word.specs.declared.symbols.Value.{Value}
 use Rattle.mx_word.specs.declared.symbols.Value.TheVariants.{Pure, Reg}
 use Rattle.mx_word.specs.declared.waits.Awaited.{Awaited}
@@ -22,9 +22,9 @@ use Rattle.mx_stmt.specs.Steps.{Answer}
 use Rattle.mx_stmt.specs.Operands.{Known, no_targets, symbol_form}
 use Rattle.mx_stmt.specs.Encoding.{StatementTree, encoding}
 use Rattle.mx_asm.specs.declared.faults.AsmFault.{AsmFault}
-use Rattle.mx_asm.specs.declared.faults.AsmFault.TheVariants.{Stmt, Name as BadName, MainUndefined, MainRegister, SymbolsTooMany, LocalAboveGlobals, SourceTooLong}
+use Rattle.mx_asm.specs.declared.faults.AsmFault.TheVariants.{Stmt, Name as BadName, MainUndefined, MainRegister, SymbolsTooMany, LocalAboveGlobals, SourceTooLong, OutOfMemory}
 use Rattle.mx_asm.specs.declared.refused.Refused.{Refused}
-use Rattle.mx_asm.specs.Faults.{refused}
+use Rattle.mx_asm.specs.Faults.{no_memory, refused}
 use Rattle.mx_asm.specs.Entries.{Entry, entry_of, line_entries}
 use Rattle.mx_asm.specs.TwoPass.{nothing_known, with_effect}
 use Rattle.mx_asm.specs.declared.head.Head.{Head}
@@ -249,6 +249,10 @@ abbrev pub standing_after : Result (Unit {0}) Refused → Assembly → Standing
 standing_after (Ok u) a = Ok a
 standing_after (Err refused) a = Err refused
 
+-- Unless there was no memory, the names and the references that a label took away are these.
+abbrev pub Labels : Result (List Wait) AsmFault → Naming → Labelled → Type 0
+Labels result names labelled = result ≢ Err OutOfMemory → labelled_after result names ≡ labelled
+
 -- Lines that may leave all as it was: `Ok (Err refused)` is a refusal that did, `Err refused` one that did not.
 abbrev pub Tried : Type 0
 Tried = Result (Result (Unit {0}) Refused) Refused
@@ -257,10 +261,19 @@ abbrev pub line_answer : Tried → Result (Unit {0}) Refused
 line_answer (Ok answer) = answer
 line_answer (Err refused) = Err refused
 
+-- Unless there was no memory, the items and what stands after a line that was answered so are those of `line_behind`.
+abbrev pub TakesLine : Result (Unit {0}) Refused → List Item → List Item → Standing → Standing → List ℕ → Type 0
+TakesLine answer old new before after text = answer ≢ Err no_memory → (new, after) ≡ line_behind old before text
+
 -- what stands after a line that is line_answer so, as long as a refusal ends the source
 abbrev pub standing_with : Result (Unit {0}) Refused → Standing → Standing
 standing_with (Ok u) a = a
 standing_with (Err refused) a = Err refused
+
+-- The same of a line that may leave all as it was.
+abbrev pub TriesLine : Tried → List Item → List Item → Standing → Standing → List ℕ → Type 0
+TriesLine result old new before after text =
+    TakesLine (line_answer result) old new before (standing_with (line_answer result) after) text
 
 -- the assembly stands as long as nothing is refused
 abbrev pub standing : Assembly → Option Refused → Standing

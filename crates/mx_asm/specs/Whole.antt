@@ -6,6 +6,7 @@ use Rattle.mx_line.specs.Source.{items_from as line_items}
 use Rattle.mx_mmo.specs.declared.items.Item.{Item}
 use Rattle.mx_stmt.specs.Encoding.{StatementTree}
 use Rattle.mx_asm.specs.declared.refused.Refused.{Refused}
+use Rattle.mx_asm.specs.Fronts.{GrowsAlike}
 use Rattle.mx_asm.specs.Entries.{Entry, entries_of, statements_in}
 use Rattle.mx_asm.specs.TwoPass.{Sight, sights_of, final_known}
 use Rattle.mx_asm.specs.Emission.{opening, first_head, items_from, closing, padded_trie}
@@ -83,3 +84,14 @@ one_pass lines = end_behind (lines_taken lines).0 (lines_taken lines).1
 pub record HasTaken (lines : List Line) (a : Standing) : Type 0 where
   pub taken : a ≡ (lines_taken lines).1
   pub refusal : result_err a ≡ lines_refusal lines
+
+-- what holds of any lines that an assembler has taken
+abbrev pub OnTaken : Standing → (List Line → Type 0) → Type 0
+OnTaken a P = (lines : List Line) → HasTaken lines a → P lines
+
+-- a list grows by the items of one more line after these, or by those of the end
+abbrev pub AddsLine : List Line → Line → List Item → List Item → Type 0
+AddsLine lines line old new = GrowsAlike (lines_items lines) (lines_items (lines ++ line ∷ [])) old new
+
+abbrev pub AddsEnd : List Line → List Item → List Item → Type 0
+AddsEnd lines old new = GrowsAlike (lines_items lines) (assembled_lines lines).0 old new

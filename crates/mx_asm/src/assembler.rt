@@ -5,16 +5,16 @@ ghost use Rattle.std.specs.Prelude.{Ok, Err, IfOk, IfErr, OnOk, OnErr, length};
 ghost use Rattle.mx_word.specs.Results.{map_ok};
 ghost use Rattle.mx_asm.specs.Faults.{IsTold, no_memory};
 ghost use Rattle.mx_asm.specs.Fitting.{AreFit, AreWritable, GrowsFit, IsPadded};
-ghost use Rattle.mx_asm.specs.Fronts.{GrowsAlike, IsFront};
+ghost use Rattle.mx_asm.specs.Fronts.{IsFront};
 ghost use Rattle.mx_asm.specs.Entries.{holds_statement};
 ghost use Rattle.mx_asm.specs.OnePass as spec;
-ghost use Rattle.mx_asm.specs.Whole.{HasTaken, assembled_lines, lines_items};
+ghost use Rattle.mx_asm.specs.Whole.{AddsEnd, AddsLine, HasTaken, OnTaken, assembled_lines, lines_items};
 
 use crate::Refused;
 use crate::assembly::Assembly;
 use crate::lines::take_statements;
 use mx_mmo::Items;
-use mx_word::Bytes;
+use mx_word::{Bytes, NoMemory};
 use std::alloc::Global;
 use std::marker::Model;
 
@@ -41,12 +41,11 @@ impl Model for Assembler {
 }
 
 impl Assembler {
-    /// Before the first line. It is refused only out of memory.
+    /// Before the first line.
     #[tactic(auto, using(crate::proofs::InTurn::turns))]
-    pub fn new(alloc: Global) -> Result<Assembler, Refused>
+    pub fn new(alloc: Global) -> Result<Assembler, NoMemory>
         ensures start { IfOk result (λ a. a ≡ Ok spec.beginning) }
         ensures none { IfOk result (λ a. HasTaken [] a) }
-        ensures memory { IfErr result (λ refused. refused ≡ no_memory) }
     {
         Ok(Assembler {
             alloc,
@@ -65,10 +64,10 @@ impl Assembler {
     pub fn line(&mut self, text: &[u8], out: &mut Items) -> Result<(), Refused>
         ensures answer { result ≡ map_ok (λ _. tt) self.new }
         ensures taken { result ≢ Err no_memory → (out.new, self.new) ≡ spec.line_behind out.old self.old text.now }
-        ensures lines { (lines : List (List ℕ)) → HasTaken lines self.old → result ≢ Err no_memory →
-            HasTaken (lines ++ text.now ∷ []) self.new }
-        ensures items { (lines : List (List ℕ)) → HasTaken lines self.old → result ≢ Err no_memory →
-            GrowsAlike (lines_items lines) (lines_items (lines ++ text.now ∷ [])) out.old out.new }
+        ensures lines { OnTaken self.old
+            (λ lines. result ≢ Err no_memory → HasTaken (lines ++ text.now ∷ []) self.new) }
+        ensures items { OnTaken self.old
+            (λ lines. result ≢ Err no_memory → AddsLine lines text.now out.old out.new) }
         ensures open { OnOk result (spec.is_open self.new ≡ true) }
         ensures told { IfErr result IsTold }
         ensures sparing { spec.is_open self.old ≡ true → holds_statement text.now ≡ false → result ≢ Err no_memory }
@@ -91,8 +90,7 @@ impl Assembler {
     /// the first statement of a line, or for too many bytes. Any other one stays.
     #[tactic(auto, using(crate::proofs::Fitting::grown, crate::proofs::Fronts::fronts))]
     pub fn try_line(&mut self, text: &[u8], out: &mut Items) -> Result<Result<(), Refused>, Refused>
-        ensures taken { spec.line_answer result ≢ Err no_memory →
-            (out.new, spec.standing_with (spec.line_answer result) self.new) ≡ spec.line_behind out.old self.old text.now }
+        ensures taken { spec.TriesLine result out.old out.new self.old self.new text.now }
         ensures kept { IfOk result (λ answer. IfErr answer (λ refused. self.new ≡ map_ok spec.opened self.old)) }
         ensures stays { IfErr result (λ refused. self.new ≡ Err refused) }
         ensures open { OnOk (spec.line_answer result) (spec.is_open self.new ≡ true) }
@@ -121,17 +119,15 @@ impl Assembler {
     #[tactic(auto, using(crate::proofs::Fitting::grown, crate::proofs::Fronts::fronts))]
     pub fn finish(&mut self, out: &mut Items) -> Result<Bytes, Refused>
         ensures ended { result ≢ Err no_memory → (out.new, result) ≡ spec.end_behind out.old self.old }
-        ensures whole { (lines : List (List ℕ)) → HasTaken lines self.old → result ≢ Err no_memory →
-            result ≡ (assembled_lines lines).1 }
-        ensures items { (lines : List (List ℕ)) → HasTaken lines self.old → result ≢ Err no_memory →
-            GrowsAlike (lines_items lines) (assembled_lines lines).0 out.old out.new }
+        ensures whole { OnTaken self.old (λ lines. result ≢ Err no_memory → result ≡ (assembled_lines lines).1) }
+        ensures items { OnTaken self.old (λ lines. result ≢ Err no_memory → AddsEnd lines out.old out.new) }
         ensures refused { IfErr result (λ refused. self.new ≡ Err refused) }
         ensures told { IfErr result IsTold }
         ensures accepted { OnOk result (self.new ≡ map_ok spec.opened self.old) }
         ensures front { IsFront out.old out.new × IsFront out.new (spec.end_behind out.old self.old).0 }
         ensures fits { AreFit out.old → AreFit out.new }
-        ensures object { (lines : List (List ℕ)) → HasTaken lines self.old → AreFit (lines_items lines) →
-            IfOk result (λ trie. AreWritable (assembled_lines lines).0 trie) }
+        ensures object { OnTaken self.old
+            (λ lines. AreFit (lines_items lines) → IfOk result (AreWritable (assembled_lines lines).0)) }
         ensures refusal_again { OnErr self.old ((out.new ≡ out.old) × (self.new ≡ self.old)) }
     {
         if let Some(refused) = self.refused {
@@ -168,8 +164,8 @@ fn take_line(
     out: &mut Items,
     text: &[u8],
 ) -> Result<Result<(), Refused>, Refused>
-    ensures taken { spec.line_answer result ≢ Err no_memory →
-        (out.new, spec.standing_after (spec.line_answer result) assembly.new) ≡ spec.line_behind out.old (Ok assembly.old) text.now }
+    ensures taken { let answer = spec.line_answer result in spec.TakesLine
+        answer out.old out.new (Ok assembly.old) (spec.standing_after answer assembly.new) text.now }
     ensures kept { IfOk result (λ answer. IfErr answer (λ refused. assembly.new ≡ spec.opened assembly.old)) }
     ensures sparing { assembly.old.opened ≡ true → holds_statement text.now ≡ false → spec.line_answer result ≢ Err no_memory }
     ensures told { IfErr (spec.line_answer result) IsTold }

@@ -72,16 +72,12 @@ impl Model for Assembly {
 
 impl Assembly {
     /// Before the first line.
-    pub(crate) fn new(alloc: Global) -> Result<Assembly, Refused>
-        ensures start { IfOk result (λ a. a ≡ spec.beginning) }
-        ensures memory { IfErr result (λ refused. refused ≡ no_memory) }
+    pub(crate) fn new(alloc: Global) -> Result<Assembly, NoMemory>
+        ensures { IfOk result (λ a. a ≡ spec.beginning) }
     {
-        let Ok(names) = Names::new(alloc) else {
-            return Err(Refused::no_memory());
-        };
         Ok(Assembly {
             alloc,
-            names,
+            names: Names::new(alloc)?,
             at: 0,
             gregs: Gregs::new(),
             head: Head { lambda: 0, line: 0 },
@@ -168,8 +164,8 @@ impl Assembly {
         waits: Waits,
     ) -> Result<Waits, AsmFault>
         requires digit { IfSome label.now LabelHasDigit }
-        ensures labelled { result ≢ Err AsmFault.OutOfMemory →
-            spec.labelled_after result (spec.naming_of self.new) ≡ spec.labelled (spec.naming_of self.old) label.now value waits }
+        ensures labelled { spec.Labels result (spec.naming_of self.new)
+            (spec.labelled (spec.naming_of self.old) label.now value waits) }
         ensures rest { OnOk result (self.new ≡
             record self.old { known = record self.old.known { names = self.new.known.names }; waiting = self.new.waiting }) }
         ensures early { IfErr result (λ fault. is_early fault ≡ true → self.new ≡ self.old) }

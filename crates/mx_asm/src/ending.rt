@@ -55,13 +55,8 @@ pub(crate) fn make_padded_trie(alloc: Global, names: &Names) -> Result<Bytes, No
     ensures trie { IfOk result (λ trie. trie ≡ emission.padded_trie names.now.names) }
     ensures whole { IfOk result (λ trie. length trie % 4 ≡ 0) }
 {
-    let Ok(symbols) = names.sorted() else {
-        return Err(NoMemory);
-    };
-    let Ok(trie) = write(alloc, &symbols) else {
-        return Err(NoMemory);
-    };
-    pad_to_tetra(trie)
+    let symbols = names.sorted()?;
+    pad_to_tetra(write(alloc, &symbols)?)
 }
 
 /// Bytes with the zeros that complete their last tetra.

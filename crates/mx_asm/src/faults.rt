@@ -9,7 +9,7 @@ use mx_stmt::StmtFault;
 use mx_word::NoMemory;
 
 /// A fault of a source.
-#[derive(Clone, Copy, Debug, PartialEq, Eq)]
+#[derive(Clone, Copy)]
 pub enum AsmFault {
     /// A fault of a line.
     Line(LineFault),

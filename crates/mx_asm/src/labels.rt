@@ -1,6 +1,6 @@
 //! Labels of statements, and the references that wait for them.
 
-ghost use Rattle.std.specs.Prelude.{◌≡◌, ◌≢◌, ◌<◌, ◌≤◌, ◌+◌, Ok, Err, OnOk, IfSome, IfErr, length, true};
+ghost use Rattle.std.specs.Prelude.{◌≡◌, ◌≢◌, ◌<◌, ◌≤◌, ◌+◌, Ok, Err, OnOk, IfOk, IfSome, IfErr, length, true};
 ghost use Rattle.mx_names.specs.Names.{AreNames, IsFullName, define_answer};
 ghost use Rattle.mx_stmt.specs.Operands.{symbol_form};
 ghost use Rattle.mx_stmt.specs.Reading.{LabelHasDigit};
@@ -14,32 +14,24 @@ use mx_word::{Awaited, Bytes, NoMemory, Value, Waits};
 use std::alloc::Global;
 
 /// Makes references wait.
-fn wait_for(names: &mut Names, waits: Waits) -> Result<(), AsmFault>
+fn wait_for(names: &mut Names, waits: Waits) -> Result<(), NoMemory>
     ensures waiting { OnOk result (names.new ≡ spec.with_waits names.old waits) }
-    ensures only { IfErr result (λ fault. fault ≡ AsmFault.OutOfMemory) }
     ensures kept { AreNames names.old.names → AreNames names.new.names }
     ensures symbols { names.new.names.symbols ≡ names.old.names.symbols }
 {
     for wait in waits.into_vec() {
-        let Ok(()) = names.wait_for(wait) else {
-            return Err(AsmFault::OutOfMemory);
-        };
+        names.wait_for(wait)?;
     }
     Ok(())
 }
 
 /// Gives and removes the references that wait for a name or a local label.
-fn take_waiting(names: &mut Names, who: &Awaited) -> Result<Waits, AsmFault>
-    ensures taken { result ≢ Err AsmFault.OutOfMemory →
-        spec.labelled_after result names.new ≡ spec.waits_taken who.now names.old }
-    ensures only { IfErr result (λ fault. fault ≡ AsmFault.OutOfMemory) }
+fn take_waiting(names: &mut Names, who: &Awaited) -> Result<Waits, NoMemory>
+    ensures taken { IfOk result (λ waits. Ok (names.new, waits) ≡ spec.waits_taken who.now names.old) }
     ensures kept { AreNames names.new.names }
     ensures symbols { names.new.names.symbols ≡ names.old.names.symbols }
 {
-    match names.take_waiting(who) {
-        Ok(waits) => Ok(waits),
-        Err(_) => Err(AsmFault::OutOfMemory),
-    }
+    names.take_waiting(who)
 }
 
 /// Defines a symbol, and takes the references that wait for it, those of its own statement among
@@ -53,9 +45,8 @@ fn define_symbol(
 ) -> Result<Waits, AsmFault>
     requires full { IsFullName full }
     requires room { length names.old.names.symbols < 0xffff_ffff }
-    ensures labelled { result ≢ Err AsmFault.OutOfMemory →
-        spec.labelled_after result names.new ≡
-        spec.symbol_defined names.old full value waits (define_answer names.old.names full) }
+    ensures labelled { spec.Labels result names.new
+        (spec.symbol_defined names.old full value waits (define_answer names.old.names full)) }
     ensures kept { AreNames names.old.names → AreNames names.new.names }
     ensures few { length names.new.names.symbols ≤ length names.old.names.symbols + 1 }
     ensures early { IfErr result (λ fault. is_early fault ≡ true → names.new ≡ names.old) }
@@ -64,7 +55,7 @@ fn define_symbol(
     match names.define(full, value) {
         Ok(()) => {
             wait_for(names, waits)?;
-            take_waiting(names, &who)
+            Ok(take_waiting(names, &who)?)
         }
         Err(NameFault::OutOfMemory) => Err(AsmFault::OutOfMemory),
         Err(fault) => Err(AsmFault::Name(fault)),
@@ -80,9 +71,8 @@ fn define_name(
     waits: Waits,
 ) -> Result<Waits, AsmFault>
     requires room { length names.old.names.symbols < 0xffff_ffff }
-    ensures labelled { result ≢ Err AsmFault.OutOfMemory →
-        spec.labelled_after result names.new ≡
-        spec.with_symbol_label names.old value waits (symbol_form names.old.names text.now) }
+    ensures labelled { spec.Labels result names.new
+        (spec.with_symbol_label names.old value waits (symbol_form names.old.names text.now)) }
     ensures kept { AreNames names.old.names → AreNames names.new.names }
     ensures few { length names.new.names.symbols ≤ length names.old.names.symbols + 1 }
     ensures early { IfErr result (λ fault. is_early fault ≡ true → names.new ≡ names.old) }

@@ -8,7 +8,7 @@ use mx_word::NoMemory;
 
 /// A refusal: the line, the fault, and the line of the reference for FutureRegister, FutureTooFar
 /// and FutureNotMultiple, otherwise 0. Lines are counted from 1. Out of memory has the lines 0.
-#[derive(Clone, Copy, Debug, PartialEq, Eq)]
+#[derive(Clone, Copy)]
 pub struct Refused {
     pub line: u32,
     pub fault: AsmFault,

@@ -1,8 +1,11 @@
 -- Of what a machine begins: the image of a source or of an object, and the machine that starts with it and the arguments.
-use Rattle.std.specs.Prelude.{ℕ, ◌*◌, ◌/◌, List, Option, None, Some, Result, Ok, Err}
+use Rattle.std.specs.Prelude.{◌≡◌, ◌≢◌, ℕ, ◌*◌, ◌/◌, List, Option, None, Some, Result, Ok, Err}
 use Rattle.mx_mmo.specs.Image.{Image}
 use Rattle.mx_load.specs.Objects.{object_loaded}
+use Rattle.mx_core.specs.Bounds.{as_list_state}
+use Rattle.mx_core.specs.Kept.{Kept, state_of}
 use Rattle.mx_core.specs.State.{State}
+use Rattle.mx_word.specs.Results.{map_ok}
 use Rattle.mx_ring.specs.RegisterList.{list_at_start}
 use Rattle.mx_ring.specs.Stack.{Stack, listed, windowed}
 use Rattle.mx_ring.specs.Window.{window_at_start}
@@ -14,7 +17,7 @@ use Rattle.mx_files.specs.Source.{source_pieces, object_pieces}
 use Rattle.mx_files.specs.Sources.{source_meaning}
 use Rattle.mx_files.specs.declared.refusal.Refusal.{Refusal}
 use Rattle.mx_outcome.specs.declared.outcome.Outcome.{Outcome}
-use Rattle.mx_outcome.specs.declared.outcome.Outcome.TheVariants.{BadObject, Stopped}
+use Rattle.mx_outcome.specs.declared.outcome.Outcome.TheVariants.{BadObject, OutOfMemory, Stopped}
 use Rattle.mx_begin.specs.declared.images.Form.{Form}
 use Rattle.mx_begin.specs.declared.images.Form.TheVariants.{Source, Object}
 
@@ -45,6 +48,14 @@ most_pieces Object = object_pieces
 abbrev pub stack_at_start : MachineKind → ℕ → Stack
 stack_at_start window_machine ring = windowed (window_at_start ring)
 stack_at_start list_machine ring = listed list_at_start
+
+-- a machine over the list
+abbrev pub list_state_of : Kept → State
+list_state_of machine = as_list_state (state_of machine)
+
+-- unless there was no memory, the machine that starts, seen so, or the outcome, is this
+abbrev pub StartsAs : Result Kept Outcome → (Kept → State) → Result State Outcome → Type 0
+StartsAs result seen answer = result ≢ Err OutOfMemory → map_ok seen result ≡ answer
 
 -- where a program begins
 abbrev pub main_address : Image → ℕ

@@ -1,14 +1,13 @@
 //! A machine at its start.
 
 ghost use Rattle.std.specs.Prelude.{◌≡◌, ◌≢◌, ◌≤◌, ◌<◌, ◌+◌, ◌*◌, Err, IfOk, IfErr, false, length, map, string_bytes};
-ghost use Rattle.mx_begin.specs.BeginPlans as plans;
+ghost use Rattle.mx_begin.specs.BeginPlans.{Begins};
 ghost use Rattle.mx_begin.specs.Begun as spec;
+ghost use Rattle.mx_begin.specs.Begun.{list_state_of};
 ghost use Rattle.mx_files.specs.Failing.{PartFailsOnlyBy};
-ghost use Rattle.mx_core.specs.Bounds.{as_list_state};
 ghost use Rattle.mx_core.specs.Kept.{state_of};
 ghost use Rattle.mx_load.specs.Kept.{image_of};
 ghost use Rattle.mx_outcome.specs.Kinds.{is_usage};
-ghost use Rattle.mx_plan.specs.Clauses.{CarriesOut};
 ghost use Rattle.mx_ring.specs.Stack.{stack_address};
 ghost use Rattle.mx_run.specs.WildRuns.{window_machine, list_machine};
 ghost use Rattle.mx_start.specs.Start.{pool, pool_octas};
@@ -36,10 +35,10 @@ pub fn start_machine(
 ) -> Result<Machine, Outcome>
     requires not_empty { 1 ≤ length arguments.now }
     requires fits { pool + 8 * length (pool_octas arguments.now) ≤ stack_address 0 }
-    ensures window { result ≢ Err Outcome.OutOfMemory → map_ok state_of result
-        ≡ spec.started window_machine ring (image_of image) arguments.now }
-    ensures list { result ≢ Err Outcome.OutOfMemory → map_ok (λ m. as_list_state (state_of m)) result
-        ≡ spec.started list_machine ring (image_of image) arguments.now }
+    ensures window { spec.StartsAs result state_of
+        (spec.started window_machine ring (image_of image) arguments.now) }
+    ensures list { spec.StartsAs result list_state_of
+        (spec.started list_machine ring (image_of image) arguments.now) }
     ensures untouched { IfOk result (λ m. (state_of m).touched ≡ false) }
     ensures no_host_fault { result ≢ Err Outcome.HostFault }
     ensures no_missing_file { result ≢ Err Outcome.NoFile }
@@ -67,20 +66,14 @@ pub fn begin<H: Host>(
 ) -> Result<Machine, Outcome>
     requires file { order.now.file < length words.now }
     requires rest { order.now.rest ≤ length words.now }
-    ensures window { CarriesOut (H.told host.old) (H.told host.new) (Err Outcome.OutOfMemory) (map_ok state_of result)
-        (plans.begin_plan window_machine (map string_bytes words.now) order.now form) }
-    ensures list { CarriesOut (H.told host.old) (H.told host.new) (Err Outcome.OutOfMemory)
-        (map_ok (λ machine. as_list_state (state_of machine)) result)
-        (plans.begin_plan list_machine (map string_bytes words.now) order.now form) }
+    ensures window { Begins H.told host.old host.new (map_ok state_of result)
+        window_machine (map string_bytes words.now) order.now form }
+    ensures list { Begins H.told host.old host.new (map_ok list_state_of result)
+        list_machine (map string_bytes words.now) order.now form }
     ensures untouched { IfOk result (λ machine. (state_of machine).touched ≡ false) }
     ensures causes { PartFailsOnlyBy H.told H.faults host.old host.new result }
 {
-    let arguments = match collect_arguments(alloc, words, order) {
-        Ok(arguments) => arguments,
-        Err(_) => return Err(Outcome::OutOfMemory),
-    };
-    match read_image(alloc, host, form, word_bytes(words, order.file)) {
-        Ok(image) => start_machine(alloc, image, arguments.as_slice(), order.ring),
-        Err(outcome) => Err(outcome),
-    }
+    let arguments = collect_arguments(alloc, words, order)?;
+    let image = read_image(alloc, host, form, word_bytes(words, order.file))?;
+    start_machine(alloc, image, arguments.as_slice(), order.ring)
 }

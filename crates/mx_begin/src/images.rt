@@ -3,10 +3,10 @@
 ghost use Rattle.std.specs.Prelude.{◌≡◌, ◌≢◌, Err, IfErr, false};
 ghost use Rattle.mx_begin.specs.BeginPlans as plans;
 ghost use Rattle.mx_begin.specs.Begun as spec;
+ghost use Rattle.mx_files.specs.Clauses.{CarriesOutPart};
 ghost use Rattle.mx_files.specs.Failing.{PartFailsOnlyBy};
 ghost use Rattle.mx_load.specs.Kept.{image_of};
 ghost use Rattle.mx_outcome.specs.Kinds.{is_usage};
-ghost use Rattle.mx_plan.specs.Clauses.{CarriesOut};
 ghost use Rattle.mx_word.specs.Results.{map_ok};
 
 use mx_files::{OBJECT_PIECES, SOURCE_PIECES, SourceFault, load_source, read_file};
@@ -84,12 +84,10 @@ pub fn read_image<H: Host>(
     form: Form,
     name: &[u8],
 ) -> Result<Image, Outcome>
-    ensures plan { CarriesOut (H.told host.old) (H.told host.new) (Err Outcome.OutOfMemory) (map_ok image_of result)
+    ensures plan { CarriesOutPart H.told host.old host.new (map_ok image_of result)
         (plans.image_file_plan form name.now) }
     ensures causes { PartFailsOnlyBy H.told H.faults host.old host.new result }
 {
-    match read_file(alloc, host, name, most_pieces(form)) {
-        Ok(bytes) => image_in(alloc, form, bytes.as_slice()),
-        Err(outcome) => Err(outcome),
-    }
+    let bytes = read_file(alloc, host, name, most_pieces(form))?;
+    image_in(alloc, form, bytes.as_slice())
 }

@@ -13,7 +13,7 @@ use std::alloc::Global;
 
 /// A tetra that a program loads: its address, a multiple of 4, the number of the line that it came from, or 0 where that is
 /// not known, and whether it is an instruction.
-#[derive(Clone, Copy, Debug, PartialEq, Eq)]
+#[derive(Clone, Copy)]
 pub struct Load {
     pub address: u64,
     pub line: u32,

@@ -7,7 +7,7 @@ use mx_cmd::Subject;
 use mx_word::Value;
 
 /// What has a value: a register, a special register by its code, the octa that holds an address, or a number.
-#[derive(Clone, Copy, Debug, PartialEq, Eq)]
+#[derive(Clone, Copy)]
 pub enum Thing {
     Register(u8),
     Special(u8),

@@ -1,10 +1,10 @@
 -- Names of a line, and lines, one after another.
-use Rattle.std.proofs.Common.{◌≡◌, ℕ, ◌+◌, Bool, true, false, List, [], ◌∷◌, ◌++◌, length, codes, refl, sym, ap, ◌∙◌, append_assoc, append-nil}
+use Rattle.std.proofs.Common.{◌≡◌, ℕ, ◌+◌, List, ◌∷◌, ◌++◌, length, codes, sym, ap, ◌∙◌, append_assoc, append-nil}
 use Rattle.mx_line.specs.Lines.{lines_of}
 use Rattle.mx_marks.proofs.LabelTurns.{no-lines}
 use Rattle.mx_occurrences.specs.declared.occurrence.Named.{Named}
 use Rattle.mx_occurrences.specs.declared.occurrence.Occurrence.{Occurrence}
-use Rattle.mx_changes.specs.Changes.{behind, changed_line, changed_lines, is_in_line, new_text, next, part}
+use Rattle.mx_changes.specs.Changes.{changed_line, changed_lines, next}
 
 pub texts-join : (xs ys zs : List ℕ) → (xs ++ ys) ++ zs ≡ xs ++ (ys ++ zs)
 texts-join xs ys zs = append_assoc xs ys zs

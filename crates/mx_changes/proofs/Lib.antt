@@ -1,4 +1,5 @@
 pub mod ChangeTurns
-pub mod Layouts
+pub mod LayoutTurns
 pub mod Leads
 pub mod SameImages
+pub mod SameOctas

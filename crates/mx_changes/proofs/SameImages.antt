@@ -1,10 +1,18 @@
--- Sources whose images are the same.
-use Rattle.std.proofs.Common.{◌≡◌, List, ℕ, Ok}
-use Rattle.mx_files.specs.Sources.{source_meaning}
+-- Images that differ in a part.
+use Rattle.std.proofs.Common.{◌≢◌, ◌<◌, ℕ}
 use Rattle.mx_mmo.specs.Image.{Image}
-use Rattle.mx_changes.specs.Images.{AreOneProgram, AreSame}
+use Rattle.mx_changes.specs.Images.{AreSame, AreSameGlobals, AreSameOctas}
 
-pub one-program : (source text : List ℕ) (one other : Image) → source_meaning source ≡ Ok one → source_meaning text ≡ Ok other → AreSame one other → AreOneProgram source text
-one-program source text one other e f same = rw (e, f) same
+pub other-register : (f g : ℕ → ℕ) (k : ℕ) → k < 256 → f k ≢ g k → AreSameGlobals f g → ⊥
+other-register f g k less ne same = ne (same k less)
 
-pub ruleset images = (one-program)
+pub other-first : (one other : Image) → one.g ≢ other.g → AreSame one other → ⊥
+other-first one other ne same = ne same.g
+
+pub other-globals : (one other : Image) → (AreSameGlobals one.global other.global → ⊥) → AreSame one other → ⊥
+other-globals one other ne same = ne same.globals
+
+pub other-octas : (one other : Image) → (AreSameOctas one.memory other.memory → ⊥) → AreSame one other → ⊥
+other-octas one other ne same = ne same.octas
+
+pub ruleset parts = (other-register, other-first, other-globals, other-octas)

@@ -1,6 +1,5 @@
--- A text that is changed: names that name one thing, or the columns of its lines. What is answered is a change that leaves the program as
--- it is. (Language Server Protocol, "Rename Request" and "Document Formatting Request".)
-use Rattle.std.specs.Prelude.{◌≡◌, ℕ, ◌+◌, ◌-◌, ◌==◌, ◌&&◌, nat_le, nat_lt, Bool, List, [], ◌∷◌, ◌++◌, length, take, drop, Option, None, Some, codes, if◌then◌else◌}
+-- A text in which names that name one thing are changed, where this leaves the program as it is; or why they are not. (Language Server Protocol, "Rename Request".)
+use Rattle.std.specs.Prelude.{◌≡◌, ℕ, ◌+◌, ◌-◌, ◌==◌, ◌&&◌, nat_le, nat_lt, Bool, true, false, List, [], ◌∷◌, ◌++◌, length, take, drop, Option, None, Some, codes, if◌then◌else◌}
 use Rattle.std.specs.List.{flat_map}
 use Rattle.mx_json.specs.Json.{array, string}
 use Rattle.mx_line.specs.Lines.{lines_of}
@@ -9,7 +8,10 @@ use Rattle.mx_occurrences.specs.declared.occurrence.Named.{Named}
 use Rattle.mx_occurrences.specs.declared.occurrence.Occurrence.{Occurrence}
 use Rattle.mx_references.specs.Uses.{range_of}
 use Rattle.mx_wire.specs.Ranges.{end_of}
-use Rattle.mx_changes.specs.Images.{AreOneProgram}
+use Rattle.mx_changes.specs.Images.{Compares}
+use Rattle.mx_changes.specs.Names.{may_have}
+use Rattle.mx_changes.specs.declared.images.Compared.{Compared}
+use Rattle.mx_changes.specs.declared.images.Compared.TheVariants.{Same, Different, FirstRefused, SecondRefused}
 use Rattle.mx_changes.specs.declared.renaming.Change.{Change}
 use Rattle.mx_changes.specs.declared.renaming.Change.TheVariants.{Done, Refused}
 pub use Rattle.mx_changes.specs.Names.{new_text}
@@ -55,19 +57,41 @@ edits uri names named name source =
 
 -- ---- what is answered
 
--- all names that name this are changed, and the program stays as it is; or nothing is
-abbrev pub IsRenamed : List ℕ → List Occurrence → Named → List ℕ → List ℕ → Change → Type 0
-IsRenamed uri names named name source (Done text) =
-    AreOneProgram source (changed_lines names named name 1 (lines_of source)) × (text ≡ edits uri names named name source)
-IsRenamed uri names named name source (Refused why) = Unit {0}
+abbrev pub IsDone : List ℕ → Change → Type 0
+IsDone edit (Done text) = text ≡ edit
+IsDone edit (Refused said) = ⊥
 
-abbrev pub NothingDone : Change → Type 0
-NothingDone (Done text) = ⊥
-NothingDone (Refused why) = Unit {0}
+abbrev pub IsRefused : List ℕ → Change → Type 0
+IsRefused why (Done text) = ⊥
+IsRefused why (Refused said) = said.now ≡ why
+
+-- What is refused of a change by what the source and the changed text come to: a source with faults, a text with faults, and another
+-- program.
+abbrev pub IsChangeOf : List ℕ → Compared → Change → Type 0
+IsChangeOf edit Same r = IsDone edit r
+IsChangeOf edit Different r = IsRefused (codes "the program would be another one: its memory or its registers change") r
+IsChangeOf edit FirstRefused r =
+    IsRefused (codes "the source has faults, so that it cannot be known whether the program stays the same") r
+IsChangeOf edit SecondRefused r = IsRefused (codes "the source would have a fault then") r
+
+-- a change of a source into a text: it is done where the program stays as it is, and only there
+pub record IsChecked (source text edit : List ℕ) (r : Change) : Type 0 where
+  pub compared : Compared
+  pub compares : Compares source text compared
+  pub change : IsChangeOf edit compared r
+
+abbrev pub IsRenamed : List ℕ → List Occurrence → Named → List ℕ → List ℕ → Change → Type 0
+IsRenamed uri names named name source r =
+    IsChecked source (changed_lines names named name 1 (lines_of source)) (edits uri names named name source) r
+
+-- all names that name this are changed, if it may have the new name
+abbrev pub IsRenamedIf : Bool → List ℕ → List Occurrence → Named → List ℕ → List ℕ → Change → Type 0
+IsRenamedIf true uri names named name source r = IsRenamed uri names named name source r
+IsRenamedIf false uri names named name source r = IsRefused (codes "this is no name") r
 
 abbrev pub IsRenamedAt : List ℕ → List Occurrence → Option Occurrence → List ℕ → List ℕ → Change → Type 0
-IsRenamedAt uri names None name source r = NothingDone r
-IsRenamedAt uri names (Some o) name source r = IsRenamed uri names o.named name source r
+IsRenamedAt uri names None name source r = IsRefused (codes "no name is here") r
+IsRenamedAt uri names (Some o) name source r = IsRenamedIf (may_have o.named name) uri names o.named name source r
 
 abbrev pub RenamesIn : List ℕ → List Occurrence → ℕ → ℕ → List ℕ → List ℕ → Change → Type 0
 RenamesIn uri names line from name source r = IsRenamedAt uri names (occurrence_at names line from) name source r

@@ -1,6 +1,6 @@
 //! What becomes of names that are changed.
 
-ghost use Rattle.std.specs.Prelude.{◌≡◌, ◌≤◌, IfOk, take};
+ghost use Rattle.std.specs.Prelude.{◌≡◌, ◌≤◌, IfOk, drop, take};
 ghost use Rattle.mx_changes.specs.Names as spec;
 
 use mx_occurrences::{Named, Occurrence};
@@ -79,13 +79,25 @@ fn lead_length(text: &[u8]) -> usize
 
 /// The first bytes of a text, so many or all.
 #[tactic(auto, using(crate::proofs::Leads::fronts))]
-fn front(text: &[u8], count: usize) -> &[u8]
+pub(crate) fn front(text: &[u8], count: usize) -> &[u8]
     ensures { result.now ≡ take count text.now }
 {
     if count < text.len() {
         &text[..count]
     } else {
         text
+    }
+}
+
+/// A text without its first bytes, so many or all.
+#[tactic(auto, using(crate::proofs::Leads::fronts))]
+pub(crate) fn rest_after(text: &[u8], count: usize) -> &[u8]
+    ensures { result.now ≡ drop count text.now }
+{
+    if count < text.len() {
+        &text[count..]
+    } else {
+        &[]
     }
 }
 

@@ -34,7 +34,7 @@ pub(crate) fn part(line: &[u8], from: usize, to: usize) -> &[u8]
 }
 
 /// The next number of a line.
-fn next(number: u32) -> u32
+pub(crate) fn next(number: u32) -> u32
     ensures { result ≡ spec.next number }
 {
     if number < u32::MAX {
@@ -190,20 +190,36 @@ fn edits(
     Ok(result)
 }
 
-/// Why a change is refused whose text is this.
-pub(crate) fn why_not(compared: Compared) -> &'static str {
+/// What is answered of a change, by what the source and the changed text come to.
+fn change_of(compared: Compared, edit: Bytes) -> Change
+    ensures { spec.IsChangeOf edit compared result }
+{
     match compared {
-        Compared::Same | Compared::Different => {
-            "the program would be another one: its memory or its registers change"
+        Compared::Same => Change::Done(edit),
+        Compared::Different => {
+            Change::Refused("the program would be another one: its memory or its registers change")
         }
-        Compared::FirstRefused => {
-            "the source has faults, so that it cannot be known whether the program stays the same"
-        }
-        Compared::SecondRefused => "the source would have a fault then",
+        Compared::FirstRefused => Change::Refused(
+            "the source has faults, so that it cannot be known whether the program stays the same",
+        ),
+        Compared::SecondRefused => Change::Refused("the source would have a fault then"),
     }
 }
 
-/// The changes of the names that name this, where the image stays as it is.
+/// A change of a source into a text, if the program stays as it is.
+pub(crate) fn checked(
+    alloc: Global,
+    source: &[u8],
+    text: &[u8],
+    edit: Bytes,
+) -> Result<Change, NoMemory>
+    ensures { IfOk result (λ r. spec.IsChecked source.now text.now edit r) }
+{
+    let compared = compare(alloc, source, text)?;
+    Ok(change_of(compared, edit))
+}
+
+/// The changes of the names that name this, where the program stays as it is.
 fn rename_all(
     alloc: Global,
     uri: &[u8],
@@ -215,13 +231,11 @@ fn rename_all(
     ensures { IfOk result (λ r. spec.IsRenamed uri.now names.now named.now name.now source.now r) }
 {
     let text = changed(alloc, names, named, name, source)?;
-    match compare(alloc, source, text.as_slice())? {
-        Compared::Same => Ok(Change::Done(edits(alloc, uri, names, named, name, source)?)),
-        other => Ok(Change::Refused(why_not(other))),
-    }
+    let edit = edits(alloc, uri, names, named, name, source)?;
+    checked(alloc, source, text.as_slice(), edit)
 }
 
-/// Changes a name, if there is one and it may become this, where the image stays as it is.
+/// Changes a name, if there is one and it may become this, where the program stays as it is.
 fn rename_at(
     alloc: Global,
     uri: &[u8],

@@ -6,7 +6,7 @@ use Rattle.std.specs.Option.{option_map}
 use Rattle.mx_word.specs.Kinds.{is_digit, is_letter}
 use Rattle.mx_text.specs.declared.numbers.Form.{Form}
 use Rattle.mx_text.specs.declared.numbers.Form.TheVariants.{Decimal, Hex, Chars}
-use Rattle.mx_cmd.specs.Specials.{special_code}
+use Rattle.mx_ops.specs.Predefined.{special_code}
 use Rattle.mx_cmd.specs.Numerals.{front, past, octa_written, value_of, address_in, past_address, address_of}
 use Rattle.mx_cmd.specs.declared.command.Breaks.{Breaks}
 use Rattle.mx_cmd.specs.declared.command.Command.{Command}

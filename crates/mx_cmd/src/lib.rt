@@ -7,8 +7,7 @@
 mod command;
 mod numerals;
 mod parsing;
-mod specials;
 
 pub use command::{Breaks, Command, Subject};
+pub use mx_ops::special_name;
 pub use parsing::parse_command;
-pub use specials::special_name;

@@ -11,7 +11,7 @@ use crate::numerals::{
     address_of, hexadecimal_digits, parse_address_digits, parse_octa_digits, split_digits,
     value_of, without_hash,
 };
-use crate::specials::special_code;
+use mx_ops::special_code;
 use mx_text::Form;
 use mx_word::is_letter;
 

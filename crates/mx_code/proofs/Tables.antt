@@ -10,11 +10,7 @@ use Rattle.mx_alu.specs.Alu.{is_alu}
 use Rattle.mx_alu.specs.Names.{wyde_of}
 use Rattle.mx_alu.proofs.Named.{wyde-at}
 use Rattle.mx_code.specs.Operations.{load_names, store_names, operation_names, operation_of, has_condition}
-use Rattle.mx_code.specs.Groups.{operation_by}
 use Rattle.mx_code.specs.declared.codes.TheConstants.{OPERATIONS}
-use Rattle.mx_code.specs.declared.groups.TheConstants.{GROUPS}
-use Rattle.mx_code.specs.declared.groups.Group.{Group}
-use Rattle.mx_code.specs.declared.groups.Group.TheVariants as group
 use Rattle.mx_code.specs.declared.operation.Operation.{Operation}
 use Rattle.mx_code.specs.declared.operation.Operation.TheVariants as op
 
@@ -28,29 +24,6 @@ agree f g count k same below =
 pub operation-at : (code : ℕ) → code < 256 → get_or OPERATIONS code op.Trap ≡ operation_of code
 unfolding opcode_rows opcode_names opcode_name load_names store_names operation_names operation_of
 operation-at code below = agree (λ k. get_or OPERATIONS k op.Trap) operation_of 256 code refl below
-
--- the groups in the order of the codes
-pub group-at : (code : ℕ) → code < 256 → operation_of code ≡ operation_by (get_or GROUPS code group.Compute) code
-unfolding opcode_rows opcode_names opcode_name load_names store_names operation_names operation_of
-group-at code below = agree operation_of (λ k. operation_by (get_or GROUPS k group.Compute) k) 256 code refl below
-
--- whether a group tells TRAP apart
-tells_trap : Operation → Group → Bool
-tells_trap op.Trap group.Trap = true
-tells_trap op.Trap g = false
-tells_trap operation g = true
-
-trap-told : (code : ℕ) → code < 256 → tells_trap (operation_of code) (get_or GROUPS code group.Compute) ≡ true
-unfolding opcode_rows opcode_names opcode_name load_names store_names operation_names operation_of tells_trap
-trap-told code below = agree (λ k. tells_trap (operation_of k) (get_or GROUPS k group.Compute)) (λ k. true) 256 code refl below
-
-trap-by : (g : Group) → tells_trap op.Trap g ≡ true → g ≡ group.Trap
-unfolding tells_trap
-trap-by group.Trap e = refl
-trap-by g e = absurd (cc)
-
-pub trap-at : (code : ℕ) → code < 256 → operation_of code ≡ op.Trap → get_or GROUPS code group.Compute ≡ group.Trap
-trap-at code below e = trap-by (get_or GROUPS code group.Compute) (sym (ap (λ o. tells_trap o (get_or GROUPS code group.Compute)) e) ∙ trap-told code below)
 
 -- the codes that an operation may have
 is_among : Operation → ℕ → Bool

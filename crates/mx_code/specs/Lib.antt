@@ -2,7 +2,6 @@ pub mod Reasons
 pub mod Operations
 pub mod Instructions
 pub mod LoadsAndStores
-pub mod Groups
 pub mod Told
 pub mod SpecialRegisters
 pub mod Puts

@@ -8,7 +8,6 @@
 mod codes;
 mod condition;
 mod destinations;
-mod groups;
 mod immediate;
 mod instruction;
 mod laws;
@@ -22,10 +21,9 @@ mod trace;
 pub use codes::operation_of;
 pub use condition::is_condition_met;
 pub use destinations::destination;
-pub use groups::{Group, group_of};
 pub use immediate::wyde_value;
 pub use instruction::Instruction;
-pub use laws::stored_values_are_in_bounds;
+pub use laws::{special_registers_are_those_of_their_names, stored_values_are_in_bounds};
 pub use operation::{Loading, Operation, Storing};
 pub use part::{
     convert_stored, extract_loaded, extract_loaded_tetra, is_store_overflow, part_of_load,

@@ -3,6 +3,8 @@
 ghost use Rattle.std.specs.Prelude.{◌≡◌, ◌<◌};
 ghost use Rattle.mx_code.specs.Puts as spec;
 
+use mx_ops::codes::{RA, RG, RL};
+
 /// What PUT comes to: the value that the register gets; it is illegal, as no PUT changes the register
 /// or it does not take the value; or it is privileged, as the register belongs to the operating system.
 #[derive(Clone, Copy, Debug, PartialEq, Eq)]
@@ -11,15 +13,6 @@ pub enum Put {
     Illegal,
     Privileged,
 }
-
-/// The code of rG, the global threshold.
-const GLOBAL_THRESHOLD: u8 = 19;
-
-/// The code of rL, the local threshold.
-const LOCAL_THRESHOLD: u8 = 20;
-
-/// The code of rA, the arithmetic status.
-const ARITHMETIC_STATUS: u8 = 21;
 
 /// What PUT of a value to the special register with a code below 32 comes to, where rL is l; no rule asks for rG,
 /// which is _g. Codes 9 to 11 are illegal, and 8 and 12 to 18 privileged. rA takes at most #3ffff, and rG takes 32 to
@@ -33,7 +26,7 @@ pub fn may_put(code: u8, value: u64, _g: u8, l: u8) -> Put
         9..=11 => Put::Illegal,
         8 | 12..=18 => Put::Privileged,
         _ if is_out_of_range(code, value, l) => Put::Illegal,
-        LOCAL_THRESHOLD => Put::Store(value.min(u64::from(l))),
+        RL => Put::Store(value.min(u64::from(l))),
         _ => Put::Store(value),
     }
 }
@@ -43,8 +36,8 @@ fn is_out_of_range(code: u8, value: u64, l: u8) -> bool
     ensures { result ≡ spec.is_out_of_range code value l }
 {
     match code {
-        ARITHMETIC_STATUS => value > 0x3_ffff,
-        GLOBAL_THRESHOLD => value < 32 || value > 255 || value < u64::from(l),
+        RA => value > 0x3_ffff,
+        RG => value < 32 || value > 255 || value < u64::from(l),
         _ => false,
     }
 }

@@ -9,5 +9,7 @@ pub mod StepCounts
 pub mod StepMarks
 pub mod Choices
 pub mod UsualSteps
+mod Placed
+mod KeptSteps
 mod Walks
 pub mod BareStarts

@@ -3,6 +3,7 @@ pub mod Calls
 pub mod Parts
 pub mod Stepping
 pub mod Search
+pub mod KeptPage
 pub mod Changed
 pub mod UsualDeeds
 pub mod NoteParts

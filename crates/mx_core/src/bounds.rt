@@ -51,6 +51,15 @@ pub fn machines_hold_octas(machine: &Machine)
     know_octa(machine.steps);
 }
 
+/// Tells that the count of steps is below 2^64. It does nothing.
+#[tactic(auto, unfolding(crate::specs::Kept::state_of))]
+#[inline(always)]
+pub(crate) fn know_steps(machine: &Machine)
+    ensures { (state_of machine.now).steps < 2 ^ 64 }
+{
+    know_octa(machine.steps);
+}
+
 /// Tells that each item of a slice of octas is below 2^64. It does nothing.
 fn know_octas(octas: &[u64])
     ensures { (i : ℕ) → slice_index octas.now i < 2 ^ 64 }

@@ -5,11 +5,12 @@ ghost use Rattle.mx_core.specs.Way.Calls as spec;
 ghost use Rattle.mx_core.specs.Way.Calls.{CarriesOut, Makes};
 ghost use Rattle.mx_code.specs.Instructions.{operation_in};
 ghost use Rattle.mx_core.specs.Kept.{state_of};
+ghost use Rattle.mx_core.specs.Way.KeptPage.{KeepsPlace};
 
 use crate::bounds::know_bounds;
-use crate::trips::RJ;
 use crate::{Machine, Reason};
 use mx_code::{Instruction, Operation, Stop, is_condition_met};
+use mx_ops::codes::RJ;
 
 impl Machine {
     /// BN to PBEV.
@@ -74,8 +75,9 @@ impl Machine {
     /// The register stack's part of PUSHJ and PUSHGO.
     #[tactic(auto, unfolding(crate::specs::Kept::state_of))]
     #[inline(always)]
-    fn push(&mut self, x: u8) -> Result<(), Stop>
-        ensures { Makes (λ s. spec.registers_pushed s x) result self.old self.new }
+    pub(crate) fn push(&mut self, x: u8) -> Result<(), Stop>
+        ensures made { Makes (λ s. spec.registers_pushed s x) result self.old self.new }
+        ensures code { KeepsPlace self.old self.new }
     {
         match self.ring.push(x) {
             Ok(()) => Ok(()),
@@ -102,8 +104,9 @@ impl Machine {
     /// The register stack's part of POP.
     #[tactic(auto, using(crate::proofs::Kept::Marks::pop_marks), unfolding(crate::specs::Kept::state_of))]
     #[inline(always)]
-    fn pop_registers(&mut self, x: u8) -> Result<(), Stop>
-        ensures { Makes (λ s. spec.registers_popped s x) result self.old self.new }
+    pub(crate) fn pop_registers(&mut self, x: u8) -> Result<(), Stop>
+        ensures made { Makes (λ s. spec.registers_popped s x) result self.old self.new }
+        ensures code { KeepsPlace self.old self.new }
     {
         know_bounds(&self.ring);
         match self.ring.pop(x) {

@@ -4,6 +4,7 @@
 //! 1.3.1'.
 #![tactic(auto)]
 
+mod along;
 mod apart;
 mod bare;
 mod bounds;

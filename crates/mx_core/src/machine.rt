@@ -10,6 +10,7 @@ ghost use Rattle.mx_core.specs.Deeds as deeds;
 ghost use Rattle.mx_core.specs.Kept.{state_of};
 ghost use Rattle.mx_core.specs.State as spec;
 ghost use Rattle.mx_core.specs.Traps.{with_touch};
+ghost use Rattle.mx_core.specs.Way.KeptPage.{KeepsPlace};
 
 use crate::Reason;
 use crate::bounds::know_bounds;
@@ -190,7 +191,8 @@ impl Machine {
     /// $k gets a value.
     #[inline(always)]
     pub(crate) fn set(&mut self, k: u8, x: u64) -> Result<(), Stop>
-        ensures { Makes (λ s. set_outcome s k x) result self.old self.new }
+        ensures made { Makes (λ s. set_outcome s k x) result self.old self.new }
+        ensures code { KeepsPlace self.old self.new }
     {
         match self.ring.set(k, x) {
             Ok(()) => Ok(()),
@@ -203,7 +205,8 @@ impl Machine {
     pub(crate) fn put(&mut self, code: u8, x: u64)
         requires range { code < 32 }
         requires not_ra { code ≢ rA }
-        ensures { state_of self.new ≡ spec.with_special (state_of self.old) code x }
+        ensures state { state_of self.new ≡ spec.with_special (state_of self.old) code x }
+        ensures code { KeepsPlace self.old self.new }
     {
         self.special[usize::from(code)] = x;
     }

@@ -9,10 +9,10 @@ ghost use Rattle.mx_core.specs.Kept.{state_of};
 ghost use Rattle.mx_core.specs.Way.Stepping.{needs_page};
 ghost use Rattle.mx_alu.specs.declared.insertion.Kind.TheVariants as kinds;
 
-use crate::trips::{RW, RX, RY, RZ};
 use crate::{Machine, Reason};
 use mx_alu::{Insert, Kind, inserted};
 use mx_code::{Instruction, Stop};
+use mx_ops::codes::{RW, RX, RY, RZ};
 
 impl Machine {
     /// RESUME 0: it goes on after a trip, or performs an inserted instruction.

@@ -9,11 +9,11 @@ ghost use Rattle.mx_core.specs.Way.Stepping as spec;
 ghost use Rattle.mx_core.specs.Way.Stepping.{Foretells, is_exchange, is_swap, sight_of};
 ghost use Rattle.mx_core.specs.Deeds as deeds;
 
-use crate::trips::{RW, RX, RY, RZ};
 use crate::{Machine, Touch};
 use mx_alu::{Insert, Kind, inserted};
 use mx_code::{Instruction, Operation, destination, part_of_load, part_of_store, touch_of};
 use mx_mem::Part;
+use mx_ops::codes::{RW, RX, RY, RZ};
 
 /// The destination, and what is read and written of memory.
 #[derive(Clone, Copy)]

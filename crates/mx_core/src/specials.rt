@@ -13,22 +13,11 @@ ghost use Rattle.mx_code.specs.declared.reason.Reason.TheVariants as reasons;
 
 use crate::bounds::know_bounds;
 use crate::machine::is_in_stack_area;
-use crate::trips::{RB, RH, RJ, RR, RW, RX, RY, RZ};
 use crate::{Machine, Reason};
 use mx_code::{Instruction, Operation, Put, Stop, may_put, stored_values_are_in_bounds};
+use mx_ops::codes::{RB, RD, RE, RH, RJ, RM, RP, RR, RS, RW, RX, RY, RZ};
 use mx_ring::Saved;
 use mx_word::STACK_SEGMENT;
-
-/// More codes of special registers.
-const RD: u8 = 1;
-
-const RE: u8 = 2;
-
-const RM: u8 = 5;
-
-const RS: u8 = 11;
-
-pub(crate) const RP: u8 = 23;
 
 impl Machine {
     /// Notes that a program looked at rS or at the memory of the register stack, where it did.

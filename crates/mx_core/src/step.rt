@@ -1,22 +1,22 @@
 //! One step.
 
 ghost use Rattle.std.specs.Prelude.{◌≡◌, ◌≢◌, ◌<◌, ◌≤◌, ◌-◌, ◌^◌, IsTrue, true};
-ghost use Rattle.mx_core.specs.Way.Calls.{KeepsOnErr, LacksMemoryOnlyWhere, Makes, MakesWithMemory};
+ghost use Rattle.mx_core.specs.Way.Calls.{KeepsOnErr, LacksMemoryOnlyWhere, MakesWithMemory};
 ghost use Rattle.mx_core.specs.Deeds.{deed_at, outcome};
-ghost use Rattle.mx_code.specs.Instructions.{code_of, instruction, operation_in};
+ghost use Rattle.mx_code.specs.Instructions.{instruction, operation_in};
 ghost use Rattle.mx_core.specs.Kept.{state_of};
-ghost use Rattle.mx_code.specs.Groups.{operation_by};
 ghost use Rattle.mx_core.specs.Step as spec;
 ghost use Rattle.mx_code.specs.Told.{answer_in};
 ghost use Rattle.mx_core.specs.Walks.{Goes};
-ghost use Rattle.mx_core.specs.Way.Stepping.{advanced, is_quiet_group, needs_page, step_answer, step_needs_page};
+ghost use Rattle.mx_core.specs.Way.KeptPage.{IsHere, address_in};
+ghost use Rattle.mx_core.specs.Way.Stepping.{advanced, needs_page, step_answer, step_needs_page};
 
-use crate::bounds::machines_keep_the_invariant;
-use crate::trips::RJ;
+use crate::along::Next;
+use crate::bounds::{know_steps, machines_keep_the_invariant};
 use crate::{Machine, Reason, Trace};
 use mx_alu::TrapCall;
-use mx_code::{Group, Instruction, Operation, Stop, Told, group_of};
-use mx_word::{STACK_SEGMENT, is_in_stack_segment};
+use mx_code::{Instruction, Operation, Stop, Told};
+use mx_word::is_in_stack_segment;
 
 /// What a step comes to: the machine went on, with a trace; it calls a file trap, and is to be told its
 /// result; it stopped; or it is out of memory. But for the first the machine is as it was.
@@ -89,7 +89,7 @@ impl Machine {
             IsTrue (needs_page (state_of self.old) (deed_at (state_of self.old) i.now)) }
     {
         let sight = self.sight_at(i);
-        match self.carry_out_by(Group::Other, i) {
+        match self.carry_out_fetched(i) {
             Ok(()) => {
                 self.note_where(is_in_stack_segment(i.at));
                 Step::Went(Trace {
@@ -107,23 +107,13 @@ impl Machine {
     }
 
     /// One step without its trace. It takes memory only for a store to a page that is not there.
-    #[inline(always)]
     pub fn advance(&mut self) -> Advance
         ensures answer { result ≢ Advance.OutOfMemory →
             (result, state_of self.new) ≡ advanced (state_of self.old) (spec.step (state_of self.old)) }
         ensures memory { result ≡ Advance.OutOfMemory → state_of self.new ≡ state_of self.old }
         ensures lacks_memory { result ≡ Advance.OutOfMemory → IsTrue (step_needs_page (state_of self.old)) }
     {
-        let at = self.pc();
-        if at >= STACK_SEGMENT {
-            return self.advance_general();
-        }
-        let i = self.fetch(at);
-        match group_of(i.code()) {
-            Group::Trap => Advance::Trap,
-            Group::Other => self.advance_general(),
-            group => self.make(group, &i),
-        }
+        self.advance_many(1).last
     }
 
     /// At most `n` steps without their traces, up to the first that does not go on. They take memory only
@@ -133,15 +123,23 @@ impl Machine {
         ensures goes { Goes result.made (state_of self.old) (state_of self.new) }
         ensures most { result.made ≤ n }
         ensures all { result.last ≡ Advance.Went → result.made ≡ n }
+        ensures fewer { result.last ≢ Advance.Went → result.made < n }
         ensures last { result.last ≢ Advance.Went → result.last ≢ Advance.OutOfMemory →
             (result.last, state_of self.new) ≡ advanced (state_of self.new) (spec.step (state_of self.new)) }
         ensures lacks_memory { result.last ≡ Advance.OutOfMemory → IsTrue (step_needs_page (state_of self.new)) }
     {
         let mut left = n;
-        while left > 0 {
+        loop {
+            left = self.make_usual_ones(left);
+            if left == 0 {
+                return Advanced {
+                    made: n,
+                    last: Advance::Went,
+                };
+            }
             machines_keep_the_invariant(self);
-            match self.advance_quickly() {
-                Advance::Went => {}
+            match self.advance_and_keep() {
+                Advance::Went => left -= 1,
                 last => {
                     return Advanced {
                         made: n - left,
@@ -149,44 +147,66 @@ impl Machine {
                     };
                 }
             }
-            left = self.make_usual_ones(left - 1);
-        }
-        Advanced {
-            made: n,
-            last: Advance::Went,
         }
     }
 
-    /// At most `n` steps, up to the first that is no usual one. How many of them are left. Instructions that call larger
-    /// functions are made elsewhere, which leaves more of the processor's registers to this loop.
+    /// At most `n` steps on the page of instructions that is kept, up to the first that is no usual one or leads
+    /// elsewhere. How many of the `n` are left.
     #[inline(always)]
     fn make_usual_ones(&mut self, n: u64) -> u64
         ensures goes { Goes (n - result) (state_of self.old) (state_of self.new) }
         ensures most { result ≤ n }
     {
-        let mut left = n;
-        while left > 0 {
-            machines_keep_the_invariant(self);
-            if !self.advance_if_usual() {
-                return left;
-            }
-            left -= 1;
+        match self.find_index() {
+            Some(index) => self.make_from(index, n),
+            None => n,
         }
+    }
+
+    /// The same from the instruction with a number on, which is the next one.
+    #[inline(always)]
+    fn make_from(&mut self, first: u64, n: u64) -> u64
+        requires here { IsHere self.old first }
+        requires at { (state_of self.old).pc ≡ address_in self.old first }
+        ensures goes { Goes (n - result) (state_of self.old) (state_of self.new) }
+        ensures most { result ≤ n }
+    {
+        know_steps(self);
+        let place = self.memory.kept_place();
+        let mut index = first;
+        let mut made = 0;
+        while made < n {
+            machines_keep_the_invariant(self);
+            match self.advance_at(place, index) {
+                Next::At(j) => index = j,
+                Next::To(j) => {
+                    if j > 1024 {
+                        self.place_at(j, made + 1);
+                        return n - (made + 1);
+                    }
+                    index = j;
+                    made += 1;
+                    continue;
+                }
+                Next::Unmade => {
+                    self.place_at(index, made);
+                    return n - made;
+                }
+            }
+            made += 1;
+        }
+        self.place_at(index, made);
         0
     }
 
-    /// One step without its trace, first as a frequent one that calls others. Where it is none, the page of its
-    /// instruction is kept.
+    /// One step without its trace, after which the page of its instruction is kept.
     #[inline(always)]
-    fn advance_quickly(&mut self) -> Advance
+    fn advance_and_keep(&mut self) -> Advance
         ensures answer { result ≢ Advance.OutOfMemory →
             (result, state_of self.new) ≡ advanced (state_of self.old) (spec.step (state_of self.old)) }
         ensures memory { result ≡ Advance.OutOfMemory → state_of self.new ≡ state_of self.old }
         ensures lacks_memory { result ≡ Advance.OutOfMemory → IsTrue (step_needs_page (state_of self.old)) }
     {
-        if self.advance_if_calling() {
-            return Advance::Went;
-        }
         let answer = self.advance_general();
         self.keep_code();
         answer
@@ -207,24 +227,23 @@ impl Machine {
         let i = self.fetch(at);
         match i.operation() {
             Operation::Trap => Advance::Trap,
-            _ => self.make(Group::Other, &i),
+            _ => self.make(&i),
         }
     }
 
     /// A step at an instruction that is no TRAP.
     #[inline(always)]
-    fn make(&mut self, group: Group, i: &Instruction) -> Advance
+    fn make(&mut self, i: &Instruction) -> Advance
         requires fetched { i.now ≡ spec.fetched (state_of self.old) }
         requires range { (state_of self.old).pc < 2 ^ 63 }
         requires no_trap { operation_in i.now ≢ Operation.Trap }
-        requires group { operation_in i.now ≡ operation_by group (code_of i.now) }
         ensures answer { result ≢ Advance.OutOfMemory →
             (result, state_of self.new) ≡ advanced (state_of self.old) (spec.step (state_of self.old)) }
         ensures memory { result ≡ Advance.OutOfMemory → state_of self.new ≡ state_of self.old }
         ensures lacks_memory { result ≡ Advance.OutOfMemory →
             IsTrue (needs_page (state_of self.old) (deed_at (state_of self.old) i.now)) }
     {
-        match self.carry_out_by(group, i) {
+        match self.carry_out_fetched(i) {
             Ok(()) => {
                 self.note_where(is_in_stack_segment(i.at));
                 Advance::Went
@@ -244,85 +263,17 @@ impl Machine {
         Instruction::new(at, self.tetra(at))
     }
 
-    /// Carries an instruction of a program out, which is no TRAP. The frequent operations are told
-    /// apart here, where each call can be inlined into the loop over steps.
+    /// Carries an instruction of a program out, which is no TRAP.
     #[tactic(auto, using(crate::proofs::Results::Unchanged::unchanged))]
     #[inline(always)]
-    fn carry_out_by(&mut self, group: Group, i: &Instruction) -> Result<(), Stop>
-        requires plain { i.now ≡ instruction i.now.at i.now.word }
-        requires group { operation_in i.now ≡ operation_by group (code_of i.now) }
-        ensures answer { MakesWithMemory (λ s. outcome s (deed_at s i.now)) result self.old self.new }
-        ensures err { KeepsOnErr result self.old self.new }
-        ensures lacks_memory { LacksMemoryOnlyWhere
-            (needs_page (state_of self.old) (deed_at (state_of self.old) i.now)) result }
-    {
-        match group {
-            Group::Move => self.carry_out_move(i),
-            Group::Put => self.carry_out_put(i),
-            Group::Trap | Group::Other => self.carry_out(i.at, i.word).into_result(),
-            _ => self.carry_out_quietly(group, i),
-        }
-    }
-
-    /// Carries an instruction of a group out whose operations store nothing. It takes no memory.
-    #[inline(always)]
-    fn carry_out_quietly(&mut self, group: Group, i: &Instruction) -> Result<(), Stop>
-        requires quiet { is_quiet_group group ≡ true }
-        requires group { operation_in i.now ≡ operation_by group (code_of i.now) }
-        ensures { Makes (λ s. outcome s (deed_at s i.now)) result self.old self.new }
-    {
-        match group {
-            Group::Compute => self.compute(i),
-            Group::Negate => self.negate(i),
-            Group::Branch => self.branch(i),
-            Group::Wyde => self.set_wyde(i),
-            Group::ConditionalSet => self.conditional_set(i),
-            Group::ZeroOrSet => self.zero_or_set(i),
-            Group::Address => self.get_address(i),
-            Group::Jump => self.jump(i),
-            Group::Go => self.go(i),
-            Group::PushJump => self.push_jump(i),
-            Group::Pop => self.pop(i),
-            Group::Get => self.get_special(i),
-            // SWYM and its like: groups that are not quiet do not come here.
-            _ => self.do_nothing(i),
-        }
-    }
-
-    /// Carries a load or a store out.
-    #[tactic(auto, using(crate::proofs::Results::Unchanged::unchanged))]
-    #[inline(always)]
-    fn carry_out_move(&mut self, i: &Instruction) -> Result<(), Stop>
+    fn carry_out_fetched(&mut self, i: &Instruction) -> Result<(), Stop>
         requires { i.now ≡ instruction i.now.at i.now.word }
         ensures answer { MakesWithMemory (λ s. outcome s (deed_at s i.now)) result self.old self.new }
         ensures err { KeepsOnErr result self.old self.new }
         ensures lacks_memory { LacksMemoryOnlyWhere
             (needs_page (state_of self.old) (deed_at (state_of self.old) i.now)) result }
     {
-        match i.operation() {
-            Operation::Load(how) => self.load(how, i),
-            Operation::Store(how) => self.store_register(how, i),
-            _ => self.carry_out(i.at, i.word).into_result(),
-        }
-    }
-
-    /// Carries a PUT out. That of rJ is in each subroutine that calls others.
-    #[tactic(auto, using(crate::proofs::Results::Unchanged::unchanged, crate::proofs::Results::Puts::put_link))]
-    #[inline(always)]
-    pub(crate) fn carry_out_put(&mut self, i: &Instruction) -> Result<(), Stop>
-        requires plain { i.now ≡ instruction i.now.at i.now.word }
-        requires put { operation_in i.now ≡ Operation.Put }
-        ensures answer { MakesWithMemory (λ s. outcome s (deed_at s i.now)) result self.old self.new }
-        ensures err { KeepsOnErr result self.old self.new }
-        ensures lacks_memory { LacksMemoryOnlyWhere
-            (needs_page (state_of self.old) (deed_at (state_of self.old) i.now)) result }
-    {
-        if i.x() != RJ || i.y() != 0 {
-            return self.carry_out(i.at, i.word).into_result();
-        }
-        self.put(RJ, self.z_operand(i));
-        self.go_to(i.next());
-        Ok(())
+        self.carry_out(i.at, i.word).into_result()
     }
 
     /// Carries an instruction of a program out, which is no TRAP. It is given words and no reference, so

@@ -11,10 +11,10 @@ ghost use Rattle.mx_core.specs.State.{octa};
 ghost use Rattle.mx_core.specs.Way.Stepping.{needs_page};
 
 use crate::machine::is_in_stack_area;
-use crate::specials::RP;
 use crate::{Machine, Reason};
 use mx_code::{Instruction, Operation, Stop};
 use mx_mem::Part;
+use mx_ops::codes::RP;
 use mx_word::is_in_stack_segment;
 
 impl Machine {

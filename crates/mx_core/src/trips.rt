@@ -10,27 +10,12 @@ ghost use Rattle.mx_core.specs.Effects.{tripping, if_told};
 ghost use Rattle.mx_code.specs.Instructions.{next_of, x_of};
 ghost use Rattle.mx_core.specs.Kept.{state_of};
 ghost use Rattle.mx_core.specs.State.{special_register, with_value_in};
+ghost use Rattle.mx_core.specs.Way.KeptPage.{KeepsPlace};
 
 use crate::{Machine, Reason};
 use mx_alu::{Answer, Event, Trip, decide, noted_events_stay_in_18_bits};
 use mx_code::{Instruction, Stop};
-
-/// The codes of special registers.
-pub(crate) const RB: u8 = 0;
-
-pub(crate) const RH: u8 = 3;
-
-pub(crate) const RJ: u8 = 4;
-
-pub(crate) const RR: u8 = 6;
-
-pub(crate) const RW: u8 = 24;
-
-pub(crate) const RX: u8 = 25;
-
-pub(crate) const RY: u8 = 26;
-
-pub(crate) const RZ: u8 = 27;
+use mx_ops::codes::{RB, RH, RJ, RR, RW, RX, RY, RZ};
 
 impl Machine {
     /// rA.
@@ -62,10 +47,11 @@ impl Machine {
 
     /// A special register gets a value, where one is told.
     #[inline(always)]
-    fn put_told(&mut self, code: u8, x: Option<u64>)
+    pub(crate) fn put_told(&mut self, code: u8, x: Option<u64>)
         requires range { code < 32 }
         requires not_ra { code ≢ rA }
-        ensures { state_of self.new ≡ with_specials (state_of self.old) (if_told code x) }
+        ensures state { state_of self.new ≡ with_specials (state_of self.old) (if_told code x) }
+        ensures code { KeepsPlace self.old self.new }
     {
         if let Some(x) = x {
             self.put(code, x);

@@ -16,9 +16,9 @@ ghost use Rattle.mx_code.specs.declared.trace.Trace.{Trace};
 
 use crate::noting::{Was, WholeNote};
 use crate::overwritten::{Overwritten, UsualWas};
-use crate::trips::RJ;
 use crate::{Machine, Note};
 use mx_mem::Memory;
+use mx_ops::codes::RJ;
 
 impl Machine {
     /// Takes the last step back, by its note, where nothing else changed since: registers and hidden ones, the octas of

@@ -1,6 +1,6 @@
 //! Usual steps that are noted: the note has but the little that such a step overwrites.
 
-ghost use Rattle.std.specs.Prelude.{◌≡◌, ◌≢◌, ◌<◌, ◌+◌, ◌%◌, length, true, false, IfSome, None};
+ghost use Rattle.std.specs.Prelude.{◌≡◌, ◌≢◌, ◌<◌, ◌+◌, ◌*◌, ◌%◌, ◌^◌, length, true, false, IfSome, None};
 ghost use Rattle.mx_registers.specs.Registers as registers;
 ghost use Rattle.mx_ring.specs.Stack.{visible};
 ghost use Rattle.mx_core.specs.Way.Calls.{MakesState, settled};
@@ -16,11 +16,11 @@ ghost use Rattle.mx_core.specs.declared.step.Advance.TheVariants as advance;
 
 use crate::noting::Was;
 use crate::overwritten::{Overwritten, UsualWas};
-use crate::trips::RJ;
 use crate::undoing::machines_are_paged;
 use crate::usual::Usual;
 use crate::{Machine, Note};
 use mx_code::{Instruction, Operation, Storing};
+use mx_ops::codes::RJ;
 
 impl Machine {
     /// One step without its trace, where its instruction is a frequent one that gives a register a value, stores or goes
@@ -55,7 +55,8 @@ impl Machine {
         let i = Instruction::new(at, word);
         match self.usual(&i) {
             Usual::Gives(x) => self.settle_noted(&i, x),
-            Usual::GoesTo(a) => Some(self.go_to_noted(a)),
+            Usual::GoesBy(d) => Some(self.go_to_noted(add_tetras(at, d))),
+            Usual::GoesOn => Some(self.go_to_noted(i.next())),
             Usual::Apart(_) => self.perform_apart_noted(&i),
             Usual::Other => None,
         }
@@ -228,4 +229,12 @@ impl Machine {
             }),
         }
     }
+}
+
+/// The address that is so many tetras after another one, modulo 2^64.
+#[inline(always)]
+fn add_tetras(at: u64, d: u64) -> u64
+    ensures { result ≡ (at + 4 * d) % 2 ^ 64 }
+{
+    at.wrapping_add(d.wrapping_mul(4))
 }

@@ -1,9 +1,10 @@
 //! What usual instructions give, and where they go. Each is given with its code as a literal.
 
-ghost use Rattle.std.specs.Prelude.{◌≡◌, IfSome, Ok};
+ghost use Rattle.std.specs.Prelude.{◌≡◌, ◌≢◌, ◌+◌, ◌*◌, ◌%◌, ◌^◌, IfSome, IsTrue, Ok, false};
 ghost use Rattle.mx_core.specs.Way.Calls.{settled};
 ghost use Rattle.mx_core.specs.Deeds.{deed_of, onward, outcome};
-ghost use Rattle.mx_code.specs.Instructions.{next_of, operation_in, x_of};
+ghost use Rattle.mx_code.specs.Instructions.{far_address, near_address, next_of, operation_in, x_of, z_of};
+ghost use Rattle.mx_code.specs.SpecialRegisters.{rC};
 ghost use Rattle.mx_core.specs.Kept.{state_of};
 ghost use Rattle.mx_core.specs.Way.UsualDeeds.{IsUsual};
 
@@ -11,6 +12,12 @@ use crate::Machine;
 use crate::usual::Usual;
 use mx_alu::{lone_result, wyde};
 use mx_code::{Instruction, Loading, Operation, is_condition_met, wyde_value};
+use mx_ops::is_backward;
+
+/// How many tetras after its instruction a backward address of 16 and of 24 bits begins, modulo 2^64.
+const NEAR_BACK: u64 = 0xffff_ffff_ffff_0000;
+
+const FAR_BACK: u64 = 0xffff_ffff_ff00_0000;
 
 impl Machine {
     /// What MUL to SRU and OR to MXOR give $X, where it is all that they give.
@@ -186,8 +193,9 @@ impl Machine {
     #[tactic(auto, using(crate::proofs::Results::Gets::get_alone), unfolding(crate::specs::Kept::state_of))]
     #[inline(always)]
     fn got_value(&self, i: &Instruction) -> Option<u64>
-        ensures { IfSome result (λ x. outcome (state_of self.now) (deed_of Operation.Get (state_of self.now) i.now)
+        ensures value { IfSome result (λ x. outcome (state_of self.now) (deed_of Operation.Get (state_of self.now) i.now)
             ≡ settled (state_of self.now) (x_of i.now) x (next_of i.now)) }
+        ensures other { IfSome result (λ _. z_of i.now ≢ rC) }
     {
         if i.y() != 0 || i.z() > 7 {
             return None;
@@ -209,19 +217,17 @@ impl Machine {
         }
     }
 
-    /// Where BN to PBEV go.
+    /// Whether BN to PBEV go to their address, and not on.
     #[tactic(auto, using(crate::proofs::Results::Others::branch_outcome), unfolding(mx_code::specs::Operations::has_condition))]
     #[inline(always)]
-    fn branch_target(&self, i: &Instruction) -> u64
+    fn takes_branch(&self, i: &Instruction) -> bool
         requires { operation_in i.now ≡ Operation.Branch }
-        ensures { outcome (state_of self.now) (deed_of Operation.Branch (state_of self.now) i.now)
-            ≡ Ok (onward (state_of self.now) result) }
+        ensures taken { IsTrue result → outcome (state_of self.now) (deed_of Operation.Branch (state_of self.now) i.now)
+            ≡ Ok (onward (state_of self.now) (near_address i.now)) }
+        ensures passed { result ≡ false → outcome (state_of self.now) (deed_of Operation.Branch (state_of self.now) i.now)
+            ≡ Ok (onward (state_of self.now) (next_of i.now)) }
     {
-        if is_condition_met(i, self.x_register(i)) {
-            i.near_address()
-        } else {
-            i.next()
-        }
+        is_condition_met(i, self.x_register(i))
     }
 
     /// The frequent step of BN to PBEV, where the code is one of theirs.
@@ -230,7 +236,13 @@ impl Machine {
         ensures { IsUsual result (state_of self.now) i.now }
     {
         match i.operation() {
-            Operation::Branch => Usual::GoesTo(self.branch_target(i)),
+            Operation::Branch => {
+                if self.takes_branch(i) {
+                    Usual::GoesBy(measure_near(i))
+                } else {
+                    Usual::GoesOn
+                }
+            }
             _ => Usual::Other,
         }
     }
@@ -242,30 +254,44 @@ impl Machine {
         ensures { IsUsual result (state_of self.now) i.now }
     {
         match i.operation() {
-            Operation::Nothing => Usual::GoesTo(i.next()),
+            Operation::Nothing => Usual::GoesOn,
             _ => Usual::Other,
         }
     }
 
-    /// Where JMP goes.
-    #[tactic(auto, using(crate::proofs::Results::Others::jump_outcome))]
-    #[inline(always)]
-    fn jump_target(&self, i: &Instruction) -> u64
-        requires { operation_in i.now ≡ Operation.Jump }
-        ensures { outcome (state_of self.now) (deed_of Operation.Jump (state_of self.now) i.now)
-            ≡ Ok (onward (state_of self.now) result) }
-    {
-        i.far_address()
-    }
-
     /// The frequent step of JMP, where the code is one of theirs.
+    #[tactic(auto, using(crate::proofs::Results::Others::jump_outcome))]
     #[inline(always)]
     pub(crate) fn usual_jump(&self, i: &Instruction) -> Usual
         ensures { IsUsual result (state_of self.now) i.now }
     {
         match i.operation() {
-            Operation::Jump => Usual::GoesTo(self.jump_target(i)),
+            Operation::Jump => Usual::GoesBy(measure_far(i)),
             _ => Usual::Other,
         }
+    }
+}
+
+/// How many tetras after an instruction the address is that YZ means, modulo 2^64.
+#[inline(always)]
+pub(crate) fn measure_near(i: &Instruction) -> u64
+    ensures { (i.now.at + 4 * result) % 2 ^ 64 ≡ near_address i.now }
+{
+    if is_backward(i.code()) {
+        NEAR_BACK + i.yz()
+    } else {
+        i.yz()
+    }
+}
+
+/// How many tetras after an instruction the address is that XYZ means, modulo 2^64.
+#[inline(always)]
+fn measure_far(i: &Instruction) -> u64
+    ensures { (i.now.at + 4 * result) % 2 ^ 64 ≡ far_address i.now }
+{
+    if is_backward(i.code()) {
+        FAR_BACK + i.xyz()
+    } else {
+        i.xyz()
     }
 }

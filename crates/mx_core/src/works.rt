@@ -11,15 +11,10 @@ ghost use Rattle.mx_core.specs.Way.Noting as spec;
 ghost use Rattle.mx_core.specs.Way.Noting.{TellsWork};
 
 use crate::Machine;
-use crate::trips::{RW, RX, RY, RZ};
 use mx_alu::{Insert, Kind, inserted};
 use mx_code::{Instruction, Operation};
+use mx_ops::codes::{RG, RL, RW, RX, RY, RZ};
 use mx_ring::RingWork;
-
-/// The codes of rG and of rL.
-const RG: u8 = 19;
-
-const RL: u8 = 20;
 
 impl Machine {
     /// The work of an instruction, or of one that it inserts.

@@ -15,7 +15,7 @@ use mx_word::{Bytes, NoMemory, Sequence};
 use std::alloc::Global;
 
 /// In which form counts are reported: the sheet as a text, or its tallies as octas.
-#[derive(Clone, Copy, Debug, PartialEq, Eq)]
+#[derive(Clone, Copy)]
 pub enum Form {
     Text,
     Octas,

@@ -6,7 +6,7 @@ use mx_adapter::{Answer, list_at, text_at, text_in};
 use mx_book::Book;
 use mx_panes::{line_wanted, offset_wanted, parse_reference, watched_place};
 use mx_places::{parse_condition, parse_target};
-use mx_replay::{Condition, Place};
+use mx_stops::{Condition, Place};
 use mx_wire::{Values, add_array};
 use mx_word::{Bytes, NoMemory, Sequence};
 use serde_json::Value;
@@ -129,7 +129,10 @@ impl Loaded {
         }
         let name = text_in(wanted, "dataId").unwrap_or(b"");
         match watched_place(&self.debugged.known.book, name) {
-            Some(place) => self.set_watch(place),
+            Some(place) => {
+                let followed = self.debugged.replay.follow(place);
+                self.set_watch(followed)
+            }
             None => self.scene().unset_row(0, b"there is no such place"),
         }
     }

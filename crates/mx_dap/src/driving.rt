@@ -6,7 +6,7 @@ ghost use Rattle.mx_debug.specs.Going.{GoesTo, GoesToLast, GoesToNext};
 ghost use Rattle.mx_debug.specs.Sessions.{KeepsProgram, KeepsStops};
 
 use mx_debug::Session;
-use mx_replay::{Break, Condition, Place, Watch, value_at};
+use mx_stops::{Break, Condition, Place, Seen, Watch, see};
 use mx_word::{NoMemory, Sequence};
 
 /// Goes to step k, but not past the last one that can be reached nor past the end.
@@ -143,17 +143,17 @@ pub(crate) fn drop_stop(session: &mut Session, number: u32) -> Result<(), NoMemo
     Ok(())
 }
 
-/// The values that are watched.
-fn watched_values(session: &Session) -> Result<Sequence<u64>, NoMemory> {
+/// What is seen of the places that are watched.
+fn watched_values(session: &Session) -> Result<Sequence<Seen>, NoMemory> {
     let mut values = Sequence::new(session.known.alloc);
     for watch in session.known.stops.watches.as_slice() {
-        values.push(value_at(session.replay.machine(), watch.place))?;
+        values.push(see(session.replay.machine(), watch.place))?;
     }
     Ok(values)
 }
 
-/// The values that are watched as they were one step before.
-fn values_before(session: &mut Session) -> Result<Sequence<u64>, NoMemory>
+/// What is seen of the places that are watched one step before.
+fn values_before(session: &mut Session) -> Result<Sequence<Seen>, NoMemory>
     ensures program { KeepsProgram session.old session.new }
     ensures stops { KeepsStops session.old session.new }
 {
@@ -174,15 +174,15 @@ fn add_breaks_met(session: &Session, numbers: &mut Sequence<u32>) -> Result<(), 
     Ok(())
 }
 
-/// Adds the numbers of the watches whose values were others.
+/// Adds the numbers of the watches whose values the last turn changed.
 fn add_watches_met(
     session: &Session,
     numbers: &mut Sequence<u32>,
-    values: &[u64],
+    values: &[Seen],
 ) -> Result<(), NoMemory> {
     let watches = session.known.stops.watches.as_slice();
     for (watch, old) in watches.iter().zip(values) {
-        if value_at(session.replay.machine(), watch.place) != *old {
+        if old.is_change(&see(session.replay.machine(), watch.place), watch.place) {
             numbers.push(watch.number)?;
         }
     }

@@ -1,6 +1,5 @@
 -- The breaks and watches that are left.
 use Rattle.std.proofs.Common.{◌≡◌, ◌≢◌, ◌<◌, ◌≤◌, ◌+◌, ℕ, Bool, true, false, cond, List, [], ◌∷◌, ◌++◌, length, get_or, drop, None, Some, arith, refl, sym, subst, ◌∙◌, ap, append_assoc, append-nil}
-use Rattle.std.specs.Prelude.{Option}
 use Rattle.std.specs.List.{filter}
 use Rattle.std.proofs.lemmas.List.{at_drop_all, at_drop_more}
 use Rattle.mx_ask.specs.Places.{number_in}

@@ -1,5 +1,5 @@
 -- The steps that one comes to.
-use Rattle.std.proofs.Common.{◌≡◌, ◌≢◌, ◌≤◌, ◌<◌, ◌+◌, ◌-◌, ◌^◌, ◌⊎◌, inl, inr, ℕ, true, false, Ok, Some, None, arith, refl, sym, subst, ◌∙◌, ap}
+use Rattle.std.proofs.Common.{◌≡◌, ◌≢◌, ◌≤◌, ◌<◌, ◌+◌, ◌-◌, ◌^◌, ◌⊎◌, inl, inr, ℕ, true, false, Ok, Some, None, arith, sym, subst, ◌∙◌, ap}
 use Rattle.std.specs.Prelude.{Option, Result, Err, OnOk, List, min, unwrap_or}
 use Rattle.std.proofs.lemmas.Bool.{cases_lt}
 use Rattle.mx_word.specs.Results.{map_ok}
@@ -7,12 +7,13 @@ use Rattle.mx_outcome.specs.declared.outcome.Outcome.{Outcome}
 use Rattle.mx_run.specs.Runs.{Ended}
 use Rattle.mx_run.specs.declared.end.End.TheVariants.{Spent}
 use Rattle.mx_replay.specs.Programs.{GoesOn, HasEnded, IsReached, is_over, step_of}
-use Rattle.mx_replay.specs.Marks.{changes, depth, stops_at}
+use Rattle.mx_replay.specs.Marks.{changes, stops_at}
+use Rattle.mx_stops.specs.Places.{depth, followed}
 use Rattle.mx_replay.specs.Searches.{FoundAt, IsLast, IsNext}
-use Rattle.mx_replay.specs.declared.marks.Place.{Place}
+use Rattle.mx_stops.specs.declared.places.Place.{Place}
 use Rattle.mx_ask.specs.declared.words.Word.{Word}
 use Rattle.mx_ask.specs.declared.words.Word.TheVariants as word
-use Rattle.mx_debug.specs.Going.{GoesToLast, GoesToMaker, GoesToNext, StandsBack, StandsBefore, depth_after, depth_at}
+use Rattle.mx_debug.specs.Going.{GoesToLast, GoesToMaker, GoesToNext, StandsBack, StandsBefore, depth_after, depth_at, followed_after, followed_at}
 use Rattle.mx_debug.specs.Sessions.{Debugged}
 use Rattle.mx_debug.specs.Words.{Leads, LeavesCall, goes}
 use Rattle.mx_replay.specs.declared.program.Program.{Program}
@@ -78,7 +79,15 @@ depth-told (Ok e) n h = let same : depth e.state ≡ n = cc in sym same
 pub depth-is : (d : Debugged) (p : Program) (at n : ℕ) → d.program ≡ p → d.at ≡ at → map_ok (λ (e : Ended). depth e.state) (step_of p at) ≡ Ok n → n ≡ depth_at d
 depth-is d p at n e f h = depth-told (step_of p at) n h ∙ ap depth_after (ap (λ q. step_of q at) (sym e) ∙ ap (step_of d.program) (sym f))
 
-pub ruleset depths = (depth-is)
+-- the place by which a register is followed
+follow-told : (place x : Place) (r : Result Ended Outcome) → map_ok (λ (e : Ended). followed e.state place) r ≡ Ok x → x ≡ followed_after place r
+follow-told place x (Err why) h = absurd (cc)
+follow-told place x (Ok e) h = let same : followed e.state place ≡ x = cc in sym same
+
+pub follow-is : (d : Debugged) (p : Program) (at : ℕ) (place x : Place) → d.program ≡ p → d.at ≡ at → map_ok (λ (e : Ended). followed e.state place) (step_of p at) ≡ Ok x → x ≡ followed_at d place
+follow-is d p at place x e f h = follow-told place x (step_of p at) h ∙ ap (followed_after place) (ap (λ q. step_of q at) (sym e) ∙ ap (step_of d.program) (sym f))
+
+pub ruleset depths = (depth-is, follow-is)
 
 -- to a stop that was found, and to the step that makes a value
 pub next-led : (d : Debugged) (shallow : Option ℕ) (at there : ℕ) (found : Option ℕ) → IsNext d.program (stops_at d.breaks d.watches shallow) d.at d.most found →
@@ -97,7 +106,13 @@ last-led d shallow there found l e = record { found = found; last = l; place = s
 pub maker-led : (d : Debugged) (place : Place) (there : ℕ) (found : Option ℕ) → IsLast d.program (changes place) d.at found → StandsBefore d.at there found → GoesToMaker d place there
 maker-led d place there found l s = record { found = found; last = l; stands = s }
 
-pub ruleset leading = (back-exact, next-led, last-led, maker-led)
+-- on from the start
+pub run-led : (d : Debugged) (p : Program) (here at : ℕ) → p ≡ d.program → here ≤ 0 → GoesToNext (record d { program = p; at = here }) None at → GoesToNext (record d { at = 0 }) None at
+run-led d p here at e l g =
+    let zero : here ≡ 0 = omega (arith, l) in
+    subst (λ q. GoesToNext (record d { program = q; at = 0 }) None at) e (subst (λ k. GoesToNext (record d { program = p; at = k }) None at) zero g)
+
+pub ruleset leading = (back-exact, next-led, last-led, maker-led, run-led)
 
 -- out of a call
 pub left-call : (d : Debugged) (at n : ℕ) (Goes : Option ℕ → ℕ → Type 0) → n ≡ depth_at d → n ≢ 0 → Goes (Some (n - 1)) at → LeavesCall d at Goes
@@ -127,6 +142,8 @@ stays d word.Info rest at g e = e
 stays d word.List rest at g e = e
 stays d word.Help rest at g e = e
 stays d word.Quit rest at g e = e
+stays d word.Run rest at g e = absurd (cc)
+stays d word.Start rest at g e = absurd (cc)
 stays d word.Step rest at g e = absurd (cc)
 stays d word.ReverseStep rest at g e = absurd (cc)
 stays d word.GoTo rest at g e = absurd (cc)

@@ -3,10 +3,11 @@
 use Rattle.std.specs.Prelude.{ℕ, ◌≡◌, ◌-◌, min, Option, None, Some, Result, Ok, Err}
 use Rattle.mx_run.specs.Runs.{Ended}
 use Rattle.mx_outcome.specs.declared.outcome.Outcome.{Outcome}
-use Rattle.mx_replay.specs.Marks.{changes, depth, stops_at}
+use Rattle.mx_replay.specs.Marks.{changes, stops_at}
+use Rattle.mx_stops.specs.Places.{depth, followed}
 use Rattle.mx_replay.specs.Programs.{IsReached, step_of}
 use Rattle.mx_replay.specs.Searches.{FoundAt, IsLast, IsNext}
-use Rattle.mx_replay.specs.declared.marks.Place.{Place}
+use Rattle.mx_stops.specs.declared.places.Place.{Place}
 use Rattle.mx_debug.specs.Sessions.{Debugged}
 
 -- how many registers the calls that have not returned have hidden at the step that is visited: 0 where there is no such call
@@ -16,6 +17,15 @@ depth_after (Err outcome) = 0
 
 abbrev pub depth_at : Debugged → ℕ
 depth_at d = depth_after (step_of d.program d.at)
+
+-- The place by which a register is followed from the step that is visited: `$k` means one register there, and another one in each
+-- call. So one that is not global is followed at its place of the register stack.
+abbrev pub followed_after : Place → Result Ended Outcome → Place
+followed_after place (Ok e) = followed e.state place
+followed_after place (Err outcome) = place
+
+abbrev pub followed_at : Debugged → Place → Place
+followed_at d place = followed_after place (step_of d.program d.at)
 
 -- to step k, but not past the last one that can be reached nor past the end of the run
 abbrev pub GoesTo : Debugged → ℕ → ℕ → Type 0
@@ -38,7 +48,8 @@ pub record GoesToLast (d : Debugged) (shallow : Option ℕ) (at : ℕ) : Type 0 
   pub last : IsLast d.program (stops_at d.breaks d.watches shallow) (d.at - 1) found
   pub place : StandsBack at found
 
--- To the step before the turn that made the value at a place. It is the last turn up to this step that changed the value. Where none
+-- To the step before the turn that made the value at a place. It is the last turn up to this step that changed what is there: a register
+-- that is followed in the register stack keeps its value while calls hide it, and a return makes that of its result. Where no turn
 -- did, the session stays.
 abbrev pub StandsBefore : ℕ → ℕ → Option ℕ → Type 0
 StandsBefore old new None = new ≡ old

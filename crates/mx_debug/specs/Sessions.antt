@@ -2,8 +2,8 @@
 use Rattle.std.specs.Prelude.{ℕ, ◌≡◌, List}
 use Rattle.mx_book.specs.declared.book.Book.{Book}
 use Rattle.mx_replay.specs.declared.program.Program.{Program}
-use Rattle.mx_replay.specs.declared.stops.Break.{Break}
-use Rattle.mx_replay.specs.declared.stops.Watch.{Watch}
+use Rattle.mx_stops.specs.declared.stops.Break.{Break}
+use Rattle.mx_stops.specs.declared.stops.Watch.{Watch}
 
 -- the program that is run, what is known of it by name, the step that is visited, the last step that can be reached, the breaks,
 -- and what is watched

@@ -6,9 +6,9 @@ use Rattle.mx_ask.specs.Places.{count_in, number_in}
 use Rattle.mx_ask.specs.declared.words.Word.{Word}
 use Rattle.mx_ask.specs.declared.words.Word.TheVariants as word
 use Rattle.mx_places.specs.Named.{place_in}
-use Rattle.mx_replay.specs.declared.stops.Break.{Break}
-use Rattle.mx_replay.specs.declared.stops.Watch.{Watch}
-use Rattle.mx_debug.specs.Going.{GoesTo, GoesToLast, GoesToMaker, GoesToNext, depth_at}
+use Rattle.mx_stops.specs.declared.stops.Break.{Break}
+use Rattle.mx_stops.specs.declared.stops.Watch.{Watch}
+use Rattle.mx_debug.specs.Going.{GoesTo, GoesToLast, GoesToMaker, GoesToNext, depth_at, followed_at}
 use Rattle.mx_debug.specs.Sessions.{Debugged, KeepsStops}
 
 -- what holds where something is said, and what holds where nothing is
@@ -25,15 +25,18 @@ pub record LeavesCall (d : Debugged) (at : ℕ) (Goes : Option ℕ → ℕ → T
   pub outside : depth_at d ≡ 0 → at ≡ d.at
 
 -- Where a word leads with what follows it:
+-- `run` from the start to the first break or watch after it, and `start` to the start;
 -- `step N` N steps on, and `reverse-step N` N steps back, but not past the start; without N it is one step;
 -- `goto K` to step K, forward or back;
 -- `next` to the next step that is in no call made from here, and `reverse-next` back to the last one: at most as many registers are
 -- hidden there as here;
 -- `finish` to the step after the return from this call, and `reverse-finish` back to the step that made it;
 -- `continue` to the next break or watch, and `reverse-continue` back to the last one;
--- `who PLACE` to the step that made the value there.
+-- `who PLACE` to the step that made the value there; `$k` is the register that has this number at the step that is visited.
 -- `next` and `finish` stop at a break or a watch, too. A word that lacks its number or its place, and each other word, stays.
 abbrev pub Leads : Debugged → Word → List ℕ → ℕ → Type 0
+Leads d word.Run rest at = GoesToNext (record d { at = 0 }) None at
+Leads d word.Start rest at = GoesTo d 0 at
 Leads d word.Step rest at = WhereSaid (count_in rest) (λ n. GoesTo d (d.at + n) at) (at ≡ d.at)
 Leads d word.ReverseStep rest at = WhereSaid (count_in rest) (λ n. at ≡ d.at - n) (at ≡ d.at)
 Leads d word.GoTo rest at = WhereSaid (number_in rest) (λ k. GoesTo d k at) (at ≡ d.at)
@@ -43,7 +46,7 @@ Leads d word.Finish rest at = LeavesCall d at (GoesToNext d)
 Leads d word.ReverseFinish rest at = LeavesCall d at (GoesToLast d)
 Leads d word.Continue rest at = GoesToNext d None at
 Leads d word.ReverseContinue rest at = GoesToLast d None at
-Leads d word.Who rest at = WhereSaid (place_in d.book rest) (λ place. GoesToMaker d place at) (at ≡ d.at)
+Leads d word.Who rest at = WhereSaid (place_in d.book rest) (λ place. GoesToMaker d (followed_at d place) at) (at ≡ d.at)
 Leads d other rest at = at ≡ d.at
 
 -- whether a word may lead to another step: those above

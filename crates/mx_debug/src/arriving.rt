@@ -4,8 +4,10 @@ ghost use Rattle.std.specs.Prelude.{◌≡◌, ◌+◌, min, OnOk};
 ghost use Rattle.mx_replay.specs.Programs.{IsReached};
 
 use crate::known::Known;
-use crate::telling::{Written, add_all_watched, add_reasons, add_step, watched_values};
+use crate::telling::{add_all_watched, add_reasons, add_step, watched_values};
 use mx_core::Trace;
+use mx_pieces::Written;
+use mx_places::add_overwritten;
 use mx_replay::Replay;
 use mx_tell::{Before, add_changes};
 use mx_word::{Bytes, NoMemory};
@@ -39,6 +41,7 @@ fn make_last_turn(
     let values = watched_values(known.alloc, replay.machine(), watches)?;
     let trace = replay.step()?;
     add_step(out, replay, known, since)?;
+    add_overwritten(out, replay)?;
     add_turn(out, replay, known, &before, trace)?;
     add_all_watched(out, replay.machine(), known, values.as_slice())?;
     add_reasons(out, replay, known)

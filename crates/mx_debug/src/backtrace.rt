@@ -3,6 +3,7 @@
 ghost use Rattle.std.specs.Prelude.{◌≡◌};
 
 use crate::session::Session;
+use mx_places::add_overwritten;
 use mx_replay::{Frame, Replay};
 use mx_tell::{Call, add_backtrace};
 use mx_word::{Bytes, NoMemory, Sequence};
@@ -75,6 +76,7 @@ impl Session {
         let arguments = all_arguments(alloc, &mut self.replay, frames.as_slice())?;
         let calls = calls_of(alloc, frames.as_slice(), arguments)?;
         let pc = self.replay.machine().pc();
-        add_backtrace(out, &self.known.book, calls.as_slice(), pc)
+        add_backtrace(out, &self.known.book, calls.as_slice(), pc)?;
+        add_overwritten(out, &mut self.replay)
     }
 }

@@ -2,7 +2,7 @@
 
 use mx_book::Book;
 use mx_places::{signs_of, thing_of_place};
-use mx_replay::Condition;
+use mx_stops::Condition;
 use mx_tell::{add_thing, add_value};
 use mx_word::{Bytes, NoMemory};
 

@@ -1,20 +1,20 @@
 //! The words that go to another step.
 
-ghost use Rattle.std.specs.Prelude.{◌≡◌, OnOk};
-ghost use Rattle.mx_debug.specs.Going.{GoesToLast, GoesToMaker, GoesToNext, depth_at};
+ghost use Rattle.std.specs.Prelude.{◌≡◌, None, OnOk};
+ghost use Rattle.mx_debug.specs.Going.{GoesToLast, GoesToMaker, GoesToNext, depth_at, followed_at};
 ghost use Rattle.mx_debug.specs.Sessions.{KeepsProgram, KeepsStops};
 ghost use Rattle.mx_debug.specs.Words.{Leads, LeavesCall};
 
 use crate::session::{Again, Session};
 use crate::telling::add_said;
-use mx_ask::{Word, parse_count, parse_number};
-use mx_places::{parse_place, thing_of_place};
-use mx_replay::{Place, value_at};
-use mx_tell::{add_thing, add_value};
+use mx_ask::{Word, add_unnamed, parse_count, parse_number};
+use mx_places::{PLACE_WANTED, known_value, note_of, parse_place, thing_of_place};
+use mx_stops::{Place, see, value_at};
+use mx_tell::{add_thing, add_value, add_was};
 use mx_word::{Bytes, NoMemory};
 
 /// What is said where no call can be left.
-const NO_CALL: &[u8] = b"no call that has not returned";
+const NO_CALL: &[u8] = b"not inside a call";
 
 impl Session {
     /// Notes that another step is shown: `list` begins anew.
@@ -45,6 +45,14 @@ impl Session {
         self.replay.depth()
     }
 
+    /// The place by which a register is followed from the step that is shown.
+    #[tactic(auto, using(crate::proofs::Reaching::depths))]
+    pub(crate) fn follow(&self, place: Place) -> Place
+        ensures { result ≡ followed_at self.now place }
+    {
+        self.replay.follow(place)
+    }
+
     /// Obeys `step`.
     fn obey_step(&mut self, rest: &[u8], out: &mut Bytes) -> Result<(), NoMemory>
         ensures program { KeepsProgram self.old self.new }
@@ -52,7 +60,7 @@ impl Session {
         ensures leads { OnOk result (Leads self.old Word.Step rest.now self.new.at) }
     {
         let Some(count) = parse_count(rest) else {
-            return add_said(out, b"? no number");
+            return add_said(out, b"? not a number of steps");
         };
         self.note_count(count);
         self.step_on(count, out)
@@ -65,10 +73,21 @@ impl Session {
         ensures leads { OnOk result (Leads self.old Word.ReverseStep rest.now self.new.at) }
     {
         let Some(count) = parse_count(rest) else {
-            return add_said(out, b"? no number");
+            return add_said(out, b"? not a number of steps");
         };
         self.note_count(count);
         self.step_back(count, out)
+    }
+
+    /// Obeys `run`: goes to the start without telling of it, and on.
+    #[tactic(auto, using(crate::proofs::Reaching::leading))]
+    fn obey_run(&mut self, out: &mut Bytes) -> Result<(), NoMemory>
+        ensures program { KeepsProgram self.old self.new }
+        ensures stops { KeepsStops self.old self.new }
+        ensures next { OnOk result (GoesToNext (record self.old { at = 0 }) None self.new.at) }
+    {
+        self.replay.go_to(0)?;
+        self.go_on(None, out)
     }
 
     /// Obeys `goto`.
@@ -79,7 +98,7 @@ impl Session {
     {
         match parse_number(rest) {
             Some(k) => self.go_to(k, out),
-            None => add_said(out, b"? no number of a step"),
+            None => add_said(out, b"? goto takes the number of a step"),
         }
     }
 
@@ -120,17 +139,20 @@ impl Session {
         out: &mut Bytes,
     ) -> Result<(), NoMemory> {
         let book = &self.known.book;
+        let thing = thing_of_place(place);
         if made.is_none() {
-            add_thing(out, book, thing_of_place(place))?;
+            add_thing(out, book, thing)?;
             return out.extend(b" has not changed since the start\n");
         }
         out.extend(b"makes ")?;
-        add_thing(out, book, thing_of_place(place))?;
+        add_thing(out, book, thing)?;
         out.extend(b" = ")?;
         add_value(out, book, value, None)?;
-        out.extend(b"  (was ")?;
-        add_value(out, book, value_at(self.replay.machine(), place), None)?;
-        out.extend(b")\n")
+        let before = see(self.replay.machine(), place);
+        add_was(out, book, thing, known_value(place, &before))?;
+        let note = note_of(self.known.alloc, place, &before)?;
+        out.extend(note.as_slice())?;
+        out.push(b'\n')
     }
 
     /// Goes to the step that makes the value at a place.
@@ -153,8 +175,8 @@ impl Session {
         ensures leads { OnOk result (Leads self.old Word.Who rest.now self.new.at) }
     {
         match parse_place(&self.known.book, rest) {
-            Some(place) => self.show_maker(place, out),
-            None => add_said(out, b"? no place: a name, $K, rX, M#ADDRESS"),
+            Some(place) => self.show_maker(self.follow(place), out),
+            None => add_unnamed(out, rest, PLACE_WANTED),
         }
     }
 
@@ -167,6 +189,8 @@ impl Session {
         self.forget_listed();
         let depth = self.depth();
         match word {
+            Word::Run => self.obey_run(out),
+            Word::Start => self.go_to(0, out),
             Word::Step => self.obey_step(rest, out),
             Word::ReverseStep => self.obey_reverse_step(rest, out),
             Word::GoTo => self.obey_goto(rest, out),

@@ -4,7 +4,7 @@ ghost use Rattle.std.specs.Prelude.{◌≡◌, [], IfOk};
 ghost use Rattle.mx_debug.specs.Words as spec;
 
 use mx_book::Book;
-use mx_replay::{Break, Watch};
+use mx_stops::{Break, Watch};
 use mx_word::{NoMemory, Sequence};
 use std::alloc::Global;
 

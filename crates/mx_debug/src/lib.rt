@@ -8,6 +8,7 @@ mod going;
 mod known;
 mod listing;
 mod obeying;
+mod printing;
 mod session;
 mod setting;
 mod showing;

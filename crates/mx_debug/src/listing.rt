@@ -4,7 +4,7 @@ ghost use Rattle.std.specs.Prelude.{◌≡◌};
 
 use crate::session::{Again, Session};
 use crate::telling::add_said;
-use mx_ask::parse_number;
+use mx_ask::{add_unnamed, parse_number};
 use mx_book::Book;
 use mx_places::parse_target;
 use mx_tell::{add_instructions, add_lines, first_line_around};
@@ -55,7 +55,7 @@ impl Session {
     {
         let pc = self.replay.machine().pc();
         let Some(from) = first_line(&self.known.book, pc, self.again, rest) else {
-            return add_said(out, b"? no line there");
+            return add_unnamed(out, rest, b"? no line there");
         };
         let next = add_lines(out, &self.known.book, from, pc)?;
         if next == from {
@@ -71,7 +71,7 @@ impl Session {
     {
         let pc = self.replay.machine().pc();
         let Some(from) = first_address(&self.known.book, pc, self.again, rest) else {
-            return add_said(out, b"? no instruction there");
+            return add_unnamed(out, rest, b"? no instruction there");
         };
         let next = add_instructions(out, &self.known.book, self.replay.machine(), from, pc)?;
         self.note_listed(next);

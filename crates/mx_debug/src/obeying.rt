@@ -5,13 +5,14 @@ ghost use Rattle.mx_debug.specs.Sessions.{KeepsProgram, KeepsStops};
 ghost use Rattle.mx_debug.specs.Words as spec;
 ghost use Rattle.mx_debug.specs.Words.{Deletes, Leads};
 
+use crate::printing::print;
 use crate::session::{Again, Session};
-use crate::showing::{info, print};
+use crate::showing::info;
 use mx_ask::{Asked, Word, add_help, add_unasked, cut_form, cut_word, find_word, trim_end};
 use mx_word::{Bytes, NoMemory};
 
 /// Whether a session goes on after a line.
-#[derive(Clone, Copy, Debug, PartialEq, Eq)]
+#[derive(Clone, Copy)]
 pub enum Flow {
     GoOn,
     Quit,
@@ -22,7 +23,9 @@ fn is_step_word(word: Word) -> bool
     ensures { result ≡ spec.goes word }
 {
     match word {
-        Word::Step
+        Word::Run
+        | Word::Start
+        | Word::Step
         | Word::ReverseStep
         | Word::GoTo
         | Word::Next
@@ -103,7 +106,7 @@ impl Session {
         ensures { self.new ≡ self.old }
     {
         match word {
-            Word::Print => print(out, &self.replay, &self.known, form, rest),
+            Word::Print => print(out, &self.known.book, self.replay.machine(), form, rest),
             Word::Examine => self.obey_examine(form, rest, out),
             Word::Backtrace => self.obey_backtrace(out),
             Word::Info => info(out, &self.replay, &self.known, rest),

@@ -9,11 +9,12 @@ ghost use Rattle.mx_debug.specs.Sessions.{KeepsProgram, KeepsStops};
 
 use crate::arriving::{arrive, arrive_back, arrive_here};
 use crate::known::{Known, Stops};
-use crate::telling::Written;
 use mx_ask::{Unit, Word};
 use mx_book::Book;
 use mx_outcome::Outcome;
-use mx_replay::{Place, Program, Replay};
+use mx_pieces::Written;
+use mx_replay::{Program, Replay};
+use mx_stops::Place;
 use mx_word::{Bytes, NoMemory};
 use std::alloc::Global;
 use std::marker::Model;

@@ -8,11 +8,13 @@ use crate::conditions::add_condition;
 use crate::known::{Known, breaks_but, watches_but};
 use crate::session::Session;
 use crate::telling::add_said;
-use mx_ask::parse_number;
-use mx_places::{Unwanted, Wanted, parse_break, parse_place, thing_of_place};
-use mx_replay::{Break, Place, Watch};
-use mx_tell::{add_break_row, add_place, add_watch_row};
-use mx_text::add_decimal;
+use mx_ask::{add_unnamed, cut_word, parse_number};
+use mx_core::Machine;
+use mx_places::{
+    PLACE_WANTED, Unwanted, Wanted, note_of, parse_break, parse_place, thing_of_place,
+};
+use mx_stops::{Break, Place, Watch, see};
+use mx_tell::{add_break_row, add_watch_row};
 use mx_word::{Bytes, NoMemory};
 
 /// Adds the row of a break.
@@ -29,12 +31,19 @@ fn add_break(text: &mut Bytes, known: &Known, b: &Break) -> Result<(), NoMemory>
 }
 
 /// Adds the row of what is watched.
-fn add_watch(text: &mut Bytes, known: &Known, watch: &Watch) -> Result<(), NoMemory> {
+fn add_watch(
+    text: &mut Bytes,
+    known: &Known,
+    machine: &Machine,
+    watch: &Watch,
+) -> Result<(), NoMemory> {
+    let note = note_of(known.alloc, watch.place, &see(machine, watch.place))?;
     add_watch_row(
         text,
         &known.book,
         u64::from(watch.number),
         thing_of_place(watch.place),
+        note.as_slice(),
     )
 }
 
@@ -47,26 +56,34 @@ fn add_breaks(text: &mut Bytes, known: &Known) -> Result<(), NoMemory> {
 }
 
 /// Adds the rows of all breaks and of what is watched.
-pub(crate) fn add_stops(text: &mut Bytes, known: &Known) -> Result<(), NoMemory> {
+pub(crate) fn add_stops(
+    text: &mut Bytes,
+    known: &Known,
+    machine: &Machine,
+) -> Result<(), NoMemory> {
     let stops = &known.stops;
     if stops.breaks.as_slice().is_empty() && stops.watches.as_slice().is_empty() {
-        return text.extend(b"no breaks and nothing watched\n");
+        return text.extend(b"no breaks and no watches\n");
     }
     add_breaks(text, known)?;
     for watch in stops.watches.as_slice() {
-        add_watch(text, known, watch)?;
+        add_watch(text, known, machine, watch)?;
     }
     Ok(())
 }
 
 /// Adds why a line orders no break.
-fn add_unwanted(out: &mut Bytes, why: Unwanted) -> Result<(), NoMemory> {
+fn add_unwanted(out: &mut Bytes, why: Unwanted, rest: &[u8]) -> Result<(), NoMemory> {
     match why {
-        Unwanted::Target => out.extend(
-            b"? no such place: a label, a line that loads an instruction, or #ADDRESS\n",
+        Unwanted::Target => add_unnamed(
+            out,
+            cut_word(rest).0,
+            b"? no such place: give a label, LABEL+N, a line with an instruction, or #ADDRESS",
         ),
         Unwanted::Condition => {
-            out.extend(b"? no condition: if VALUE OP N, with OP ==, !=, <, <=, > or >=\n")
+            out.extend(
+                b"? a condition is written: if VALUE OP N, where OP is ==, !=, <, <=, > or >=\n",
+            )
         }
     }
 }
@@ -97,7 +114,7 @@ impl Session {
         let number = self.known.stops.next();
         let watch = Watch { number, place };
         self.known.stops.watches.push(watch)?;
-        add_watch(out, &self.known, &watch)
+        add_watch(out, &self.known, self.replay.machine(), &watch)
     }
 
     /// Obeys `break`.
@@ -108,7 +125,7 @@ impl Session {
         let pc = self.replay.machine().pc();
         match parse_break(&self.known.book, pc, rest) {
             Ok(wanted) => self.set_break(wanted, out),
-            Err(why) => add_unwanted(out, why),
+            Err(why) => add_unwanted(out, why, rest),
         }
     }
 
@@ -118,8 +135,8 @@ impl Session {
         ensures place { self.new.at ≡ self.old.at }
     {
         match parse_place(&self.known.book, rest) {
-            Some(place) => self.set_watch(place, out),
-            None => add_said(out, b"? nothing to watch: a name, $K, rX, M#ADDRESS"),
+            Some(place) => self.set_watch(self.follow(place), out),
+            None => add_unnamed(out, rest, PLACE_WANTED),
         }
     }
 
@@ -139,7 +156,7 @@ impl Session {
         if is_known {
             add_said(out, b"deleted")
         } else {
-            add_said(out, b"? no break and no watch has this number")
+            add_said(out, b"? no break or watch has this number")
         }
     }
 
@@ -166,7 +183,10 @@ impl Session {
         }
         match parse_number(rest) {
             Some(number) => self.delete(number, out),
-            None => add_said(out, b"? no number"),
+            None => add_said(
+                out,
+                b"? delete takes the number of a break or watch, or nothing",
+            ),
         }
     }
 }

@@ -6,87 +6,18 @@ use crate::known::Known;
 use crate::session::{Again, Session};
 use crate::setting::add_stops;
 use crate::telling::add_said;
-use mx_ask::{Unit, parse_units};
-use mx_book::{Book, Thing};
-use mx_core::Machine;
-use mx_places::{resolve_for_display, resolve_name};
+use mx_ask::{Unit, add_unnamed};
+use mx_pieces::add_ring;
+use mx_places::{MEMORY_END, parse_examined, parse_examined_units};
 use mx_replay::Replay;
-use mx_tell::{add_memory, add_output, add_registers, add_ring, add_shown, add_symbols, value_of};
-use mx_text::Form;
+use mx_tell::{MOST_UNITS, add_memory, add_output, add_registers, add_symbols};
 use mx_word::{Bytes, NoMemory};
-
-/// The first address that no memory has.
-const MEMORY_END: u64 = 1 << 63;
-
-/// The form that letters after a stroke ask for, or none.
-fn form_of(letters: &[u8]) -> Option<Option<Form>> {
-    match letters {
-        b"" | b"/" => Some(None),
-        b"/d" => Some(Some(Form::Decimal)),
-        b"/x" => Some(Some(Form::Hex)),
-        b"/t" => Some(Some(Form::Chars)),
-        _ => None,
-    }
-}
-
-/// Obeys `print`.
-pub(crate) fn print(
-    out: &mut Bytes,
-    replay: &Replay,
-    known: &Known,
-    letters: &[u8],
-    rest: &[u8],
-) -> Result<(), NoMemory> {
-    let Some(form) = form_of(letters) else {
-        return add_said(
-            out,
-            b"? no such form: /d decimal, /x hexadecimal, /t as text",
-        );
-    };
-    match resolve_for_display(&known.book, rest) {
-        Some(thing) => add_shown(out, &known.book, replay.machine(), thing, form),
-        None => add_said(
-            out,
-            b"? nothing to show: a name, $K, rX, M#ADDRESS, a number",
-        ),
-    }
-}
-
-/// The address that a thing leads to.
-fn address_of(machine: &Machine, thing: Thing) -> u64 {
-    match thing {
-        Thing::Octa(a) | Thing::Number(a) => a,
-        Thing::Register(_) | Thing::Special(_) => value_of(machine, thing),
-    }
-}
-
-/// The address that a text names: where nothing is written, the one after those that were shown.
-fn parse_examined(book: &Book, machine: &Machine, again: Again, rest: &[u8]) -> Option<u64> {
-    let address = if rest.is_empty() {
-        again.examined
-    } else {
-        address_of(machine, resolve_name(book, rest)?)
-    };
-    if address < MEMORY_END {
-        Some(address)
-    } else {
-        None
-    }
-}
-
-/// The units that are asked for after a stroke: an octa where nothing is written.
-fn parse_examined_units(letters: &[u8]) -> Option<(u64, Unit)> {
-    match letters {
-        [b'/', units @ ..] => parse_units(units),
-        _ => parse_units(letters),
-    }
-}
 
 /// Obeys `info output`.
 fn show_output(out: &mut Bytes, replay: &Replay) -> Result<(), NoMemory> {
     let host = replay.host();
     if host.output().is_empty() && host.errors().is_empty() {
-        return add_said(out, b"nothing is written yet");
+        return add_said(out, b"nothing has been written yet");
     }
     add_output(out, host.output())?;
     add_output(out, host.errors())
@@ -100,12 +31,16 @@ pub(crate) fn info(
     rest: &[u8],
 ) -> Result<(), NoMemory> {
     match rest {
-        b"breaks" | b"b" => add_stops(out, known),
+        b"breaks" | b"break" | b"breakpoints" | b"b" => add_stops(out, known, replay.machine()),
         b"output" | b"o" => show_output(out, replay),
-        b"registers" | b"r" => add_registers(out, &known.book, replay.machine()),
+        b"registers" | b"r" => add_registers(out, &known.book, replay.machine(), false),
+        b"registers all" | b"r all" => add_registers(out, &known.book, replay.machine(), true),
         b"ring" => add_ring(out, replay.machine(), known.ring),
         b"symbols" | b"s" => add_symbols(out, &known.book),
-        _ => add_said(out, b"? info breaks, output, registers, ring or symbols"),
+        _ => add_said(
+            out,
+            b"? info takes breaks, output, registers, registers all, ring or symbols",
+        ),
     }
 }
 
@@ -123,6 +58,9 @@ impl Session {
         let machine = self.replay.machine();
         let alloc = self.known.alloc;
         let next = add_memory(alloc, out, &self.known.book, machine, from, count, unit)?;
+        if count > MOST_UNITS {
+            add_said(out, b"at most 1024")?;
+        }
         self.again = Again {
             examined: next,
             count,
@@ -142,12 +80,16 @@ impl Session {
         ensures { self.new ≡ self.old }
     {
         let Some((count, unit)) = parse_examined_units(letters) else {
-            return add_said(out, b"? no such units: /NU with U o, t, w, b or s");
+            return add_said(out, b"? no such units: x/NU, where U is o, d, t, w, b or s");
         };
         let machine = self.replay.machine();
-        match parse_examined(&self.known.book, machine, self.again, rest) {
+        match parse_examined(&self.known.book, machine, self.again.examined, rest) {
             Some(from) => self.examine(from, count, unit, out),
-            None => add_said(out, b"? no memory there: a name, $K, #ADDRESS"),
+            None => add_unnamed(
+                out,
+                rest,
+                b"? no memory there: give NAME[+N], $K[+N] or #ADDRESS",
+            ),
         }
     }
 

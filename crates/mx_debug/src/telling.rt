@@ -2,50 +2,15 @@
 
 use crate::known::Known;
 use mx_core::Machine;
-use mx_host::MemHost;
-use mx_places::thing_of_place;
-use mx_replay::{Replay, Watch, value_at};
+use mx_pieces::{Written, add_meanwhile};
+use mx_places::{known_value, note_of, thing_of_place};
+use mx_replay::Replay;
 use mx_run::End;
-use mx_tell::{add_end, add_output, add_stop, add_watched};
+use mx_stops::{Seen, Watch, see};
+use mx_tell::{add_end, add_stop, add_watched};
 use mx_text::add_decimal;
 use mx_word::{Bytes, NoMemory, Sequence};
 use std::alloc::Global;
-
-/// How many bytes a program wrote to its standard output and its standard error.
-#[derive(Clone, Copy)]
-pub(crate) struct Written {
-    output: usize,
-    errors: usize,
-}
-
-impl Written {
-    /// What was written up to a step.
-    pub(crate) fn of(host: &MemHost) -> Written {
-        Written {
-            output: host.output().len(),
-            errors: host.errors().len(),
-        }
-    }
-}
-
-/// Adds what was written beyond a length, or how much is taken back.
-fn add_written(out: &mut Bytes, bytes: &[u8], before: usize) -> Result<(), NoMemory> {
-    if before < bytes.len() {
-        return add_output(out, &bytes[before..]);
-    }
-    if before > bytes.len() {
-        out.extend(b"output taken back: ")?;
-        add_decimal(out, (before - bytes.len()) as u64)?;
-        return out.extend(b" bytes\n");
-    }
-    Ok(())
-}
-
-/// Adds what a program wrote on the way, or how much of it is taken back.
-fn add_meanwhile(out: &mut Bytes, host: &MemHost, since: Written) -> Result<(), NoMemory> {
-    add_written(out, host.output(), since.output)?;
-    add_written(out, host.errors(), since.errors)
-}
 
 /// Adds the line of the step that is shown, after what the program wrote on the way.
 pub(crate) fn add_step(
@@ -102,15 +67,15 @@ pub(crate) fn add_reasons(out: &mut Bytes, replay: &Replay, known: &Known) -> Re
     add_bounds(out, replay, known)
 }
 
-/// The values that are watched.
+/// What is seen of the places that are watched.
 pub(crate) fn watched_values(
     alloc: Global,
     machine: &Machine,
     watches: &[Watch],
-) -> Result<Sequence<u64>, NoMemory> {
+) -> Result<Sequence<Seen>, NoMemory> {
     let mut values = Sequence::new(alloc);
     for watch in watches {
-        values.push(value_at(machine, watch.place))?;
+        values.push(see(machine, watch.place))?;
     }
     Ok(values)
 }
@@ -121,20 +86,22 @@ fn add_if_changed(
     machine: &Machine,
     known: &Known,
     watch: &Watch,
-    old: u64,
+    old: &Seen,
 ) -> Result<(), NoMemory> {
-    let new = value_at(machine, watch.place);
-    if new == old {
+    let place = watch.place;
+    let new = see(machine, place);
+    if !old.is_change(&new, place) {
         return Ok(());
     }
-    let number = u64::from(watch.number);
+    let note = note_of(known.alloc, place, &new)?;
     add_watched(
         out,
         &known.book,
-        number,
-        thing_of_place(watch.place),
-        old,
-        new,
+        u64::from(watch.number),
+        thing_of_place(place),
+        known_value(place, old),
+        new.value,
+        note.as_slice(),
     )
 }
 
@@ -143,10 +110,10 @@ pub(crate) fn add_all_watched(
     out: &mut Bytes,
     machine: &Machine,
     known: &Known,
-    values: &[u64],
+    values: &[Seen],
 ) -> Result<(), NoMemory> {
     for (watch, old) in known.stops.watches.as_slice().iter().zip(values) {
-        add_if_changed(out, machine, known, watch, *old)?;
+        add_if_changed(out, machine, known, watch, old)?;
     }
     Ok(())
 }

@@ -23,7 +23,7 @@ unfoldable pub meant_text : List ℕ → List ℕ
 meant_text [] = []
 meant_text (b ∷ bs) = question ++ (b ∷ bs) ++ codes "`?"
 
--- what is wrong, which name is meant perhaps, and what mends it
+-- what is wrong, which name is meant perhaps, and how to fix it
 unfoldable pub fault_message : ToldFault → List ℕ
 fault_message f = f.what ++ meant_text f.meant ++ codes "\n" ++ f.help
 

@@ -45,7 +45,7 @@ fn add_meant(text: &mut Bytes, name: &[u8]) -> Result<(), NoMemory>
     text.extend(b"`?")
 }
 
-/// What is said of a fault: what is wrong, which name is meant perhaps, and what mends it.
+/// What is said of a fault: what is wrong, which name is meant perhaps, and how to fix it.
 #[tactic(auto, unfolding(crate::specs::Diagnostics::fault_message))]
 fn fault_message(alloc: Global, fault: &ToldFault) -> Result<Bytes, NoMemory>
     ensures { IfOk result (λ text. text ≡ spec.fault_message fault.now) }

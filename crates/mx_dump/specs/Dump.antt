@@ -4,7 +4,7 @@ use Rattle.std.specs.List.{flat_map, range_with_len}
 use Rattle.mx_ring.specs.Stack.{register, in_stack_area}
 use Rattle.mx_code.specs.SpecialRegisters.{rS}
 use Rattle.mx_text.specs.Numbers.{hex_text}
-use Rattle.mx_cmd.specs.Specials.{special_name}
+use Rattle.mx_ops.specs.Predefined.{special_name}
 use Rattle.mx_core.specs.State.{State, special_register, global_start, locals, octa}
 
 abbrev pub Line : Type 0

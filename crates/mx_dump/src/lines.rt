@@ -9,18 +9,16 @@ ghost use Rattle.mx_files.specs.FilePlans.{lines_plan};
 ghost use Rattle.mx_dump.specs.Dump as spec;
 ghost use Rattle.mx_dump.specs.Shown.{IsNextShown, shown_octa};
 
-use mx_cmd::special_name;
 use mx_core::{Machine, is_in_stack_area};
 use mx_files::write_line;
 use mx_host::Host;
+use mx_ops::codes::RS;
+use mx_ops::special_name;
 use mx_outcome::Outcome;
 use mx_ring::AREA_END;
 use mx_text::{add_decimal, octa_hex};
 use mx_word::{Bytes, NoMemory};
 use std::alloc::Global;
-
-/// The code of rS.
-const RS: u8 = 11;
 
 /// The first address that no octa has.
 const END: u64 = 1 << 63;
@@ -66,10 +64,8 @@ fn put_special<H: Host>(
     if !is_special_shown(machine, code) {
         return Ok(());
     }
-    match special_text(alloc, machine, code) {
-        Ok(line) => write_line(host, line.as_slice()),
-        Err(_) => Err(Outcome::OutOfMemory),
-    }
+    let line = special_text(alloc, machine, code)?;
+    write_line(host, line.as_slice())
 }
 
 /// Writes the lines of the special registers.
@@ -78,10 +74,7 @@ fn put_specials<H: Host>(alloc: Global, host: &mut H, machine: &Machine) -> Resu
         (lines_plan (spec.special_lines (state_of machine.now))) }
 {
     for code in 0..32u8 {
-        match put_special(alloc, host, machine, code) {
-            Ok(()) => {}
-            Err(outcome) => return Err(outcome),
-        }
+        put_special(alloc, host, machine, code)?;
     }
     Ok(())
 }
@@ -115,10 +108,8 @@ fn put_register<H: Host>(
     if !is_register_shown(machine, k) {
         return Ok(());
     }
-    match register_text(alloc, machine, k) {
-        Ok(line) => write_line(host, line.as_slice()),
-        Err(_) => Err(Outcome::OutOfMemory),
-    }
+    let line = register_text(alloc, machine, k)?;
+    write_line(host, line.as_slice())
 }
 
 /// Writes the lines of the registers.
@@ -127,10 +118,7 @@ fn put_registers<H: Host>(alloc: Global, host: &mut H, machine: &Machine) -> Res
         (lines_plan (spec.register_lines (state_of machine.now))) }
 {
     for k in 0..256u16 {
-        match put_register(alloc, host, machine, k as u8) {
-            Ok(()) => {}
-            Err(outcome) => return Err(outcome),
-        }
+        put_register(alloc, host, machine, k as u8)?;
     }
     Ok(())
 }
@@ -148,10 +136,8 @@ fn octa_text(alloc: Global, a: u64, x: u64) -> Result<Bytes, NoMemory>
 pub fn put_octa<H: Host>(alloc: Global, host: &mut H, a: u64, x: u64) -> Result<(), Outcome>
     ensures { Works H.told H.faults host.old host.new result (lines_plan (shown_octa a x ∷ [])) }
 {
-    match octa_text(alloc, a, x) {
-        Ok(line) => write_line(host, line.as_slice()),
-        Err(_) => Err(Outcome::OutOfMemory),
-    }
+    let line = octa_text(alloc, a, x)?;
+    write_line(host, line.as_slice())
 }
 
 /// Whether an octa at an address is shown, if it is not 0.
@@ -198,10 +184,7 @@ fn put_octas<H: Host>(alloc: Global, host: &mut H, machine: &Machine) -> Result<
 {
     let mut from = 0u64;
     while let Some((a, x)) = next_shown(machine, from) {
-        match put_octa(alloc, host, a, x) {
-            Ok(()) => {}
-            Err(outcome) => return Err(outcome),
-        }
+        put_octa(alloc, host, a, x)?;
         from = a + 8;
     }
     Ok(())
@@ -213,13 +196,7 @@ pub fn dump<H: Host>(alloc: Global, host: &mut H, machine: &Machine) -> Result<(
     ensures { Works H.told H.faults host.old host.new result
         (lines_plan (spec.dump_lines (state_of machine.now))) }
 {
-    match put_specials(alloc, host, machine) {
-        Ok(()) => {}
-        Err(outcome) => return Err(outcome),
-    }
-    match put_registers(alloc, host, machine) {
-        Ok(()) => {}
-        Err(outcome) => return Err(outcome),
-    }
+    put_specials(alloc, host, machine)?;
+    put_registers(alloc, host, machine)?;
     put_octas(alloc, host, machine)
 }

@@ -1,5 +1,5 @@
 -- The text of a row: a line that says what it is called and what it is; what the tables say of it, and its sentences, each line after
--- two blanks; an example, and what mends it.
+-- two blanks; an example, and how to fix it.
 use Rattle.std.specs.Prelude.{ℕ, ◌==◌, List, [], ◌∷◌, ◌++◌, Option, None, Some, codes, decimal, if◌then◌else◌}
 use Rattle.std.specs.List.{flat_map}
 use Rattle.mx_ops.specs.Opcodes.{operation_of}
@@ -31,7 +31,7 @@ abbrev pub kind_of : Topic → List ℕ → List ℕ
 kind_of (Source number) name = codes "a fault of a source"
 kind_of (Object number) name = codes "a fault of an object"
 kind_of (Stop number) name = codes "a reason of a stop"
-kind_of (Kind number) name = codes "a kind of faulty words"
+kind_of (Kind number) name = codes "a command-line error"
 kind_of (Warning number) name = codes "a warning of a source"
 kind_of (Status number) name = codes "an exit status"
 kind_of (Inside number) name = codes "a number inside the program"
@@ -80,4 +80,4 @@ part title (b ∷ bs) = title ++ (b ∷ bs) ++ codes "\n"
 unfoldable pub row_text : Row → List ℕ
 row_text row =
     head row ++ front row.topic row.name ++ sentences row.says ++ part (codes "  Example:  ") row.example
-    ++ part (codes "  Mended:   ") row.mended ++ back row.topic row.name
+    ++ part (codes "  Fixed:    ") row.mended ++ back row.topic row.name

@@ -5,7 +5,7 @@ use Rattle.mx_explain.specs.declared.row.Topic.{Topic}
 use Rattle.mx_explain.specs.declared.row.Row.{Row as Seen}
 use Rattle.mx_explain.specs.declared.row.Topic.TheVariants.{Source, Object, Stop, Kind, Warning, Status, Inside, Operation, Unperformed, Symbol}
 
--- a row: its topic, the name that it has of its own, its sentences, its example, and what mends it
+-- a row: its topic, the name that it has of its own, its sentences, its example, and what is right in its place
 pub record Row : Type 0 where
   pub topic : Topic
   pub name : List ℕ

@@ -6,7 +6,7 @@ ghost use Rattle.mx_explain.specs.Topics as spec;
 use mx_outcome::{fault_name, usage_name};
 
 /// What a row is about: a number of the program, or a name of MMIXAL.
-#[derive(Clone, Copy, Debug, PartialEq, Eq)]
+#[derive(Clone, Copy, PartialEq, Eq)]
 pub enum Topic {
     /// A fault of a source.
     Source(u16),
@@ -14,7 +14,7 @@ pub enum Topic {
     Object(u16),
     /// A reason why a run is stopped.
     Stop(u16),
-    /// A kind of faulty words.
+    /// A command-line error.
     Kind(u16),
     /// A warning of a source.
     Warning(u16),
@@ -42,7 +42,7 @@ pub type Entry = (
 );
 
 /// A row: what it is about, its own name if it has one, its sentences, its example, and what mends that.
-#[derive(Clone, Copy, Debug)]
+#[derive(Clone, Copy)]
 pub struct Row {
     pub topic: Topic,
     pub name: &'static str,

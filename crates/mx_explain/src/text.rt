@@ -32,7 +32,7 @@ fn kind_of(topic: Topic, name: &str) -> &'static str
         Topic::Source(_) => "a fault of a source",
         Topic::Object(_) => "a fault of an object",
         Topic::Stop(_) => "a reason of a stop",
-        Topic::Kind(_) => "a kind of faulty words",
+        Topic::Kind(_) => "a command-line error",
         Topic::Warning(_) => "a warning of a source",
         Topic::Status(_) => "an exit status",
         Topic::Inside(_) => "a number inside the program",
@@ -162,6 +162,6 @@ pub fn add_row(alloc: Global, text: &mut Bytes, row: Row) -> Result<(), NoMemory
     add_front(alloc, text, row.topic, row.name)?;
     add_sentences(text, row.says)?;
     add_part(text, b"  Example:  ", row.example)?;
-    add_part(text, b"  Mended:   ", row.mended)?;
+    add_part(text, b"  Fixed:    ", row.mended)?;
     add_back(text, row.topic, row.name)
 }

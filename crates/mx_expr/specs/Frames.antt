@@ -20,6 +20,11 @@ abbrev pub value_after : Knowledge → List Frame → Valued → Valued
 value_after known [] x = x
 value_after known (f ∷ fs) x = value_through known f (value_after known fs x)
 
+-- Unless there was no memory, the whole expression has the value that it has with its part valued.
+abbrev pub GoesDown : Knowledge → List Frame → List Frame → Tree → Valued → Type 0
+GoesDown known old new part result =
+    result ≢ Err OutOfMemory → value_after known new result ≡ value_after known old (value_of known part)
+
 -- how many nodes there are, and how many are left
 abbrev pub nodes : Tree → ℕ
 nodes (number n) = 1

@@ -1,6 +1,7 @@
 -- What is kept while a field is read, without where it lies in memory.
-use Rattle.std.specs.Prelude.{List, [], ◌∷◌, map, Bool, true, false, Option, None, Some, Result, Ok, Err}
+use Rattle.std.specs.Prelude.{◌≡◌, ◌≢◌, ℕ, List, [], ◌∷◌, map, Bool, true, false, Option, None, Some, Result, Ok, Err}
 use Rattle.mx_expr.specs.declared.faults.ExprFault.{ExprFault}
+use Rattle.mx_expr.specs.declared.faults.ExprFault.TheVariants.{OutOfMemory}
 use Rattle.mx_expr.specs.declared.tree.Expr.{Expr}
 use Rattle.mx_expr.specs.declared.tree.UnOp.{UnOp}
 use Rattle.mx_expr.specs.declared.tree.BinOp.{BinOp}
@@ -10,7 +11,7 @@ use Rattle.mx_expr.specs.declared.reader.Mode as held_mode
 use Rattle.mx_expr.specs.declared.reader.Mode.TheVariants.{Operand, Whole, Digit, Decimal, Hash, Hexadecimal, Quote, Character, Symbol, Slash, Less, Greater, String, Closed}
 use Rattle.mx_expr.specs.declared.reader.Reader.{Reader}
 use Rattle.mx_expr.specs.Tree.{Tree, tree_of, trees_of}
-use Rattle.mx_expr.specs.Reading.{Waiting, sign, strong, weak, parenthesis, Mode, operand, whole, digit, decimal, hash, hexadecimal, quote, character, symbol, slash, less, greater, string, closed, Read, at}
+use Rattle.mx_expr.specs.Reading.{Waiting, sign, strong, weak, parenthesis, Mode, operand, whole, digit, decimal, hash, hexadecimal, quote, character, symbol, slash, less, greater, string, closed, Read, at, next_reading}
 
 abbrev pub waiting_of : held.Waiting → Waiting
 waiting_of (Sign op) = sign op
@@ -74,6 +75,16 @@ mode_of Closed = closed
 abbrev pub reading_of : Result held_mode.Mode ExprFault → Reader → Read
 reading_of (Err fault) r = Err fault
 reading_of (Ok mode) r = at (mode_of mode) (all_waiting r.waiting) r.depth (trees_of r.done)
+
+-- Unless there was no memory, what is kept and the answer are what `next` gives for what waited, the open parentheses and the
+-- operands before it.
+abbrev pub GoesOn : Result held_mode.Mode ExprFault → Reader → Reader → (List Waiting → ℕ → List Tree → Read) → Type 0
+GoesOn result old new next =
+    result ≢ Err OutOfMemory → reading_of result new ≡ next (all_waiting old.waiting) old.depth (trees_of old.done)
+
+-- the same of a byte after this mode
+abbrev pub TakesByte : Result held_mode.Mode ExprFault → Reader → Reader → Mode → ℕ → Type 0
+TakesByte result old new mode b = GoesOn result old new (λ k depth done. next_reading mode k depth done b)
 
 abbrev pub listing_of : Result (Unit {0}) ExprFault → List Expr → Result (List Tree) ExprFault
 listing_of (Err fault) done = Err fault

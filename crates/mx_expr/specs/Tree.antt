@@ -1,6 +1,9 @@
 -- Expressions, without where they lie in memory.
 -- (MMIXware, the part on MMIXAL: expressions; TAOCP 1, Fascicle 1, section 1.3.2'.)
-use Rattle.std.specs.Prelude.{ℕ, ◌+◌, ◌≤◌, List, map}
+use Rattle.std.specs.Prelude.{◌≡◌, ◌≢◌, ℕ, ◌+◌, ◌≤◌, List, map, Result, Err}
+use Rattle.mx_word.specs.Results.{map_ok}
+use Rattle.mx_expr.specs.declared.faults.ExprFault.{ExprFault}
+use Rattle.mx_expr.specs.declared.faults.ExprFault.TheVariants.{OutOfMemory}
 use Rattle.mx_expr.specs.declared.tree.UnOp.{UnOp}
 use Rattle.mx_expr.specs.declared.tree.BinOp.{BinOp}
 use Rattle.mx_expr.specs.declared.tree.Expr.{Expr}
@@ -26,6 +29,10 @@ tree_of (Binary' op p l q r) = binary op (tree_of l) (tree_of r)
 
 abbrev pub trees_of : List Expr → List Tree
 trees_of es = map tree_of es
+
+-- unless there was no memory, the list that was read, or its fault, is this
+abbrev pub ReadsAs : Result (List Expr) ExprFault → Result (List Tree) ExprFault → Type 0
+ReadsAs result answer = result ≢ Err OutOfMemory → map_ok trees_of result ≡ answer
 
 -- The digit of each local label is one of 0 to 9.
 abbrev pub HasDigits : Tree → Type 0

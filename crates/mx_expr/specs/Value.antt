@@ -23,6 +23,10 @@ pub record Knowledge : Type 0 where
 abbrev pub knowledge : (List ℕ → Result (Option Value) ExprFault) → (ℕ → Value) → ℕ → Knowledge
 knowledge symbols backs at = record { symbols = symbols; backs = backs; at = at }
 
+-- what one knows who tells these
+abbrev pub known_by : {E : Type 0} → (E → List ℕ → Result (Option Value) ExprFault) → (E → ℕ → Value) → (E → ℕ) → E → Knowledge
+known_by symbols backs at who = knowledge (symbols who) (backs who) (at who)
+
 -- A register has a number of 0 to 255.
 abbrev pub register : ℕ → Valued
 register n = if nat_le n 255 then Ok (Reg n) else Err RegisterNumber

@@ -2,9 +2,8 @@
 
 ghost use Rattle.std.specs.Prelude.{◌≡◌, ◌≢◌, List, [], Ok, Err, IfOk, IfErr};
 ghost use Rattle.std.specs.List.{All};
-ghost use Rattle.mx_word.specs.Results.{map_ok};
 ghost use Rattle.mx_expr.specs.declared.faults.ExprFault.{ExprFault};
-ghost use Rattle.mx_expr.specs.Tree.{Tree, tree_of, trees_of, HasDigits};
+ghost use Rattle.mx_expr.specs.Tree.{ReadsAs, Tree, tree_of, trees_of, HasDigits};
 ghost use Rattle.mx_expr.specs.Reading.{reading};
 ghost use Rattle.mx_expr.specs.Spelling.{IsList, Spells, Faultless, IsFirst};
 
@@ -21,11 +20,9 @@ use std::alloc::Global;
 /// the parenthesis and the string. At one place `Syntax` comes first.
 pub fn parse_list(alloc: Global, field: &[u8]) -> Result<Exprs, ExprFault>
     ensures list { IfOk result (λ es. IsList field.now (trees_of es)) }
-    ensures spelled { (list : List Tree) → Spells field.now list → Faultless field.now →
-        result ≢ Err ExprFault.OutOfMemory → map_ok trees_of result ≡ Ok list }
+    ensures spelled { (list : List Tree) → Spells field.now list → Faultless field.now → ReadsAs result (Ok list) }
     ensures fault { IfErr result (λ f. f ≢ ExprFault.OutOfMemory → IsFirst field.now f) }
-    ensures first { (f : ExprFault) → IsFirst field.now f → result ≢ Err ExprFault.OutOfMemory →
-        map_ok trees_of result ≡ Err f }
+    ensures first { (f : ExprFault) → IsFirst field.now f → ReadsAs result (Err f) }
     ensures digits { IfOk result (λ es. All (λ e. HasDigits (tree_of e)) es) }
 {
     read(alloc, field)
@@ -34,7 +31,7 @@ pub fn parse_list(alloc: Global, field: &[u8]) -> Result<Exprs, ExprFault>
 /// The list of a field, or its first fault.
 #[tactic(auto, using(crate::proofs::StepLaws::bytes))]
 fn read(alloc: Global, field: &[u8]) -> Result<Exprs, ExprFault>
-    ensures { result ≢ Err ExprFault.OutOfMemory → map_ok trees_of result ≡ reading field.now }
+    ensures { ReadsAs result (reading field.now) }
 {
     if field.is_empty() {
         return zero(alloc);
@@ -52,7 +49,7 @@ fn read(alloc: Global, field: &[u8]) -> Result<Exprs, ExprFault>
 
 /// The list of an empty field.
 fn zero(alloc: Global) -> Result<Exprs, ExprFault>
-    ensures { result ≢ Err ExprFault.OutOfMemory → map_ok trees_of result ≡ reading [] }
+    ensures { ReadsAs result (reading []) }
 {
     let mut list = Exprs::new(alloc);
     list.push(Expr::Number(0))?;

@@ -2,11 +2,10 @@
 
 ghost use Rattle.std.specs.Prelude.{◌≡◌, ◌≢◌, ◌+◌, ◌*◌, ◌-◌, ◌^◌, ◌<◌, ◌≤◌, List, [], ◌∷◌, ◌++◌, None, Some, Ok, Err};
 ghost use Rattle.std.specs.Prelude.{IfOk, IfErr, OnOk, OnErr, IsTrue};
-ghost use Rattle.mx_word.specs.Results.{map_ok};
-ghost use Rattle.mx_expr.specs.Tree.{tree_of, trees_of};
+ghost use Rattle.mx_expr.specs.Tree.{ReadsAs, tree_of, trees_of};
 ghost use Rattle.mx_expr.specs.Bytes as kinds;
 ghost use Rattle.mx_expr.specs.Reading as spec;
-ghost use Rattle.mx_expr.specs.Machine.{all_waiting, mode_of, waiting_of, reading_of, listing_of};
+ghost use Rattle.mx_expr.specs.Machine.{GoesOn, TakesByte, all_waiting, mode_of, waiting_of, reading_of, listing_of};
 
 use crate::joining::{settle, sum};
 use crate::kinds::digit_value;
@@ -73,16 +72,14 @@ impl Reader {
 
     /// A primary is complete.
     fn complete(&mut self, primary: Expr) -> Result<Mode, ExprFault>
-        ensures { result ≢ Err ExprFault.OutOfMemory → reading_of result self.new ≡
-            spec.primary_end (tree_of primary) (all_waiting self.old.waiting) self.old.depth (trees_of self.old.done) }
+        ensures { GoesOn result self.old self.new (spec.primary_end (tree_of primary)) }
     {
         Ok(Mode::Whole(settle(self.alloc, &mut self.waiting, primary)?))
     }
 
     /// One more thing waits for the next primary.
     fn wait(&mut self, item: Waiting) -> Result<Mode, ExprFault>
-        ensures { result ≢ Err ExprFault.OutOfMemory → reading_of result self.new ≡ spec.at spec.operand
-            (waiting_of item ∷ all_waiting self.old.waiting) self.old.depth (trees_of self.old.done) }
+        ensures { GoesOn result self.old self.new (λ k. spec.at spec.operand (waiting_of item ∷ k)) }
     {
         self.waiting.push(item)?;
         Ok(Mode::Operand)
@@ -91,8 +88,7 @@ impl Reader {
     /// The first byte of a primary.
     fn begin(&mut self, b: u8) -> Result<Mode, ExprFault>
         requires { b ≡ 40 → self.old.depth < 255 }
-        ensures { result ≢ Err ExprFault.OutOfMemory → reading_of result self.new ≡
-            spec.primary_start b (all_waiting self.old.waiting) self.old.depth (trees_of self.old.done) }
+        ensures { GoesOn result self.old self.new (spec.primary_start b) }
     {
         if is_digit(b) {
             Ok(Mode::Digit(b - b'0'))
@@ -106,8 +102,7 @@ impl Reader {
     /// The first byte of a primary that is no digit and no letter.
     fn begin_mark(&mut self, b: u8) -> Result<Mode, ExprFault>
         requires { b ≡ 40 → self.old.depth < 255 }
-        ensures { result ≢ Err ExprFault.OutOfMemory → reading_of result self.new ≡
-            spec.mark_start b (all_waiting self.old.waiting) self.old.depth (trees_of self.old.done) }
+        ensures { GoesOn result self.old self.new (spec.mark_start b) }
     {
         match b {
             b'#' => Ok(Mode::Hash),
@@ -128,8 +123,7 @@ impl Reader {
 
     /// The start of a string, which is a whole operand: nothing waits for it.
     fn open_string(&self) -> Result<Mode, ExprFault>
-        ensures { result ≢ Err ExprFault.OutOfMemory → reading_of result self.now ≡
-            spec.string_start (all_waiting self.now.waiting) self.now.depth (trees_of self.now.done) }
+        ensures { GoesOn result self.now self.now spec.string_start }
     {
         match self.waiting.top() {
             None => Ok(Mode::String(true)),
@@ -139,8 +133,7 @@ impl Reader {
 
     /// One more byte of a symbol.
     fn lengthen(&mut self, text: Bytes, b: u8) -> Result<Mode, ExprFault>
-        ensures { result ≢ Err ExprFault.OutOfMemory → reading_of result self.new ≡ spec.at
-            (spec.symbol (text ++ b ∷ [])) (all_waiting self.old.waiting) self.old.depth (trees_of self.old.done) }
+        ensures { GoesOn result self.old self.new (spec.at (spec.symbol (text ++ b ∷ []))) }
     {
         let mut text = text;
         text.push(b)?;
@@ -149,8 +142,7 @@ impl Reader {
 
     /// A byte after a primary that it does not go on.
     fn beyond(&mut self, primary: Expr, b: u8) -> Result<Mode, ExprFault>
-        ensures { result ≢ Err ExprFault.OutOfMemory → reading_of result self.new ≡
-            spec.beyond b (tree_of primary) (all_waiting self.old.waiting) self.old.depth (trees_of self.old.done) }
+        ensures { GoesOn result self.old self.new (spec.beyond b (tree_of primary)) }
     {
         let product = settle(self.alloc, &mut self.waiting, primary)?;
         self.after(product, b)
@@ -158,8 +150,7 @@ impl Reader {
 
     /// A byte after a product.
     fn after(&mut self, product: Expr, b: u8) -> Result<Mode, ExprFault>
-        ensures { result ≢ Err ExprFault.OutOfMemory → reading_of result self.new ≡
-            spec.after b (tree_of product, all_waiting self.old.waiting) self.old.depth (trees_of self.old.done) }
+        ensures { GoesOn result self.old self.new (λ k. spec.after b (tree_of product, k)) }
     {
         match b {
             b'*' => self.wait(Waiting::Strong(BinOp::Mul, product)),
@@ -174,9 +165,8 @@ impl Reader {
 
     /// A byte after the last product of a sum.
     fn after_sum(&mut self, product: Expr, b: u8) -> Result<Mode, ExprFault>
-        ensures { result ≢ Err ExprFault.OutOfMemory → reading_of result self.new ≡
-            spec.weakly_or_end (spec.weak_of b) b (spec.with_weak (all_waiting self.old.waiting) (tree_of product))
-            self.old.depth (trees_of self.old.done) }
+        ensures { GoesOn result self.old self.new
+            (λ k. spec.weakly_or_end (spec.weak_of b) b (spec.with_weak k (tree_of product))) }
     {
         let e = sum(self.alloc, &mut self.waiting, product)?;
         match b {
@@ -195,8 +185,7 @@ impl Reader {
 
     /// The end of an expression in parentheses.
     fn close(&mut self, e: Expr) -> Result<Mode, ExprFault>
-        ensures { result ≢ Err ExprFault.OutOfMemory → reading_of result self.new ≡
-            spec.enclosed (tree_of e, all_waiting self.old.waiting) self.old.depth (trees_of self.old.done) }
+        ensures { GoesOn result self.old self.new (λ k. spec.enclosed (tree_of e, k)) }
     {
         if !self.waiting.pop_parenthesis() {
             return Err(ExprFault::Syntax);
@@ -221,8 +210,7 @@ impl Reader {
     /// One more byte, where it passes no bound.
     fn take(&mut self, mode: Mode, b: u8) -> Result<Mode, ExprFault>
         requires { spec.passed_bound (mode_of mode) self.old.depth b ≡ None }
-        ensures { result ≢ Err ExprFault.OutOfMemory → reading_of result self.new ≡
-            spec.next_reading (mode_of mode) (all_waiting self.old.waiting) self.old.depth (trees_of self.old.done) b }
+        ensures { TakesByte result self.old self.new (mode_of mode) b }
     {
         match mode {
             Mode::Operand => self.begin(b),
@@ -245,8 +233,7 @@ impl Reader {
     /// A byte in a decimal constant, or after it.
     fn take_decimal(&mut self, n: u64, b: u8) -> Result<Mode, ExprFault>
         requires { spec.passed_bound (spec.decimal n) self.old.depth b ≡ None }
-        ensures { result ≢ Err ExprFault.OutOfMemory → reading_of result self.new ≡ spec.next_reading (spec.decimal n)
-            (all_waiting self.old.waiting) self.old.depth (trees_of self.old.done) b }
+        ensures { TakesByte result self.old self.new (spec.decimal n) b }
     {
         if is_digit(b) {
             Ok(Mode::Decimal(n * 10 + u64::from(b - b'0')))
@@ -257,8 +244,7 @@ impl Reader {
 
     /// The first hexadecimal digit.
     fn take_hash(&mut self, b: u8) -> Result<Mode, ExprFault>
-        ensures { result ≢ Err ExprFault.OutOfMemory → reading_of result self.new ≡
-            spec.next_reading spec.hash (all_waiting self.old.waiting) self.old.depth (trees_of self.old.done) b }
+        ensures { TakesByte result self.old self.new spec.hash b }
     {
         if is_hexadecimal(b) {
             Ok(Mode::Hexadecimal(u64::from(digit_value(b))))
@@ -270,8 +256,7 @@ impl Reader {
     /// A byte in a hexadecimal constant, or after it.
     fn take_hexadecimal(&mut self, n: u64, b: u8) -> Result<Mode, ExprFault>
         requires { spec.passed_bound (spec.hexadecimal n) self.old.depth b ≡ None }
-        ensures { result ≢ Err ExprFault.OutOfMemory → reading_of result self.new ≡ spec.next_reading
-            (spec.hexadecimal n) (all_waiting self.old.waiting) self.old.depth (trees_of self.old.done) b }
+        ensures { TakesByte result self.old self.new (spec.hexadecimal n) b }
     {
         if is_hexadecimal(b) {
             Ok(Mode::Hexadecimal(n * 16 + u64::from(digit_value(b))))
@@ -282,8 +267,7 @@ impl Reader {
 
     /// The end of a character constant.
     fn take_character(&mut self, c: u8, b: u8) -> Result<Mode, ExprFault>
-        ensures { result ≢ Err ExprFault.OutOfMemory → reading_of result self.new ≡ spec.next_reading (spec.character c)
-            (all_waiting self.old.waiting) self.old.depth (trees_of self.old.done) b }
+        ensures { TakesByte result self.old self.new (spec.character c) b }
     {
         if b == b'\'' {
             self.complete(Expr::Number(u64::from(c)))
@@ -294,8 +278,7 @@ impl Reader {
 
     /// A byte in a symbol, or after it.
     fn take_symbol(&mut self, text: Bytes, b: u8) -> Result<Mode, ExprFault>
-        ensures { result ≢ Err ExprFault.OutOfMemory → reading_of result self.new ≡ spec.next_reading (spec.symbol text)
-            (all_waiting self.old.waiting) self.old.depth (trees_of self.old.done) b }
+        ensures { TakesByte result self.old self.new (spec.symbol text) b }
     {
         if is_name_byte(b) {
             self.lengthen(text, b)
@@ -306,8 +289,7 @@ impl Reader {
 
     /// The second byte of `<<`.
     fn take_less(&mut self, left: Expr, b: u8) -> Result<Mode, ExprFault>
-        ensures { result ≢ Err ExprFault.OutOfMemory → reading_of result self.new ≡ spec.next_reading
-            (spec.less (tree_of left)) (all_waiting self.old.waiting) self.old.depth (trees_of self.old.done) b }
+        ensures { TakesByte result self.old self.new (spec.less (tree_of left)) b }
     {
         if b == b'<' {
             self.wait(Waiting::Strong(BinOp::Left, left))
@@ -318,8 +300,7 @@ impl Reader {
 
     /// The second byte of `>>`.
     fn take_greater(&mut self, left: Expr, b: u8) -> Result<Mode, ExprFault>
-        ensures { result ≢ Err ExprFault.OutOfMemory → reading_of result self.new ≡ spec.next_reading
-            (spec.greater (tree_of left)) (all_waiting self.old.waiting) self.old.depth (trees_of self.old.done) b }
+        ensures { TakesByte result self.old self.new (spec.greater (tree_of left)) b }
     {
         if b == b'>' {
             self.wait(Waiting::Strong(BinOp::Right, left))
@@ -330,8 +311,7 @@ impl Reader {
 
     /// The comma after a string.
     fn take_comma(&mut self, b: u8) -> Result<Mode, ExprFault>
-        ensures { result ≢ Err ExprFault.OutOfMemory → reading_of result self.new ≡
-            spec.next_reading spec.closed (all_waiting self.old.waiting) self.old.depth (trees_of self.old.done) b }
+        ensures { TakesByte result self.old self.new spec.closed b }
     {
         if b == b',' {
             Ok(Mode::Operand)
@@ -342,8 +322,7 @@ impl Reader {
 
     /// A byte after the first digit: one more digit, or the letter of a local label.
     fn take_digit(&mut self, n: u8, b: u8) -> Result<Mode, ExprFault>
-        ensures { result ≢ Err ExprFault.OutOfMemory → reading_of result self.new ≡
-            spec.next_reading (spec.digit n) (all_waiting self.old.waiting) self.old.depth (trees_of self.old.done) b }
+        ensures { TakesByte result self.old self.new (spec.digit n) b }
     {
         if is_digit(b) {
             Ok(Mode::Decimal(u64::from(n) * 10 + u64::from(b - b'0')))
@@ -359,8 +338,7 @@ impl Reader {
     /// A byte after `/`: one more, or the first of a primary.
     fn take_slash(&mut self, left: Expr, b: u8) -> Result<Mode, ExprFault>
         requires { b ≡ 40 → self.old.depth < 255 }
-        ensures { result ≢ Err ExprFault.OutOfMemory → reading_of result self.new ≡ spec.next_reading
-            (spec.slash (tree_of left)) (all_waiting self.old.waiting) self.old.depth (trees_of self.old.done) b }
+        ensures { TakesByte result self.old self.new (spec.slash (tree_of left)) b }
     {
         if b == b'/' {
             return self.wait(Waiting::Strong(BinOp::Fraction, left));
@@ -371,8 +349,7 @@ impl Reader {
 
     /// A byte in a string.
     fn take_string(&mut self, b: u8) -> Result<Mode, ExprFault>
-        ensures { result ≢ Err ExprFault.OutOfMemory → reading_of result self.new ≡
-            spec.in_string b (all_waiting self.old.waiting) self.old.depth (trees_of self.old.done) }
+        ensures { GoesOn result self.old self.new (spec.in_string b) }
     {
         if b == b'"' {
             return Ok(Mode::Closed);
@@ -400,8 +377,7 @@ impl Reader {
 
     /// One more byte.
     pub(crate) fn step(&mut self, mode: Mode, b: u8) -> Result<Mode, ExprFault>
-        ensures { result ≢ Err ExprFault.OutOfMemory → reading_of result self.new ≡
-            spec.bounded_step (mode_of mode) (all_waiting self.old.waiting) self.old.depth (trees_of self.old.done) b }
+        ensures { GoesOn result self.old self.new (λ k depth done. spec.bounded_step (mode_of mode) k depth done b) }
     {
         match self.bound(&mode, b) {
             Some(fault) => Err(fault),
@@ -411,8 +387,7 @@ impl Reader {
 
     /// The list, at the end of the field.
     pub(crate) fn finish(self, mode: Mode) -> Result<Exprs, ExprFault>
-        ensures { result ≢ Err ExprFault.OutOfMemory →
-            map_ok trees_of result ≡ spec.field_end (mode_of mode) (all_waiting self.waiting) (trees_of self.done) }
+        ensures { ReadsAs result (spec.field_end (mode_of mode) (all_waiting self.waiting) (trees_of self.done)) }
     {
         match mode {
             Mode::Whole(e) => self.end(e),
@@ -426,8 +401,8 @@ impl Reader {
 
     /// The list, where the field ends with a primary.
     fn end_primary(mut self, primary: Expr) -> Result<Exprs, ExprFault>
-        ensures { result ≢ Err ExprFault.OutOfMemory → map_ok trees_of result ≡ (let p = spec.with_strong
-            (all_waiting self.waiting) (tree_of primary) in spec.listed (spec.with_weak p.1 p.0) (trees_of self.done)) }
+        ensures { ReadsAs result (let p = spec.with_strong (all_waiting self.waiting) (tree_of primary) in
+            spec.listed (spec.with_weak p.1 p.0) (trees_of self.done)) }
     {
         let product = settle(self.alloc, &mut self.waiting, primary)?;
         self.end(product)
@@ -435,8 +410,8 @@ impl Reader {
 
     /// The list, where the field ends with a product.
     fn end(mut self, product: Expr) -> Result<Exprs, ExprFault>
-        ensures { result ≢ Err ExprFault.OutOfMemory → map_ok trees_of result ≡
-            spec.listed (spec.with_weak (all_waiting self.waiting) (tree_of product)) (trees_of self.done) }
+        ensures { ReadsAs result
+            (spec.listed (spec.with_weak (all_waiting self.waiting) (tree_of product)) (trees_of self.done)) }
     {
         let e = sum(self.alloc, &mut self.waiting, product)?;
         self.list(e)?;

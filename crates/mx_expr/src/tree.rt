@@ -8,7 +8,7 @@ use std::alloc::Global;
 use std::mem;
 
 /// An operator before an operand.
-#[derive(Clone, Copy, Debug, PartialEq, Eq)]
+#[derive(Clone, Copy)]
 pub enum UnOp {
     /// `+`
     Plus,
@@ -21,7 +21,7 @@ pub enum UnOp {
 }
 
 /// An operator between two operands. `Mul` to `And` are strong, the others weak.
-#[derive(Clone, Copy, Debug, PartialEq, Eq)]
+#[derive(Clone, Copy)]
 pub enum BinOp {
     /// `*`
     Mul,

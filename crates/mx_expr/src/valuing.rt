@@ -3,8 +3,8 @@
 ghost use Rattle.std.specs.Prelude.{◌≡◌, ◌≢◌, ◌+◌, ◌<◌, ◌≤◌, [], ◌∷◌, ◌++◌, Result, Ok, Err, IfOk, IfErr, OnOk};
 ghost use Rattle.std.specs.Prelude.{MatchResult};
 ghost use Rattle.mx_expr.specs.Tree.{tree_of, HasDigits};
-ghost use Rattle.mx_expr.specs.Value.{Knowledge, value_of, knowledge, of_symbol};
-ghost use Rattle.mx_expr.specs.Frames.{value_after, nodes, nodes_left, AllHaveDigits, Goes, LeftBy, NextHasDigits};
+ghost use Rattle.mx_expr.specs.Value.{Knowledge, value_of, known_by, of_symbol};
+ghost use Rattle.mx_expr.specs.Frames.{GoesDown, value_after, nodes, nodes_left, AllHaveDigits, Goes, LeftBy, NextHasDigits};
 
 use crate::operators::{apply, combine};
 use crate::{BinOp, Expr, ExprFault, Known, UnOp};
@@ -36,7 +36,7 @@ enum Next<'a> {
 pub fn value<E: Known>(alloc: Global, e: &Expr, env: &E) -> Result<Value, ExprFault>
     requires { HasDigits (tree_of e.now) }
     ensures { result ≢ Err ExprFault.OutOfMemory →
-        result ≡ value_of (knowledge (E.symbols env.now) (E.backs env.now) (E.at env.now)) (tree_of e.now) }
+        result ≡ value_of (known_by E.symbols E.backs E.at env.now) (tree_of e.now) }
 {
     let mut frames = Vec::new(alloc);
     let mut at = e;
@@ -54,9 +54,8 @@ pub fn value<E: Known>(alloc: Global, e: &Expr, env: &E) -> Result<Value, ExprFa
 fn down<'a, E: Known>(frames: &mut Vec<Frame<'a>>, e: &'a Expr, env: &E) -> Result<Value, ExprFault>
     requires digits { HasDigits (tree_of e.now) }
     requires all_digits { AllHaveDigits frames.old.items }
-    ensures value { let known = knowledge (E.symbols env.now) (E.backs env.now) (E.at env.now) in
-        result ≢ Err ExprFault.OutOfMemory → value_after known frames.new.items result ≡
-        value_after known frames.old.items (value_of known (tree_of e.now)) }
+    ensures value { GoesDown (known_by E.symbols E.backs E.at env.now) frames.old.items frames.new.items
+        (tree_of e.now) result }
     ensures digits { AllHaveDigits frames.new.items }
     ensures less { nodes_left frames.new.items < nodes_left frames.old.items + nodes (tree_of e.now) }
 {

@@ -3,7 +3,7 @@
 use Rattle.std.specs.Prelude.{ℕ, IsTrue, ◌≡◌, Bool, true, false, not, Option, Result, Ok, Err, IfErr, ◌&&◌, ◌<◌, length}
 use Rattle.mx_host.specs.HostModel.{HostModel, tells, contents, Rose, slot_at, is_read_only, is_write_only, to_output}
 use Rattle.mx_host.specs.HostAnswer.{Then}
-use Rattle.mx_host.specs.Keeping.{ComesByFault}
+use Rattle.mx_host.specs.Keeping.{Answers, ComesByFault, WritesFront}
 use Rattle.mx_host.specs.declared.slots.Lead.{Lead}
 use Rattle.mx_host.specs.declared.slots.Lead.TheVariants.{Input, Output, Errors, File}
 use Rattle.mx_host.specs.declared.slots.Slot.{Slot}
@@ -11,7 +11,7 @@ use Rattle.mx_host.specs.declared.slots.Slot.TheVariants.{Closed, Open}
 use Rattle.mx_plan.specs.Calls.{HostCall, closing, reading, writing, host, HostPlan}
 use Rattle.mx_plan.specs.Clauses.{CarriesOut, Stands}
 use Rattle.mx_plan.specs.Held.{Makes}
-use Rattle.mx_plan.specs.Plan.{IsRest}
+use Rattle.mx_plan.specs.Plan.{IsRest, end_of}
 use Rattle.mx_files.specs.FilePlans.{Part}
 use Rattle.mx_outcome.specs.declared.outcome.Outcome.{Outcome}
 use Rattle.mx_outcome.specs.declared.outcome.Outcome.TheVariants.{NoFile, HostFault, Refused, BadObject, BadSchedule, OutOfMemory}
@@ -56,6 +56,11 @@ abbrev pub ComesByFailing : {A B : Type 0} → Option HostModel → A → A → 
 ComesByFailing old answer result earlier later plan =
     (IsTrue (tells old) → Makes host Serves plan (contents old)) → result ≡ answer → Rose earlier later
 
+-- the same of the outcome of a whole: `told` is what a host tells, `faults` its count of faults, `old` and `new` are the host before
+-- and after
+abbrev pub FailsByPlan : {H B : Type 0} → (H → Option HostModel) → (H → ℕ) → H → H → Outcome → HostPlan B → Type 0
+FailsByPlan told faults old new result plan = ComesByFailing (told old) HostFault result (faults old) (faults new) plan
+
 -- the slots of the tool's files are there, and that of its standard output leads to it
 abbrev pub HasToolSlots : HostModel → Type 0
 HasToolSlots m = (257 < length m.slots) × (slot_at m 259 ≡ to_output)
@@ -84,6 +89,18 @@ pub record WorksBetween {A : Type 0} (old new : Option HostModel) (earlier later
 -- the same of a host: `told` is what it tells, `faults` its count of faults, `old` and `new` are the host before and after
 abbrev pub Works : {H A : Type 0} → (H → Option HostModel) → (H → ℕ) → H → H → Result A Outcome → Part A → Type 0
 Works told faults old new result part = WorksBetween (told old) (told new) (faults old) (faults new) result part
+
+-- a part is carried out over a host
+abbrev pub CarriesOutPart : {H A : Type 0} → (H → Option HostModel) → H → H → Result A Outcome → Part A → Type 0
+CarriesOutPart told old new result part = CarriesOut (told old) (told new) (Err OutOfMemory) result part
+
+-- over a host that tells its contents, the outcome and what the host then holds are the end of a plan, unless there was no memory;
+-- where there was none, what standard output has is a front of what the plan writes
+abbrev pub AnswersPlan : {H : Type 0} → (H → Option HostModel) → H → H → Outcome → HostPlan Outcome → Type 0
+AnswersPlan told old new result plan = Answers (told old) (told new) OutOfMemory result (λ m. end_of host plan m)
+
+abbrev pub WritesFrontOfPlan : {H : Type 0} → (H → Option HostModel) → H → H → Outcome → HostPlan Outcome → Type 0
+WritesFrontOfPlan told old new result plan = WritesFront (told old) (told new) OutOfMemory result (λ m. end_of host plan m)
 
 -- of a whole, this is what is left to do
 pub record Leaves {A : Type 0} (old new : Option HostModel) (earlier later : ℕ) (rest whole : Part A) : Type 0 where

@@ -5,14 +5,11 @@ ghost use Rattle.mx_asm.specs.Faults.{no_memory};
 ghost use Rattle.mx_asm.specs.Fitting.{AreFit, IsPadded};
 ghost use Rattle.mx_asm.specs.OnePass.{beginning};
 ghost use Rattle.mx_asm.specs.Whole.{assembled_lines, line_after};
-ghost use Rattle.mx_host.specs.Keeping.{Answers, WritesFront};
 ghost use Rattle.mx_line.specs.Lines.{lines_of};
 ghost use Rattle.mx_mmo.specs.Spelling.{written};
-ghost use Rattle.mx_plan.specs.Calls as calls;
 ghost use Rattle.mx_plan.specs.Clauses.{CarriesOut};
-ghost use Rattle.mx_plan.specs.Plan.{end_of};
 ghost use Rattle.mx_files.specs.Failing.{FailsOnlyBy};
-ghost use Rattle.mx_files.specs.Clauses.{ComesByFailing, Works};
+ghost use Rattle.mx_files.specs.Clauses.{AnswersPlan, FailsByPlan, Works, WritesFrontOfPlan};
 ghost use Rattle.mx_files.specs.ObjectPlans as plans;
 ghost use Rattle.mx_files.specs.Objects as objects;
 
@@ -96,10 +93,8 @@ fn assemble_into(
     ensures fits { AreFit items.old → AreFit items.new }
     ensures trie { IfOk result (λ r. IfOk r IsPadded) }
 {
-    match Assembler::new(alloc) {
-        Ok(mut assembler) => assemble_by(&mut assembler, items, text),
-        Err(_) => Err(NoMemory),
-    }
+    let mut assembler = Assembler::new(alloc)?;
+    assemble_by(&mut assembler, items, text)
 }
 
 /// The items that a source is assembled into, and its trie or refusal.
@@ -109,10 +104,8 @@ fn assembled(alloc: Global, text: &[u8]) -> Result<(Items, Result<Bytes, Refused
     ensures trie { IfOk result (λ r. IfOk r.1 IsPadded) }
 {
     let mut items = Items::new(alloc);
-    match assemble_into(alloc, &mut items, text) {
-        Ok(answer) => Ok((items, answer)),
-        Err(e) => Err(e),
-    }
+    let answer = assemble_into(alloc, &mut items, text)?;
+    Ok((items, answer))
 }
 
 /// A writer that these items were put into.
@@ -136,13 +129,9 @@ fn item_writer(alloc: Global, items: &[Item]) -> Result<Writer, NoMemory>
 fn source_object(alloc: Global, text: &[u8]) -> Result<(Bytes, Result<(), Refusal>), NoMemory>
     ensures { IfOk result (λ r. r ≡ objects.source_object text.now) }
 {
-    match assembled(alloc, text) {
-        Ok((items, answer)) => match item_writer(alloc, items.as_slice()) {
-            Ok(writer) => object_of(writer, answer),
-            Err(e) => Err(e),
-        },
-        Err(e) => Err(e),
-    }
+    let (items, answer) = assembled(alloc, text)?;
+    let writer = item_writer(alloc, items.as_slice())?;
+    object_of(writer, answer)
 }
 
 /// What was written with the end of an object after it, or with the refusal.
@@ -176,10 +165,8 @@ fn answer_of_source(answer: Result<(), Refusal>) -> Result<(), Outcome>
 fn close_object<H: Host>(host: &mut H, answer: Result<(), Refusal>) -> Result<(), Outcome>
     ensures { Works H.told H.faults host.old host.new result (plans.close_object answer) }
 {
-    match close_file(host, OBJECT_SLOT) {
-        Ok(()) => answer_of_source(answer),
-        Err(outcome) => Err(outcome),
-    }
+    close_file(host, OBJECT_SLOT)?;
+    answer_of_source(answer)
 }
 
 /// Writes the bytes of an object, and closes its file.
@@ -190,10 +177,8 @@ fn put_object<H: Host>(
 ) -> Result<(), Outcome>
     ensures { Works H.told H.faults host.old host.new result (plans.put_object (bytes.now, answer)) }
 {
-    match put_text(host, OBJECT_SLOT, bytes) {
-        Ok(()) => close_object(host, answer),
-        Err(outcome) => Err(outcome),
-    }
+    put_text(host, OBJECT_SLOT, bytes)?;
+    close_object(host, answer)
 }
 
 /// Assembles a source into the object file, which is open. The file of a source that is refused has the
@@ -201,10 +186,8 @@ fn put_object<H: Host>(
 fn put_source<H: Host>(alloc: Global, host: &mut H, text: &[u8]) -> Result<(), Outcome>
     ensures { Works H.told H.faults host.old host.new result (plans.put_source text.now) }
 {
-    match source_object(alloc, text) {
-        Ok((bytes, answer)) => put_object(host, bytes.as_slice(), answer),
-        Err(_) => Err(Outcome::OutOfMemory),
-    }
+    let (bytes, answer) = source_object(alloc, text)?;
+    put_object(host, bytes.as_slice(), answer)
 }
 
 /// Opens the file of this name as the object file.
@@ -224,10 +207,8 @@ fn open_object<H: Host>(host: &mut H, name: &[u8]) -> Result<(), Outcome>
 fn put_into<H: Host>(alloc: Global, host: &mut H, object: &[u8], text: &[u8]) -> Result<(), Outcome>
     ensures { Works H.told H.faults host.old host.new result (plans.put_into object.now text.now) }
 {
-    match open_object(host, object) {
-        Ok(()) => put_source(alloc, host, text),
-        Err(outcome) => Err(outcome),
-    }
+    open_object(host, object)?;
+    put_source(alloc, host, text)
 }
 
 /// Reads a source, and assembles it.
@@ -239,10 +220,8 @@ fn assemble<H: Host>(
 ) -> Result<(), Outcome>
     ensures { Works H.told H.faults host.old host.new result (plans.assemble_part source.now object.now) }
 {
-    match read_file(alloc, host, source, SOURCE_PIECES) {
-        Ok(text) => put_into(alloc, host, object, text.as_slice()),
-        Err(outcome) => Err(outcome),
-    }
+    let text = read_file(alloc, host, source, SOURCE_PIECES)?;
+    put_into(alloc, host, object, text.as_slice())
 }
 
 /// Assembles the source in a file into the object file of this name. Where there is no memory, the calls made by then
@@ -250,12 +229,11 @@ fn assemble<H: Host>(
 pub fn assemble_file<H: Host>(alloc: Global, host: &mut H, source: &[u8], object: &[u8]) -> Outcome
     ensures plan { CarriesOut (H.told host.old) (H.told host.new) Outcome.OutOfMemory result
         (plans.assemble_plan source.now object.now) }
-    ensures cause { ComesByFailing (H.told host.old) Outcome.HostFault result (H.faults host.old) (H.faults host.new)
+    ensures cause { FailsByPlan H.told H.faults host.old host.new result
         (plans.assemble_part source.now object.now) }
-    ensures told { Answers (H.told host.old) (H.told host.new) Outcome.OutOfMemory result
-        (λ m. end_of calls.host (plans.assemble_plan source.now object.now) m) }
-    ensures written { WritesFront (H.told host.old) (H.told host.new) Outcome.OutOfMemory result
-        (λ m. end_of calls.host (plans.assemble_plan source.now object.now) m) }
+    ensures told { AnswersPlan H.told host.old host.new result (plans.assemble_plan source.now object.now) }
+    ensures written { WritesFrontOfPlan H.told host.old host.new result
+        (plans.assemble_plan source.now object.now) }
     ensures causes { FailsOnlyBy H.told H.faults host.old host.new result }
 {
     whole_outcome(assemble(alloc, host, source, object))

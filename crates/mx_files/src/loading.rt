@@ -30,10 +30,7 @@ fn load_items(loader: &mut Loader, items: &[Item]) -> Result<(), LoadFault>
 {
     let mut rest = items;
     while let [item, others @ ..] = rest {
-        match loader.take(item) {
-            Ok(()) => {}
-            Err(fault) => return Err(fault),
-        }
+        loader.take(item)?;
         rest = others;
     }
     Ok(())
@@ -62,10 +59,7 @@ fn take_line(
 {
     match assembler.line(text, items) {
         Ok(()) => Ok(Ok(())),
-        Err(refused) => match separate_no_memory(refused) {
-            Ok(refusal) => Ok(Err(refusal)),
-            Err(e) => Err(e),
-        },
+        Err(refused) => Ok(Err(separate_no_memory(refused)?)),
     }
 }
 
@@ -85,15 +79,13 @@ fn load_line(
         ≡ spec.line_loaded line (spec.standing assembler.old (loader_spec.standing loader.old)) text.now }
 {
     let mut items = Items::new(alloc);
-    match take_line(assembler, &mut items, text) {
-        Ok(answer) => match load_items(loader, items.as_slice()) {
-            Ok(()) => match answer {
-                Ok(()) => Ok(()),
-                Err(refusal) => Err(SourceFault::Refused(refusal)),
-            },
-            Err(fault) => Err(fault_of_line(line, fault)),
+    let answer = take_line(assembler, &mut items, text)?;
+    match load_items(loader, items.as_slice()) {
+        Ok(()) => match answer {
+            Ok(()) => Ok(()),
+            Err(refusal) => Err(SourceFault::Refused(refusal)),
         },
-        Err(_) => Err(SourceFault::OutOfMemory),
+        Err(fault) => Err(fault_of_line(line, fault)),
     }
 }
 
@@ -126,10 +118,7 @@ fn load_lines(
     let mut line = 1u32;
     while !rest.is_empty() {
         let (first, others) = cut_line(rest);
-        match load_line(alloc, assembler, loader, first, line) {
-            Ok(()) => {}
-            Err(fault) => return Err(fault),
-        }
+        load_line(alloc, assembler, loader, first, line)?;
         line = match line.checked_add(1) {
             Some(next) => next,
             None => return Err(SourceFault::OutOfMemory),
@@ -157,10 +146,7 @@ fn load_end(
             Ok(()) => Ok(()),
             Err(fault) => Err(fault_of_line(0, fault)),
         },
-        Err(refused) => match separate_no_memory(refused) {
-            Ok(refusal) => Err(SourceFault::Refused(refusal)),
-            Err(_) => Err(SourceFault::OutOfMemory),
-        },
+        Err(refused) => Err(SourceFault::Refused(separate_no_memory(refused)?)),
     }
 }
 
@@ -176,10 +162,8 @@ fn load_by(
     ensures { result ≢ Err SourceFault.OutOfMemory →
         spec.end_after result (loader_spec.standing loader.new) ≡ source_meaning text.now }
 {
-    match load_lines(alloc, assembler, loader, text) {
-        Ok(()) => load_end(alloc, assembler, loader),
-        Err(fault) => Err(fault),
-    }
+    load_lines(alloc, assembler, loader, text)?;
+    load_end(alloc, assembler, loader)
 }
 
 /// Loads the items that a source is assembled into.
@@ -188,10 +172,8 @@ fn load_into(alloc: Global, loader: &mut Loader, text: &[u8]) -> Result<(), Sour
     ensures { result ≢ Err SourceFault.OutOfMemory →
         spec.end_after result (loader_spec.standing loader.new) ≡ source_meaning text.now }
 {
-    match Assembler::new(alloc) {
-        Ok(mut assembler) => load_by(alloc, &mut assembler, loader, text),
-        Err(_) => Err(SourceFault::OutOfMemory),
-    }
+    let mut assembler = Assembler::new(alloc)?;
+    load_by(alloc, &mut assembler, loader, text)
 }
 
 /// The image of a source, or why there is none.
@@ -199,11 +181,9 @@ pub fn load_source(alloc: Global, text: &[u8]) -> Result<Image, SourceFault>
     ensures { result ≢ Err SourceFault.OutOfMemory → spec.image_from result ≡ source_meaning text.now }
 {
     let mut loader = Loader::new(alloc);
-    match load_into(alloc, &mut loader, text) {
-        Ok(()) => match loader.finish(Symbols::new(alloc)) {
-            Ok(image) => Ok(image),
-            Err(fault) => Err(fault_of_line(0, fault)),
-        },
-        Err(fault) => Err(fault),
+    load_into(alloc, &mut loader, text)?;
+    match loader.finish(Symbols::new(alloc)) {
+        Ok(image) => Ok(image),
+        Err(fault) => Err(fault_of_line(0, fault)),
     }
 }

@@ -31,10 +31,7 @@ pub fn put_text<H: Host>(host: &mut H, slot: u16, text: &[u8]) -> Result<(), Out
     let mut rest = text;
     while rest.len() > 4096 {
         let (piece, others) = rest.split_at(4096);
-        match put_piece(host, slot, piece) {
-            Ok(()) => {}
-            Err(outcome) => return Err(outcome),
-        }
+        put_piece(host, slot, piece)?;
         rest = others;
     }
     put_piece(host, slot, rest)

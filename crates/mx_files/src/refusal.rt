@@ -6,6 +6,7 @@ ghost use Rattle.mx_files.specs.Assembling.{refused_with};
 
 use mx_asm::{AsmFault, Refused};
 use mx_outcome::Outcome;
+use mx_word::NoMemory;
 
 /// The refusal of a source: the line from 1, the number of the fault, and the line of the reference that
 /// waited for the label of that line, or 0 where the fault is not about one.
@@ -34,6 +35,16 @@ impl Refusal {
 pub enum SourceFault {
     Refused(Refusal),
     OutOfMemory,
+}
+
+impl From<NoMemory> for SourceFault {
+    ghost use Rattle.mx_files.specs.declared.refusal.SourceFault.TheVariants.{OutOfMemory};
+
+    ghost from_gives = { λ _ fault. fault ≡ OutOfMemory };
+
+    fn from(_error: NoMemory) -> SourceFault {
+        SourceFault::OutOfMemory
+    }
 }
 
 /// The refusal of a line with the number of a fault.

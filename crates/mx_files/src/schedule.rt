@@ -99,8 +99,6 @@ pub fn read_schedule<H: Host>(alloc: Global, host: &mut H, name: &[u8]) -> Resul
     ensures output { KeepsOutput (H.told host.old) (H.told host.new) }
     ensures causes { PartFailsOnlyBy H.told H.faults host.old host.new result }
 {
-    match read_file(alloc, host, name, SOURCE_PIECES) {
-        Ok(bytes) => check_schedule(bytes),
-        Err(outcome) => Err(outcome),
-    }
+    let bytes = read_file(alloc, host, name, SOURCE_PIECES)?;
+    check_schedule(bytes)
 }

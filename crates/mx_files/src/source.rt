@@ -32,10 +32,10 @@ fn one_piece<H: Host>(host: &mut H, got: &mut Bytes, piece: &mut [u8]) -> Result
         (map_ok (λ whole. (got.new, whole)) result) (plans.read_piece got.old) }
 {
     match read(host, INPUT_SLOT, piece) {
-        Ok(count) => match got.extend(&piece[..count]) {
-            Ok(()) => Ok(count == 4096),
-            Err(_) => Err(Outcome::OutOfMemory),
-        },
+        Ok(count) => {
+            got.extend(&piece[..count])?;
+            Ok(count == 4096)
+        }
         Err(HostFault::OutOfMemory) => Err(Outcome::OutOfMemory),
         Err(HostFault::Failed) => Err(Outcome::HostFault),
         Err(HostFault::Misused) => Err(Outcome::HostFault),
@@ -62,13 +62,9 @@ fn pieces<H: Host>(alloc: Global, host: &mut H, most: u32) -> Result<Bytes, Outc
 fn read_open<H: Host>(alloc: Global, host: &mut H, most: u32) -> Result<Bytes, Outcome>
     ensures { Works H.told H.faults host.old host.new result (plans.read_open most) }
 {
-    match pieces(alloc, host, most) {
-        Ok(bytes) => match close_file(host, INPUT_SLOT) {
-            Ok(()) => Ok(bytes),
-            Err(outcome) => Err(outcome),
-        },
-        Err(outcome) => Err(outcome),
-    }
+    let bytes = pieces(alloc, host, most)?;
+    close_file(host, INPUT_SLOT)?;
+    Ok(bytes)
 }
 
 /// Opens the file of this name as the input file.
@@ -93,10 +89,8 @@ fn whole_file<H: Host>(
 ) -> Result<Bytes, Outcome>
     ensures { Works H.told H.faults host.old host.new result (plans.file_plan most name.now) }
 {
-    match open_input(host, name) {
-        Ok(()) => read_open(alloc, host, most),
-        Err(outcome) => Err(outcome),
-    }
+    open_input(host, name)?;
+    read_open(alloc, host, most)
 }
 
 /// Reads the file of this name, in at most this many pieces of 4,096 bytes. Where there is no memory, the calls made by

@@ -12,7 +12,7 @@ ghost use Rattle.mx_type.specs.Lines.{ended, stab_line, symbol_line};
 ghost use Rattle.mx_type.specs.Texts.{item_text};
 ghost use Rattle.mx_files.specs.Failing.{FailsOnlyBy};
 ghost use Rattle.mx_files.specs.Answers.{AnswersAs, AnswersAsList, WritesFrontOf, plainly};
-ghost use Rattle.mx_files.specs.Clauses.{ComesByFailing, Leaves, Works, is_end};
+ghost use Rattle.mx_files.specs.Clauses.{FailsByPlan, Leaves, Works, is_end};
 ghost use Rattle.mx_files.specs.FilePlans as lines;
 ghost use Rattle.mx_files.specs.ObjectPlans as plans;
 ghost use Rattle.mx_files.specs.Typed as spec;
@@ -85,10 +85,8 @@ fn put_item<H: Host>(
         (plans.item_plan (item_text lister.old item.now)) }
     ensures lambda { OnOk result (lister.new ≡ lambda_after lister.old item.now) }
 {
-    match lister.item_into(line, item) {
-        Ok(()) => put_shown(host, line.as_slice()),
-        Err(_) => Err(Outcome::OutOfMemory),
-    }
+    lister.item_into(line, item)?;
+    put_shown(host, line.as_slice())
 }
 
 /// Lists the item that is next, and says whether one did.
@@ -154,10 +152,8 @@ fn put_symbol<H: Host>(host: &mut H, lister: &Lister, symbol: &Symbol) -> Result
     ensures { Works H.told H.faults host.old host.new result
         (lines.made_plan (ended (symbol_line symbol.now))) }
 {
-    match lister.symbol_line(symbol) {
-        Ok(line) => write_line(host, line.as_slice()),
-        Err(_) => Err(Outcome::OutOfMemory),
-    }
+    let line = lister.symbol_line(symbol)?;
+    write_line(host, line.as_slice())
 }
 
 /// Writes the lines of symbols.
@@ -166,10 +162,7 @@ fn put_symbols<H: Host>(host: &mut H, lister: &Lister, symbols: &[Symbol]) -> Re
         (lines.lines_plan (map (λ s. ended (symbol_line s)) symbols.now)) }
 {
     for symbol in symbols {
-        match put_symbol(host, lister, symbol) {
-            Ok(()) => {}
-            Err(outcome) => return Err(outcome),
-        }
+        put_symbol(host, lister, symbol)?;
     }
     Ok(())
 }
@@ -178,10 +171,8 @@ fn put_symbols<H: Host>(host: &mut H, lister: &Lister, symbols: &[Symbol]) -> Re
 fn put_trie<H: Host>(host: &mut H, lister: &Lister, trie: &[u8]) -> Result<(), Outcome>
     ensures { Works H.told H.faults host.old host.new result (lines.made_plan (ended (stab_line trie.now))) }
 {
-    match lister.trie_line(trie) {
-        Ok(line) => write_line(host, line.as_slice()),
-        Err(_) => Err(Outcome::OutOfMemory),
-    }
+    let line = lister.trie_line(trie)?;
+    write_line(host, line.as_slice())
 }
 
 /// Writes the lines of a trie and its symbols.
@@ -194,10 +185,8 @@ fn put_tail<H: Host>(
     ensures { Works H.told H.faults host.old host.new result
         (lines.lines_plan (spec.tail_lines trie.now symbols.now)) }
 {
-    match put_trie(host, lister, trie) {
-        Ok(()) => put_symbols(host, lister, symbols),
-        Err(outcome) => Err(outcome),
-    }
+    put_trie(host, lister, trie)?;
+    put_symbols(host, lister, symbols)
 }
 
 /// Lists what follows the items.
@@ -243,10 +232,8 @@ fn list_fed<H: Host>(alloc: Global, host: &mut H, reader: &mut Reader) -> Result
 {
     let mut lister = Lister::new(alloc);
     let mut line = Bytes::new(alloc);
-    match list_items(host, &mut lister, &mut line, reader) {
-        Ok(()) => list_end(alloc, host, &lister, reader),
-        Err(outcome) => Err(outcome),
-    }
+    list_items(host, &mut lister, &mut line, reader)?;
+    list_end(alloc, host, &lister, reader)
 }
 
 /// Lists an object, or the items before its first fault.
@@ -264,10 +251,8 @@ fn list_object<H: Host>(alloc: Global, host: &mut H, bytes: &[u8]) -> Result<(),
 fn list_whole<H: Host>(alloc: Global, host: &mut H, name: &[u8]) -> Result<(), Outcome>
     ensures { Works H.told H.faults host.old host.new result (plans.list_part name.now) }
 {
-    match read_file(alloc, host, name, OBJECT_PIECES) {
-        Ok(bytes) => list_object(alloc, host, bytes.as_slice()),
-        Err(outcome) => Err(outcome),
-    }
+    let bytes = read_file(alloc, host, name, OBJECT_PIECES)?;
+    list_object(alloc, host, bytes.as_slice())
 }
 
 /// Lists the object in the file of this name. Where there is no memory, the lines that were written stay, and no other
@@ -275,8 +260,7 @@ fn list_whole<H: Host>(alloc: Global, host: &mut H, name: &[u8]) -> Result<(), O
 pub fn list_file<H: Host>(alloc: Global, host: &mut H, name: &[u8]) -> Outcome
     ensures plan { CarriesOut (H.told host.old) (H.told host.new) Outcome.OutOfMemory result
         (plans.list_plan name.now) }
-    ensures cause { ComesByFailing (H.told host.old) Outcome.HostFault result (H.faults host.old) (H.faults host.new)
-        (plans.list_part name.now) }
+    ensures cause { FailsByPlan H.told H.faults host.old host.new result (plans.list_part name.now) }
     ensures told { AnswersAs (H.told host.old) (H.told host.new) result
         (λ m. plainly (end_of calls.host (plans.list_plan name.now) m)) }
     ensures listed { AnswersAsList (H.told host.old) (H.told host.new) result

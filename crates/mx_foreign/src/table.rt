@@ -3,13 +3,17 @@
 /// A name of an operation, and a sentence on what MMIX has.
 pub(crate) type Row = (&'static str, &'static str);
 
-pub(crate) static FOREIGN: [Row; 85] = [
+pub(crate) static FOREIGN: [Row; 86] = [
     (
         "MOV",
         "SET copies a register or makes a number: SET $0,$1 or SET $0,5.",
     ),
     (
         "MOVE",
+        "SET copies a register or makes a number: SET $0,$1 or SET $0,5.",
+    ),
+    (
+        "LDI",
         "SET copies a register or makes a number: SET $0,$1 or SET $0,5.",
     ),
     (

@@ -1,8 +1,11 @@
 -- What is in the clauses of every function over a host: what it keeps, what it answers and
 -- leaves, and when it may answer a failure. `old` and `new` are what the host told before and after,
 -- `before` and `after` its counts of faults.
-use Rattle.std.specs.Prelude.{ℕ, IsTrue, false, ◌≡◌, ◌≢◌, ◌≤◌, Option}
+use Rattle.std.specs.Prelude.{ℕ, IsTrue, false, ◌≡◌, ◌≢◌, ◌≤◌, List, take, Option, Result, Err}
 use Rattle.mx_word.specs.Lists.{IsFront}
+use Rattle.mx_word.specs.Results.{map_ok}
+use Rattle.mx_host.specs.declared.faults.HostFault.{HostFault}
+use Rattle.mx_host.specs.declared.faults.HostFault.TheVariants.{OutOfMemory}
 use Rattle.mx_host.specs.declared.slots.Slot.{Slot}
 use Rattle.mx_host.specs.HostModel.{HostModel, tells, contents, counted, is_failing, slot_at, to_input, to_output, to_errors, Rose}
 use Rattle.mx_host.specs.HostAnswer.{Then}
@@ -29,6 +32,16 @@ pub record Keeps (old new : Option HostModel) (before after : ℕ) : Type 0 wher
 -- the answer is `none`, which is that of no memory
 abbrev pub Answers : {A : Type 0} → Option HostModel → Option HostModel → A → A → (HostModel → Then A) → Type 0
 Answers old new none result f = IsTrue (tells old) → result ≢ none → (result, contents new) ≡ f (contents old)
+
+-- the bytes that a call put at the front of `into`, of which it gives the number
+abbrev pub bytes_read : List ℕ → Result ℕ HostFault → Result (List ℕ) HostFault
+bytes_read into result = map_ok (λ n. take n into) result
+
+-- over a host that tells its contents, the bytes that a call read and what the host then holds are those of f, unless there
+-- was no memory
+abbrev pub AnswersRead : Option HostModel → Option HostModel → List ℕ → Result ℕ HostFault → (HostModel → Then (Result (List ℕ) HostFault)) → Type 0
+AnswersRead old new into result f =
+    IsTrue (tells old) → result ≢ Err OutOfMemory → (bytes_read into result, contents new) ≡ f (contents old)
 
 -- over a host that tells its contents, where the answer is `none`, what standard output then holds is a
 -- front of what f gives it

@@ -3,7 +3,7 @@
 ghost use Rattle.std.specs.Prelude.{IsTrue, ◌≡◌, ◌≢◌, ◌≤◌, ℕ, Option, Ok, Err, IfOk, IfErr, length, take, drop};
 ghost use Rattle.mx_word.specs.Results.{map_ok};
 ghost use Rattle.mx_host.specs.HostModel.{HostModel, tells, contents, Rose};
-ghost use Rattle.mx_host.specs.Keeping.{Answers, LacksCalled, ComesByFault, Keeps};
+ghost use Rattle.mx_host.specs.Keeping.{Answers, AnswersRead, LacksCalled, ComesByFault, Keeps};
 ghost use Rattle.mx_host.specs.HostAnswer.{open_answer, close_answer, read_answer, write_answer, seek_answer};
 ghost use Rattle.mx_host.specs.HostAnswer.{tell_answer};
 
@@ -62,9 +62,8 @@ pub trait Host {
     fn read_slot(&mut self, slot: u16, into: &mut [u8]) -> Result<usize, HostFault>
         requires { slot ≤ 260 }
         ensures count { IfOk result (λ n. n ≤ length into.old) }
-        ensures answers { IsTrue (tells (told self.old)) → result ≢ Err HostFault.OutOfMemory →
-            (map_ok (λ n. take n into.new) result, contents (told self.new))
-            ≡ read_answer (contents (told self.old)) slot (length into.old) }
+        ensures answers { AnswersRead (told self.old) (told self.new) into.new result
+            (λ m. read_answer m slot (length into.old)) }
         ensures rest { IsTrue (tells (told self.old)) →
             IfOk result (λ n. drop n into.new ≡ drop n into.old) }
         ensures unread { IsTrue (tells (told self.old)) → IfErr result (λ _. into.new ≡ into.old) }

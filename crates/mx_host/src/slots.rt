@@ -52,7 +52,7 @@ impl Mode {
 }
 
 /// Where an open slot leads: to a standard stream, or to a file.
-#[derive(Clone, Copy, Debug, PartialEq, Eq)]
+#[derive(Clone, Copy, PartialEq, Eq)]
 pub enum Lead {
     /// To standard input.
     Input,
@@ -65,7 +65,7 @@ pub enum Lead {
 }
 
 /// What a slot of a host is, as contracts see it: closed, or open with what it leads to, its mode and its place.
-#[derive(Clone, Copy, Debug, PartialEq, Eq)]
+#[derive(Clone, Copy, PartialEq, Eq)]
 pub enum Slot {
     /// It is not open.
     Closed,

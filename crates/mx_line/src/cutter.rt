@@ -42,21 +42,17 @@ fn with_field(
     requires { place + length text.now < 2 ^ 64 }
     ensures { result ≡ spec.with_field label op place text.now (field_length text.now) }
 {
-    match field_length(text) {
-        Err(fault) => Err(fault),
-        Ok(count) => {
-            let (_, rest) = text.split_at(count);
-            Ok(Some(Cut {
-                label,
-                op,
-                operands: Span {
-                    from: place,
-                    to: place + count,
-                },
-                next: next_after(place + count, rest),
-            }))
-        }
-    }
+    let count = field_length(text)?;
+    let (_, rest) = text.split_at(count);
+    Ok(Some(Cut {
+        label,
+        op,
+        operands: Span {
+            from: place,
+            to: place + count,
+        },
+        next: next_after(place + count, rest),
+    }))
 }
 
 /// A statement by its label, its opcode and the text after that.

@@ -96,10 +96,9 @@ pub fn field_length(text: &[u8]) -> Result<usize, LineFault>
     let mut count = 0;
     'field: loop {
         let (_, rest) = text.split_at(count);
-        match part_length(rest) {
-            Err(fault) => return Err(fault),
-            Ok(0) => return Ok(count),
-            Ok(more) => count += more,
+        match part_length(rest)? {
+            0 => return Ok(count),
+            more => count += more,
         }
     }
 }

@@ -1,17 +1,18 @@
 -- What the answers of the calls on objects stand for.
-use Rattle.std.specs.Prelude.{ℕ, ◌+◌, Bool, List, Option, Some, None, Result, Ok, Err}
+use Rattle.std.specs.Prelude.{◌≡◌, ◌≢◌, ℕ, suc, ◌+◌, Bool, List, length, Option, Some, None, Result, Ok, Err}
 use Rattle.mx_word.specs.declared.symbols.Symbol.{Symbol}
 use Rattle.mx_mmo.specs.Faults as objects
 use Rattle.mx_mmo.specs.Image.{Image}
-use Rattle.mx_mmo.specs.Meaning.{Loading}
+use Rattle.mx_mmo.specs.Meaning.{Loading, take_item}
 use Rattle.mx_mmo.specs.Replies.{ReaderModel}
 use Rattle.mx_mmo.specs.declared.faults.MmoFault.{MmoFault}
+use Rattle.mx_mmo.specs.declared.items.Item.{Item}
 use Rattle.mx_stab.specs.Faults as tries
 use Rattle.mx_stab.specs.declared.faults.StabFault.{StabFault}
 use Rattle.mx_load.specs.Kept.{Kept, image_of}
 use Rattle.mx_load.specs.Faults as loads
 use Rattle.mx_load.specs.Standing.{loading_of}
-use Rattle.mx_load.specs.Objects.{Loaded, items_loaded}
+use Rattle.mx_load.specs.Objects.{Loaded, items_loaded, taken}
 use Rattle.mx_load.specs.declared.progress.Progress.{Progress}
 use Rattle.mx_load.specs.declared.fault.LoadFault.{LoadFault}
 use Rattle.mx_load.specs.declared.fault.LoadFault.TheVariants.{PagesFull, BadPlace, NoFile, OutOfMemory as NoRoom}
@@ -60,10 +61,27 @@ unloaded place NoRoom = OutOfMemory
 abbrev pub loaded_from : ℕ → Progress → ReaderModel → Loaded
 loaded_from n progress reader = items_loaded n (loading_of progress) reader.phase reader.at reader.rest
 
+-- loading comes to this, whatever number of items is left to it
+abbrev pub LoadsTo : Progress → ReaderModel → Loaded → Type 0
+LoadsTo progress reader whole = (n : ℕ) → loaded_from (suc n) progress reader ≡ whole
+
+-- loading comes to what it comes to from there with one item less
+abbrev pub LoadsOn : Progress → Progress → ReaderModel → ReaderModel → Type 0
+LoadsOn old new before after = (n : ℕ) → loaded_from (suc n) old before ≡ loaded_from n new after
+
+-- what all items come to that a reader still gives
+abbrev pub all_loaded : Progress → ReaderModel → Loaded
+all_loaded progress reader = loaded_from (length reader.rest + 1) progress reader
+
 -- what stands after an item that was taken, or the fault that was answered
 abbrev pub item_answer : Result Bool ObjectFault → Loading → Result Loading (ℕ × ℕ)
 item_answer (Ok more) s = Ok s
 item_answer (Err fault) s = Err (place_and_number fault)
+
+-- unless there was no memory, the item at this place was loaded, or its fault is told
+abbrev pub LoadsItem : Result Bool ObjectFault → Progress → Progress → ℕ → Item → Type 0
+LoadsItem result old new place item =
+    result ≢ Err OutOfMemory → item_answer result (loading_of new) ≡ taken place (take_item (loading_of old) item)
 
 -- what follows an item after which a reader stands
 abbrev pub loaded_after : ℕ → ReaderModel → Result Loading (ℕ × ℕ) → Loaded

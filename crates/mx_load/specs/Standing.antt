@@ -1,13 +1,14 @@
 -- What stands after the items that a loader took.
-use Rattle.std.specs.Prelude.{Option, Some, None, Result, Ok, Err}
+use Rattle.std.specs.Prelude.{◌≡◌, ◌≢◌, Option, Some, None, Result, Ok, Err}
 use Rattle.std.specs.Ordering.{nat_cmp}
 use Rattle.std.specs.BTreeSet.{contains}
 use Rattle.mx_mmo.specs.Image.{Image}
-use Rattle.mx_mmo.specs.Meaning.{Loading, take_item}
+use Rattle.mx_mmo.specs.Meaning.{Loading, Meaningless, take_item}
 use Rattle.mx_mmo.specs.declared.items.Item.{Item}
-use Rattle.mx_load.specs.Faults.{told}
+use Rattle.mx_load.specs.Faults.{given, told}
 use Rattle.mx_load.specs.Kept.{image_of}
 use Rattle.mx_load.specs.declared.fault.LoadFault.{LoadFault}
+use Rattle.mx_load.specs.declared.fault.LoadFault.TheVariants.{OutOfMemory}
 use Rattle.mx_load.specs.declared.progress.Progress.{Progress}
 
 -- what the parts of a loader stand for
@@ -19,6 +20,10 @@ loading_of p = record {
   selected = p.selected;
   named = contains nat_cmp p.named;
 }
+
+-- Unless there was no memory, what stands, or the fault, is what `next` gives for what stood before.
+abbrev pub GoesOn : Result (Unit {0}) LoadFault → Progress → Progress → (Loading → Result Loading Meaningless) → Type 0
+GoesOn result old new next = result ≢ Err OutOfMemory → given result (loading_of new) ≡ told (next (loading_of old))
 
 -- a loader: how far it has come, and the fault that it answered; contracts speak of it through `standing` alone
 pub record Held : Type 0 where

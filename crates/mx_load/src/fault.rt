@@ -3,6 +3,8 @@
 ghost use Rattle.std.specs.Prelude.{◌≡◌};
 ghost use Rattle.mx_load.specs.Faults.{number_of};
 
+use std::alloc::{AllocError, AllocFailed};
+
 /// Why an item of an object cannot be loaded.
 #[derive(Clone, Copy, Debug, PartialEq, Eq)]
 pub enum LoadFault {
@@ -27,5 +29,25 @@ impl LoadFault {
             LoadFault::NoFile => 96,
             LoadFault::OutOfMemory => 0,
         }
+    }
+}
+
+impl From<AllocError> for LoadFault {
+    ghost use Rattle.mx_load.specs.declared.fault.LoadFault.TheVariants.{OutOfMemory};
+
+    ghost from_gives = { λ _ fault. fault ≡ OutOfMemory };
+
+    fn from(_error: AllocError) -> LoadFault {
+        LoadFault::OutOfMemory
+    }
+}
+
+impl<T: Drop> From<AllocFailed<T>> for LoadFault {
+    ghost use Rattle.mx_load.specs.declared.fault.LoadFault.TheVariants.{OutOfMemory};
+
+    ghost from_gives = { λ _ fault. fault ≡ OutOfMemory };
+
+    fn from(_failed: AllocFailed<T>) -> LoadFault {
+        LoadFault::OutOfMemory
     }
 }

@@ -160,10 +160,8 @@ impl Image {
         if high >= STACK_SEGMENT || low >= STACK_SEGMENT {
             return Err(LoadFault::BadPlace);
         }
-        match self.join(high, (x >> 32) as u32) {
-            Ok(()) => self.join(low, (x % (1 << 32)) as u32),
-            Err(fault) => Err(fault),
-        }
+        self.join(high, (x >> 32) as u32)?;
+        self.join(low, (x % (1 << 32)) as u32)
     }
 
     /// Notes the line of the tetra at an address.
@@ -182,13 +180,9 @@ impl Image {
         ensures err { IfErr result (λ fault. fault ≡ LoadFault.OutOfMemory) }
     {
         self.globals.clear();
-        match self.globals.extend_from_slice(values) {
-            Ok(()) => {
-                self.g = g;
-                Ok(())
-            }
-            Err(_) => Err(LoadFault::OutOfMemory),
-        }
+        self.globals.extend_from_slice(values)?;
+        self.g = g;
+        Ok(())
     }
 
     /// The image with these symbols.
@@ -261,8 +255,6 @@ fn put_line(lines: &mut BTreeMap<u64, u32>, a: u64, line: u32) -> Result<(), Loa
     ensures ok { OnOk result (line_at lines.new.entries ≡ lined (line_at lines.old.entries) a line) }
     ensures err { IfErr result (λ fault. fault ≡ LoadFault.OutOfMemory) }
 {
-    match lines.insert(a / 4, line) {
-        Ok(_) => Ok(()),
-        Err(_) => Err(LoadFault::OutOfMemory),
-    }
+    lines.insert(a / 4, line)?;
+    Ok(())
 }

@@ -2,11 +2,10 @@
 
 ghost use Rattle.std.specs.Prelude.{◌≡◌, ◌≢◌, ◌<◌, ◌≤◌, ◌+◌, ◌^◌, Ok, Err, None, true, false, suc, ℕ, length, OnOk};
 ghost use Rattle.std.specs.Prelude.{IfErr, IfSome};
-ghost use Rattle.mx_mmo.specs.Meaning.{take_item};
 ghost use Rattle.mx_mmo.specs.Valid.{Fits};
 ghost use Rattle.mx_mmo.specs.Whole.{left_of};
 ghost use Rattle.mx_load.specs.Answers as spec;
-ghost use Rattle.mx_load.specs.Objects.{object_loaded, taken, trie_read, whole_loaded};
+ghost use Rattle.mx_load.specs.Objects.{object_loaded, trie_read, whole_loaded};
 ghost use Rattle.mx_load.specs.Standing.{loading_of};
 ghost use Rattle.mx_stab.specs.Faults as tries;
 ghost use Rattle.mx_stab.specs.Reading.{trie_answer};
@@ -58,8 +57,7 @@ fn fault_of_item(place: u64, fault: LoadFault) -> ObjectFault
 #[tactic(auto, using(crate::proofs::Loading::loading))]
 fn load_item(progress: &mut Progress, item: &Item, place: u64) -> Result<bool, ObjectFault>
     requires { Fits item.now }
-    ensures taken { result ≢ Err ObjectFault.OutOfMemory →
-        spec.item_answer result (loading_of progress.new) ≡ taken place (take_item (loading_of progress.old) item.now) }
+    ensures taken { spec.LoadsItem result progress.old progress.new place item.now }
     ensures more { result ≢ Ok false }
 {
     match progress.take(item) {
@@ -72,9 +70,7 @@ fn load_item(progress: &mut Progress, item: &Item, place: u64) -> Result<bool, O
 #[tactic(auto, using(crate::proofs::Loading::loading))]
 #[inline(always)]
 fn load_tetra(progress: &mut Progress, t: u32, place: u64) -> Result<bool, ObjectFault>
-    ensures taken { result ≢ Err ObjectFault.OutOfMemory →
-        spec.item_answer result (loading_of progress.new)
-        ≡ taken place (take_item (loading_of progress.old) (Item.Load t)) }
+    ensures taken { spec.LoadsItem result progress.old progress.new place (Item.Load t) }
     ensures more { result ≢ Ok false }
 {
     match progress.load(t) {
@@ -87,14 +83,13 @@ fn load_tetra(progress: &mut Progress, t: u32, place: u64) -> Result<bool, Objec
 #[inline(always)]
 fn load_next(reader: &mut Reader, progress: &mut Progress) -> Result<bool, ObjectFault>
     requires { reader.old.fault ≡ None }
-    ensures next { result ≡ Ok true → (n : ℕ) →
-        spec.loaded_from (suc n) progress.old reader.old ≡ spec.loaded_from n progress.new reader.new }
+    ensures next { result ≡ Ok true → spec.LoadsOn progress.old progress.new reader.old reader.new }
     ensures less { result ≡ Ok true → length reader.new.rest < length reader.old.rest }
-    ensures last { result ≡ Ok false → (n : ℕ) →
-        spec.loaded_from (suc n) progress.old reader.old ≡ Ok (loading_of progress.new, left_of reader.new) }
+    ensures last { result ≡ Ok false →
+        spec.LoadsTo progress.old reader.old (Ok (loading_of progress.new, left_of reader.new)) }
     ensures read { OnOk result (reader.new.fault ≡ None) }
     ensures fault { result ≢ Err ObjectFault.OutOfMemory →
-        IfErr result (λ f. (n : ℕ) → spec.loaded_from (suc n) progress.old reader.old ≡ Err (spec.place_and_number f)) }
+        IfErr result (λ f. spec.LoadsTo progress.old reader.old (Err (spec.place_and_number f))) }
 {
     match reader.next_plain() {
         Some(t) => load_tetra(progress, t, reader.place()),
@@ -106,14 +101,13 @@ fn load_next(reader: &mut Reader, progress: &mut Progress) -> Result<bool, Objec
 #[inline(never)]
 fn load_other(reader: &mut Reader, progress: &mut Progress) -> Result<bool, ObjectFault>
     requires { reader.old.fault ≡ None }
-    ensures next { result ≡ Ok true → (n : ℕ) →
-        spec.loaded_from (suc n) progress.old reader.old ≡ spec.loaded_from n progress.new reader.new }
+    ensures next { result ≡ Ok true → spec.LoadsOn progress.old progress.new reader.old reader.new }
     ensures less { result ≡ Ok true → length reader.new.rest < length reader.old.rest }
-    ensures last { result ≡ Ok false → (n : ℕ) →
-        spec.loaded_from (suc n) progress.old reader.old ≡ Ok (loading_of progress.new, left_of reader.new) }
+    ensures last { result ≡ Ok false →
+        spec.LoadsTo progress.old reader.old (Ok (loading_of progress.new, left_of reader.new)) }
     ensures read { OnOk result (reader.new.fault ≡ None) }
     ensures fault { result ≢ Err ObjectFault.OutOfMemory →
-        IfErr result (λ f. (n : ℕ) → spec.loaded_from (suc n) progress.old reader.old ≡ Err (spec.place_and_number f)) }
+        IfErr result (λ f. spec.LoadsTo progress.old reader.old (Err (spec.place_and_number f))) }
 {
     match reader.next() {
         Ok(None) => Ok(false),
@@ -125,12 +119,11 @@ fn load_other(reader: &mut Reader, progress: &mut Progress) -> Result<bool, Obje
 /// Loads all items that are next.
 fn load_items(reader: &mut Reader, progress: &mut Progress) -> Result<(), ObjectFault>
     requires { reader.old.fault ≡ None }
-    ensures last { OnOk result (spec.loaded_from (length reader.old.rest + 1) progress.old reader.old
-        ≡ Ok (loading_of progress.new, left_of reader.new)) }
+    ensures last { OnOk result
+        (spec.all_loaded progress.old reader.old ≡ Ok (loading_of progress.new, left_of reader.new)) }
     ensures read { OnOk result (reader.new.fault ≡ None) }
     ensures fault { result ≢ Err ObjectFault.OutOfMemory →
-        IfErr result (λ f. spec.loaded_from (length reader.old.rest + 1) progress.old reader.old
-        ≡ Err (spec.place_and_number f)) }
+        IfErr result (λ f. spec.all_loaded progress.old reader.old ≡ Err (spec.place_and_number f)) }
 {
     loop {
         match load_next(reader, progress) {
@@ -178,10 +171,10 @@ fn finish(alloc: Global, reader: &mut Reader, progress: Progress) -> Result<Imag
         spec.loaded_in result ≡ whole_loaded (Ok (loading_of progress, left_of reader.old)) }
 {
     match reader.finish() {
-        Ok(tail) => match read_trie(alloc, &tail) {
-            Ok(symbols) => Ok(progress.image.with_symbols(symbols)),
-            Err(fault) => Err(fault),
-        },
+        Ok(tail) => {
+            let symbols = read_trie(alloc, &tail)?;
+            Ok(progress.image.with_symbols(symbols))
+        }
         Err(fault) => Err(fault_of_bytes(fault)),
     }
 }
@@ -196,10 +189,10 @@ pub fn load_object(alloc: Global, bytes: &[u8]) -> Result<Image, ObjectFault>
     let mut reader = Reader::new(alloc);
     let mut progress = Progress::new(alloc);
     match reader.feed(bytes) {
-        Ok(()) => match load_items(&mut reader, &mut progress) {
-            Ok(()) => finish(alloc, &mut reader, progress),
-            Err(fault) => Err(fault),
-        },
+        Ok(()) => {
+            load_items(&mut reader, &mut progress)?;
+            finish(alloc, &mut reader, progress)
+        }
         Err(fault) => Err(fault_of_bytes(fault)),
     }
 }

@@ -5,7 +5,7 @@ ghost use Rattle.mx_mmo.specs.Meaning as spec;
 ghost use Rattle.mx_mmo.specs.Meaning.{nothing, after_load, with_image, with_name, noted, take_item};
 ghost use Rattle.mx_mmo.specs.Valid.{Fits};
 ghost use Rattle.mx_load.specs.Faults.{told, given};
-ghost use Rattle.mx_load.specs.Standing.{loading_of};
+ghost use Rattle.mx_load.specs.Standing.{GoesOn, loading_of};
 
 use crate::{Image, LoadFault};
 use mx_mmo::Item;
@@ -73,87 +73,62 @@ impl Progress {
 
     /// Notes the line in force for the tetra at lambda, and goes on to the next line.
     fn count_line(&mut self) -> Result<(), LoadFault>
-        ensures { let s = loading_of self.old in result ≢ Err LoadFault.OutOfMemory →
-            given result (loading_of self.new) ≡ Ok (record s {
-              image = noted s s.image;
-              line = spec.next_line s.line;
-            }) }
+        ensures { GoesOn result self.old self.new
+            (λ s. Ok (record s { image = noted s s.image; line = spec.next_line s.line })) }
     {
         if self.line == 0 {
             return Ok(());
         }
-        match self.image.note(self.lambda, self.line) {
-            Ok(()) => {
-                self.line = next_line(self.line);
-                Ok(())
-            }
-            Err(fault) => Err(fault),
-        }
+        self.image.note(self.lambda, self.line)?;
+        self.line = next_line(self.line);
+        Ok(())
     }
 
     /// Goes on after the tetra that was joined at lambda.
     fn advance(&mut self) -> Result<(), LoadFault>
-        ensures { let s = loading_of self.old in result ≢ Err LoadFault.OutOfMemory →
-            given result (loading_of self.new) ≡ told (after_load s (Ok s.image)) }
+        ensures { GoesOn result self.old self.new (λ s. after_load s (Ok s.image)) }
     {
-        match self.count_line() {
-            Ok(()) => {
-                self.lambda = (4 * (self.lambda / 4)).wrapping_add(4);
-                Ok(())
-            }
-            Err(fault) => Err(fault),
-        }
+        self.count_line()?;
+        self.lambda = (4 * (self.lambda / 4)).wrapping_add(4);
+        Ok(())
     }
 
     /// Loads a tetra at lambda.
     #[inline(always)]
     pub(crate) fn load(&mut self, t: u32) -> Result<(), LoadFault>
-        ensures { let s = loading_of self.old in result ≢ Err LoadFault.OutOfMemory →
-            given result (loading_of self.new) ≡ told (after_load s (spec.join s.image s.lambda t)) }
+        ensures { GoesOn result self.old self.new (λ s. after_load s (spec.join s.image s.lambda t)) }
     {
-        match self.image.join(self.lambda, t) {
-            Ok(()) => self.advance(),
-            Err(fault) => Err(fault),
-        }
+        self.image.join(self.lambda, t)?;
+        self.advance()
     }
 
     /// Joins a tetra at an address.
     fn fix(&mut self, a: u64, t: u32) -> Result<(), LoadFault>
-        ensures { let s = loading_of self.old in result ≢ Err LoadFault.OutOfMemory →
-            given result (loading_of self.new) ≡ told (with_image s (spec.join s.image a t)) }
+        ensures { GoesOn result self.old self.new (λ s. with_image s (spec.join s.image a t)) }
     {
         self.image.join(a, t)
     }
 
     /// Joins lambda, as an octa, at an address.
     fn fix_octa(&mut self, a: u64) -> Result<(), LoadFault>
-        ensures { let s = loading_of self.old in result ≢ Err LoadFault.OutOfMemory → given result
-            (loading_of self.new) ≡ told (with_image s (spec.join_octa s.image a s.lambda)) }
+        ensures { GoesOn result self.old self.new (λ s. with_image s (spec.join_octa s.image a s.lambda)) }
     {
         self.image.join_octa(a, self.lambda)
     }
 
     /// Selects a file that is named here.
     fn select_named(&mut self, number: u8) -> Result<(), LoadFault>
-        ensures { let s = loading_of self.old in result ≢ Err LoadFault.OutOfMemory →
-            given result (loading_of self.new) ≡ Ok (record s {
-              selected = true;
-              named = with_name s.named number;
-            }) }
+        ensures { GoesOn result self.old self.new
+            (λ s. Ok (record s { selected = true; named = with_name s.named number })) }
     {
-        match self.named.insert(number) {
-            Ok(_) => {
-                self.selected = true;
-                Ok(())
-            }
-            Err(_) => Err(LoadFault::OutOfMemory),
-        }
+        self.named.insert(number)?;
+        self.selected = true;
+        Ok(())
     }
 
     /// Selects a file, which is named here or has to have been named before.
     fn select(&mut self, number: u8, name: &Option<Bytes>) -> Result<(), LoadFault>
-        ensures { result ≢ Err LoadFault.OutOfMemory → given result (loading_of self.new)
-            ≡ told (spec.select (loading_of self.old) number name.now) }
+        ensures { GoesOn result self.old self.new (λ s. spec.select s number name.now) }
     {
         if name.is_some() {
             return self.select_named(number);
@@ -180,8 +155,7 @@ impl Progress {
     /// Takes the next item.
     pub fn take(&mut self, item: &Item) -> Result<(), LoadFault>
         requires { Fits item.now }
-        ensures { result ≢ Err LoadFault.OutOfMemory →
-            given result (loading_of self.new) ≡ told (take_item (loading_of self.old) item.now) }
+        ensures { GoesOn result self.old self.new (λ s. take_item s item.now) }
     {
         match item {
             Item::Load(t) => self.load(*t),

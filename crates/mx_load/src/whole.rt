@@ -25,10 +25,7 @@ pub fn load(alloc: Global, items: &[Item], symbols: Symbols) -> Result<Image, Lo
 {
     let mut loader = Loader::new(alloc);
     for item in items {
-        match loader.take(item) {
-            Ok(()) => {}
-            Err(fault) => return Err(fault),
-        }
+        loader.take(item)?;
     }
     loader.finish(symbols)
 }

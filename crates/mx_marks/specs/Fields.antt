@@ -60,6 +60,10 @@ operands_at line place = operands_by (statement_of line place) (from_field Opera
 abbrev pub is_no_comma : ℕ → Bool
 is_no_comma b = not (b == 44)
 
+-- the operands in front of their first comma, or all
+abbrev pub first_operand : Line → Line
+first_operand operands = run is_no_comma operands
+
 abbrev pub after_comma : Line → Line
 after_comma operands = drop (length (run is_no_comma operands) + 1) operands
 

@@ -52,10 +52,10 @@ is_near is_long [] ys = is_slip_in is_long [] ys
 is_near is_long (x ∷ xs) [] = is_slip_in is_long (x ∷ xs) []
 is_near is_long (x ∷ xs) (y ∷ ys) = if x == y then is_near is_long xs ys else is_slip_in is_long (x ∷ xs) (y ∷ ys)
 
--- Words are alike that differ in capitals alone; where the one has three letters or more, those that are near each other, too. A word of
--- three letters is short.
+-- Words are alike that differ in capitals alone; where the one has three letters or more, those that are near each other, too. Words
+-- are short where neither has four letters.
 abbrev pub is_alike : List ℕ → List ℕ → Bool
-is_alike name other = str_eq_ignore_ascii_case name other || (nat_le 3 (length name) && is_near (nat_le 4 (length name)) name other)
+is_alike name other = str_eq_ignore_ascii_case name other || (nat_le 3 (length name) && is_near (nat_le 4 (length name) || nat_le 4 (length other)) name other)
 
 abbrev pub is_like : Likeness → List ℕ → List ℕ → Bool
 is_like Same name other = bytes_eq name other

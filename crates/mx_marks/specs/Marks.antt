@@ -15,10 +15,10 @@ use Rattle.mx_marks.specs.declared.marks.Mark.{Mark}
 use Rattle.mx_marks.specs.declared.rooms.Room.{Room}
 use Rattle.mx_marks.specs.declared.rooms.Room.TheVariants.{Byte, Wyde, Tetra, DataByte, DataWyde}
 use Rattle.mx_marks.specs.declared.tokens.Wanted.{Wanted}
-use Rattle.mx_marks.specs.declared.tokens.Wanted.TheVariants.{Unknown, Ahead, Above, Address}
+use Rattle.mx_marks.specs.declared.tokens.Wanted.TheVariants.{Unknown, Ahead, Above, Address, Register, Sum}
 use Rattle.mx_marks.specs.Fields.{Line, from_field, operands_at, word}
 use Rattle.mx_marks.specs.Syntax.{Scan, scan}
-use Rattle.mx_marks.specs.Tokens.{from_part, marked_length}
+use Rattle.mx_marks.specs.Tokens.{from_part, marked_length, number_part}
 
 -- ---- how much room an operation has for a number
 
@@ -82,11 +82,14 @@ fit_part source Wyde operands [] = part_of Address source 0 operands
 fit_part source room operands part = part
 
 -- From the part on that a fault with this number is about, in a line with this number; no text where none is found. 10 is Syntax,
--- 17 Future, 43 Fit, 80 UndefinedSymbol and 81 UndefinedLocal.
+-- 15 TwoRegisters, 17 Future, 21 RegisterNumber, 41 NotRegister, 43 Fit, 80 UndefinedSymbol and 81 UndefinedLocal.
 abbrev pub faulty_part : ℕ → ℕ → List ℕ → Room → Line → Line
 faulty_part fault number source room operands =
     if fault == 10 then stopped_at operands (scan operands)
+    else if fault == 15 then part_of Sum source 0 operands
     else if fault == 17 then early_part source (number - 1) operands (part_of Unknown source (number - 1) operands)
+    else if fault == 21 then part_of Register source 0 operands
+    else if fault == 41 then number_part operands
     else if fault == 43 then fit_part source room operands (part_of (Above (limit_of room)) source 0 operands)
     else if fault == 80 then part_of Unknown source 4294967295 operands
     else if fault == 81 then part_of Ahead source 0 operands

@@ -12,7 +12,7 @@ use mx_stmt::StmtFault;
 use mx_word::is_name_byte;
 
 /// A field of a statement.
-#[derive(Clone, Copy, Debug, PartialEq, Eq)]
+#[derive(Clone, Copy)]
 pub enum Field {
     Label,
     Operation,
@@ -49,6 +49,14 @@ fn first_length(operands: &[u8]) -> usize
     ensures { result ≡ length (bytes.run spec.is_no_comma operands.now) }
 {
     operands.iter().take_while(|b| **b != b',').count()
+}
+
+/// The operands in front of their first comma, or all.
+#[tactic(auto, using(crate::proofs::Words::fronts))]
+pub fn first_operand(operands: &[u8]) -> &[u8]
+    ensures { result.now ≡ spec.first_operand operands.now }
+{
+    operands.split_at(first_length(operands)).0
 }
 
 /// What follows the first comma of operands; no text where there is none.

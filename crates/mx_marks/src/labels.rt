@@ -11,7 +11,7 @@ use mx_ops::{Op, Pseudo, find};
 use mx_word::{is_digit, is_letter};
 
 /// How a label has to be like a name: the same; or alike, as where a letter differs.
-#[derive(Clone, Copy, Debug, PartialEq, Eq)]
+#[derive(Clone, Copy)]
 pub enum Likeness {
     Same,
     Alike,
@@ -104,7 +104,8 @@ fn is_near(is_long: bool, a: &[u8], b: &[u8]) -> bool
 fn is_alike(name: &[u8], other: &[u8]) -> bool
     ensures { result ≡ spec.is_alike name.now other.now }
 {
-    name.eq_ignore_ascii_case(other) || (name.len() >= 3 && is_near(name.len() >= 4, name, other))
+    name.eq_ignore_ascii_case(other)
+        || (name.len() >= 3 && is_near(name.len() >= 4 || other.len() >= 4, name, other))
 }
 
 /// Whether a label is like a name in this way.

@@ -13,8 +13,8 @@ mod tokens;
 mod under;
 
 pub use fields::{
-    Field, find_end_of_cuts, find_only_statement, from_field, leading_word, line_field,
-    operands_at, skip_past_comma, statement_field, unknown_place,
+    Field, find_end_of_cuts, find_only_statement, first_operand, from_field, leading_word,
+    line_field, operands_at, skip_past_comma, statement_field, unknown_place,
 };
 pub use labels::{
     Likeness, find_label_line, find_similar_label, find_similar_name, find_similar_operation,

@@ -8,7 +8,7 @@ ghost use Rattle.mx_marks.specs.declared.tokens.Wanted.TheVariants.{Above, Unkno
 use crate::fields::{Field, from_field, leading_word, operands_at};
 use crate::rooms::{Room, limit_of, room_of};
 use crate::syntax::scan;
-use crate::tokens::{Wanted, from_part, marked_length};
+use crate::tokens::{Wanted, from_part, marked_length, number_part};
 use crate::under::split_at_most;
 use mx_ops::find;
 use mx_word::NoMemory;
@@ -16,7 +16,7 @@ use std::alloc::Global;
 
 /// The marked text of a line: how many bytes are in front of it, how many it has, and whether it is what the fault is about, and not all
 /// operands among which this is.
-#[derive(Clone, Copy, Debug, PartialEq, Eq)]
+#[derive(Clone, Copy)]
 pub struct Mark {
     pub from: usize,
     pub length: usize,
@@ -100,7 +100,10 @@ fn faulty_part<'a>(
 {
     match fault {
         10 => Ok(skip_to_fault(operands)),
+        15 => from_part(alloc, Wanted::Sum, source, 0, operands),
         17 => early_part(alloc, number.saturating_sub(1), source, operands),
+        21 => from_part(alloc, Wanted::Register, source, 0, operands),
+        41 => Ok(number_part(operands)),
         43 => fit_part(alloc, source, room, operands),
         80 => from_part(alloc, Wanted::Unknown, source, u32::MAX, operands),
         81 => from_part(alloc, Wanted::Ahead, source, 0, operands),

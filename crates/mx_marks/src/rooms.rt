@@ -7,7 +7,7 @@ ghost use Rattle.mx_marks.specs.Marks as spec;
 use mx_ops::{Op, Pseudo, Shape, shape_of};
 
 /// The room for a number in a field of an instruction or in data.
-#[derive(Clone, Copy, Debug, PartialEq, Eq)]
+#[derive(Clone, Copy, PartialEq, Eq)]
 pub enum Room {
     Byte,
     Wyde,

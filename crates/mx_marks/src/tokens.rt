@@ -5,7 +5,7 @@ ghost use Rattle.mx_line.specs.Bytes.{run};
 ghost use Rattle.mx_word.specs.Kinds as kinds;
 ghost use Rattle.mx_marks.specs.Tokens as spec;
 
-use crate::fields::leading_word;
+use crate::fields::{leading_word, skip_past_comma};
 use crate::labels::{is_data_label, is_label};
 use crate::under::split_at_most;
 use mx_ops::predefined;
@@ -15,13 +15,16 @@ use std::alloc::Global;
 /// The value from which on a number is not counted further.
 const LARGE: u64 = 1 << 40;
 
-/// A part of operands that is wanted: a name that is no label, a local label with `F`, a number above this limit, or a label of data.
-#[derive(Clone, Copy, Debug, PartialEq, Eq)]
+/// A part of operands that is wanted: a name that is no label, a local label with `F`, a number above this limit, a label of data, a
+/// register above the last one, or a plus in front of a register.
+#[derive(Clone, Copy)]
 pub(crate) enum Wanted {
     Unknown,
     Ahead,
     Above(u64),
     Address,
+    Register,
+    Sum,
 }
 
 /// How many bytes of a string come before its closing quote.
@@ -52,6 +55,8 @@ fn part_length(text: &[u8]) -> usize
         3
     } else if *b == b'#' {
         leading_word(rest).len().saturating_add(1)
+    } else if *b == b'$' {
+        digits_length(rest).saturating_add(1)
     } else if is_name_byte(*b) {
         leading_word(text).len()
     } else {
@@ -162,6 +167,27 @@ fn is_ahead(word: &[u8]) -> bool
     }
 }
 
+/// Whether a text begins with a register above the last one.
+#[tactic(auto, using(crate::proofs::TokenTurns::lengths))]
+fn starts_with_no_register(text: &[u8]) -> bool
+    ensures { result ≡ spec.begins_no_register text.now }
+{
+    match text {
+        [] => false,
+        [b, rest @ ..] => { *b == b'$' && 255 < value_of(10, rest.split_at(digits_length(rest)).0) }
+    }
+}
+
+/// Whether a text begins with a plus in front of a register.
+fn starts_with_sum(text: &[u8]) -> bool
+    ensures { result ≡ spec.begins_sum text.now }
+{
+    match text {
+        [b, c, ..] => *b == b'+' && *c == b'$',
+        _ => false,
+    }
+}
+
 /// Whether a text begins with what is wanted.
 fn is_wanted(
     alloc: Global,
@@ -177,6 +203,8 @@ fn is_wanted(
         Wanted::Ahead => Ok(is_ahead(leading_word(text))),
         Wanted::Above(limit) => Ok(is_above(limit, text)),
         Wanted::Address => Ok(starts_with_name(text) && is_data_label(leading_word(text), source)),
+        Wanted::Register => Ok(starts_with_no_register(text)),
+        Wanted::Sum => Ok(starts_with_sum(text)),
     }
 }
 
@@ -194,15 +222,37 @@ pub(crate) fn from_part<'a>(
     let mut rest = text;
     let mut left = text.len();
     while left > 0 {
-        match is_wanted(alloc, kind, source, most, rest) {
-            Ok(true) => return Ok(rest),
-            Ok(false) => {}
-            Err(e) => return Err(e),
+        if is_wanted(alloc, kind, source, most, rest)? {
+            return Ok(rest);
         }
         rest = split_at_most(rest, part_length(rest)).1;
         left -= 1;
     }
     Ok(&[])
+}
+
+/// Whether operands begin with a number, and a comma follows it.
+fn leads_number(operands: &[u8]) -> bool
+    ensures { result ≡ spec.leads_number operands.now }
+{
+    match operands {
+        [] => false,
+        [b, ..] => (is_digit(*b) || *b == b'#') && !skip_past_comma(operands).is_empty(),
+    }
+}
+
+/// From the number on that is in the place of a register: the first or the second of operands, and not the last one.
+pub(crate) fn number_part(operands: &[u8]) -> &[u8]
+    ensures { result.now ≡ spec.number_part operands.now }
+{
+    let others = skip_past_comma(operands);
+    if leads_number(operands) {
+        operands
+    } else if leads_number(others) {
+        others
+    } else {
+        &[]
+    }
 }
 
 /// How long the part is that a text begins with, a minus with its number included.
@@ -213,7 +263,7 @@ pub(crate) fn marked_length(text: &[u8]) -> usize
     let [b, rest @ ..] = text else {
         return 0;
     };
-    if *b == b'-' || *b == b'#' {
+    if *b == b'-' || *b == b'#' || *b == b'$' {
         leading_word(rest).len().saturating_add(1)
     } else if is_name_byte(*b) {
         leading_word(text).len()

@@ -9,7 +9,7 @@ use Rattle.std.specs.BTreeMap.{BTreeMap, get, is_at}
 use Rattle.std.proofs.lemmas.Bool.{cases_eq, cases_lt}
 use Rattle.std.proofs.lemmas.Grind.{common_steps}
 use Rattle.std.proofs.lemmas.List.{get_or_append_left, get_or-set_same, get_or-set_other, get_or-replicate, length-replicate}
-use Rattle.mx_mem.specs.Memory.{Stored, octa_at, has_page, stored_at, with_page}
+use Rattle.mx_mem.specs.Memory.{Stored, octa_at, octa_on, has_page, page_on, stored_at, with_page}
 use Rattle.mx_mem.specs.Held.{view_of, number_in, Indexed, Bounded, IsKept}
 use Rattle.mx_mem.proofs.Views.{octa_at-view, has_page-view}
 use Rattle.mx_mem.proofs.Stores.{octa_of}
@@ -78,8 +78,8 @@ added-bounded pages page b low long room = record {
         let e : i ≡ length pages = omega (arith, length-append pages (page ∷ [])) in
         ap (λ k. get_or (extended pages page) k (0, [])) e ∙ last-page pages page
 
-pub added-octa : (pages : List (ℕ × List ℕ)) (places after : BTreeMap ℕ ℕ) (m : Stored) (page : ℕ × List ℕ) (a x q : ℕ) → Indexed pages places → view_of pages places.entries ≡ m → get nat_cmp places (a / 4096) ≡ None →
-    Extends places after (a / 4096) (length pages) → page.1 ≡ set (replicate 512 0) (a / 8 % 512) x → octa_at (view_of (extended pages page) after.entries) q ≡ stored_at (octa_at m) a x q
+pub added-octa : (pages : List (ℕ × List ℕ)) (places after : BTreeMap ℕ ℕ) (m : Stored) (page : ℕ × List ℕ) (a x q : ℕ) → Indexed pages places → view_of pages places.entries ≡ m.pages → get nat_cmp places (a / 4096) ≡ None →
+    Extends places after (a / 4096) (length pages) → page.1 ≡ set (replicate 512 0) (a / 8 % 512) x → octa_on (view_of (extended pages page) after.entries) q ≡ stored_at (octa_at m) a x q
 added-octa pages places after m page a x q ix v new ex made =
     octa_at-view (extended pages page) after q ∙ ⊎_elim (λ e. on-page e) (λ ne. off-page ne) (cases_eq (q / 4096) (a / 4096))
   where
@@ -87,7 +87,7 @@ added-octa pages places after m page a x q ix v new ex made =
     r = q / 8 % 512
 
     old : octa_at m q ≡ octa_of pages (get nat_cmp places (q / 4096)) r
-    old = ap (λ s. octa_at s q) (sym v) ∙ octa_at-view pages places q
+    old = ap (λ s. octa_on s q) (sym v) ∙ octa_at-view pages places q
 
     last : octa_of (extended pages page) (Some (length pages)) r ≡ get_or (set (replicate 512 0) (a / 8 % 512) x) r 0
     last = ap (λ octas. get_or octas r 0) (ap (λ (p : ℕ × List ℕ). p.1) (last-page pages page) ∙ made)
@@ -122,8 +122,8 @@ added-octa pages places after m page a x q ix v new ex made =
         ap (λ o. octa_of (extended pages page) o r) (place-other places after (a / 4096) (length pages) (q / 4096) ex ne)
         ∙ same (get nat_cmp places (q / 4096)) refl ∙ sym old ∙ sym whole
 
-pub added-page : (pages : List (ℕ × List ℕ)) (places after : BTreeMap ℕ ℕ) (m : Stored) (page : ℕ × List ℕ) (n q : ℕ) → view_of pages places.entries ≡ m → Extends places after n (length pages) →
-    has_page (view_of (extended pages page) after.entries) q ≡ with_page (has_page m) n q
+pub added-page : (pages : List (ℕ × List ℕ)) (places after : BTreeMap ℕ ℕ) (m : Stored) (page : ℕ × List ℕ) (n q : ℕ) → view_of pages places.entries ≡ m.pages → Extends places after n (length pages) →
+    page_on (view_of (extended pages page) after.entries) q ≡ with_page (has_page m) n q
 added-page pages places after m page n q v ex =
     has_page-view (extended pages page) after q ∙ ⊎_elim (λ e. new e) (λ ne. old ne) (cases_eq q n)
   where
@@ -135,7 +135,7 @@ added-page pages places after m page n q v ex =
     old : (q ≡ n → ⊥) → is_some (get nat_cmp after q) ≡ with_page (has_page m) n q
     old ne =
         let same : with_page (has_page m) n q ≡ has_page m q = grind (arith, common_steps) in
-        ap is_some (place-other places after n (length pages) q ex ne) ∙ sym (has_page-view pages places q) ∙ ap (λ s. has_page s q) v ∙ sym same
+        ap is_some (place-other places after n (length pages) q ex ne) ∙ sym (has_page-view pages places q) ∙ ap (λ s. page_on s q) v ∙ sym same
 
 -- nothing changed
 kept-indexed : (pages : List (ℕ × List ℕ)) (places after : BTreeMap ℕ ℕ) → Indexed pages places → after.entries ≡ places.entries → Indexed pages after
@@ -173,14 +173,14 @@ pub outcome-count : {E : Type 0} (r : Result (Unit {0}) E) (pages pages' : List 
 outcome-count (Ok u) pages pages' places after page same added more kept = omega (arith, length-append pages (page ∷ []), ap length added)
 outcome-count (Err e) pages pages' places after page same added more kept = ap length kept.1 ∙ same ∙ ap length (sym kept.0)
 
-pub outcome-octas : {E : Type 0} (r : Result (Unit {0}) E) (pages pages' : List (ℕ × List ℕ)) (places after : BTreeMap ℕ ℕ) (m : Stored) (page : ℕ × List ℕ) (a x : ℕ) → Indexed pages places → view_of pages places.entries ≡ m → get nat_cmp places (a / 4096) ≡ None →
-    page.1 ≡ set (replicate 512 0) (a / 8 % 512) x → OnOk r (pages' ≡ extended pages page) → OnOk r (Extends places after (a / 4096) (length pages)) → OnOk r (octa_at (view_of pages' after.entries) ≡ stored_at (octa_at m) a x)
+pub outcome-octas : {E : Type 0} (r : Result (Unit {0}) E) (pages pages' : List (ℕ × List ℕ)) (places after : BTreeMap ℕ ℕ) (m : Stored) (page : ℕ × List ℕ) (a x : ℕ) → Indexed pages places → view_of pages places.entries ≡ m.pages → get nat_cmp places (a / 4096) ≡ None →
+    page.1 ≡ set (replicate 512 0) (a / 8 % 512) x → OnOk r (pages' ≡ extended pages page) → OnOk r (Extends places after (a / 4096) (length pages)) → OnOk r (octa_on (view_of pages' after.entries) ≡ stored_at (octa_at m) a x)
 outcome-octas (Ok u) pages pages' places after m page a x ix v new made added ex =
-    ap (λ ps. octa_at (view_of ps after.entries)) added ∙ (λ i q. added-octa pages places after m page a x q ix v new ex made i)
+    ap (λ ps. octa_on (view_of ps after.entries)) added ∙ (λ i q. added-octa pages places after m page a x q ix v new ex made i)
 outcome-octas (Err e) pages pages' places after m page a x ix v new made added ex = tt
 
-pub outcome-pages : {E : Type 0} (r : Result (Unit {0}) E) (pages pages' : List (ℕ × List ℕ)) (places after : BTreeMap ℕ ℕ) (m : Stored) (page : ℕ × List ℕ) (n : ℕ) → view_of pages places.entries ≡ m →
-    OnOk r (pages' ≡ extended pages page) → OnOk r (Extends places after n (length pages)) → OnOk r (has_page (view_of pages' after.entries) ≡ with_page (has_page m) n)
+pub outcome-pages : {E : Type 0} (r : Result (Unit {0}) E) (pages pages' : List (ℕ × List ℕ)) (places after : BTreeMap ℕ ℕ) (m : Stored) (page : ℕ × List ℕ) (n : ℕ) → view_of pages places.entries ≡ m.pages →
+    OnOk r (pages' ≡ extended pages page) → OnOk r (Extends places after n (length pages)) → OnOk r (page_on (view_of pages' after.entries) ≡ with_page (has_page m) n)
 outcome-pages (Ok u) pages pages' places after m page n v added ex =
-    ap (λ ps. has_page (view_of ps after.entries)) added ∙ (λ i q. added-page pages places after m page n q v ex i)
+    ap (λ ps. page_on (view_of ps after.entries)) added ∙ (λ i q. added-page pages places after m page n q v ex i)
 outcome-pages (Err e) pages pages' places after m page n v added ex = tt

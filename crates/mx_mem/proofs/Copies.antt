@@ -4,7 +4,7 @@ use Rattle.std.specs.Ordering.{nat_cmp}
 use Rattle.std.specs.BTreeMap.{BTreeMap, is_at}
 use Rattle.std.specs.Map.{lookup}
 use Rattle.mx_mem.specs.Held.{Bounded, Holds, Indexed, IsKept, number_in, view_of}
-use Rattle.mx_mem.specs.Memory.{octa_at}
+use Rattle.mx_mem.specs.Memory.{octa_on}
 use Rattle.mx_mem.specs.declared.memory.Memory.TheInside.{Inside}
 
 indexed-same : (pages others : List (ℕ × List ℕ)) (places copies : BTreeMap ℕ ℕ) → others ≡ pages → copies.entries ≡ places.entries → Indexed pages places → Indexed others copies
@@ -20,7 +20,7 @@ copy-holds i j e f a b c h = record {
   indexed = indexed-same i.pages.items j.pages.items i.places j.places e f h.indexed;
   bounded = subst Bounded (sym e) h.bounded;
   count = ap length f ∙ h.count ∙ sym (ap length e);
-  fits = λ q. subst (λ ps. octa_at (view_of ps j.places.entries) q < 2 ^ 64) (sym e) (subst (λ es. octa_at (view_of i.pages.items es) q < 2 ^ 64) (sym f) (h.fits q));
+  fits = λ q. subst (λ ps. octa_on (view_of ps j.places.entries) q < 2 ^ 64) (sym e) (subst (λ es. octa_on (view_of i.pages.items es) q < 2 ^ 64) (sym f) (h.fits q));
   code = subst (λ n. IsKept n j.code_size j.code_place j.pages.items) (sym a) (subst (λ n. IsKept i.code_start n j.code_place j.pages.items) (sym b)
       (subst (λ n. IsKept i.code_start i.code_size n j.pages.items) (sym c) (subst (λ ps. IsKept i.code_start i.code_size i.code_place ps) (sym e) h.code)));
 }

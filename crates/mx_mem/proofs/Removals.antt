@@ -9,7 +9,7 @@ use Rattle.std.proofs.lemmas.Bool.{cases_eq}
 use Rattle.std.proofs.lemmas.Grind.{common_steps}
 use Rattle.mx_mem.specs.Dropping.{page_of, IsTakenAway, without_page, pages_without, count_without_page}
 use Rattle.mx_mem.specs.Held.{view_of, octas_in, number_in, Indexed, Bounded}
-use Rattle.mx_mem.specs.Memory.{Stored, octa_at, octa_in, has_page, page_count, stored_at, with_page}
+use Rattle.mx_mem.specs.Memory.{Stored, octa_at, octa_on, octa_in, has_page, page_on, count_on, stored_at, with_page}
 use Rattle.mx_mem.proofs.Fits.{Fits}
 use Rattle.mx_mem.proofs.Views.{octa_at-view, has_page-view, page_count-view, nonzero-paged}
 
@@ -174,39 +174,39 @@ is_some-page pages None = refl
 is_some-page pages (Some i) = refl
 
 left-octa : (pages left : List (ℕ × List ℕ)) (places after : BTreeMap ℕ ℕ) (n q : ℕ) → IsTakenAway pages places n left after →
-    octa_at (view_of left after.entries) q ≡ without_page (octa_at (view_of pages places.entries)) n q
+    octa_on (view_of left after.entries) q ≡ without_page (octa_on (view_of pages places.entries)) n q
 left-octa pages left places after n q t =
     octa_at-view left after q ∙ ap (λ o. octa_in o (q / 8 % 512)) (t.found (q / 4096)) ∙ octa_in-cond (eqb (q / 4096) n) (page_of pages places (q / 4096)) (q / 8 % 512)
     ∙ ap (λ x. cond (eqb (q / 4096) n) 0 x) (sym (octa_at-view pages places q))
 
-pub left-octas : (pages left : List (ℕ × List ℕ)) (places after : BTreeMap ℕ ℕ) (m : Stored) (n : ℕ) → IsTakenAway pages places n left after → view_of pages places.entries ≡ m →
-    octa_at (view_of left after.entries) ≡ without_page (octa_at m) n
-left-octas pages left places after m n t v = (λ i q. left-octa pages left places after n q t i) ∙ ap (λ s. without_page (octa_at s) n) v
+pub left-octas : (pages left : List (ℕ × List ℕ)) (places after : BTreeMap ℕ ℕ) (m : Stored) (n : ℕ) → IsTakenAway pages places n left after → view_of pages places.entries ≡ m.pages →
+    octa_on (view_of left after.entries) ≡ without_page (octa_at m) n
+left-octas pages left places after m n t v = (λ i q. left-octa pages left places after n q t i) ∙ ap (λ s. without_page (octa_on s) n) v
 
-pub left-fits : (pages left : List (ℕ × List ℕ)) (places after : BTreeMap ℕ ℕ) (n : ℕ) → IsTakenAway pages places n left after → Fits (octa_at (view_of pages places.entries)) → Fits (octa_at (view_of left after.entries))
+pub left-fits : (pages left : List (ℕ × List ℕ)) (places after : BTreeMap ℕ ℕ) (n : ℕ) → IsTakenAway pages places n left after → Fits (octa_on (view_of pages places.entries)) → Fits (octa_on (view_of left after.entries))
 left-fits pages left places after n t h = λ q. subst (λ x. x < 2 ^ 64) (sym (left-octa pages left places after n q t)) (by (eqb (q / 4096) n) q)
   where
-    by : (b : Bool) (q : ℕ) → cond b 0 (octa_at (view_of pages places.entries) q) < 2 ^ 64
+    by : (b : Bool) (q : ℕ) → cond b 0 (octa_on (view_of pages places.entries) q) < 2 ^ 64
     by true q = omega arith
     by false q = h q
 
 left-page : (pages left : List (ℕ × List ℕ)) (places after : BTreeMap ℕ ℕ) (n p : ℕ) → IsTakenAway pages places n left after →
-    has_page (view_of left after.entries) p ≡ pages_without (has_page (view_of pages places.entries)) n p
+    page_on (view_of left after.entries) p ≡ pages_without (page_on (view_of pages places.entries)) n p
 left-page pages left places after n p t =
     has_page-view left after p ∙ sym (is_some-page left (get nat_cmp after p)) ∙ ap is_some (t.found p) ∙ is_some-cond (eqb p n) (page_of pages places p)
     ∙ ap (λ x. cond (eqb p n) false x) (is_some-page pages (get nat_cmp places p) ∙ sym (has_page-view pages places p))
 
-pub left-pages : (pages left : List (ℕ × List ℕ)) (places after : BTreeMap ℕ ℕ) (m : Stored) (n : ℕ) → IsTakenAway pages places n left after → view_of pages places.entries ≡ m →
-    has_page (view_of left after.entries) ≡ pages_without (has_page m) n
-left-pages pages left places after m n t v = (λ i p. left-page pages left places after n p t i) ∙ ap (λ s. pages_without (has_page s) n) v
+pub left-pages : (pages left : List (ℕ × List ℕ)) (places after : BTreeMap ℕ ℕ) (m : Stored) (n : ℕ) → IsTakenAway pages places n left after → view_of pages places.entries ≡ m.pages →
+    page_on (view_of left after.entries) ≡ pages_without (has_page m) n
+left-pages pages left places after m n t v = (λ i p. left-page pages left places after n p t i) ∙ ap (λ s. pages_without (page_on s) n) v
 
-pub left-count : (pages left : List (ℕ × List ℕ)) (places after : BTreeMap ℕ ℕ) (m : Stored) (n : ℕ) → IsTakenAway pages places n left after → view_of pages places.entries ≡ m →
-    page_count (view_of left after.entries) ≡ count_without_page m n
+pub left-count : (pages left : List (ℕ × List ℕ)) (places after : BTreeMap ℕ ℕ) (m : Stored) (n : ℕ) → IsTakenAway pages places n left after → view_of pages places.entries ≡ m.pages →
+    count_on (view_of left after.entries) ≡ count_without_page m n
 left-count pages left places after m n t v =
     page_count-view left after ∙ t.fewer
     ∙ ap (λ b. cond b (length places.entries - 1) (length places.entries)) (sym (has_page-view pages places n))
-    ∙ ap (λ k. cond (has_page (view_of pages places.entries) n) (k - 1) k) (sym (page_count-view pages places))
-    ∙ ap (λ s. count_without_page s n) v
+    ∙ ap (λ k. cond (page_on (view_of pages places.entries) n) (k - 1) k) (sym (page_count-view pages places))
+    ∙ ap (λ s. cond (page_on s n) (count_on s - 1) (count_on s)) v
 
 -- what `take_away` does is to take a page away
 pub taken-away : (pages left : List (ℕ × List ℕ)) (places after : BTreeMap ℕ ℕ) (i n : ℕ) → Indexed pages places → length places.entries ≡ length pages → get nat_cmp places n ≡ Some i → Swaps pages i left →
@@ -232,10 +232,10 @@ absent-octa m a h = ⊎_elim (λ e. e) (λ ne. absurd (cc (nonzero-paged m a ne,
 
 -- an octa is that of all addresses in it
 same-octa : (m : Stored) (a q : ℕ) → q / 8 ≡ a / 8 → octa_at m a ≡ octa_at m q
-unfolding octa_at
+unfolding octa_on
 same-octa m a q e =
     let page : a / 4096 ≡ q / 4096 = omega (arith, e) in
-    ap (λ p. octa_in (lookup (is_at (nat_cmp p)) m) (a / 8 % 512)) page ∙ ap (λ k. octa_in (lookup (is_at (nat_cmp (q / 4096))) m) (k % 512)) (sym e)
+    ap (λ p. octa_in (lookup (is_at (nat_cmp p)) m.pages) (a / 8 % 512)) page ∙ ap (λ k. octa_in (lookup (is_at (nat_cmp (q / 4096))) m.pages) (k % 512)) (sym e)
 
 pub store-undone : (m : Stored) (a x : ℕ) → stored_at (stored_at (octa_at m) a x) a (octa_at m a) ≡ octa_at m
 store-undone m a x = λ i q. each q i

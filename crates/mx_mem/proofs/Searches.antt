@@ -11,14 +11,14 @@ use Rattle.mx_mem.proofs.Views.{octa-found}
 abbrev pub ZeroUpTo : Stored → ℕ → ℕ → Type 0
 ZeroUpTo m from at = (q : ℕ) → from ≤ q → q % 8 ≡ 0 → q / 8 < at → octa_at m q ≡ 0
 
-octa-zero : (pages : List (ℕ × List ℕ)) (places : BTreeMap ℕ ℕ) (m : Stored) (q : ℕ) → view_of pages places.entries ≡ m → get nat_cmp places (q / 4096) ≡ None → octa_at m q ≡ 0
+octa-zero : (pages : List (ℕ × List ℕ)) (places : BTreeMap ℕ ℕ) (m : Stored) (q : ℕ) → view_of pages places.entries ≡ m.pages → get nat_cmp places (q / 4096) ≡ None → octa_at m q ≡ 0
 octa-zero pages places m q v e = octa-found pages places m q None v (sym e)
 
-pub octa-on : (pages : List (ℕ × List ℕ)) (places : BTreeMap ℕ ℕ) (m : Stored) (q n place : ℕ) → view_of pages places.entries ≡ m → get nat_cmp places n ≡ Some place → q / 4096 ≡ n → octa_at m q ≡ get_or (octas_in pages place) (q / 8 % 512) 0
+pub octa-on : (pages : List (ℕ × List ℕ)) (places : BTreeMap ℕ ℕ) (m : Stored) (q n place : ℕ) → view_of pages places.entries ≡ m.pages → get nat_cmp places n ≡ Some place → q / 4096 ≡ n → octa_at m q ≡ get_or (octas_in pages place) (q / 8 % 512) 0
 octa-on pages places m q n place v e f = octa-found pages places m q (Some place) v (sym e ∙ ap (get nat_cmp places) (sym f))
 
 -- where an octa on the page stands from which on the page was searched
-module _ (pages : List (ℕ × List ℕ)) (places : BTreeMap ℕ ℕ) (m : Stored) (from at number place start : ℕ) (v : view_of pages places.entries ≡ m) (zeros : ZeroUpTo m from at)
+module _ (pages : List (ℕ × List ℕ)) (places : BTreeMap ℕ ℕ) (m : Stored) (from at number place start : ℕ) (v : view_of pages places.entries ≡ m.pages) (zeros : ZeroUpTo m from at)
     (found : get nat_cmp places number ≡ Some place) (later : at / 512 ≤ number) (between : (p : ℕ) → at / 512 ≤ p → p < number → get nat_cmp places p ≡ None)
     (low : at ≤ start) (first : 512 * number ≤ start) (least : (start ≡ at) ⊎ (start ≡ 512 * number)) where
   pub zero-before : ZeroUpTo m from (512 * number)
@@ -37,6 +37,6 @@ module _ (pages : List (ℕ × List ℕ)) (places : BTreeMap ℕ ℕ) (m : Store
       on-page s = ⊎_elim (λ t. zeros q f w t)
           (λ t. octa-on pages places m q number place v found (page s) ∙ none (q / 8 % 512) (reached s t) (omega arith)) (cases_lt (q / 8) at)
 
-pub zero-after : (pages : List (ℕ × List ℕ)) (places : BTreeMap ℕ ℕ) (m : Stored) (from at : ℕ) → view_of pages places.entries ≡ m → ZeroUpTo m from at → ((p : ℕ) → at / 512 ≤ p → get nat_cmp places p ≡ None) →
+pub zero-after : (pages : List (ℕ × List ℕ)) (places : BTreeMap ℕ ℕ) (m : Stored) (from at : ℕ) → view_of pages places.entries ≡ m.pages → ZeroUpTo m from at → ((p : ℕ) → at / 512 ≤ p → get nat_cmp places p ≡ None) →
     (q : ℕ) → from ≤ q → q % 8 ≡ 0 → octa_at m q ≡ 0
 zero-after pages places m from at v zeros none q f w = ⊎_elim (λ s. zeros q f w s) (λ s. octa-zero pages places m q v (none (q / 4096) (omega arith))) (cases_lt (q / 8) at)

@@ -8,7 +8,7 @@ use Rattle.std.specs.BTreeMap.{BTreeMap, get}
 use Rattle.std.proofs.lemmas.Bool.{cases_eq}
 use Rattle.std.proofs.lemmas.Grind.{common_steps}
 use Rattle.std.proofs.lemmas.List.{get_or_read, get_or-set_same, get_or-set_other, length-set}
-use Rattle.mx_mem.specs.Memory.{Stored, octa_in, octa_at, has_page, page_count, stored_at, with_page}
+use Rattle.mx_mem.specs.Memory.{Stored, octa_in, octa_at, octa_on, has_page, page_on, page_count, count_on, stored_at, with_page}
 use Rattle.mx_mem.specs.Held.{view_of, octas_in, number_in, Indexed, Bounded, IsKept}
 use Rattle.mx_mem.proofs.Views.{octa_at-view, has_page-view, page_count-view}
 
@@ -83,14 +83,14 @@ found-within pages places place n ix e = (ix.placed n place (sym e)).0
 one-number : (pages : List (ℕ × List ℕ)) (places : BTreeMap ℕ ℕ) (place n p : ℕ) → Indexed pages places → Some place ≡ get nat_cmp places n → get nat_cmp places p ≡ Some place → p ≡ n
 one-number pages places place n p ix e f = sym (ix.placed p place f).1 ∙ (ix.placed n place (sym e)).1
 
-stored-point : (pages : List (ℕ × List ℕ)) (places : BTreeMap ℕ ℕ) (m : Stored) (a x place q : ℕ) → Indexed pages places → Bounded pages → view_of pages places.entries ≡ m → Some place ≡ get nat_cmp places (a / 4096) →
-    octa_at (view_of (rewritten pages place (a / 8 % 512) x) places.entries) q ≡ stored_at (octa_at m) a x q
+stored-point : (pages : List (ℕ × List ℕ)) (places : BTreeMap ℕ ℕ) (m : Stored) (a x place q : ℕ) → Indexed pages places → Bounded pages → view_of pages places.entries ≡ m.pages → Some place ≡ get nat_cmp places (a / 4096) →
+    octa_on (view_of (rewritten pages place (a / 8 % 512) x) places.entries) q ≡ stored_at (octa_at m) a x q
 stored-point pages places m a x place q ix b v e = ⊎_elim (λ s. inside s) (λ ne. outside ne) (cases_eq (q / 8) (a / 8))
   where
     new : List (ℕ × List ℕ)
     new = rewritten pages place (a / 8 % 512) x
 
-    inside : q / 8 ≡ a / 8 → octa_at (view_of new places.entries) q ≡ stored_at (octa_at m) a x q
+    inside : q / 8 ≡ a / 8 → octa_on (view_of new places.entries) q ≡ stored_at (octa_at m) a x q
     inside s =
         let l = found-within pages places place (a / 4096) ix e in
         let page : q / 4096 ≡ a / 4096 = omega arith in
@@ -104,7 +104,7 @@ stored-point pages places m a x place q ix b v e = ⊎_elim (λ s. inside s) (λ
         ∙ rewritten-here pages place (a / 8 % 512) x l long
         ∙ sym whole
 
-    outside : (q / 8 ≡ a / 8 → ⊥) → octa_at (view_of new places.entries) q ≡ stored_at (octa_at m) a x q
+    outside : (q / 8 ≡ a / 8 → ⊥) → octa_on (view_of new places.entries) q ≡ stored_at (octa_at m) a x q
     outside ne =
         let l = found-within pages places place (a / 4096) ix e in
         let whole : stored_at (octa_at m) a x q ≡ octa_at m q = grind (arith, common_steps) in
@@ -112,22 +112,22 @@ stored-point pages places m a x place q ix b v e = ⊎_elim (λ s. inside s) (λ
         octa_at-view new places q
         ∙ rewritten-elsewhere pages place (a / 8 % 512) x (get nat_cmp places (q / 4096)) (q / 8 % 512) l apart
         ∙ sym (octa_at-view pages places q)
-        ∙ ap (λ s. octa_at s q) v
+        ∙ ap (λ s. octa_on s q) v
         ∙ sym whole
 
-pub stored-octas : (pages : List (ℕ × List ℕ)) (places : BTreeMap ℕ ℕ) (m : Stored) (a x place : ℕ) → Indexed pages places → Bounded pages → view_of pages places.entries ≡ m → Some place ≡ get nat_cmp places (a / 4096) →
-    octa_at (view_of (rewritten pages place (a / 8 % 512) x) places.entries) ≡ stored_at (octa_at m) a x
+pub stored-octas : (pages : List (ℕ × List ℕ)) (places : BTreeMap ℕ ℕ) (m : Stored) (a x place : ℕ) → Indexed pages places → Bounded pages → view_of pages places.entries ≡ m.pages → Some place ≡ get nat_cmp places (a / 4096) →
+    octa_on (view_of (rewritten pages place (a / 8 % 512) x) places.entries) ≡ stored_at (octa_at m) a x
 stored-octas pages places m a x place ix b v e = λ i q. stored-point pages places m a x place q ix b v e i
 
 -- the pages stay as they are
-pub stored-there : (pages : List (ℕ × List ℕ)) (places : BTreeMap ℕ ℕ) (m : Stored) (n place : ℕ) → view_of pages places.entries ≡ m → Some place ≡ get nat_cmp places n → has_page m n ≡ true
-stored-there pages places m n place v e = ap (λ s. has_page s n) (sym v) ∙ has_page-view pages places n ∙ ap is_some (sym e)
+pub stored-there : (pages : List (ℕ × List ℕ)) (places : BTreeMap ℕ ℕ) (m : Stored) (n place : ℕ) → view_of pages places.entries ≡ m.pages → Some place ≡ get nat_cmp places n → has_page m n ≡ true
+stored-there pages places m n place v e = ap (λ s. page_on s n) (sym v) ∙ has_page-view pages places n ∙ ap is_some (sym e)
 
-stored-pages-at : (pages : List (ℕ × List ℕ)) (places : BTreeMap ℕ ℕ) (m : Stored) (n i x place q : ℕ) → view_of pages places.entries ≡ m → Some place ≡ get nat_cmp places n →
-    has_page (view_of (rewritten pages place i x) places.entries) q ≡ with_page (has_page m) n q
+stored-pages-at : (pages : List (ℕ × List ℕ)) (places : BTreeMap ℕ ℕ) (m : Stored) (n i x place q : ℕ) → view_of pages places.entries ≡ m.pages → Some place ≡ get nat_cmp places n →
+    page_on (view_of (rewritten pages place i x) places.entries) q ≡ with_page (has_page m) n q
 stored-pages-at pages places m n i x place q v e =
-    let same : has_page (view_of (rewritten pages place i x) places.entries) q ≡ has_page m q =
-    has_page-view (rewritten pages place i x) places q ∙ sym (has_page-view pages places q) ∙ ap (λ s. has_page s q) v in
+    let same : page_on (view_of (rewritten pages place i x) places.entries) q ≡ has_page m q =
+    has_page-view (rewritten pages place i x) places q ∙ sym (has_page-view pages places q) ∙ ap (λ s. page_on s q) v in
     let there = stored-there pages places m n place v e in
     same ∙ ⊎_elim (λ f. (ap (has_page m) f ∙ there) ∙ sym (with-here f)) (λ ne. sym (with-other ne)) (cases_eq q n)
   where
@@ -137,12 +137,12 @@ stored-pages-at pages places m n i x place q v e =
     with-other : (q ≡ n → ⊥) → with_page (has_page m) n q ≡ has_page m q
     with-other ne = grind (arith, common_steps)
 
-pub stored-pages : (pages : List (ℕ × List ℕ)) (places : BTreeMap ℕ ℕ) (m : Stored) (n i x place : ℕ) → view_of pages places.entries ≡ m → Some place ≡ get nat_cmp places n →
-    has_page (view_of (rewritten pages place i x) places.entries) ≡ with_page (has_page m) n
+pub stored-pages : (pages : List (ℕ × List ℕ)) (places : BTreeMap ℕ ℕ) (m : Stored) (n i x place : ℕ) → view_of pages places.entries ≡ m.pages → Some place ≡ get nat_cmp places n →
+    page_on (view_of (rewritten pages place i x) places.entries) ≡ with_page (has_page m) n
 stored-pages pages places m n i x place v e = λ j q. stored-pages-at pages places m n i x place q v e j
 
-pub stored-count : (pages : List (ℕ × List ℕ)) (places : BTreeMap ℕ ℕ) (m : Stored) (i x place : ℕ) → view_of pages places.entries ≡ m → page_count (view_of (rewritten pages place i x) places.entries) ≡ page_count m
-stored-count pages places m i x place v = page_count-view (rewritten pages place i x) places ∙ sym (page_count-view pages places) ∙ ap page_count v
+pub stored-count : (pages : List (ℕ × List ℕ)) (places : BTreeMap ℕ ℕ) (m : Stored) (i x place : ℕ) → view_of pages places.entries ≡ m.pages → count_on (view_of (rewritten pages place i x) places.entries) ≡ page_count m
+stored-count pages places m i x place v = page_count-view (rewritten pages place i x) places ∙ sym (page_count-view pages places) ∙ ap count_on v
 
 -- a page that was read, rewritten and put back
 pub rewritten-by : (pages : List (ℕ × List ℕ)) (place i x : ℕ) (old new : ℕ × List ℕ) → place < length pages → old ≡ get_or pages place old → new ≡ (old.0, set old.1 i x) → set pages place new ≡ rewritten pages place i x
@@ -151,5 +151,5 @@ rewritten-by pages place i x old new l e f =
     ap (set pages place) (f ∙ ap (λ (p : ℕ × List ℕ). (p.0, set p.1 i x)) read)
 
 -- a page that is not found is not there
-pub stored-new : (pages : List (ℕ × List ℕ)) (places : BTreeMap ℕ ℕ) (m : Stored) (n : ℕ) → view_of pages places.entries ≡ m → None ≡ get nat_cmp places n → has_page m n ≡ false
-stored-new pages places m n v e = ap (λ s. has_page s n) (sym v) ∙ has_page-view pages places n ∙ ap is_some (sym e)
+pub stored-new : (pages : List (ℕ × List ℕ)) (places : BTreeMap ℕ ℕ) (m : Stored) (n : ℕ) → view_of pages places.entries ≡ m.pages → None ≡ get nat_cmp places n → has_page m n ≡ false
+stored-new pages places m n v e = ap (λ s. page_on s n) (sym v) ∙ has_page-view pages places n ∙ ap is_some (sym e)

@@ -15,11 +15,16 @@ abbrev pub octas_in : List (ℕ × List ℕ) → ℕ → List ℕ
 octas_in pages i = (slice_index_or pages i (0, [])).1
 
 -- what contracts see of the pages and their places
-abbrev pub view_of : List (ℕ × List ℕ) → List (ℕ × ℕ) → Stored
+abbrev pub view_of : List (ℕ × List ℕ) → List (ℕ × ℕ) → List (ℕ × List ℕ)
 view_of pages places = map (λ e. (e.0, octas_in pages e.1)) places
 
 abbrev pub stored : Inside → Stored
-stored m = view_of m.pages.items m.places.entries
+stored m = record {
+  pages = view_of m.pages.items m.places.entries;
+  code_start = m.code_start;
+  code_size = m.code_size;
+  code_place = m.code_place;
+}
 
 -- each page is found at its place, and what is found is its place
 pub record Indexed (pages : List (ℕ × List ℕ)) (places : BTreeMap ℕ ℕ) : Type 0 where
@@ -34,7 +39,7 @@ pub record Bounded (pages : List (ℕ × List ℕ)) : Type 0 where
 
 -- a first address, a size and a place that are kept: of a low page that is there, unless the size is 0
 abbrev pub IsKept : ℕ → ℕ → ℕ → List (ℕ × List ℕ) → Type 0
-IsKept start size place pages = 0 < size → (size ≤ 4096) × (place < length pages) × (number_in pages place < low_pages)
+IsKept start size place pages = 0 < size → (size ≡ 4096) × (place < length pages) × (number_in pages place < low_pages)
     × (4096 * number_in pages place ≡ start)
 
 pub record Holds (m : Inside) : Type 0 where

@@ -1,6 +1,6 @@
 //! Memory as pages that are found by their numbers.
 
-ghost use Rattle.std.specs.Prelude.{◌≡◌, ◌≢◌, ◌↔◌, ◌≤◌, ◌<◌, ◌+◌, ◌/◌, ◌^◌, ◌==◌, ◌++◌, ◌∷◌, [], ℕ, List, length};
+ghost use Rattle.std.specs.Prelude.{◌≡◌, ◌≢◌, ◌↔◌, ◌≤◌, ◌<◌, ◌+◌, ◌*◌, ◌/◌, ◌^◌, ◌==◌, ◌++◌, ◌∷◌, [], ℕ, List, length};
 ghost use Rattle.std.specs.Prelude.{false, IfSome, IsTrue, IsOk, OnOk, OnErr, if◌then◌else◌};
 ghost use Rattle.std.specs.Ordering.{nat_cmp};
 ghost use Rattle.std.specs.List.Sorted.{IsStrictlySortedBy};
@@ -10,7 +10,7 @@ ghost use Rattle.mx_mem.specs.Parts as spec;
 ghost use Rattle.mx_mem.specs.Parts.{bytes_with_part};
 ghost use Rattle.mx_mem.specs.Memory.{octa_at, byte_at, tetra_at, page_numbers, has_page, page_count};
 ghost use Rattle.mx_mem.specs.Memory.{is_refused, with_page, count_with_page, stored_at, stored_bytes, in_half};
-ghost use Rattle.mx_mem.specs.Memory.{with_tetra, bytes_with_tetra, IsNextNonzero};
+ghost use Rattle.mx_mem.specs.Memory.{with_tetra, bytes_with_tetra, IsCode, IsNextNonzero, KeepsCode};
 
 mod copy;
 
@@ -61,7 +61,7 @@ impl Model for Memory {
     ghost invariant = { Holds };
 }
 
-#[tactic(auto, unfolding(crate::specs::Memory::octa_at, crate::specs::Memory::has_page, crate::specs::Memory::page_count))]
+#[tactic(auto, unfolding(crate::specs::Memory::octa_on, crate::specs::Memory::page_on, crate::specs::Memory::count_on))]
 impl Memory {
     /// Memory in which nothing was stored, with no page. It takes no memory.
     pub fn new(alloc: Global) -> Memory
@@ -108,7 +108,7 @@ impl Memory {
     /// Keeps the place of the page where `tetra` found the last instruction, if that is a low one: `near_tetra` is
     /// quick there from now on.
     pub fn keep_code(&mut self)
-        ensures { self.new ≡ self.old }
+        ensures { self.new.pages ≡ self.old.pages }
     {
         let place = self.code.get();
         if place < self.pages.len() {
@@ -133,6 +133,51 @@ impl Memory {
         } else {
             None
         }
+    }
+
+    /// The number of the instruction at an address, of the 1,024 of the page that is kept; nothing for an address that is not
+    /// on it.
+    #[inline(always)]
+    pub fn find_kept(&self, a: u64) -> Option<u64>
+        ensures code { IfSome result (λ _. IsCode self.now) }
+        ensures within { IfSome result (λ k. k < 1024) }
+        ensures at { IfSome result (λ k. a / 4 * 4 ≡ self.now.code_start + 4 * k) }
+    {
+        let within = a.wrapping_sub(self.code_start);
+        if within < self.code_size {
+            Some(within / 4)
+        } else {
+            None
+        }
+    }
+
+    /// The instruction with a number of the page that is kept, whose place is given, as `tetra` gives it; 0 for the number
+    /// 1,024.
+    #[inline(always)]
+    pub fn read_kept(&self, place: usize, k: u64) -> u32
+        requires code { IsCode self.now }
+        requires place { place ≡ self.now.code_place }
+        requires range { k ≤ 1024 }
+        ensures value { k < 1024 → result ≡ tetra_at self.now (self.now.code_start + 4 * k) }
+        ensures end { k ≡ 1024 → result ≡ 0 }
+    {
+        self.pages[place].numbered_tetra(k as usize)
+    }
+
+    /// The first address of the page that is kept.
+    #[inline(always)]
+    pub fn kept_start(&self) -> u64
+        ensures { result ≡ self.now.code_start }
+    {
+        self.code_start
+    }
+
+    /// The place of the page that is kept, for `read_kept`.
+    #[inline(always)]
+    pub fn kept_place(&self) -> usize
+        ensures { result ≡ self.now.code_place }
+    {
+        self.code_place
     }
 
     /// The octa that `load` gives, where its page is a low one and is at the place that is remembered for it; else
@@ -174,6 +219,7 @@ impl Memory {
         ensures there { IsTrue result → IsTrue (has_page self.old (a / 4096)) }
         ensures low { IsTrue result → a / 4096 < low_pages }
         ensures unmade { result ≡ false → self.new ≡ self.old }
+        ensures code { KeepsCode self.old self.new }
     {
         let place = self.guesses[guess_index(a / PAGE)].get();
         match check_low_place(&self.pages, &self.places, place, a / PAGE) {

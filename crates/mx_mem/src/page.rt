@@ -1,6 +1,6 @@
 //! One page of memory.
 
-ghost use Rattle.std.specs.Prelude.{◌≡◌, ◌≤◌, ◌<◌, ◌/◌, ◌%◌, ◌^◌, ℕ, IfOk, IsTrue, replicate, slice_index, slice_index_or, slice_set};
+ghost use Rattle.std.specs.Prelude.{◌≡◌, ◌≤◌, ◌<◌, ◌*◌, ◌/◌, ◌%◌, ◌^◌, ℕ, IfOk, IsTrue, replicate, slice_index, slice_index_or, slice_set};
 ghost use Rattle.mx_mem.specs.Memory.{tetra_of};
 ghost use Rattle.mx_mem.specs.Count.{IsNextIn};
 ghost use Rattle.mx_mem.specs.Low.{IsLowNumber, low_pages};
@@ -18,8 +18,8 @@ use std::marker::Model;
 /// How many octas a page has.
 pub const OCTAS: usize = 512;
 
-/// How many tetras a page has.
-const TETRAS: usize = 1024;
+/// How many tetras are kept of a page: its 1,024, and one of 0 after them.
+const TETRAS: usize = 1025;
 
 /// How many pages are below Stack_Segment, which begins at 6 times 2^60: these are the low ones.
 pub const LOW_PAGES: u64 = 0x6_0000_0000_0000;
@@ -31,7 +31,8 @@ pub struct Page {
     sheet: Box<Sheet>,
 }
 
-/// What a page has: its octas are kept as tetras, the high one of each octa first, since an instruction is a tetra.
+/// What a page has: its octas are kept as tetras, the high one of each octa first, since an instruction is a tetra. A tetra
+/// of 0 comes after them, so that instructions are read one after another without a test for the end.
 #[derive(Drop)]
 struct Sheet {
     number: u64,
@@ -43,7 +44,7 @@ struct Sheet {
 }
 
 impl Model for Page {
-    ghost use Rattle.std.specs.Prelude.{◌≡◌, ℕ, List, length};
+    ghost use Rattle.std.specs.Prelude.{◌≡◌, ℕ, List, slice_index_or};
     ghost use Rattle.mx_mem.specs.Count.{AreAtMost};
     ghost use Rattle.mx_mem.specs.Low.{IsLowNumber};
     ghost use Rattle.mx_mem.specs.Tetras.{octas_of};
@@ -53,7 +54,8 @@ impl Model for Page {
     ghost view = { λ p. (p.sheet.value.number, octas_of p.sheet.value.tetras) };
 
     ghost invariant = { λ p. AreAtMost p.sheet.value.most (octas_of p.sheet.value.tetras)
-        × IsLowNumber p.sheet.value.low p.sheet.value.number };
+        × IsLowNumber p.sheet.value.low p.sheet.value.number
+        × (slice_index_or p.sheet.value.tetras 1024 0 ≡ 0) };
 }
 
 #[tactic(auto, using(crate::proofs::Counts::counts, crate::proofs::Tetras::tetras))]
@@ -116,6 +118,16 @@ impl Page {
         ensures { result ≡ tetra_of (slice_index_or self.now.1 (a / 8 % 512) 0) a }
     {
         tetra_in(&self.sheet.tetras, a)
+    }
+
+    /// The tetra with a number below 1,024; 0 for the number 1,024.
+    #[inline(always)]
+    pub fn numbered_tetra(&self, k: usize) -> u32
+        requires { k ≤ 1024 }
+        ensures value { k < 1024 → result ≡ tetra_of (slice_index_or self.now.1 (4 * k / 8 % 512) 0) (4 * k) }
+        ensures end { k ≡ 1024 → result ≡ 0 }
+    {
+        read_numbered(&self.sheet.tetras, k)
     }
 
     /// Puts an octa at a place below 512.
@@ -197,6 +209,17 @@ fn tetra_in(tetras: &[u32; TETRAS], a: u64) -> u32
     tetras[(a / 4 % 1024) as usize]
 }
 
+/// Of the tetras of a page, the one with a number, at most 1,024.
+#[inline(always)]
+fn read_numbered(tetras: &[u32; TETRAS], k: usize) -> u32
+    requires { k ≤ 1024 }
+    ensures value { k < 1024 → result ≡ tetra_of (slice_index_or (octas_of tetras.now) (4 * k / 8 % 512) 0) (4 * k) }
+    ensures end { k ≡ 1024 → result ≡ slice_index_or tetras.now 1024 0 }
+{
+    know_tetras(tetras.as_slice());
+    tetras[k]
+}
+
 /// Tells that each item of a slice of tetras is below 2^32. It does nothing.
 #[inline(always)]
 fn know_tetras(tetras: &[u32])
@@ -208,8 +231,9 @@ fn know_tetras(tetras: &[u32])
 /// A tetra in place of the one of a page that holds an address.
 #[inline(always)]
 fn put_tetra_in(tetras: &mut [u32; TETRAS], a: u64, t: u32)
-    ensures { octas_of tetras.new ≡ slice_set (octas_of tetras.old) (a / 8 % 512)
+    ensures octas { octas_of tetras.new ≡ slice_set (octas_of tetras.old) (a / 8 % 512)
         (with_part Part.Tetra (slice_index_or (octas_of tetras.old) (a / 8 % 512) 0) a t) }
+    ensures last { slice_index_or tetras.new 1024 0 ≡ slice_index_or tetras.old 1024 0 }
 {
     know_tetras(tetras.as_slice());
     tetras[(a / 4 % 1024) as usize] = t;
@@ -219,7 +243,8 @@ fn put_tetra_in(tetras: &mut [u32; TETRAS], a: u64, t: u32)
 #[inline(always)]
 fn put_octa(tetras: &mut [u32; TETRAS], at: usize, x: u64)
     requires { at < 512 }
-    ensures { octas_of tetras.new ≡ slice_set (octas_of tetras.old) at x }
+    ensures octas { octas_of tetras.new ≡ slice_set (octas_of tetras.old) at x }
+    ensures last { slice_index_or tetras.new 1024 0 ≡ slice_index_or tetras.old 1024 0 }
 {
     tetras[2 * at] = (x / (1 << 32)) as u32;
     tetras[2 * at + 1] = (x % (1 << 32)) as u32;

@@ -92,7 +92,7 @@ pub static COMMANDS: [Row; 9] = [
             Word {
                 id: "NO_WARNINGS",
                 form: Form::Flag("no-warnings"),
-                help: "leaves out warnings of what is legal but hardly meant",
+                help: "leaves out warnings of what is legal but probably not intended",
             },
             Word {
                 id: "SRC",

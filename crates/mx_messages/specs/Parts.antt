@@ -53,7 +53,7 @@ stop_rows = map (λ e. row e.0 e.1.now e.2.now e.3.now e.4.now) STOPS
 unfoldable pub trap_rows : List Row
 trap_rows = map (λ e. row e.0 e.1.now e.2.now e.3.now e.4.now) TRAPS
 
--- kinds of faulty words
+-- command-line errors
 unfoldable pub kind_rows : List Row
 kind_rows = map (λ e. row e.0 e.1.now e.2.now e.3.now e.4.now) KINDS
 

@@ -1,8 +1,8 @@
-//! The kinds of faulty words.
+//! Command-line errors.
 
 use mx_explain::{Entry, Topic};
 
-/// Kinds of faulty words.
+/// Command-line errors.
 pub(crate) static KINDS: [Entry; 9] = [
     (
         Topic::Kind(1),

@@ -1,4 +1,4 @@
-//! What the programs print, each number explained in a row: faults, warnings, reasons of a stop, kinds of faulty words, and exit
+//! What the programs print, each number explained in a row: faults, warnings, reasons of a stop, command-line errors, and exit
 //! statuses.
 #![tactic(auto)]
 

@@ -101,7 +101,7 @@ pub fn trap_rows() -> &'static [Entry]
     &TRAPS
 }
 
-/// Kinds of faulty words.
+/// Command-line errors.
 #[tactic(auto, unfolding(crate::specs::Parts::kind_rows))]
 pub fn kind_rows() -> &'static [Entry]
     ensures { map (λ e. row e.0 e.1.now e.2.now e.3.now e.4.now) result.now ≡ spec.kind_rows }

@@ -70,8 +70,8 @@ pub(crate) static EXPRESSIONS: [Entry; 11] = [
     (
         Topic::Source(10),
         "",
-        "The operands are no list of expressions. There are no blanks in operands:\n\
-        what follows a blank is a comment. Numbers are decimal, or hexadecimal after\n\
+        "The operands are no list of expressions. Operands contain no blanks: what\n\
+        follows a blank is a comment. Numbers are decimal, or hexadecimal after\n\
         #; an operand such as 2B or 2F is a local label, and 2H never is one.",
         " BYTE 1,,2",
         " BYTE 1,0,2",
@@ -237,9 +237,10 @@ pub(crate) static PLACES: [Entry; 6] = [
         Topic::Source(44),
         "",
         "An address in memory is reached from a register that holds one at most 255\n\
-        below it, and no GREG so far gives such a register. Write GREG @ in front of\n\
-        the data, and another one for every 256 bytes. The address of a text in the\n\
-        program itself is put into a register by GETA.",
+        below it, and no GREG so far gives such a register. Write GREG @ right in\n\
+        front of the data, after their LOC, and another one for every 256 bytes. The\n\
+        address of a text in the program itself is put into a register by GETA. A\n\
+        number alone is an address, too: SET $1,5 makes the number 5.",
         " LDO $0,Data_Segment",
         " LOC Data_Segment; GREG @;k OCTA 5; LOC #100; LDO $0,k",
     ),
@@ -248,7 +249,9 @@ pub(crate) static PLACES: [Entry; 6] = [
         "",
         "A branch reaches from 65,536 instructions before to 65,535 after its own\n\
         place, and this target is further away. JMP reaches 256 times as far, so\n\
-        branch around one on the opposite condition; GO reaches everything.",
+        branch around one on the opposite condition; GO reaches everything. GETA\n\
+        reaches as far as a branch. For the address of data that are further away\n\
+        use LDA, with GREG @ in front of the data.",
         " BZ $0,@+4*65536",
         " BNZ $0,@+8; JMP @+4*65535",
     ),
@@ -335,7 +338,8 @@ pub(crate) static SOURCES: [Entry; 11] = [
         "",
         "An earlier line branches to this label, and it is further away than a branch\n\
         reaches: 65,535 instructions ahead. Branch around a JMP, which reaches 256\n\
-        times as far.",
+        times as far. If it is GETA that takes the address of data, put the data\n\
+        above this line, with GREG @ in front of them, and use LDA.",
         "Main BZ $0,x; LOC 4*65536;x SWYM 0",
         "Main BNZ $0,@+8; JMP x; LOC 4*65536;x SWYM 0",
     ),

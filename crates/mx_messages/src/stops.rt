@@ -8,7 +8,8 @@ pub(crate) static STOPS: [Entry; 9] = [
         Topic::Stop(110),
         "",
         "An instruction on floating-point numbers, which this machine does not\n\
-        perform.",
+        perform. If the source has no such line, data may have run as instructions,\n\
+        or a store hit the program.",
         "Main FADD $0,$1,$2",
         "Main ADD $0,$1,$2; TRAP 0,Halt,0",
     ),

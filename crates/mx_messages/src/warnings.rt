@@ -3,7 +3,7 @@
 use mx_explain::{Entry, Topic};
 
 /// Warnings of a source.
-pub(crate) static WARNINGS: [Entry; 9] = [
+pub(crate) static WARNINGS: [Entry; 13] = [
     (
         Topic::Warning(1),
         "OperatorAfterBlank",
@@ -28,7 +28,7 @@ pub(crate) static WARNINGS: [Entry; 9] = [
         "NoLabelBefore",
         "An operand such as 1B means the last label 1H before it. There is none, so\n\
         that 1B is 0, and the jump goes to address 0. For the next label 1H write\n\
-        1F.",
+        1F. A label of the same line does not count: for this line itself write @.",
         "Main JMP 1B;1H TRAP 0,Halt,0",
         "Main JMP 1F;1H TRAP 0,Halt,0",
     ),
@@ -88,5 +88,42 @@ pub(crate) static WARNINGS: [Entry; 9] = [
         it.",
         "Main PUSHJ $0,A; TRAP 0,Halt,0;A PUSHJ $0,B; POP 0,0;B POP 0,0",
         "Main PUSHJ $0,A; TRAP 0,Halt,0;A GET $0,rJ; PUSHJ $1,B; PUT rJ,$0; POP 0,0;B POP 0,0",
+    ),
+    (
+        Topic::Warning(10),
+        "TrapOperands",
+        "A service is called by 0, its name, and the handle of a file: TRAP\n\
+        0,Fputs,StdOut. With two operands the second one is taken for Z, and Y is 0.\n\
+        A number other than 0 in front calls no service either, and the run stops\n\
+        with 124.",
+        "Main GETA $255,Text; TRAP 0,Fputs; TRAP 0,Halt,0;Text BYTE \"hi\",0",
+        "Main GETA $255,Text; TRAP 0,Fputs,StdOut; TRAP 0,Halt,0;Text BYTE \"hi\",0",
+    ),
+    (
+        Topic::Warning(11),
+        "EndlessJump",
+        "@ is the address of the instruction itself, and so is the label of its line.\n\
+        The jump goes there again and again, until the run has made all its steps.\n\
+        End the program by TRAP 0,Halt,0.",
+        "Main JMP @",
+        "Main TRAP 0,Halt,0",
+    ),
+    (
+        Topic::Warning(12),
+        "FloatInstruction",
+        "The assembler knows the instructions on floating-point numbers, but this\n\
+        machine does not perform them: a run stops with 110. Compute with whole\n\
+        numbers.",
+        "Main FADD $0,$1,$2",
+        "Main ADD $0,$1,$2",
+    ),
+    (
+        Topic::Warning(13),
+        "NarrowLabel",
+        "LDO loads the eight bytes from a multiple of 8 on, and not only the four of\n\
+        a TETRA or the two of a WYDE. LDT and LDW load those, and STT and STW store\n\
+        them.",
+        " LOC Data_Segment; GREG @;k TETRA 5; LOC #100;Main LDO $255,k",
+        " LOC Data_Segment; GREG @;k TETRA 5; LOC #100;Main LDT $255,k",
     ),
 ];

@@ -3,6 +3,8 @@
 ghost use Rattle.std.specs.Prelude.{◌≡◌};
 ghost use Rattle.mx_mmo.specs.Faults.{number_of, place_of};
 
+use mx_word::NoMemory;
+
 /// Why an object is refused, each with a byte place in the object.
 #[derive(Clone, Copy, Debug, PartialEq, Eq)]
 pub enum MmoFault {
@@ -52,5 +54,15 @@ impl MmoFault {
             | MmoFault::TooLong(place) => Some(*place),
             MmoFault::OutOfMemory => None,
         }
+    }
+}
+
+impl From<NoMemory> for MmoFault {
+    ghost use Rattle.mx_mmo.specs.declared.faults.MmoFault.TheVariants.{OutOfMemory};
+
+    ghost from_gives = { λ _ fault. fault ≡ OutOfMemory };
+
+    fn from(_error: NoMemory) -> MmoFault {
+        MmoFault::OutOfMemory
     }
 }

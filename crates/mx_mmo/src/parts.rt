@@ -1,42 +1,36 @@
 //! What follows a lopcode: tetras, octas, addresses and names.
 
-ghost use Rattle.std.specs.Prelude.{◌≡◌, ◌≢◌, ◌+◌, length};
+ghost use Rattle.std.specs.Prelude.{◌≡◌, ◌≢◌, ◌+◌, IfOk, length};
 ghost use Rattle.mx_mmo.specs.Reading as spec;
 
 use crate::{Item, MmoFault, Octas, Words};
-use mx_word::{Bytes, octa_of, tetra_of};
+use mx_word::{Bytes, NoMemory, octa_of, tetra_of};
 use std::alloc::Global;
 
 /// An item with how many bytes it takes; nothing where it is not whole yet.
 pub type Due = Result<Option<(Item, usize)>, MmoFault>;
 
 /// The tetras of bytes; one to three bytes at the end tell none.
-fn tetras_of(alloc: Global, bytes: &[u8]) -> Result<Words, MmoFault>
-    ensures { result ≢ Err MmoFault.OutOfMemory → result ≡ Ok (spec.tetras_of bytes.now) }
+fn tetras_of(alloc: Global, bytes: &[u8]) -> Result<Words, NoMemory>
+    ensures { IfOk result (λ tetras. tetras ≡ spec.tetras_of bytes.now) }
 {
     let mut tetras = Words::new(alloc);
     let mut rest = bytes;
     while let [a, b, c, d, others @ ..] = rest {
-        match tetras.push(tetra_of([*a, *b, *c, *d])) {
-            Ok(()) => {}
-            Err(_) => return Err(MmoFault::OutOfMemory),
-        }
+        tetras.push(tetra_of([*a, *b, *c, *d]))?;
         rest = others;
     }
     Ok(tetras)
 }
 
 /// The octas of bytes; one to seven bytes at the end tell none.
-fn octas_of(alloc: Global, bytes: &[u8]) -> Result<Octas, MmoFault>
-    ensures { result ≢ Err MmoFault.OutOfMemory → result ≡ Ok (spec.octas_of bytes.now) }
+fn octas_of(alloc: Global, bytes: &[u8]) -> Result<Octas, NoMemory>
+    ensures { IfOk result (λ octas. octas ≡ spec.octas_of bytes.now) }
 {
     let mut octas = Octas::new(alloc);
     let mut rest = bytes;
     while let [a, b, c, d, e, f, g, h, others @ ..] = rest {
-        match octas.push(octa_of([*a, *b, *c, *d, *e, *f, *g, *h])) {
-            Ok(()) => {}
-            Err(_) => return Err(MmoFault::OutOfMemory),
-        }
+        octas.push(octa_of([*a, *b, *c, *d, *e, *f, *g, *h]))?;
         rest = others;
     }
     Ok(octas)
@@ -64,10 +58,8 @@ pub fn read_pre(alloc: Global, z: u8, more: &[u8]) -> Due
     if more.len() < size {
         return Ok(None);
     }
-    match tetras_of(alloc, &more[..size]) {
-        Ok(tetras) => Ok(Some((Item::Pre(tetras), 4 + size))),
-        Err(fault) => Err(fault),
-    }
+    let tetras = tetras_of(alloc, &more[..size])?;
+    Ok(Some((Item::Pre(tetras), 4 + size)))
 }
 
 /// A tetra after a quote.
@@ -121,10 +113,9 @@ fn address_due(at: u64, y: u8, z: u8, more: &[u8]) -> Result<Option<(u64, usize)
 pub fn read_loc(at: u64, y: u8, z: u8, more: &[u8]) -> Due
     ensures { result ≡ spec.item_due (λ a. Item.Loc a) (spec.address_due at y z more.now) }
 {
-    match address_due(at, y, z, more) {
-        Ok(Some((address, size))) => Ok(Some((Item::Loc(address), size))),
-        Ok(None) => Ok(None),
-        Err(fault) => Err(fault),
+    match address_due(at, y, z, more)? {
+        Some((address, size)) => Ok(Some((Item::Loc(address), size))),
+        None => Ok(None),
     }
 }
 
@@ -132,10 +123,9 @@ pub fn read_loc(at: u64, y: u8, z: u8, more: &[u8]) -> Due
 pub fn read_fixo(at: u64, y: u8, z: u8, more: &[u8]) -> Due
     ensures { result ≡ spec.item_due (λ a. Item.FixOcta a) (spec.address_due at y z more.now) }
 {
-    match address_due(at, y, z, more) {
-        Ok(Some((address, size))) => Ok(Some((Item::FixOcta(address), size))),
-        Ok(None) => Ok(None),
-        Err(fault) => Err(fault),
+    match address_due(at, y, z, more)? {
+        Some((address, size)) => Ok(Some((Item::FixOcta(address), size))),
+        None => Ok(None),
     }
 }
 
@@ -165,16 +155,8 @@ fn read_file_name(alloc: Global, at: u64, number: u8, bytes: &[u8]) -> Due
     if name.is_empty() {
         return Err(MmoFault::BadFields(at));
     }
-    match Bytes::copy(alloc, name) {
-        Ok(name) => Ok(Some((
-            Item::File {
-                number,
-                name: Some(name),
-            },
-            4 + bytes.len(),
-        ))),
-        Err(_) => Err(MmoFault::OutOfMemory),
-    }
+    let name = Some(Bytes::copy(alloc, name)?);
+    Ok(Some((Item::File { number, name }, 4 + bytes.len())))
 }
 
 /// A file with this many tetras of its name after it.
@@ -199,8 +181,6 @@ pub fn read_post(alloc: Global, g: u8, more: &[u8]) -> Due
     if more.len() < size {
         return Ok(None);
     }
-    match octas_of(alloc, &more[..size]) {
-        Ok(values) => Ok(Some((Item::Post { g, values }, 4 + size))),
-        Err(fault) => Err(fault),
-    }
+    let values = octas_of(alloc, &more[..size])?;
+    Ok(Some((Item::Post { g, values }, 4 + size)))
 }

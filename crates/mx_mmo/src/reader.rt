@@ -1,6 +1,6 @@
 //! Reading an object in pieces.
 
-ghost use Rattle.std.specs.Prelude.{◌≡◌, ◌≢◌, ◌≤◌, ◌+◌, ◌++◌, ◌^◌, length, drop, ◌<◌, IfOk, IfErr, IfSome, OnOk, OnErr};
+ghost use Rattle.std.specs.Prelude.{◌≡◌, ◌≢◌, ◌≤◌, ◌+◌, ◌++◌, ◌^◌, length, drop, ◌<◌, IfOk, IfSome, OnOk, OnErr};
 ghost use Rattle.std.specs.Prelude.{OnSome, None, Ok, Some};
 ghost use Rattle.mx_mmo.specs.Replies as spec;
 ghost use Rattle.mx_mmo.specs.Valid.{Fits};
@@ -10,6 +10,7 @@ use crate::input::Input;
 use crate::skipping::Scan;
 use crate::tail::read_tail;
 use crate::{Item, MmoFault, Tail};
+use mx_word::NoMemory;
 use std::alloc::Global;
 use std::marker::Model;
 
@@ -96,7 +97,8 @@ impl Reader {
         if self.end() + piece.len() as u64 > LIMIT {
             return self.refuse(MmoFault::TooLong(LIMIT));
         }
-        self.hold(piece)
+        self.hold(piece)?;
+        Ok(())
     }
 
     /// The next whole item; nothing where neither a whole item nor a fault is next, and always after `stab`.
@@ -226,15 +228,11 @@ impl Reader {
     }
 
     /// Holds a piece more.
-    fn hold(&mut self, piece: &[u8]) -> Result<(), MmoFault>
+    fn hold(&mut self, piece: &[u8]) -> Result<(), NoMemory>
         requires { self.old.at + length self.old.rest + length piece.now ≤ 2 ^ 26 }
         ensures ok { OnOk result (self.new ≡ record self.old { rest = self.old.rest ++ piece.now }) }
         ensures err { OnErr result (self.new ≡ self.old) }
-        ensures memory { IfErr result (λ e. e ≡ MmoFault.OutOfMemory) }
     {
-        match self.input.add(piece) {
-            Ok(()) => Ok(()),
-            Err(_) => Err(MmoFault::OutOfMemory),
-        }
+        self.input.add(piece)
     }
 }

@@ -33,10 +33,8 @@ fn read_counted_tail(
     if usize::from(count) != rest.len() / 4 - 1 {
         return Err(MmoFault::BadFields(at + size as u64));
     }
-    match Bytes::copy(alloc, &rest[..size]) {
-        Ok(trie) => Ok(Tail { trie, place: at }),
-        Err(_) => Err(MmoFault::OutOfMemory),
-    }
+    let trie = Bytes::copy(alloc, &rest[..size])?;
+    Ok(Tail { trie, place: at })
 }
 
 /// What follows `stab`: the trie and the lopcode `end`.

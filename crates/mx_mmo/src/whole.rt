@@ -71,10 +71,8 @@ fn take_piece(reader: &mut Reader, items: &mut Items, piece: &[u8]) -> Result<()
     ensures fault { fed reader.old + length piece.now ≤ limit → result ≢ Err MmoFault.OutOfMemory →
         IfErr result (λ f. (with_rest items.old (with_more reader.old piece.now)).1 ≡ Err f) }
 {
-    match reader.feed(piece) {
-        Ok(()) => take_all(reader, items),
-        Err(fault) => Err(fault),
-    }
+    reader.feed(piece)?;
+    take_all(reader, items)
 }
 
 /// Feeds the pieces from first to last, and takes all items that are whole in them.
@@ -106,10 +104,8 @@ fn end_object(mut reader: Reader, items: Items) -> Result<Object, MmoFault>
     ensures { result ≢ Err MmoFault.OutOfMemory →
         result ≡ with_tail items (tail_of reader.phase reader.at reader.rest) }
 {
-    match reader.finish() {
-        Ok(tail) => Ok(Object { items, tail }),
-        Err(fault) => Err(fault),
-    }
+    let tail = reader.finish()?;
+    Ok(Object { items, tail })
 }
 
 /// Reads the pieces from first to last.
@@ -122,10 +118,8 @@ fn read_pieces(alloc: Global, pieces: &[Bytes]) -> Result<Object, MmoFault>
 {
     let mut reader = Reader::new(alloc);
     let mut items = Items::new(alloc);
-    match take_pieces(&mut reader, &mut items, pieces) {
-        Ok(()) => end_object(reader, items),
-        Err(fault) => Err(fault),
-    }
+    take_pieces(&mut reader, &mut items, pieces)?;
+    end_object(reader, items)
 }
 
 /// The object that comes in these pieces from first to last, or its first fault; how the bytes are cut into pieces

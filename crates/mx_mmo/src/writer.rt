@@ -68,10 +68,8 @@ impl Writer {
         ensures only_no_memory { IfErr result (λ e. e ≡ MmoFault.OutOfMemory) }
     {
         let mut bytes = self.bytes;
-        match append_end(&mut bytes, trie) {
-            Ok(()) => Ok(Bytes::from_vec(bytes)),
-            Err(_) => Err(MmoFault::OutOfMemory),
-        }
+        append_end(&mut bytes, trie)?;
+        Ok(Bytes::from_vec(bytes))
     }
 
     /// The bytes of the items that were put, without a trie and an end: the front of an object.

@@ -39,9 +39,17 @@ is_complete name = slice_index name 0 == 58
 abbrev pub complete_form : List ℕ → List ℕ → List ℕ
 complete_form prefix name = if is_complete name then name else prefix ++ name
 
+-- the complete form of a symbol among these names
+abbrev pub full_form : NameTable → List ℕ → List ℕ
+full_form table name = complete_form table.prefix name
+
 -- a complete form that is not too long
 abbrev pub fitting_form : List ℕ → Result (List ℕ) NameFault
 fitting_form full = if nat_lt 1024 (length full) then Err NameTooLong else Ok full
+
+-- the complete form of a symbol, where it is not too long
+abbrev pub symbol_form : NameTable → List ℕ → Result (List ℕ) NameFault
+symbol_form table name = fitting_form (full_form table name)
 
 -- A complete name of 1 to 1,024 bytes.
 pub record IsFullName (name : List ℕ) : Type 0 where
@@ -91,6 +99,15 @@ define_answer table name =
 abbrev pub with_symbol : NameTable → List ℕ → Value → NameTable
 with_symbol table name value =
     record table { symbols = symbols_with (record { name = name; value = value; serial = length table.symbols + 1 }) table.symbols }
+
+-- a complete form as the prefix
+abbrev pub with_prefix : Naming → List ℕ → Naming
+with_prefix naming prefix = record naming { names = record naming.names { prefix = prefix } }
+
+-- one more name has a value, and each other one what it had
+abbrev pub KnowsAlso : NameTable → NameTable → List ℕ → Value → Type 0
+KnowsAlso old new full value =
+    (name : List ℕ) → value_of_name new name ≡ (if bytes_eq name full then Some value else value_of_name old name)
 
 -- the last label dH, or pure 0 before any
 abbrev pub back_of : NameTable → ℕ → Value

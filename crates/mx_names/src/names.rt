@@ -76,9 +76,8 @@ impl Model for Names {
 impl Names {
     /// No symbol is defined, the prefix is a colon, each local label is pure 0, and no reference
     /// waits.
-    pub fn new(alloc: Global) -> Result<Names, NameFault>
-        ensures start { IfOk result (λ names. names ≡ spec.naming_at_start) }
-        ensures memory { IfErr result (λ fault. fault ≡ NameFault.OutOfMemory) }
+    pub fn new(alloc: Global) -> Result<Names, NoMemory>
+        ensures { IfOk result (λ names. names ≡ spec.naming_at_start) }
     {
         Ok(Names {
             defined: BTreeMap::new(alloc),
@@ -93,7 +92,7 @@ impl Names {
     /// the prefix followed by it. It is refused where it has more than 1,024 bytes.
     pub fn resolve(&self, name: &[u8]) -> Result<Bytes, NameFault>
         ensures answer { result ≢ Err NameFault.OutOfMemory →
-            result ≡ spec.fitting_form (spec.complete_form self.now.names.prefix name.now) }
+            result ≡ spec.symbol_form self.now.names name.now }
         ensures full { IfOk result (λ full. spec.IsFullName full) }
     {
         if is_complete(name) {
@@ -107,9 +106,8 @@ impl Names {
     /// changes nothing.
     pub fn set_prefix(&mut self, name: &[u8]) -> Result<(), NameFault>
         ensures answer { result ≢ Err NameFault.OutOfMemory →
-            result ≡ map_ok (λ _. tt) (spec.fitting_form (spec.complete_form self.old.names.prefix name.now)) }
-        ensures ok { OnOk result (self.new ≡
-            record self.old { names = record self.old.names { prefix = spec.complete_form self.old.names.prefix name.now } }) }
+            result ≡ map_ok (λ _. tt) (spec.symbol_form self.old.names name.now) }
+        ensures ok { OnOk result (self.new ≡ spec.with_prefix self.old (spec.full_form self.old.names name.now)) }
         ensures err { OnErr result (self.new ≡ self.old) }
         ensures kept { spec.AreNames self.new.names }
     {
@@ -126,8 +124,7 @@ impl Names {
         ensures answer { result ≢ Err NameFault.OutOfMemory → result ≡ spec.define_answer self.old.names full }
         ensures ok { OnOk result (self.new ≡ record self.old { names = spec.with_symbol self.old.names full v }) }
         ensures count { OnOk result (length self.new.names.symbols ≡ length self.old.names.symbols + 1) }
-        ensures looked_up { OnOk result ((name : List ℕ) → spec.value_of_name self.new.names name ≡
-            (if bytes_eq name full then Some v else spec.value_of_name self.old.names name)) }
+        ensures looked_up { OnOk result (spec.KnowsAlso self.old.names self.new.names full v) }
         ensures err { OnErr result (self.new ≡ self.old) }
         ensures kept { spec.AreNames self.new.names }
     {
@@ -138,7 +135,8 @@ impl Names {
         if is_defined {
             return Err(NameFault::Twice);
         }
-        self.put(full, v)
+        self.put(full, v)?;
+        Ok(())
     }
 
     /// Whether a complete name is defined.
@@ -150,20 +148,17 @@ impl Names {
     }
 
     /// Defines a complete name that is not defined. Where there is no memory, nothing changes.
-    fn put(&mut self, full: Bytes, value: Value) -> Result<(), NameFault>
+    fn put(&mut self, full: Bytes, value: Value) -> Result<(), NoMemory>
         requires full { spec.IsFullName full }
         requires room { length self.old.names.symbols < 0xffff_ffff }
         requires absent { spec.value_in full self.old.names.symbols ≡ None }
-        ensures memory { IfErr result (λ fault. fault ≡ NameFault.OutOfMemory) }
         ensures ok { OnOk result (self.new ≡ record self.old { names = spec.with_symbol self.old.names full value }) }
         ensures err { OnErr result (self.new ≡ self.old) }
         ensures kept { spec.AreNames self.new.names }
     {
         let serial = self.defined.len() as u32 + 1;
         let definition = Definition { value, serial };
-        let Ok(_) = self.defined.insert(full.into_vec(), definition) else {
-            return Err(NameFault::OutOfMemory);
-        };
+        self.defined.insert(full.into_vec(), definition)?;
         Ok(())
     }
 
@@ -198,27 +193,24 @@ impl Names {
     }
 
     /// Adds a reference to those that wait. Nothing changes where there is no memory.
-    pub fn wait_for(&mut self, w: Wait) -> Result<(), NameFault>
-        ensures memory { IfErr result (λ fault. fault ≡ NameFault.OutOfMemory) }
+    pub fn wait_for(&mut self, w: Wait) -> Result<(), NoMemory>
         ensures ok { OnOk result (self.new ≡ record self.old { waiting = self.old.waiting ++ w ∷ [] }) }
         ensures err { OnErr result (self.new ≡ self.old) }
         ensures kept { spec.AreNames self.new.names }
     {
-        self.waiting.push(w)?;
-        Ok(())
+        self.waiting.push(w)
     }
 
     /// Gives and removes the references that wait for one name or local label, in the order of their
     /// making. Nothing changes where there is no memory.
-    pub fn take_waiting(&mut self, who: &Awaited) -> Result<Waits, NameFault>
-        ensures memory { IfErr result (λ fault. fault ≡ NameFault.OutOfMemory) }
+    pub fn take_waiting(&mut self, who: &Awaited) -> Result<Waits, NoMemory>
         ensures taken { IfOk result (λ waits. waits ≡ waits_for who.now self.old.waiting) }
         ensures left { OnOk result
             (self.new ≡ record self.old { waiting = waits_for_others who.now self.old.waiting }) }
         ensures err { OnErr result (self.new ≡ self.old) }
         ensures kept { spec.AreNames self.new.names }
     {
-        Ok(self.waiting.take(who)?)
+        self.waiting.take(who)
     }
 
     /// The earliest reference that waits; nothing where none does.
@@ -229,12 +221,11 @@ impl Names {
     }
 
     /// The defined symbols, without the predefined ones, in byte order of their names.
-    pub fn sorted(&self) -> Result<Symbols, NameFault>
+    pub fn sorted(&self) -> Result<Symbols, NoMemory>
         ensures symbols { IfOk result (λ symbols. symbols ≡ self.now.names.symbols) }
         ensures order { IfOk result (λ symbols. InByteOrder symbols) }
         ensures named { IfOk result (λ symbols. AllByRecursion IsNamed symbols) }
         ensures known { spec.AreNames self.now.names }
-        ensures memory { IfErr result (λ fault. fault ≡ NameFault.OutOfMemory) }
     {
         let mut symbols = Symbols::new(self.alloc);
         for (name, definition) in &self.defined {

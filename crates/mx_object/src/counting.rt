@@ -12,7 +12,7 @@ use std::alloc::Global;
 
 /// What is counted of the steps at a tetra; and of those at its part, where one begins with it: that goes from a tetra with
 /// labels up to the next one.
-#[derive(Clone, Copy, Debug, PartialEq, Eq)]
+#[derive(Clone, Copy)]
 pub struct TetraCount {
     pub tally: Tally,
     pub part: Option<Tally>,

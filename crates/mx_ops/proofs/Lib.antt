@@ -6,3 +6,4 @@ pub mod Operations
 pub mod Rows
 pub mod Words
 pub mod SecondCodes
+pub mod SpecialNames

@@ -1,12 +1,20 @@
 -- The predefined symbols.
 -- (MMIXware, the part on MMIXAL: predefined symbols.)
-use Rattle.std.specs.Prelude.{ℕ, ◌==◌, List, [], ◌∷◌, ◌++◌, Option, None, codes, if◌then◌else◌}
+use Rattle.std.specs.Prelude.{ℕ, ◌==◌, List, [], ◌∷◌, ◌++◌, Option, None, codes, position, bytes_eq, slice_index_or, if◌then◌else◌}
 use Rattle.mx_ops.specs.Tables.{words, numbered, first_of}
 
 -- the special registers, in order of their codes from 0
 unfoldable pub special_registers : List (List ℕ)
 special_registers =
     words (codes "rB rD rE rH rJ rM rR rBB rC rN rO rS rI rT rTT rK rQ rU rV rG rL rA rF rP rW rX rY rZ rWW rXX rYY rZZ")
+
+-- the name of a special register by its code
+unfoldable pub special_name : ℕ → List ℕ
+special_name code = slice_index_or special_registers code []
+
+-- the code of a special register by its name without the r
+unfoldable pub special_code : List ℕ → Option ℕ
+special_code bare = position (λ r. bytes_eq r (114 ∷ bare)) special_registers
 
 -- the predefined names, without the colon before each of them
 unfoldable pub predefined_names : List (List ℕ × ℕ)

@@ -6,7 +6,7 @@ ghost use Rattle.mx_ops.specs.Opcodes as spec;
 /// Whether Z is an immediate byte at the code: at the second codes of the rows from FLOT, MUL, CSN
 /// and PUT on.
 #[tactic(auto, using(crate::proofs::SecondCodes::immediates))]
-#[inline]
+#[inline(always)]
 pub fn is_immediate(code: u8) -> bool
     ensures { result ≡ spec.is_immediate (spec.opcode_kind code) }
 {

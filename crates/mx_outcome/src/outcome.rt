@@ -4,6 +4,7 @@ ghost use Rattle.std.specs.Prelude.{◌≡◌};
 ghost use Rattle.mx_outcome.specs.Kinds.{leaves_machine};
 ghost use Rattle.mx_outcome.specs.Status.{status_of};
 
+use mx_word::NoMemory;
 use mx_words::WordsFault;
 
 /// What a run of the program comes to.
@@ -87,5 +88,15 @@ impl Outcome {
             | Outcome::BadSchedule { .. }
             | Outcome::OutOfMemory => false,
         }
+    }
+}
+
+impl From<NoMemory> for Outcome {
+    ghost use Rattle.mx_outcome.specs.declared.outcome.Outcome.TheVariants.{OutOfMemory};
+
+    ghost from_gives = { λ _ outcome. outcome ≡ OutOfMemory };
+
+    fn from(_error: NoMemory) -> Outcome {
+        Outcome::OutOfMemory
     }
 }

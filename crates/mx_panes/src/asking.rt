@@ -5,7 +5,7 @@ use crate::values::{add_reference, add_value_text, is_data};
 use mx_adapter::Answer;
 use mx_book::Thing;
 use mx_json::add_string;
-use mx_places::resolve_for_display;
+use mx_places::resolve_for_display_now;
 use mx_tell::value_of;
 use mx_word::{Bytes, NoMemory};
 use std::alloc::Global;
@@ -34,8 +34,8 @@ pub fn result_body(alloc: Global, shown: &[u8], address: Option<u64>) -> Result<
 impl Scene<'_> {
     /// The value of what a text names.
     pub fn evaluate_name(&self, text: &[u8]) -> Result<Answer, NoMemory> {
-        let Some(thing) = resolve_for_display(self.book, text) else {
-            let why = b"nothing to show: a name, $K, rX, M#ADDRESS, a number";
+        let Some(thing) = resolve_for_display_now(self.book, self.machine, text) else {
+            let why = b"nothing to show: a name, $K, rX, M8[ADDRESS], a number";
             return Ok(Answer::Refused(Bytes::copy(self.alloc, why)?));
         };
         let value = value_of(self.machine, thing);

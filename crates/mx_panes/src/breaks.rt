@@ -3,11 +3,11 @@
 use crate::scene::Scene;
 use crate::values::add_reference;
 use mx_adapter::{Answer, text_at};
-use mx_ask::cut_word;
+use mx_ask::{cut_word, parse_number};
 use mx_book::{Book, Thing};
 use mx_json::{add_number, add_string};
 use mx_places::resolve_for_display;
-use mx_replay::Place;
+use mx_stops::{Place, followed};
 use mx_tell::add_thing;
 use mx_text::{add_decimal, octa_hex};
 use mx_word::{Bytes, NoMemory};
@@ -29,8 +29,30 @@ pub fn offset_wanted(wanted: &Value) -> u64 {
     }
 }
 
-/// The place that a name of a variable stands for: what `print` would show, where that is no number.
+/// The register at a place of the register stack, as the identifier of a watch has it: its number, `@`, and the place.
+fn stacked_place(register: &[u8], place: &[u8]) -> Option<Place> {
+    let [b'@', digits @ ..] = place else {
+        return None;
+    };
+    let [b'$', number @ ..] = register else {
+        return None;
+    };
+    Some(Place::Stacked {
+        at: parse_number(digits)?,
+        number: u8::try_from(parse_number(number)?).ok()?,
+    })
+}
+
+/// The place that an identifier of a watch stands for, or a name of a variable.
 pub fn watched_place(book: &Book, name: &[u8]) -> Option<Place> {
+    match name.iter().position(|b| *b == b'@') {
+        Some(i) => stacked_place(&name[..i], &name[i..]),
+        None => named_place(book, name),
+    }
+}
+
+/// The place that a name of a variable stands for: what `print` would show, where that is no number.
+fn named_place(book: &Book, name: &[u8]) -> Option<Place> {
     match resolve_for_display(book, cut_word(name).0)? {
         Thing::Register(k) => Some(Place::Register(k)),
         Thing::Special(code) => Some(Place::Special(code)),
@@ -78,12 +100,18 @@ impl Scene<'_> {
         Ok(text)
     }
 
-    /// Adds the name by which a place is watched.
+    /// Adds the identifier of a watch of a place.
     fn add_data_name(&self, text: &mut Bytes, place: Place) -> Result<(), NoMemory> {
         match place {
             Place::Register(k) => {
                 text.extend(b"$")?;
                 add_decimal(text, u64::from(k))
+            }
+            Place::Stacked { at, number } => {
+                text.extend(b"$")?;
+                add_decimal(text, u64::from(number))?;
+                text.extend(b"@")?;
+                add_decimal(text, at)
             }
             Place::Special(code) => add_thing(text, self.book, Thing::Special(code)),
             Place::Octa(a) => {
@@ -99,14 +127,21 @@ impl Scene<'_> {
         let mut text = Bytes::new(self.alloc);
         match watched_place(self.book, name) {
             None => text.extend(b"{\"dataId\":null,\"description\":\"this can't be watched\"}")?,
-            Some(place) => {
-                let mut id = Bytes::new(self.alloc);
-                self.add_data_name(&mut id, place)?;
-                add_string(self.alloc, &mut text, b"{\"dataId\":", id.as_slice())?;
-                add_string(self.alloc, &mut text, b",\"description\":", id.as_slice())?;
-                text.extend(b",\"accessTypes\":[\"write\"],\"canPersist\":true}")?;
-            }
+            Some(place) => self.add_data_info(&mut text, followed(self.machine, place))?,
         }
         Ok(Answer::Done(text))
+    }
+
+    /// Adds how a place can be watched. A register of the register stack is another one in the next session.
+    fn add_data_info(&self, text: &mut Bytes, place: Place) -> Result<(), NoMemory> {
+        let mut id = Bytes::new(self.alloc);
+        self.add_data_name(&mut id, place)?;
+        add_string(self.alloc, text, b"{\"dataId\":", id.as_slice())?;
+        add_string(self.alloc, text, b",\"description\":", id.as_slice())?;
+        text.extend(b",\"accessTypes\":[\"write\"],\"canPersist\":")?;
+        match place {
+            Place::Stacked { at: _, number: _ } => text.extend(b"false}"),
+            Place::Register(_) | Place::Special(_) | Place::Octa(_) => text.extend(b"true}"),
+        }
     }
 }

@@ -4,10 +4,10 @@ use Rattle.std.specs.Option.{option_and_then}
 use Rattle.mx_cmd.specs.Numerals.{front, past}
 use Rattle.mx_ask.specs.Lines.{first_word, trimmed}
 use Rattle.mx_book.specs.declared.book.Book.{Book}
-use Rattle.mx_replay.specs.declared.marks.Place.{Place}
-use Rattle.mx_replay.specs.declared.stops.Condition.{Condition}
-use Rattle.mx_replay.specs.declared.stops.Relation.{Relation}
-use Rattle.mx_replay.specs.declared.stops.Relation.TheVariants.{Equal, Unequal, Less, AtMost, Greater, AtLeast}
+use Rattle.mx_stops.specs.declared.places.Place.{Place}
+use Rattle.mx_stops.specs.declared.stops.Condition.{Condition}
+use Rattle.mx_stops.specs.declared.stops.Relation.{Relation}
+use Rattle.mx_stops.specs.declared.stops.Relation.TheVariants.{Equal, Unequal, Less, AtMost, Greater, AtLeast}
 use Rattle.mx_places.specs.Named.{place_of, shown_thing, value_in}
 
 -- ---- comparisons

@@ -2,7 +2,7 @@
 use Rattle.std.specs.Prelude.{ℕ, List, [], ◌∷◌, Option, None, Some, Result, Ok, Err, bytes_eq, codes, if◌then◌else◌}
 use Rattle.mx_ask.specs.Lines.{after_word, first_word}
 use Rattle.mx_book.specs.declared.book.Book.{Book}
-use Rattle.mx_replay.specs.declared.stops.Condition.{Condition}
+use Rattle.mx_stops.specs.declared.stops.Condition.{Condition}
 use Rattle.mx_places.specs.Conditions.{condition_in}
 use Rattle.mx_places.specs.Named.{target_in}
 use Rattle.mx_places.specs.declared.orders.Unwanted.{Unwanted}

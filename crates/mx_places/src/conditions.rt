@@ -9,7 +9,7 @@ ghost use Rattle.mx_places.specs.Named.{shown_thing as thing_shown, place_of as 
 use crate::places::{parse_value, place_of_thing, resolve_for_display};
 use mx_ask::{cut_word, trim_end};
 use mx_book::Book;
-use mx_replay::{Condition, Place, Relation};
+use mx_stops::{Condition, Place, Relation};
 
 /// Whether a byte belongs to a comparison.
 fn is_sign(b: u8) -> bool

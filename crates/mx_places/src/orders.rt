@@ -7,7 +7,7 @@ use crate::conditions::parse_condition;
 use crate::places::parse_target;
 use mx_ask::cut_word;
 use mx_book::Book;
-use mx_replay::Condition;
+use mx_stops::Condition;
 
 /// A break as a line orders it.
 #[derive(Clone, Copy)]

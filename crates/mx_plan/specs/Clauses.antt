@@ -1,8 +1,10 @@
 -- The words of clauses over a host, and over a space and a host. `old` and `new` are what the host told before and after,
 -- `first` and `last` the contents of the space, `earlier` and `later` the counts of faults.
-use Rattle.std.specs.Prelude.{ℕ, ◌≡◌, ◌≤◌, IsTrue, Option}
+use Rattle.std.specs.Prelude.{ℕ, ◌≡◌, ◌≤◌, IsTrue, Option, Result, Err}
 use Rattle.mx_mem.specs.Space.{Contents}
 use Rattle.mx_host.specs.HostModel.{HostModel, tells, contents}
+use Rattle.mx_host.specs.declared.faults.HostFault.{HostFault}
+use Rattle.mx_host.specs.declared.faults.HostFault.TheVariants.{OutOfMemory}
 use Rattle.mx_host.specs.Keeping.{HasStreams}
 use Rattle.mx_plan.specs.Plan.{Comes}
 use Rattle.mx_plan.specs.Calls.{host, HostPlan, both, BothPlan}
@@ -16,6 +18,10 @@ Stands old new earlier later = (tells new ≡ tells old) × (earlier ≤ later) 
 -- answer and the contents are its end; where it is, the calls that were completed stay, and nothing else changed.
 abbrev pub CarriesOut : {A : Type 0} → Option HostModel → Option HostModel → A → A → HostPlan A → Type 0
 CarriesOut old new none result plan = IsTrue (tells old) → Comes host (contents old) (contents new) none result plan
+
+-- the same of a call on a slot of a host: `told` is what that tells, `old` and `new` are the host before and after
+abbrev pub AnswersCall : {H A : Type 0} → (H → Option HostModel) → H → H → Result A HostFault → HostPlan (Result A HostFault) → Type 0
+AnswersCall told old new result plan = CarriesOut (told old) (told new) (Err OutOfMemory) result plan
 
 -- the same over a space and such a host: the bytes that were put stay, and the calls that were completed
 abbrev pub CarriesOutBoth : {A Rest : Type 0} → Option HostModel → Option HostModel → Contents Rest → Contents Rest → A → A → BothPlan A → Type 0

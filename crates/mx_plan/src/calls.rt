@@ -2,10 +2,10 @@
 
 ghost use Rattle.std.specs.Prelude.{◌≡◌, ◌≤◌, ◌^◌, Ok, Err, IfOk, length, take};
 ghost use Rattle.mx_host.specs.HostModel.{Rose};
-ghost use Rattle.mx_host.specs.Keeping.{ComesByFault, OnlyByFailure};
+ghost use Rattle.mx_host.specs.Keeping.{ComesByFault, OnlyByFailure, bytes_read};
 ghost use Rattle.mx_plan.specs.Calls.{close_plan, open_plan, put_plan, read_plan, seek_plan, space, tell_plan};
 ghost use Rattle.mx_plan.specs.Calls.{write_plan};
-ghost use Rattle.mx_plan.specs.Clauses.{CarriesOut, Stands};
+ghost use Rattle.mx_plan.specs.Clauses.{AnswersCall, CarriesOut, Stands};
 ghost use Rattle.mx_plan.specs.Plan.{Comes};
 ghost use Rattle.mx_word.specs.Results.{map_ok};
 
@@ -44,8 +44,8 @@ pub fn close<H: Host>(host: &mut H, slot: u16) -> Result<(), HostFault>
 #[tactic(auto, unfolding(crate::specs::Calls::read_plan, crate::specs::Calls::host, crate::specs::Plan::end_of, crate::specs::Plan::Stops))]
 pub fn read<H: Host>(host: &mut H, slot: u16, into: &mut [u8]) -> Result<usize, HostFault>
     requires { slot ≤ 260 }
-    ensures told { CarriesOut (H.told host.old) (H.told host.new) (Err HostFault.OutOfMemory)
-        (map_ok (λ n. take n into.new) result) (read_plan slot (length into.old)) }
+    ensures told { AnswersCall H.told host.old host.new (bytes_read into.new result)
+        (read_plan slot (length into.old)) }
     ensures count { IfOk result (λ n. n ≤ length into.old) }
     ensures length { length into.new ≡ length into.old }
     ensures failed { result ≡ Err HostFault.Failed → Rose (H.faults host.old) (H.faults host.new) }

@@ -6,7 +6,7 @@ ghost use Rattle.mx_record.specs.Records as spec;
 use mx_word::{NoMemory, Sequence};
 
 /// A place whose octa became another, and the exclusive or of both.
-#[derive(Clone, Copy, Debug, PartialEq, Eq)]
+#[derive(Clone, Copy)]
 pub struct Change {
     pub at: u64,
     pub by: u64,

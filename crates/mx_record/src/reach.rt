@@ -7,7 +7,7 @@ use mx_code::{Instruction, Operation};
 use mx_core::{Touch, Trace, is_in_stack_area};
 
 /// The octas of memory that a turn may change.
-#[derive(Clone, Copy, Debug, PartialEq, Eq)]
+#[derive(Clone, Copy)]
 pub(crate) enum Reach {
     /// None of them.
     Nothing,

@@ -7,11 +7,9 @@ ghost use Rattle.mx_record.specs.Pictures as spec;
 
 use crate::changes::{Change, note};
 use mx_core::{Machine, machines_keep_the_invariant};
+use mx_ops::codes::RC;
 use mx_word::{NoMemory, Sequence};
 use std::alloc::Global;
-
-/// The code of rC.
-const RC: u8 = 8;
 
 /// What is shown of the special register with a code.
 pub(crate) fn shown_special(machine: &Machine, code: u8) -> u64

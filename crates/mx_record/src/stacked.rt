@@ -9,14 +9,10 @@ ghost use Rattle.mx_record.specs.Pictures.{all_registers, octa_of};
 
 use crate::changes::{Change, note};
 use mx_core::{Machine, machines_keep_the_invariant};
+use mx_ops::codes::{RO, RS};
 use mx_word::{NoMemory, STACK_SEGMENT, Sequence};
 use std::alloc::Global;
 use std::marker::Model;
-
-/// The codes of rO and rS.
-const RO: u8 = 10;
-
-const RS: u8 = 11;
 
 /// Octas by their places; after the last one there are zeros.
 #[derive(Drop)]

@@ -3,7 +3,7 @@
 ghost use Rattle.std.specs.Prelude.{◌≡◌};
 ghost use Rattle.mx_registers.specs.RingFaults.{fault_number};
 
-use std::alloc::AllocError;
+use std::alloc::{AllocError, AllocFailed};
 
 /// Why a call is refused: hidden and local registers would pass 2^20 octas; too little is hidden to
 /// come back; what is to be restored is no frame; or the machine is out of memory.
@@ -37,6 +37,16 @@ impl From<AllocError> for RingFault {
     ghost from_gives = { λ _ fault. fault ≡ OutOfMemory };
 
     fn from(_error: AllocError) -> RingFault {
+        RingFault::OutOfMemory
+    }
+}
+
+impl<T: Drop> From<AllocFailed<T>> for RingFault {
+    ghost use Rattle.mx_registers.specs.declared.fault.RingFault.TheVariants.{OutOfMemory};
+
+    ghost from_gives = { λ _ fault. fault ≡ OutOfMemory };
+
+    fn from(_failed: AllocFailed<T>) -> RingFault {
         RingFault::OutOfMemory
     }
 }

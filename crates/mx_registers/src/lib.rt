@@ -17,4 +17,4 @@ mod visible;
 pub use fault::RingFault;
 pub use hidden::{Hidden, ROOM};
 pub use size::RingSize;
-pub use visible::{FEW, Visible};
+pub use visible::{FEW, MORE, Visible};

@@ -17,6 +17,9 @@ use std::marker::Model;
 /// How many registers are copied at once where this many are enough.
 pub const FEW: usize = 8;
 
+/// And this many, where more are local.
+pub const MORE: usize = 16;
+
 /// The 256 registers: what each of them has, L and G. Contracts see them as the locals, G and the globals.
 #[derive(Drop)]
 pub struct Visible {
@@ -305,5 +308,22 @@ fn move_fewer(values: &mut [u64], n: usize, size: usize)
     requires { n + size ≤ length values.old }
     ensures { values.new ≡ with_part values.old 0 (take size (drop n values.old)) }
 {
+    if size == FEW {
+        return move_some::<FEW>(values, n);
+    }
+    if size == MORE {
+        return move_some::<MORE>(values, n);
+    }
     copy_within(values, n, n + size, 0);
+}
+
+/// `N` registers from the place `n` on become the first ones.
+#[inline(always)]
+fn move_some<const N: usize>(values: &mut [u64], n: usize)
+    requires { n + N ≤ length values.old }
+    ensures { values.new ≡ with_part values.old 0 (take N (drop n values.old)) }
+{
+    let mut some = [0; N];
+    copy_to(&mut some, 0, &values[n..n + N]);
+    copy_to(values, 0, &some);
 }

@@ -12,7 +12,7 @@ use Rattle.mx_run.specs.Turns.{Turn, went_on, halts, stops}
 use Rattle.mx_run.specs.declared.end.End.{End}
 use Rattle.mx_run.specs.declared.end.End.TheVariants.{Halted, Stopped, Broke, Traced, Spent, OutOfMemory}
 use Rattle.mx_replay.specs.Frames.{frames_at, traced, turned, turned_after, turned_from}
-use Rattle.mx_replay.specs.Marks.{depth}
+use Rattle.mx_stops.specs.Places.{depth}
 use Rattle.mx_replay.specs.Programs.{is_over}
 use Rattle.mx_replay.specs.Searches.{has_more}
 use Rattle.mx_replay.specs.Visits.{IsStart, IsStep, MakesTurn, came_by, came_to, trace_of, turn_from}

@@ -17,7 +17,7 @@ use Rattle.mx_begin.specs.BeginPlans.{begin_plan}
 use Rattle.mx_run.specs.WildRuns.{window_machine}
 use Rattle.mx_run.specs.Runs.{Ended, ended, no_flags, run}
 use Rattle.mx_run.specs.declared.end.End.{End}
-use Rattle.mx_run.specs.declared.end.End.TheVariants.{Halted, Stopped, Broke, Traced, Spent, OutOfMemory}
+use Rattle.mx_run.specs.declared.end.End.TheVariants.{Spent, OutOfMemory}
 use Rattle.mx_run.proofs.Following.{run-spent}
 use Rattle.mx_run.proofs.FreeTurns.{none-made}
 use Rattle.mx_replay.specs.Programs.{GoesOn, HasEnded, IsReached, host_of, is_over, run_from, start_of, step_of}

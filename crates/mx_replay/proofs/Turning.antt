@@ -1,7 +1,7 @@
 -- One turn of a visit, and its marks.
 use Rattle.std.proofs.lemmas.Option.{same_Some}
 use Rattle.std.proofs.Common.{◌≡◌, ◌≢◌, IsTrue, ℕ, true, false, Some, None, refl, subst, ◌∙◌, ap}
-use Rattle.std.specs.Prelude.{Option, Bool, List, ◌∷◌, ◌||◌, ◌==◌, nat_le, not}
+use Rattle.std.specs.Prelude.{Option, Bool, List, ◌∷◌, ◌||◌, nat_le}
 use Rattle.std.specs.List.{list_any}
 use Rattle.mx_host.specs.HostModel.{HostModel, tells, contents}
 use Rattle.mx_code.specs.declared.trace.Trace.{Trace}
@@ -14,11 +14,14 @@ use Rattle.mx_run.specs.declared.end.End.{End}
 use Rattle.mx_run.specs.declared.end.End.TheVariants.{Halted, Stopped, Spent}
 use Rattle.mx_run.specs.declared.turn_answer.TurnAnswer.{TurnAnswer}
 use Rattle.mx_run.specs.declared.turn_answer.TurnAnswer.TheVariants as answer
-use Rattle.mx_replay.specs.Marks.{changes_value, changes_watched, depth, is_at_most, is_at_most_if, is_met, meets_break, value_at}
+use Rattle.mx_replay.specs.Marks.{changes_value, changes_watched, is_at_most, is_at_most_if, meets_break}
+use Rattle.mx_stops.specs.Places.{depth, is_change, seen}
+use Rattle.mx_stops.specs.Stops.{is_met}
 use Rattle.mx_replay.specs.Visits.{MakesTurn, came_by, came_to, trace_of, turn_end, turn_from}
-use Rattle.mx_replay.specs.declared.marks.Place.{Place}
-use Rattle.mx_replay.specs.declared.stops.Break.{Break}
-use Rattle.mx_replay.specs.declared.stops.Watch.{Watch}
+use Rattle.mx_stops.specs.declared.places.Place.{Place}
+use Rattle.mx_stops.specs.declared.places.Seen.{Seen}
+use Rattle.mx_stops.specs.declared.stops.Break.{Break}
+use Rattle.mx_stops.specs.declared.stops.Watch.{Watch}
 use Rattle.mx_replay.specs.declared.visit.Visit.{Visit}
 
 -- ---- what a turn comes to, by its answer
@@ -52,11 +55,11 @@ after-by pc (went_on u k trace) = refl
 after-by pc (halts status u k) = refl
 after-by pc (stops reason u k) = refl
 
-pub change-told : (place : Place) (v w : Visit) (before after : ℕ) → MakesTurn v w → before ≡ value_at place (state_of v.machine) → after ≡ value_at place (state_of w.machine) →
-    not (before == after) ≡ changes_value place (state_of v.machine) (turn_from v)
+pub change-told : (place : Place) (v w : Visit) (before after : Seen) → MakesTurn v w → before ≡ seen place (state_of v.machine) → after ≡ seen place (state_of w.machine) →
+    is_change place before after ≡ changes_value place (state_of v.machine) (turn_from v)
 change-told place v w before after h e f =
-    ap (λ n. not (n == after)) e
-    ∙ ap (λ n. not (value_at place (state_of v.machine) == n)) (f ∙ ap (value_at place) (ap (λ (x : Ended). x.state) h.came ∙ after-by (state_of v.machine).pc (turn_from v)))
+    ap (λ x. is_change place x after) e
+    ∙ ap (is_change place (seen place (state_of v.machine))) (f ∙ ap (seen place) (ap (λ (x : Ended). x.state) h.came ∙ after-by (state_of v.machine).pc (turn_from v)))
 
 -- ---- how many registers are hidden
 
@@ -91,8 +94,8 @@ or-both : (a b c : Bool) → (a || (b || c)) ≡ ((a || b) || c)
 or-both true b c = refl
 or-both false b c = refl
 
-pub stop-told : (watch : Watch) (more : List Watch) (v w : Visit) (before after : ℕ) (rest is_stop : Bool) → MakesTurn v w → before ≡ value_at watch.place (state_of v.machine) → after ≡ value_at watch.place (state_of w.machine) →
-    is_stop ≡ (changes_watched more (state_of v.machine) (turn_from v) || rest) → (not (before == after) || is_stop) ≡ (changes_watched (watch ∷ more) (state_of v.machine) (turn_from v) || rest)
+pub stop-told : (watch : Watch) (more : List Watch) (v w : Visit) (before after : Seen) (rest is_stop : Bool) → MakesTurn v w → before ≡ seen watch.place (state_of v.machine) → after ≡ seen watch.place (state_of w.machine) →
+    is_stop ≡ (changes_watched more (state_of v.machine) (turn_from v) || rest) → (is_change watch.place before after || is_stop) ≡ (changes_watched (watch ∷ more) (state_of v.machine) (turn_from v) || rest)
 stop-told watch more v w before after rest is_stop h e f g =
     ap (λ b. b || is_stop) (change-told watch.place v w before after h e f)
     ∙ ap (λ b. changes_value watch.place (state_of v.machine) (turn_from v) || b) g

@@ -1,6 +1,6 @@
 -- Without breaks and watches no step is marked.
-use Rattle.std.proofs.Common.{◌≡◌, ◌≤◌, ◌<◌, ℕ, zero, suc, false, Ok, Err, Some, None, arith, refl}
-use Rattle.std.specs.Prelude.{Option, Result, []}
+use Rattle.std.proofs.Common.{◌≡◌, ◌<◌, ℕ, zero, suc, false, Ok, Err, None, arith, refl}
+use Rattle.std.specs.Prelude.{Result, []}
 use Rattle.mx_host.specs.HostModel.{HostModel}
 use Rattle.mx_core.specs.State.{State}
 use Rattle.mx_outcome.specs.declared.outcome.Outcome.{Outcome}

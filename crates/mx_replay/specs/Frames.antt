@@ -10,7 +10,7 @@ use Rattle.mx_run.specs.Turns.{Turn, went_on, halts, stops, turn}
 use Rattle.mx_run.specs.declared.end.End.{End}
 use Rattle.mx_run.specs.declared.end.End.TheVariants.{Halted, Stopped, Broke, Traced, Spent, OutOfMemory}
 use Rattle.mx_outcome.specs.declared.outcome.Outcome.{Outcome}
-use Rattle.mx_replay.specs.Marks.{depth}
+use Rattle.mx_stops.specs.Places.{depth}
 use Rattle.mx_replay.specs.Programs.{step_of}
 use Rattle.mx_replay.specs.declared.frames.Frame.{Frame}
 use Rattle.mx_replay.specs.declared.program.Program.{Program}

@@ -1,10 +1,8 @@
 -- Steps that are looked for: those whose turn changes a value or comes to a break, and those at which few registers are hidden.
-use Rattle.std.specs.Prelude.{ℕ, zero, suc, ◌/◌, ◌^◌, ◌||◌, ◌&&◌, ◌==◌, not, Bool, false, true, if◌then◌else◌, nat_le, nat_lt, int_lt, List, Option, None, Some, Result, Ok, Err}
+use Rattle.std.specs.Prelude.{ℕ, zero, suc, ◌||◌, Bool, false, nat_le, List, Option, None, Some, Result, Ok, Err}
 use Rattle.std.specs.List.{list_any}
-use Rattle.mx_word.specs.Words.{signed_value}
 use Rattle.mx_host.specs.HostModel.{HostModel}
-use Rattle.mx_ring.specs.Stack.{hidden_count, register}
-use Rattle.mx_core.specs.State.{State, octa, special_register}
+use Rattle.mx_core.specs.State.{State}
 use Rattle.mx_run.specs.Runs.{Ended}
 use Rattle.mx_run.specs.Turns.{Turn, went_on, halts, stops, turn}
 use Rattle.mx_run.specs.WildRuns.{state_after}
@@ -14,47 +12,20 @@ use Rattle.mx_outcome.specs.declared.outcome.Outcome.{Outcome}
 use Rattle.mx_replay.specs.Programs.{step_of}
 use Rattle.mx_replay.specs.declared.marks.Sought.{Sought}
 use Rattle.mx_replay.specs.declared.marks.Sought.TheVariants.{Change, Shallow, Stops}
-use Rattle.mx_replay.specs.declared.marks.Place.{Place}
-use Rattle.mx_replay.specs.declared.marks.Place.TheVariants.{Register, Octa, Special}
 use Rattle.mx_replay.specs.declared.program.Program.{Program}
-use Rattle.mx_replay.specs.declared.stops.Break.{Break}
-use Rattle.mx_replay.specs.declared.stops.Condition.{Condition}
-use Rattle.mx_replay.specs.declared.stops.Relation.{Relation}
-use Rattle.mx_replay.specs.declared.stops.Relation.TheVariants.{Equal, Unequal, Less, AtMost, Greater, AtLeast}
-use Rattle.mx_replay.specs.declared.stops.Watch.{Watch}
+use Rattle.mx_stops.specs.Places.{depth, is_change, seen}
+use Rattle.mx_stops.specs.Stops.{is_met}
+use Rattle.mx_stops.specs.declared.places.Place.{Place}
+use Rattle.mx_stops.specs.declared.stops.Break.{Break}
+use Rattle.mx_stops.specs.declared.stops.Watch.{Watch}
 
 -- ---- changes
 
--- what is at a place: in a register that the program sees, or in the octa that holds an address, which is 0 where
--- there is no memory, or in a special register, if there is one of that code
-abbrev pub value_at : Place → State → ℕ
-value_at (Register k) s = register s.stack k
-value_at (Octa a) s = if nat_lt a (2 ^ 63) then octa s a else 0
-value_at (Special code) s = if nat_lt code 32 then special_register s code else 0
-
--- whether a turn from a state changes it
+-- whether a turn from a state changes what is at a place
 abbrev pub changes_value : Place → State → Turn → Bool
-changes_value place s t = not (value_at place s == value_at place (state_after t))
+changes_value place s t = is_change place (seen place s) (seen place (state_after t))
 
 -- ---- breaks and watches
-
--- whether octas are so related, as signed numbers
-abbrev pub compares : Relation → ℕ → ℕ → Bool
-compares Equal x y = x == y
-compares Unequal x y = not (x == y)
-compares Less x y = int_lt (signed_value x) (signed_value y)
-compares AtMost x y = not (int_lt (signed_value y) (signed_value x))
-compares Greater x y = int_lt (signed_value y) (signed_value x)
-compares AtLeast x y = not (int_lt (signed_value x) (signed_value y))
-
--- whether a condition holds, if there is one
-abbrev pub holds : Option Condition → State → Bool
-holds None s = true
-holds (Some c) s = compares c.relation (value_at c.place s) c.number
-
--- whether a machine is at a break: the instruction there comes next, and the condition holds
-abbrev pub is_met : State → Break → Bool
-is_met s b = s.pc / 4 == b.address / 4 && holds b.condition s
 
 -- whether a turn that goes on comes to a break
 abbrev pub meets_break : List Break → Turn → Bool
@@ -68,11 +39,7 @@ changes_watched watches s t = list_any (λ w. changes_value w.place s t) watches
 
 -- ---- depth
 
--- how many registers are hidden
-abbrev pub depth : State → ℕ
-depth s = hidden_count s.stack
-
--- whether at most this many are
+-- whether at most this many registers are hidden
 abbrev pub is_at_most : ℕ → State → Bool
 is_at_most most s = nat_le (depth s) most
 

@@ -7,10 +7,10 @@ ghost use Rattle.mx_replay.specs.Frames.{frames_at};
 ghost use Rattle.mx_replay.specs.Visits.{IsStart, MakesTurn, turn_from};
 ghost use Rattle.mx_replay.specs.declared.program.Program.{Program};
 
-use crate::marks::depth;
 use crate::turns::make_turn;
 use crate::visit::{Visit, has_more};
 use mx_code::Trace;
+use mx_stops::depth;
 use mx_word::{NoMemory, Sequence};
 use std::alloc::Global;
 

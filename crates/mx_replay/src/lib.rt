@@ -9,13 +9,10 @@ mod marks;
 mod program;
 mod replay;
 mod searches;
-mod stops;
 mod turns;
 mod visit;
 
 pub use frames::Frame;
 pub use laws::steps_follow_each_other;
-pub use marks::{Place, value_at};
 pub use program::Program;
 pub use replay::Replay;
-pub use stops::{Break, Condition, Relation, Watch};

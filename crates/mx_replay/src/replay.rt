@@ -3,7 +3,7 @@
 ghost use Rattle.std.specs.Prelude.{◌≡◌, ◌≢◌, ◌≤◌, ◌<◌, ◌+◌, ℕ, Ok, Err, IfOk, IfErr, OnOk, OnErr};
 ghost use Rattle.mx_core.specs.Kept.{state_of};
 ghost use Rattle.mx_word.specs.Results.{map_ok};
-ghost use Rattle.mx_replay.specs.Marks as marks;
+ghost use Rattle.mx_stops.specs.Places as places;
 ghost use Rattle.mx_replay.specs.Programs.{GoesOn, IsReached, NamesFile, step_of};
 ghost use Rattle.mx_replay.specs.Searches.{IsLeft};
 ghost use Rattle.mx_replay.specs.Visits.{trace_after};
@@ -12,7 +12,6 @@ mod finding;
 mod visiting;
 
 use crate::kept::{Kept, go_keeping};
-use crate::marks::depth;
 use crate::program::Program;
 use crate::turns::make_next;
 use crate::visit::{Visit, start_visit};
@@ -20,6 +19,7 @@ use mx_core::{Machine, Trace};
 use mx_host::MemHost;
 use mx_outcome::Outcome;
 use mx_run::End;
+use mx_stops::{Place, depth, followed};
 use mx_word::NoMemory;
 use std::alloc::Global;
 use std::marker::Model;
@@ -103,9 +103,16 @@ impl Replay {
 
     /// How many registers are hidden at this step: those of the calls that have not returned.
     pub fn depth(&self) -> u64
-        ensures { map_ok (λ e. marks.depth e.state) (step_of self.now.program self.now.at) ≡ Ok result }
+        ensures { map_ok (λ e. places.depth e.state) (step_of self.now.program self.now.at) ≡ Ok result }
     {
         depth(&self.here.machine)
+    }
+
+    /// The place by which a register is followed from this step on: one that is not global at its place of the register stack.
+    pub fn follow(&self, place: Place) -> Place
+        ensures { map_ok (λ e. places.followed e.state place) (step_of self.now.program self.now.at) ≡ Ok result }
+    {
+        followed(&self.here.machine, place)
     }
 
     /// Goes to step k, forth or back, or to the last step where the run ends before. It takes the time of the turns from a

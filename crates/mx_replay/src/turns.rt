@@ -9,11 +9,11 @@ ghost use Rattle.mx_replay.specs.Programs.{IsReached};
 ghost use Rattle.mx_replay.specs.Visits.{IsStep, MakesTurn, turn_from};
 ghost use Rattle.mx_replay.specs.declared.program.Program.{Program};
 
-use crate::marks::{Place, Sought, depth, is_shallow_if, value_at};
-use crate::stops::{Break, Watch, is_at_any_break};
+use crate::marks::{Sought, is_shallow_if};
 use crate::visit::{Visit, is_over};
 use mx_code::Trace;
 use mx_run::{End, TurnAnswer, turn};
+use mx_stops::{Break, Place, Watch, depth, is_at_any_break, see};
 use mx_word::NoMemory;
 use std::alloc::Global;
 
@@ -72,9 +72,10 @@ fn turn_changes(alloc: Global, visit: &mut Visit, place: Place) -> Result<bool, 
     ensures mark { IfOk result (λ marked. marked
         ≡ marks.changes_value place (state_of visit.old.machine) (turn_from visit.old)) }
 {
-    let before = value_at(&visit.machine, place);
+    let before = see(&visit.machine, place);
     make_turn(alloc, visit)?;
-    Ok(before != value_at(&visit.machine, place))
+    let after = see(&visit.machine, place);
+    Ok(before.is_change(&after, place))
 }
 
 /// Makes a turn, and says whether at most this many registers are hidden then.
@@ -138,9 +139,10 @@ fn turn_to_stop(
     let [watch, more @ ..] = watches else {
         return turn_to_break_or_depth(alloc, visit, breaks, most);
     };
-    let before = value_at(&visit.machine, watch.place);
+    let before = see(&visit.machine, watch.place);
     let is_stop = turn_to_stop(alloc, visit, breaks, more, most)?;
-    Ok(before != value_at(&visit.machine, watch.place) || is_stop)
+    let after = see(&visit.machine, watch.place);
+    Ok(before.is_change(&after, watch.place) || is_stop)
 }
 
 /// Makes a turn, and says whether it has a mark. Out of memory the visit is at no step of the run.

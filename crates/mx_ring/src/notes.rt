@@ -17,7 +17,7 @@ use std::alloc::Global;
 use std::marker::Model;
 
 /// The calls of the register stack that change it, with what each is given.
-#[derive(Clone, Copy, Debug, PartialEq, Eq)]
+#[derive(Clone, Copy)]
 pub enum RingWork {
     Set(u8, u64),
     Push(u8),
@@ -147,10 +147,7 @@ fn all_registers(alloc: Global, visible: &Visible) -> Result<Before, RingFault>
     ensures note { IfOk result (λ before. before_in before ≡ all visible.now) }
     ensures memory { OnErr result (result ≡ Err RingFault.OutOfMemory) }
 {
-    match Box::new(alloc, visible.copy()) {
-        Ok(registers) => Ok(Before::All(registers)),
-        Err(_) => Err(RingFault::OutOfMemory),
-    }
+    Ok(Before::All(Box::new(alloc, visible.copy())?))
 }
 
 /// What a call notes takes the stack after it back to the one before it: every register, every hidden octa, the number

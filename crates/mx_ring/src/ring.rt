@@ -24,16 +24,13 @@ mod copy;
 use crate::frame::{frame_at, specials_at};
 use crate::hiding::{hide_below, hide_few_below, hide_registers, hole};
 use crate::{RingFault, RingSize, Saved};
-use mx_registers::{FEW, Hidden, ROOM, Visible};
+use mx_registers::{FEW, Hidden, MORE, ROOM, Visible};
 use mx_word::STACK_SEGMENT;
 use std::alloc::Global;
 use std::marker::Model;
 
 /// The address after the stack area, which begins where Stack_Segment does.
 pub const AREA_END: u64 = 0x6000_0000_0080_0000;
-
-/// How many registers are copied at once where more than `FEW` are wanted.
-const MORE: usize = 16;
 
 /// The 256 registers, the hidden ones and the stack area. Contracts see it as a window.
 #[derive(Drop)]

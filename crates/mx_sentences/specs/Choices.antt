@@ -1,5 +1,6 @@
 -- Which sentence is said of a fault, where its number has several. A rule of this program.
 use Rattle.std.specs.Prelude.{ℕ, ◌==◌, ◌&&◌, ◌||◌, not, nat_le, Bool, false, if◌then◌else◌, List, [], ◌∷◌, length, drop, Option, None, Some, is_some, bytes_eq, codes}
+use Rattle.std.specs.List.{list_any}
 use Rattle.mx_word.specs.Kinds.{is_letter}
 use Rattle.mx_line.specs.Lines.{lines_of}
 use Rattle.mx_ops.specs.Opcodes.{operation_of}
@@ -15,7 +16,7 @@ use Rattle.mx_marks.specs.Fields.{after_comma, from_field, operands_at, word}
 use Rattle.mx_marks.specs.Labels.{first_label, is_label, labels_code}
 use Rattle.mx_marks.specs.Marks.{operation_at, room_at}
 use Rattle.mx_marks.specs.Syntax.{is_read_through}
-use Rattle.mx_sentences.specs.Rows.{Row, address_row, byte_row, colon_row, data_byte_row, data_wyde_row, end_row, foreign_row, indented_row, later_code_row, later_row, match_row, nowhere_row, remark_row, row_of, sum_row, tetra_row, wyde_row}
+use Rattle.mx_advice.specs.Rows.{Row, address_row, ahead_row, byte_row, colon_row, comma_row, comment_row, data_byte_row, data_wyde_row, end_row, far_row, foreign_row, hexadecimal_row, indented_row, later_code_row, later_row, match_row, nowhere_row, other_main_row, point_row, quote_row, remark_row, row_of, set_row, sum_row, tetra_row, wyde_row}
 
 -- whether a name is a label of the source
 abbrev pub is_defined : List ℕ → Line → Bool
@@ -27,8 +28,33 @@ abbrev pub read_row : Line → Row
 read_row [] = match_row
 read_row (b ∷ bs) = end_row
 
+-- a comment after an operation without operands: 33 is !, 37 %, 42 *, 47 / and 59 ;
+abbrev pub begins_comment : Line → Bool
+begins_comment [] = false
+begins_comment (b ∷ bs) = b == 33 || b == 37 || b == 42 || b == 47 || b == 59
+
+abbrev pub is_quote : ℕ → Bool
+is_quote b = b == 34
+
+-- by the first byte where the operands cease to be expressions: 46 is a point, 44 a comma, 120 an x, 88 an X and 72 an H
+abbrev pub byte_stop_row : ℕ → Line → Row
+byte_stop_row b operands =
+    if b == 46 then point_row
+    else if b == 44 then comma_row
+    else if b == 120 || b == 88 then hexadecimal_row
+    else if b == 72 then ahead_row
+    else if list_any is_quote operands then quote_row
+    else row_of 10
+
+abbrev pub marked_stop_row : Line → Line → Row
+marked_stop_row [] operands = row_of 10
+marked_stop_row (b ∷ bs) operands = byte_stop_row b operands
+
+abbrev pub stop_row : Line → Line → Row
+stop_row marked operands = if begins_comment operands then comment_row else marked_stop_row marked operands
+
 abbrev pub syntax_row : Line → Line → Row
-syntax_row marked operands = if is_read_through operands then read_row marked else row_of 10
+syntax_row marked operands = if is_read_through operands then read_row marked else stop_row marked operands
 
 -- ---- a name without a value
 
@@ -82,12 +108,16 @@ abbrev pub is_sum : Line → Bool
 is_sum operation =
     bytes_eq operation (codes "ADD") || bytes_eq operation (codes "SUB") || bytes_eq operation (codes "ADDU") || bytes_eq operation (codes "SUBU")
 
+abbrev pub is_set : Line → Bool
+is_set operation = bytes_eq operation (codes "SET") || bytes_eq operation (codes "SETL")
+
 -- A label of data is marked by its name, and a number below 0 with its minus, which is 45.
 abbrev pub fit_row : Line → Line → ℕ → Row
 fit_row [] line place = room_row (room_at line place)
 fit_row (b ∷ bs) line place =
     if is_letter b then address_row
     else if b == 45 && is_sum (operation_at line place) then sum_row
+    else if is_set (operation_at line place) then set_row
     else room_row (room_at line place)
 
 -- ---- a local label that is nowhere further down
@@ -96,6 +126,14 @@ fit_row (b ∷ bs) line place =
 abbrev pub local_row : List ℕ → Line → Row
 local_row source [] = row_of 81
 local_row source (d ∷ ds) = if is_defined source (d ∷ 72 ∷ []) then row_of 81 else nowhere_row
+
+-- ---- a target that is too far away
+
+abbrev pub is_geta : Line → ℕ → Bool
+is_geta line place = bytes_eq (operation_at line place) (codes "GETA")
+
+abbrev pub reach_row : ℕ → Line → ℕ → Row
+reach_row fault line place = if is_geta line place then far_row else row_of fault
 
 -- ---- a source without Main
 
@@ -109,13 +147,14 @@ has_colon source = bytes_eq (like_main source) (codes "Main:")
 -- ---- the row
 
 -- that of a fault with this number, where this text is marked in the statement at a place: 10 is Syntax, 17 Future, 39 UnknownOpcode,
--- 43 Fit and 81 UndefinedLocal
+-- 43 Fit, 45 TooFar, 81 UndefinedLocal and 85 FutureTooFar
 abbrev pub row_at : ℕ → List ℕ → Line → Line → ℕ → Row
 row_at fault source marked line place =
     if fault == 10 then syntax_row marked (operands_at line place)
     else if fault == 17 then early_row source marked line place
     else if fault == 39 then operation_row (unknown_kind marked line place) marked
     else if fault == 43 then fit_row marked line place
+    else if fault == 45 || fault == 85 then reach_row fault line place
     else if fault == 81 then local_row source marked
     else row_of fault
 
@@ -124,5 +163,8 @@ row_with fault source marked line None = row_of fault
 row_with fault source marked line (Some place) = row_at fault source marked line place
 
 -- that of a fault of the source as a whole: 82 is MainUndefined
+abbrev pub main_row : List ℕ → Row
+main_row source = if has_colon source then colon_row else if length (like_main source) == 0 then row_of 82 else other_main_row
+
 abbrev pub whole_row : ℕ → List ℕ → Row
-whole_row fault source = if fault == 82 then (if has_colon source then colon_row else row_of 82) else row_of fault
+whole_row fault source = if fault == 82 then main_row source else row_of fault

@@ -1,4 +1,4 @@
-pub mod Rows
 pub mod Places
 pub mod Choices
+pub mod Additions
 pub mod Sentences

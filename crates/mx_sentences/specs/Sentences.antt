@@ -1,6 +1,5 @@
--- What is said of a fault: what is wrong, with the marked text, which name is meant perhaps, and what mends it. A rule of this program.
-use Rattle.std.specs.Prelude.{ℕ, ◌-◌, ◌==◌, ◌||◌, Bool, false, if◌then◌else◌, List, [], ◌∷◌, ◌++◌, length, Option, None, Some, codes, decimal}
-use Rattle.mx_word.specs.Kinds.{is_letter}
+-- What is said of a fault: what is wrong, with the marked text, which name is meant perhaps, and how to fix it. A rule of this program.
+use Rattle.std.specs.Prelude.{ℕ, ◌-◌, ◌==◌, ◌||◌, Bool, if◌then◌else◌, List, [], ◌∷◌, ◌++◌, length, Option, None, Some, codes, decimal}
 use Rattle.mx_line.specs.Lines.{lines_of}
 use Rattle.mx_ops.specs.declared.op.Op.{Op}
 use Rattle.mx_ops.specs.declared.op.Op.TheVariants.{Pseudo as PseudoOp, Code, Lda, Set}
@@ -19,8 +18,9 @@ use Rattle.mx_sentences.specs.declared.sentences.Remark.{Remark}
 use Rattle.mx_marks.specs.Labels.{first_label, first_word, known_names, label_number, operation_names}
 use Rattle.mx_marks.specs.Marks.{marked_text, operation_at}
 use Rattle.mx_sentences.specs.Places.{mark_of, statement_place}
-use Rattle.mx_sentences.specs.Choices.{has_colon, is_defined, like_main, row_with, unknown_kind, whole_row}
-use Rattle.mx_sentences.specs.Rows.{Row}
+use Rattle.mx_sentences.specs.Additions.{base_text, begins_letter, instead_text, main_text, reach_text, set_text}
+use Rattle.mx_sentences.specs.Choices.{is_defined, row_with, unknown_kind, whole_row}
+use Rattle.mx_advice.specs.Rows.{Row}
 
 -- ---- what is wrong
 
@@ -35,7 +35,7 @@ subject_of row (b ∷ bs) = quoted (b ∷ bs)
 abbrev pub what_text : Row → Line → Line
 what_text row marked = if length row.after == 0 then row.noun else row.before ++ subject_of row marked ++ row.after
 
--- ---- what mends it
+-- ---- how to fix it
 
 -- which operands an operation takes
 abbrev pub shape_text : Shape → Line
@@ -76,10 +76,6 @@ abbrev pub is_of_shape : ℕ → Bool
 is_of_shape fault = fault == 40 || fault == 41 || fault == 42
 
 -- what loads the address that a label of data has, and what is there
-abbrev pub begins_letter : Line → Bool
-begins_letter [] = false
-begins_letter (b ∷ bs) = is_letter b
-
 unfoldable pub into_text : Line → Line
 into_text name = codes "LDA $1," ++ name ++ codes " puts it into a register"
 
@@ -89,18 +85,22 @@ from_text name = codes ", and LDO $1," ++ name ++ codes " loads the octa there."
 abbrev pub load_text : Line → Line
 load_text name = into_text name ++ from_text name
 
-abbrev pub address_text : Line → Line
-address_text marked = if begins_letter marked then load_text marked else []
-
 -- the line of a label that is defined already, if it is found
 abbrev pub defined_text : ℕ → Line
 defined_text number = if number == 0 then [] else codes " It is the label of line " ++ decimal number ++ codes "."
 
--- 30 is Twice and 43 Fit
+-- what takes a value that does not fit: a label of data, or a number of SET
+abbrev pub fit_text : Line → Line → ℕ → Line
+fit_text marked line place = if begins_letter marked then load_text marked else set_text marked line place
+
+-- 30 is Twice, 43 Fit, 44 NoBase, 45 TooFar and 85 FutureTooFar
 abbrev pub more_at : ℕ → ℕ → List ℕ → Line → Line → ℕ → Line
 more_at fault number source marked line place =
-    if is_of_shape fault then takes_text (operation_at line place) (operands_text (operation_of (operation_at line place)))
-    else if fault == 43 then address_text marked
+    if is_of_shape fault then
+    takes_text (operation_at line place) (operands_text (operation_of (operation_at line place))) ++ instead_text fault line place
+    else if fault == 43 then fit_text marked line place
+    else if fault == 44 then base_text line place
+    else if fault == 45 || fault == 85 then reach_text fault line place
     else if fault == 30 then defined_text (label_number marked (number - 1) 1 (lines_of source))
     else []
 
@@ -131,10 +131,6 @@ abbrev pub meant_unknown : Line → Line → Option ℕ → Line
 meant_unknown marked line None = []
 meant_unknown marked line (Some place) = meant_of (unknown_kind marked line place) marked
 
--- a label that is like Main, and not Main with a colon
-abbrev pub meant_main : List ℕ → Line
-meant_main source = if has_colon source then [] else like_main source
-
 -- 17 is Future, 39 UnknownOpcode and 80 UndefinedSymbol
 abbrev pub meant_by : ℕ → List ℕ → Line → Line → Option ℕ → Line
 meant_by fault source marked line place =
@@ -142,10 +138,6 @@ meant_by fault source marked line place =
     else if fault == 80 then meant_name source marked
     else if fault == 17 then (if is_defined source marked then [] else meant_name source marked)
     else []
-
--- 82 is MainUndefined
-abbrev pub meant_whole : ℕ → List ℕ → Line
-meant_whole fault source = if fault == 82 then meant_main source else []
 
 -- ---- the whole
 
@@ -171,4 +163,4 @@ remark_of why number source line = with_mark why number source line (mark_of why
 
 -- what is said of a fault of the source as a whole
 abbrev pub remark_of_whole : ℕ → List ℕ → Remark
-remark_of_whole fault source = remark None (what_text (whole_row fault source) []) (meant_whole fault source) (whole_row fault source).help
+remark_of_whole fault source = remark None (what_text (whole_row fault source) []) [] ((whole_row fault source).help ++ main_text fault source)

@@ -1,15 +1,16 @@
 //! Which sentence is said of a fault, where its number has several.
 
 ghost use Rattle.std.specs.Prelude.{◌≡◌, ◌≤◌, IfSome, length};
+ghost use Rattle.std.specs.List.{list_any};
 ghost use Rattle.mx_sentences.specs.Choices as spec;
-ghost use Rattle.mx_sentences.specs.Rows.{shown};
+ghost use Rattle.mx_advice.specs.Rows.{shown};
 
-use crate::chosen::{
-    address_row, byte_row, colon_row, data_byte_row, data_wyde_row, end_row, foreign_row,
-    indented_row, later_code_row, later_row, match_row, nowhere_row, remark_row, sum_row,
-    tetra_row, wyde_row,
+use mx_advice::{
+    Row, address_row, ahead_row, byte_row, colon_row, comma_row, comment_row, data_byte_row,
+    data_wyde_row, end_row, far_row, foreign_row, hexadecimal_row, indented_row, later_code_row,
+    later_row, match_row, nowhere_row, other_main_row, point_row, quote_row, remark_row, row_of,
+    set_row, sum_row, tetra_row, wyde_row,
 };
-use crate::rows::{Row, row_of};
 use mx_foreign::advice_on;
 use mx_marks::{
     Field, Likeness, Room, find_similar_label, from_field, is_code_label, is_label,
@@ -19,7 +20,7 @@ use mx_ops::find;
 use mx_word::is_letter;
 
 /// What a word is that is no operation.
-#[derive(Clone, Copy, Debug, PartialEq, Eq)]
+#[derive(Clone, Copy)]
 pub(crate) enum Unknown {
     /// A label that is not in the first column.
     Indented,
@@ -49,6 +50,62 @@ fn read_row(marked: &[u8]) -> Row
     }
 }
 
+/// Whether operands are a comment after an operation without operands.
+fn starts_with_comment(operands: &[u8]) -> bool
+    ensures { result ≡ spec.begins_comment operands.now }
+{
+    match operands {
+        [] => false,
+        [b, ..] => *b == b'!' || *b == b'%' || *b == b'*' || *b == b'/' || *b == b';',
+    }
+}
+
+/// Whether a byte is a double quote.
+fn is_quote(b: u8) -> bool
+    ensures { result ≡ spec.is_quote b }
+{
+    b == b'"'
+}
+
+/// Whether operands have a double quote.
+fn has_quote(operands: &[u8]) -> bool
+    ensures { result ≡ list_any spec.is_quote operands.now }
+{
+    operands.iter().any(|b| is_quote(*b))
+}
+
+/// The row for operands that cease to be expressions at this byte.
+fn byte_stop_row(b: u8, operands: &[u8]) -> Row
+    ensures { shown result ≡ spec.byte_stop_row b operands.now }
+{
+    if b == b'.' {
+        point_row()
+    } else if b == b',' {
+        comma_row()
+    } else if b == b'x' || b == b'X' {
+        hexadecimal_row()
+    } else if b == b'H' {
+        ahead_row()
+    } else if has_quote(operands) {
+        quote_row()
+    } else {
+        row_of(10)
+    }
+}
+
+/// The row for operands that cease to be expressions at this text.
+fn stop_row(marked: &[u8], operands: &[u8]) -> Row
+    ensures { shown result ≡ spec.stop_row marked.now operands.now }
+{
+    if starts_with_comment(operands) {
+        return comment_row();
+    }
+    match marked {
+        [] => row_of(10),
+        [b, ..] => byte_stop_row(*b, operands),
+    }
+}
+
 /// The row for operands that are no expressions, of which this text is marked.
 fn syntax_row(marked: &[u8], operands: &[u8]) -> Row
     ensures { shown result ≡ spec.syntax_row marked.now operands.now }
@@ -56,7 +113,7 @@ fn syntax_row(marked: &[u8], operands: &[u8]) -> Row
     if is_read_through(operands) {
         read_row(marked)
     } else {
-        row_of(10)
+        stop_row(marked, operands)
     }
 }
 
@@ -161,6 +218,13 @@ fn is_sum(operation: &[u8]) -> bool
         || operation == b"SUBU".as_slice()
 }
 
+/// Whether an operation puts a wyde into a register.
+pub(crate) fn is_set(operation: &[u8]) -> bool
+    ensures { result ≡ spec.is_set operation.now }
+{
+    operation == b"SET".as_slice() || operation == b"SETL".as_slice()
+}
+
 /// The row for a value that has no room, where this text is marked.
 fn fit_row(marked: &[u8], line: &[u8], place: usize) -> Row
     ensures { shown result ≡ spec.fit_row marked.now line.now place }
@@ -172,6 +236,8 @@ fn fit_row(marked: &[u8], line: &[u8], place: usize) -> Row
         address_row()
     } else if *b == b'-' && is_sum(operation_at(line, place)) {
         sum_row()
+    } else if is_set(operation_at(line, place)) {
+        set_row()
     } else {
         room_row(room_at(line, place))
     }
@@ -188,6 +254,24 @@ fn local_row(source: &[u8], marked: &[u8]) -> Row
         row_of(81)
     } else {
         nowhere_row()
+    }
+}
+
+/// Whether the statement at a place is GETA.
+pub(crate) fn is_geta(line: &[u8], place: usize) -> bool
+    ensures { result ≡ spec.is_geta line.now place }
+{
+    operation_at(line, place) == b"GETA".as_slice()
+}
+
+/// The row for a target that is too far away.
+fn reach_row(fault: u16, line: &[u8], place: usize) -> Row
+    ensures { shown result ≡ spec.reach_row fault line.now place }
+{
+    if is_geta(line, place) {
+        far_row()
+    } else {
+        row_of(fault)
     }
 }
 
@@ -228,8 +312,22 @@ pub(crate) fn row_with(
         17 => early_row(source, marked, line, place),
         39 => operation_row(unknown_kind(marked, line, place), marked),
         43 => fit_row(marked, line, place),
+        45 | 85 => reach_row(fault, line, place),
         81 => local_row(source, marked),
         _ => row_of(fault),
+    }
+}
+
+/// The row for a source without Main.
+fn main_row(source: &[u8]) -> Row
+    ensures { shown result ≡ spec.main_row source.now }
+{
+    if has_colon(source) {
+        colon_row()
+    } else if like_main(source).is_empty() {
+        row_of(82)
+    } else {
+        other_main_row()
     }
 }
 
@@ -237,11 +335,9 @@ pub(crate) fn row_with(
 pub(crate) fn whole_row(fault: u16, source: &[u8]) -> Row
     ensures { shown result ≡ spec.whole_row fault source.now }
 {
-    if fault != 82 {
-        row_of(fault)
-    } else if has_colon(source) {
-        colon_row()
+    if fault == 82 {
+        main_row(source)
     } else {
-        row_of(82)
+        row_of(fault)
     }
 }

@@ -4,14 +4,16 @@ ghost use Rattle.std.specs.Prelude.{◌≡◌, ◌≤◌, ◌++◌, [], IfOk, If
 ghost use Rattle.mx_ops.specs.Opcodes.{operation_of};
 ghost use Rattle.mx_ops.specs.Shapes.{shapes_of};
 ghost use Rattle.mx_marks.specs.Marks.{operation_at};
-ghost use Rattle.mx_sentences.specs.Rows.{shown};
+ghost use Rattle.mx_sentences.specs.Additions.{instead_text};
+ghost use Rattle.mx_advice.specs.Rows.{shown};
 ghost use Rattle.mx_sentences.specs.Sentences as spec;
 
-use crate::choices::{
-    Unknown, has_colon, is_defined, like_main, row_with, unknown_kind, whole_row,
+use crate::additions::{
+    add_base, add_between, add_instead, add_main, add_reach, add_set, starts_with_letter,
 };
+use crate::choices::{Unknown, is_defined, row_with, unknown_kind, whole_row};
 use crate::places::{mark_of, statement_place};
-use crate::rows::Row;
+use mx_advice::Row;
 use mx_asm::AsmFault;
 use mx_marks::{
     Likeness, Mark, find_label_line, find_similar_label, find_similar_name, find_similar_operation,
@@ -19,11 +21,11 @@ use mx_marks::{
 };
 use mx_ops::{Op, Shape, find, shape_of};
 use mx_text::add_decimal;
-use mx_word::{Bytes, NoMemory, is_letter};
+use mx_word::{Bytes, NoMemory};
 use std::alloc::Global;
 
-/// What is said of a fault: the marked text of its line, if it is known; what is wrong; a name that is meant perhaps, or no text; and what
-/// mends it. Each text is one line without its end.
+/// What is said of a fault: the marked text of its line, if it is known; what is wrong; a name that is meant perhaps, or no text; and how to
+/// fix it. Each text is one line without its end.
 #[derive(Drop)]
 pub struct Remark {
     pub mark: Option<Mark>,
@@ -114,25 +116,6 @@ fn add_takes(text: &mut Bytes, operation: &[u8], operands: &[u8]) -> Result<(), 
     text.extend(b".")
 }
 
-/// Whether a text begins with a letter.
-fn starts_with_letter(text: &[u8]) -> bool
-    ensures { result ≡ spec.begins_letter text.now }
-{
-    match text {
-        [] => false,
-        [b, ..] => is_letter(*b),
-    }
-}
-
-/// Adds a name between two texts.
-fn add_between(text: &mut Bytes, front: &[u8], name: &[u8], back: &[u8]) -> Result<(), NoMemory>
-    ensures { OnOk result (text.new ≡ text.old ++ (front.now ++ name.now ++ back.now)) }
-{
-    text.extend(front)?;
-    text.extend(name)?;
-    text.extend(back)
-}
-
 /// Adds what puts the address of a label of data into a register.
 #[tactic(auto, unfolding(crate::specs::Sentences::into_text))]
 fn add_into(text: &mut Bytes, name: &[u8]) -> Result<(), NoMemory>
@@ -157,14 +140,16 @@ fn add_load(text: &mut Bytes, name: &[u8]) -> Result<(), NoMemory>
     add_from(text, name)
 }
 
-/// Adds what loads an address where a label of data is marked, and nothing where it is a number.
-fn add_address(text: &mut Bytes, marked: &[u8]) -> Result<(), NoMemory>
-    ensures { OnOk result (text.new ≡ text.old ++ spec.address_text marked.now) }
+/// Adds what loads an address where a label of data is marked, and what makes a number that is marked in SET.
+fn add_fit(text: &mut Bytes, marked: &[u8], line: &[u8], place: usize) -> Result<(), NoMemory>
+    requires { place ≤ length line.now }
+    ensures { OnOk result (text.new ≡ text.old ++ spec.fit_text marked.now line.now place) }
 {
     if starts_with_letter(marked) {
-        return add_load(text, marked);
+        add_load(text, marked)
+    } else {
+        add_set(text, marked, line, place)
     }
-    Ok(())
 }
 
 /// Adds in which line a label is defined already, if that is found.
@@ -179,13 +164,16 @@ fn add_defined(text: &mut Bytes, number: u64) -> Result<(), NoMemory>
     text.extend(b".")
 }
 
-/// Adds which operands the operation of the statement at a place takes.
-fn add_shape(text: &mut Bytes, line: &[u8], place: usize) -> Result<(), NoMemory>
+/// Adds which operands the operation of the statement at a place takes, and which operation takes these.
+fn add_shape(text: &mut Bytes, fault: u16, line: &[u8], place: usize) -> Result<(), NoMemory>
+    requires { place ≤ length line.now }
     ensures { OnOk result (text.new ≡ text.old
-        ++ spec.takes_text (operation_at line.now place) (spec.operands_text (operation_of (operation_at line.now place)))) }
+        ++ (spec.takes_text (operation_at line.now place) (spec.operands_text (operation_of (operation_at line.now place)))
+        ++ instead_text fault line.now place)) }
 {
     let operation = operation_at(line, place);
-    add_takes(text, operation, operands_text(find(operation)))
+    add_takes(text, operation, operands_text(find(operation)))?;
+    add_instead(text, fault, line, place)
 }
 
 /// Adds what more helps, where the statement is known.
@@ -198,14 +186,17 @@ fn add_help(
     line: &[u8],
     place: Option<usize>,
 ) -> Result<(), NoMemory>
+    requires { IfSome place (λ p. p ≤ length line.now) }
     ensures { OnOk result (text.new ≡ text.old ++ spec.more_help fault number source.now marked.now line.now place) }
 {
     let Some(place) = place else {
         return Ok(());
     };
     match fault {
-        40 | 41 | 42 => add_shape(text, line, place),
-        43 => add_address(text, marked),
+        40 | 41 | 42 => add_shape(text, fault, line, place),
+        43 => add_fit(text, marked, line, place),
+        44 => add_base(text, line, place),
+        45 | 85 => add_reach(text, fault, line, place),
         30 => add_defined(
             text,
             find_label_line(marked, number.saturating_sub(1), source),
@@ -214,7 +205,7 @@ fn add_help(
     }
 }
 
-/// What mends a fault.
+/// How to fix a fault.
 fn help_text(
     alloc: Global,
     row: Row,
@@ -225,6 +216,7 @@ fn help_text(
     line: &[u8],
     place: Option<usize>,
 ) -> Result<Bytes, NoMemory>
+    requires { IfSome place (λ p. p ≤ length line.now) }
     ensures { IfOk result (λ text. text ≡ (shown row).help ++ spec.more_help fault number source.now marked.now line.now place) }
 {
     let mut text = Bytes::copy(alloc, row.help.as_bytes())?;
@@ -290,17 +282,6 @@ fn guess_by_fault<'a>(
     }
 }
 
-/// The label that is meant perhaps for Main, where a fault of the source as a whole is that there is none.
-fn guess_main(fault: u16, source: &[u8]) -> &[u8]
-    ensures { result.now ≡ spec.meant_whole fault source.now }
-{
-    if fault != 82 || has_colon(source) {
-        &[]
-    } else {
-        like_main(source)
-    }
-}
-
 /// The text that a fault is about, if it is marked.
 fn part_text(line: &[u8], mark: Option<Mark>) -> &[u8]
     ensures { result.now ≡ spec.part_text line.now mark }
@@ -358,12 +339,12 @@ pub fn remark_on_whole(alloc: Global, fault: u16, source: &[u8]) -> Result<Remar
 {
     let row = whole_row(fault, source);
     let what = what_text(alloc, row, &[])?;
-    let meant = Bytes::copy(alloc, guess_main(fault, source))?;
-    let help = Bytes::copy(alloc, row.help.as_bytes())?;
+    let mut help = Bytes::copy(alloc, row.help.as_bytes())?;
+    add_main(&mut help, fault, source)?;
     Ok(Remark {
         mark: None,
         what,
-        meant,
+        meant: Bytes::new(alloc),
         help,
     })
 }

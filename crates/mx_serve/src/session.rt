@@ -12,7 +12,7 @@ use std::alloc::Global;
 pub type Bodies = Sequence<Bytes>;
 
 /// What a session does next: it takes the next message, it has work to do before that, or it ends with a status.
-#[derive(Clone, Copy, Debug, PartialEq, Eq)]
+#[derive(Clone, Copy)]
 pub enum Flow {
     Going,
     Busy,

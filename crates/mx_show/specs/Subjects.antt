@@ -8,7 +8,7 @@ use Rattle.mx_core.specs.UserChanges.{register_changed, special_changed, octa_ch
 use Rattle.mx_word.specs.Segments.{is_in_stack_segment}
 use Rattle.mx_core.specs.State.{State, octa, special_register, is_negative}
 use Rattle.mx_core.specs.declared.changes.SetFault.{SetFault}
-use Rattle.mx_cmd.specs.Specials.{special_name}
+use Rattle.mx_ops.specs.Predefined.{special_name}
 use Rattle.mx_cmd.specs.declared.command.Subject.{Subject}
 use Rattle.mx_cmd.specs.declared.command.Subject.TheVariants.{Register, Global, Special, Memory}
 

@@ -5,7 +5,7 @@ ghost use Rattle.mx_slips.specs.Marks as spec;
 
 /// A part of a line that a warning is about: how many bytes of the line are before it, how many bytes it has, and
 /// the number of another line that the warning is about, or 0.
-#[derive(Clone, Copy, Debug, PartialEq, Eq)]
+#[derive(Clone, Copy)]
 pub struct Mark {
     pub place: usize,
     pub length: usize,

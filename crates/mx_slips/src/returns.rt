@@ -12,7 +12,7 @@ use crate::surveys::{Survey, Use};
 use crate::tokens::Token;
 
 /// Where a statement is.
-#[derive(Clone, Copy, Debug, PartialEq, Eq)]
+#[derive(Clone, Copy)]
 pub enum Place {
     /// In no subroutine of which something can be said.
     Outside,

@@ -8,7 +8,6 @@ ghost use Rattle.mx_stab.specs.Grammar.{IsTrie};
 ghost use Rattle.mx_word.specs.Symbols.{InByteOrder, IsNamed};
 ghost use Rattle.std.specs.List.{AllByRecursion};
 
-use crate::StabFault;
 use crate::numbers::{append_serial, append_value, kind};
 use mx_word::{Bytes, NoMemory, Symbol, Symbols};
 use std::alloc::Global;
@@ -190,12 +189,11 @@ fn take_node<'a>(
 
 /// The trie of symbols that are in the order of their names, each of 1 to 1,024 bytes: no left
 /// subtries, right subtries in ascending order of their characters, and the fewest bytes for each
-/// value and serial number. It is refused only out of memory.
-pub fn write(alloc: Global, symbols: &Symbols) -> Result<Bytes, StabFault>
+/// value and serial number.
+pub fn write(alloc: Global, symbols: &Symbols) -> Result<Bytes, NoMemory>
     ensures trie { IfOk result (λ bytes. bytes ≡ spec.trie_of symbols.now) }
     ensures grammar { InByteOrder symbols.now → AllByRecursion IsNamed symbols.now →
         IfOk result (λ bytes. IsTrie bytes symbols.now) }
-    ensures refusal { IfErr result (λ f. f ≡ StabFault.OutOfMemory) }
 {
     Ok(Bytes::from_vec(write_all(alloc, symbols.as_slice())?))
 }

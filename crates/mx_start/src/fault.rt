@@ -3,8 +3,10 @@
 ghost use Rattle.std.specs.Prelude.{◌≡◌};
 ghost use Rattle.mx_start.specs.Started.{start_number};
 
+use mx_word::NoMemory;
+
 /// Why a program can't start: its arguments need page 65,537, or out of memory.
-#[derive(Clone, Copy, Debug, PartialEq, Eq)]
+#[derive(Clone, Copy, Debug)]
 pub enum StartFault {
     PagesFull,
     OutOfMemory,
@@ -19,5 +21,15 @@ impl StartFault {
             StartFault::PagesFull => 118,
             StartFault::OutOfMemory => 0,
         }
+    }
+}
+
+impl From<NoMemory> for StartFault {
+    ghost use Rattle.mx_start.specs.declared.fault.StartFault.TheVariants.{OutOfMemory};
+
+    ghost from_gives = { λ _ fault. fault ≡ OutOfMemory };
+
+    fn from(_error: NoMemory) -> StartFault {
+        StartFault::OutOfMemory
     }
 }

@@ -135,10 +135,7 @@ pub(crate) fn pool_octas(alloc: Global, texts: &[Bytes]) -> Result<Option<Octas>
     ensures { IfOk result (λ octas. octas ≡ pool_list texts.now) }
 {
     match places(texts) {
-        Some((first, end)) => match octas_between(alloc, first, end, texts) {
-            Ok(octas) => Ok(Some(octas)),
-            Err(fault) => Err(fault),
-        },
+        Some((first, end)) => Ok(Some(octas_between(alloc, first, end, texts)?)),
         None => Ok(None),
     }
 }

@@ -4,12 +4,11 @@ ghost use Rattle.std.specs.Prelude.{◌≡◌, ◌≢◌, ◌≤◌, ◌<◌, �
 ghost use Rattle.mx_load.specs.Kept.{image_of};
 ghost use Rattle.mx_ring.specs.Stack.{windowed};
 ghost use Rattle.mx_ring.specs.Window.{window_at_start};
-ghost use Rattle.mx_word.specs.Results.{map_ok};
 ghost use Rattle.mx_core.specs.Bare.{bare, shared_in, with_shared};
 ghost use Rattle.mx_core.specs.Kept.{state_of};
 ghost use Rattle.mx_start.specs.Images.{globals_of};
 ghost use Rattle.mx_start.specs.Start as spec;
-ghost use Rattle.mx_start.specs.Started.{begun, stored, stored_by};
+ghost use Rattle.mx_start.specs.Started.{StartsAs, stored, stored_by};
 
 use crate::StartFault;
 use crate::globals::collect_globals;
@@ -33,13 +32,10 @@ pub fn start(
     r: RingSize,
 ) -> Result<Machine, StartFault>
     requires { 1 ≤ length args.now }
-    ensures { result ≢ Err StartFault.OutOfMemory → map_ok state_of result
-        ≡ begun (spec.start (image_of image) args.now (windowed (window_at_start r))) }
+    ensures { StartsAs result (spec.start (image_of image) args.now (windowed (window_at_start r))) }
 {
-    match load_machine(alloc, image, args.len() as u64, r) {
-        Ok(machine) => with_arguments(alloc, machine, args),
-        Err(_) => Err(StartFault::OutOfMemory),
-    }
+    let machine = load_machine(alloc, image, args.len() as u64, r)?;
+    with_arguments(alloc, machine, args)
 }
 
 /// The machine with an image and this many arguments, which are not in the pool yet.
@@ -47,10 +43,8 @@ fn load_machine(alloc: Global, image: Image, count: u64, r: RingSize) -> Result<
     ensures { IfOk result (λ m. state_of m ≡ spec.loaded (image_of image) count (windowed (window_at_start r))) }
 {
     let g = image.g();
-    match without_memory(alloc, &image, g, count, r) {
-        Ok(machine) => Ok(with_memory(machine, image.into_memory())),
-        Err(fault) => Err(fault),
-    }
+    let machine = without_memory(alloc, &image, g, count, r)?;
+    Ok(with_memory(machine, image.into_memory()))
 }
 
 /// The machine with the registers of an image and this many arguments, and with no memory.
@@ -66,10 +60,8 @@ fn without_memory(
     ensures { let kept = image_of image.now in IfOk result (λ m. state_of m
         ≡ bare kept.g (globals_of kept) count (spec.pool + 8) (windowed (window_at_start r))) }
 {
-    match collect_globals(alloc, image) {
-        Ok(globals) => Machine::bare(alloc, g, &globals, count, POOL + 8, r),
-        Err(fault) => Err(fault),
-    }
+    let globals = collect_globals(alloc, image)?;
+    Machine::bare(alloc, g, &globals, count, POOL + 8, r)
 }
 
 /// The machine with this memory in place of its own.
@@ -84,8 +76,7 @@ fn with_memory(machine: Machine, memory: Memory) -> Machine
 
 /// The machine with arguments in the pool.
 fn with_arguments(alloc: Global, machine: Machine, args: &[Bytes]) -> Result<Machine, StartFault>
-    ensures { result ≢ Err StartFault.OutOfMemory → map_ok state_of result
-        ≡ begun (spec.with_octas (state_of machine) spec.pool (spec.pool_octas args.now)) }
+    ensures { StartsAs result (spec.with_octas (state_of machine) spec.pool (spec.pool_octas args.now)) }
 {
     match pool_octas(alloc, args) {
         Ok(Some(octas)) => with_octas(machine, octas.as_slice()),
@@ -96,14 +87,11 @@ fn with_arguments(alloc: Global, machine: Machine, args: &[Bytes]) -> Result<Mac
 
 /// The machine with octas in the pool.
 fn with_octas(machine: Machine, octas: &[u64]) -> Result<Machine, StartFault>
-    ensures { result ≢ Err StartFault.OutOfMemory → map_ok state_of result
-        ≡ begun (spec.with_octas (state_of machine) spec.pool octas.now) }
+    ensures { StartsAs result (spec.with_octas (state_of machine) spec.pool octas.now) }
 {
     let mut machine = machine;
-    match store_octas(&mut machine, POOL, octas) {
-        Ok(()) => Ok(machine),
-        Err(fault) => Err(fault),
-    }
+    store_octas(&mut machine, POOL, octas)?;
+    Ok(machine)
 }
 
 /// Stores octas one after the other from an address on, up to one that is refused.
@@ -114,10 +102,7 @@ fn store_octas(machine: &mut Machine, a: u64, octas: &[u64]) -> Result<(), Start
     let mut at = a;
     let mut rest = octas;
     while let [x, others @ ..] = rest {
-        match store_next(machine, at, *x) {
-            Ok(()) => {}
-            Err(fault) => return Err(fault),
-        }
+        store_next(machine, at, *x)?;
         at += 8;
         rest = others;
     }

@@ -10,7 +10,8 @@ use Rattle.mx_expr.specs.declared.faults.ExprFault.TheVariants.{NameTooLong}
 use Rattle.mx_expr.specs.Tree.{Tree, number, name, back, ahead, here, unary, binary}
 use Rattle.mx_expr.specs.Value.{Knowledge, Valued, knowledge, value_of}
 use Rattle.mx_names.specs.declared.fault.NameFault.{NameFault}
-use Rattle.mx_names.specs.Names.{NameTable, complete_form, fitting_form, value_of_name, back_of}
+use Rattle.mx_names.specs.Names.{NameTable, value_of_name, back_of}
+pub use Rattle.mx_names.specs.Names.{symbol_form}
 use Rattle.mx_stmt.specs.declared.env.Env.{Env}
 use Rattle.mx_stmt.specs.declared.operands.RegisterOrByte.{RegisterOrByte}
 use Rattle.mx_stmt.specs.declared.operands.RegisterOrByte.TheVariants.{Register, Byte}
@@ -29,10 +30,6 @@ pub record Known : Type 0 where
 
 abbrev pub known_of : Env → Known
 known_of env = record { names = env.names.now.names; at = env.at; gregs = env.gregs.now }
-
--- the complete form of a symbol as it is written
-abbrev pub symbol_form : NameTable → List ℕ → Result (List ℕ) NameFault
-symbol_form names text = fitting_form (complete_form names.prefix text)
 
 -- the value of a symbol as it is written; nothing where it is not known
 abbrev pub value_in : NameTable → Result (List ℕ) NameFault → Result (Option Value) ExprFault

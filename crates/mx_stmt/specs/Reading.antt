@@ -1,8 +1,9 @@
 -- How a statement that was cut from a line is read: its label, its operation and its operands (MMIXware, MMIXAL;
 -- TAOCP 1, Fascicle 1, section 1.3.2').
-use Rattle.std.specs.Prelude.{◌≡◌, ◌≤◌, ℕ, ◌-◌, IfSome, is_some, ◌&&◌, not, Bool, true, false, if◌then◌else◌, List, [], ◌∷◌, Option, None, Some, Ok, Err}
+use Rattle.std.specs.Prelude.{◌≡◌, ◌≢◌, ◌≤◌, ℕ, ◌-◌, IfSome, is_some, ◌&&◌, not, Bool, true, false, if◌then◌else◌, List, [], ◌∷◌, Option, None, Some, Result, Ok, Err}
 use Rattle.std.specs.List.{All}
 use Rattle.mx_word.specs.Kinds.{is_digit}
+use Rattle.mx_word.specs.Results.{map_ok}
 use Rattle.mx_line.specs.declared.spans.Span.{Span}
 use Rattle.mx_line.specs.declared.cutter.Cut.{Cut}
 use Rattle.mx_line.specs.Spans.{part}
@@ -18,10 +19,10 @@ use Rattle.mx_stmt.specs.declared.statement.Label.{Label}
 use Rattle.mx_stmt.specs.declared.statement.Label.TheVariants.{Name, Local}
 use Rattle.mx_stmt.specs.declared.statement.Statement.{Statement}
 use Rattle.mx_stmt.specs.declared.faults.StmtFault.{StmtFault}
-use Rattle.mx_stmt.specs.declared.faults.StmtFault.TheVariants.{UnknownOpcode, LabelNotAllowed}
+use Rattle.mx_stmt.specs.declared.faults.StmtFault.TheVariants.{UnknownOpcode, LabelNotAllowed, OutOfMemory}
 use Rattle.mx_stmt.specs.Faults.{fault_of}
 use Rattle.mx_stmt.specs.Steps.{Answer}
-use Rattle.mx_stmt.specs.Encoding.{StatementTree}
+use Rattle.mx_stmt.specs.Encoding.{StatementTree, statement_tree}
 
 -- a label: one that begins with a digit is a local one
 abbrev pub label_of : List ℕ → Label
@@ -88,3 +89,7 @@ OperandsHaveDigits operands = All (λ e. HasDigits (tree_of e)) operands
 
 abbrev pub StatementHasDigits : Statement → Type 0
 StatementHasDigits s = IfSome s.label LabelHasDigit × OperandsHaveDigits s.operands
+
+-- unless there was no memory, the statement that was read, or its fault, is this
+abbrev pub ReadsAs : Result Statement StmtFault → Result StatementTree StmtFault → Type 0
+ReadsAs result answer = result ≢ Err OutOfMemory → map_ok statement_tree result ≡ answer

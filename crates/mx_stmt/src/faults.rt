@@ -7,7 +7,7 @@ use mx_expr::ExprFault;
 use mx_word::NoMemory;
 
 /// A fault of a statement.
-#[derive(Clone, Copy, Debug, PartialEq, Eq)]
+#[derive(Clone, Copy)]
 pub enum StmtFault {
     /// A fault of an operand, other than out of memory.
     Expr(ExprFault),

@@ -71,12 +71,12 @@ pub fn read_statement(
 ) -> Result<Statement, StmtFault>
     requires { spec.CutWithin (length text.now) cut.now }
     ensures read { IfOk result (λ s. spec.IsRead (spec.fields_of text.now cut.now) line (statement_tree s)) }
-    ensures only { (s : StatementTree) → spec.IsRead (spec.fields_of text.now cut.now) line s →
-        result ≢ Err StmtFault.OutOfMemory → map_ok statement_tree result ≡ Ok s }
+    ensures only { (s : StatementTree) →
+        spec.IsRead (spec.fields_of text.now cut.now) line s → spec.ReadsAs result (Ok s) }
     ensures fault { IfErr result (λ fault. fault ≢ StmtFault.OutOfMemory →
         spec.IsFault (spec.fields_of text.now cut.now) fault) }
-    ensures first { (fault : StmtFault) → spec.IsFault (spec.fields_of text.now cut.now) fault →
-        result ≢ Err StmtFault.OutOfMemory → map_ok statement_tree result ≡ Err fault }
+    ensures first { (fault : StmtFault) →
+        spec.IsFault (spec.fields_of text.now cut.now) fault → spec.ReadsAs result (Err fault) }
     ensures digits { IfOk result spec.StatementHasDigits }
 {
     let op = operation_for(cut.label.is_some(), slice_span(text, cut.op))?;

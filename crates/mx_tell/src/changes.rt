@@ -4,6 +4,7 @@ use crate::things::{add_change, add_thing, add_usual};
 use crate::values::{octa_at, tetra_at, value_of};
 use mx_book::{Book, Thing};
 use mx_core::{Machine, Touch, Trace};
+use mx_ops::codes::{RC, RL, RO, RS};
 use mx_word::{Bytes, NoMemory};
 
 /// What there was before a step: the registers, the special registers, and the octa at the address that the next instruction
@@ -15,15 +16,6 @@ pub struct Before {
     address: u64,
     octa: u64,
 }
-
-/// The codes of the special registers that go with each step, with each call, or with the registers that are local.
-const CYCLES: u8 = 8;
-
-const HIDDEN: u8 = 10;
-
-const SPILLED: u8 = 11;
-
-const LOCALS: u8 = 20;
 
 /// The code of POP.
 const POP: u32 = 0xf8;
@@ -127,7 +119,7 @@ fn add_held(text: &mut Bytes, book: &Book, machine: &Machine, k: u8) -> Result<(
 
 /// Whether a step came to other registers: by a call, or a return.
 fn has_moved_registers(before: &Before, machine: &Machine) -> bool {
-    before.special[usize::from(HIDDEN)] != machine.special(HIDDEN)
+    before.special[usize::from(RO)] != machine.special(RO)
 }
 
 /// The first register that a call or a return has given a value: of a return the first result, of a call the first argument.
@@ -136,7 +128,7 @@ fn first_given_register(before: &Before, trace: &Trace, machine: &Machine) -> u8
         return 0;
     }
     let x = u64::from((trace.word >> 16) % 256);
-    let locals = before.special[usize::from(LOCALS)];
+    let locals = before.special[usize::from(RL)];
     let results = x.min(locals.saturating_add(1));
     machine.l().saturating_sub(results.min(255) as u8)
 }
@@ -165,7 +157,7 @@ fn is_of_traps(code: u8) -> bool {
 
 /// Whether a special register is told where a step changes it. Those that each trap changes are told of no trap.
 fn is_told(code: u8, word: u32) -> bool {
-    let is_counted = code == CYCLES || code == HIDDEN || code == SPILLED || code == LOCALS;
+    let is_counted = code == RC || code == RO || code == RS || code == RL;
     !is_counted && (word >> 24 != TRAP || !is_of_traps(code))
 }
 

@@ -2,18 +2,19 @@
 
 ghost use Rattle.std.specs.Prelude.{◌≤◌};
 
-use crate::names::add_address;
+use crate::names::{add_address, add_label_between};
+use crate::things::add_value;
 use crate::values::byte_at;
 use mx_ask::Unit;
 use mx_book::Book;
 use mx_core::Machine;
-use mx_pieces::{Style, add_characters, fill};
-use mx_text::byte_hex;
+use mx_pieces::{Style, add_characters, add_short_hex, add_signed, fill};
+use mx_text::{Form, add_decimal, byte_hex};
 use mx_word::{Bytes, NoMemory};
 use std::alloc::Global;
 
 /// This many units are shown, and no more.
-const MOST: u64 = 1024;
+pub const MOST_UNITS: u64 = 1024;
 
 /// This many bytes of a text are shown, and no more.
 const LONGEST: u64 = 200;
@@ -26,7 +27,7 @@ fn size_of(unit: Unit) -> u64
     ensures { 1 ≤ result }
 {
     match unit {
-        Unit::Octa => 8,
+        Unit::Octa | Unit::Decimal => 8,
         Unit::Tetra => 4,
         Unit::Wyde => 2,
         Unit::Byte | Unit::Text => 1,
@@ -38,7 +39,7 @@ fn row_length(unit: Unit) -> u64
     ensures { 1 ≤ result }
 {
     match unit {
-        Unit::Octa => 2,
+        Unit::Octa | Unit::Decimal => 2,
         Unit::Tetra => 4,
         Unit::Wyde | Unit::Byte => 8,
         Unit::Text => 1,
@@ -53,6 +54,49 @@ fn add_head(text: &mut Bytes, book: &Book, address: u64) -> Result<(), NoMemory>
     fill(text, from, HEAD)
 }
 
+/// Adds the name of a unit of memory that is no text, and its address: `M4[#2000000000000004`.
+fn add_part_name(text: &mut Bytes, book: &Book, size: u64, at: u64) -> Result<(), NoMemory> {
+    text.extend(b"M")?;
+    add_decimal(text, size)?;
+    text.extend(b"[")?;
+    add_short_hex(text, at)?;
+    text.extend(b"]")?;
+    add_label_between(text, b" (", book, at, b")")
+}
+
+/// The unit of memory that holds an address, as a signed number; of a text its first byte.
+fn part_value(machine: &Machine, unit: Unit, a: u64) -> u64 {
+    let size = size_of(unit);
+    let at = a.wrapping_sub(a % size);
+    let mut value = if byte_at(machine, at) < 128 {
+        0
+    } else {
+        u64::MAX
+    };
+    for i in 0..size {
+        let byte = byte_at(machine, at.wrapping_add(i));
+        value = value.wrapping_mul(256).wrapping_add(u64::from(byte));
+    }
+    value
+}
+
+/// Adds the unit of memory that holds an address, and what it has as a signed number, in a form if one is asked for:
+/// `M4[#2000000000000004] (Count+4) = -1`.
+pub fn add_part(
+    text: &mut Bytes,
+    book: &Book,
+    machine: &Machine,
+    unit: Unit,
+    a: u64,
+    form: Option<Form>,
+) -> Result<(), NoMemory> {
+    let size = size_of(unit);
+    add_part_name(text, book, size, a.wrapping_sub(a % size))?;
+    text.extend(b" = ")?;
+    add_value(text, book, part_value(machine, unit, a), form)?;
+    text.extend(b"\n")
+}
+
 /// Begins a row, and ends the one before it.
 fn begin_row(text: &mut Bytes, book: &Book, address: u64, is_first: bool) -> Result<(), NoMemory> {
     if !is_first {
@@ -61,10 +105,14 @@ fn begin_row(text: &mut Bytes, book: &Book, address: u64, is_first: bool) -> Res
     add_head(text, book, address)
 }
 
-/// Adds this many bytes from an address as hexadecimal digits.
-fn add_unit(text: &mut Bytes, machine: &Machine, address: u64, size: u64) -> Result<(), NoMemory> {
+/// Adds the unit at an address: as hexadecimal digits, or as a signed decimal number.
+fn add_unit(text: &mut Bytes, machine: &Machine, address: u64, unit: Unit) -> Result<(), NoMemory> {
+    if unit == Unit::Decimal {
+        text.push(b' ')?;
+        return add_signed(text, part_value(machine, unit, address));
+    }
     text.extend(b" #")?;
-    for i in 0..size {
+    for i in 0..size_of(unit) {
         text.extend(&byte_hex(byte_at(machine, address.wrapping_add(i))))?;
     }
     Ok(())
@@ -85,7 +133,7 @@ fn add_units(
         if i % row_length(unit) == 0 {
             begin_row(text, book, address, i == 0)?;
         }
-        add_unit(text, machine, address, size)?;
+        add_unit(text, machine, address, unit)?;
     }
     text.push(b'\n')
 }
@@ -160,7 +208,11 @@ pub fn add_memory(
     count: u64,
     unit: Unit,
 ) -> Result<u64, NoMemory> {
-    let count = if count < MOST { count } else { MOST };
+    let count = if count < MOST_UNITS {
+        count
+    } else {
+        MOST_UNITS
+    };
     if count == 0 {
         return Ok(from);
     }

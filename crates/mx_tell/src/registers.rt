@@ -65,6 +65,34 @@ fn add_rows(
     Ok(())
 }
 
+/// Adds the rows of the global registers: all of them, or those that are not 0, and how many others are left out.
+fn add_global_rows(
+    text: &mut Bytes,
+    book: &Book,
+    machine: &Machine,
+    is_all: bool,
+) -> Result<(), NoMemory> {
+    let mut left_out = 0u64;
+    for k in usize::from(machine.g())..256 {
+        let k = (k % 256) as u8;
+        if is_all || machine.register(k) != 0 {
+            add_register_row(text, book, machine, k)?;
+        } else {
+            left_out = left_out.wrapping_add(1);
+        }
+    }
+    add_left_out(text, left_out)
+}
+
+/// Adds how many registers are left out, if some are.
+fn add_left_out(text: &mut Bytes, count: u64) -> Result<(), NoMemory> {
+    if count == 0 {
+        return Ok(());
+    }
+    add_decimal(text, count)?;
+    text.extend(b" more are 0: info registers all shows them\n")
+}
+
 /// Adds the rows of the special registers that are not 0.
 fn add_special_rows(text: &mut Bytes, machine: &Machine) -> Result<(), NoMemory> {
     for code in 0..32u8 {
@@ -73,13 +101,18 @@ fn add_special_rows(text: &mut Bytes, machine: &Machine) -> Result<(), NoMemory>
     Ok(())
 }
 
-/// Adds the registers: the local ones, the global ones, and the special ones that are not 0, each with its name, its value and its
-/// hexadecimal digits.
-pub fn add_registers(text: &mut Bytes, book: &Book, machine: &Machine) -> Result<(), NoMemory> {
+/// Adds the registers: the local ones, the global ones that are not 0, or all of them, and the special ones that are not 0, each with
+/// its name, its value and its hexadecimal digits.
+pub fn add_registers(
+    text: &mut Bytes,
+    book: &Book,
+    machine: &Machine,
+    is_all: bool,
+) -> Result<(), NoMemory> {
     text.extend(b"local:\n")?;
     add_rows(text, book, machine, 0, usize::from(machine.l()))?;
     text.extend(b"global:\n")?;
-    add_rows(text, book, machine, usize::from(machine.g()), 256)?;
+    add_global_rows(text, book, machine, is_all)?;
     text.extend(b"special:\n")?;
     add_special_rows(text, machine)
 }

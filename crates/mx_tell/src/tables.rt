@@ -40,16 +40,18 @@ pub fn add_break_row(
     text.push(b'\n')
 }
 
-/// Adds the row of a watch: `2    watch  $1 (k)`.
+/// Adds the row of a watch, and a note: `2    watch  $1 (k), here $5`.
 pub fn add_watch_row(
     text: &mut Bytes,
     book: &Book,
     number: u64,
     thing: Thing,
+    note: &[u8],
 ) -> Result<(), NoMemory> {
     begin_row(text, number)?;
     text.extend(b"watch  ")?;
     add_thing(text, book, thing)?;
+    text.extend(note)?;
     text.push(b'\n')
 }
 

@@ -146,7 +146,35 @@ pub fn add_shown(
         }
     }
     add_formed(text, book, thing, value_of(machine, thing), form)?;
+    add_inside(text, thing)?;
     text.push(b'\n')
+}
+
+/// Adds that an octa is shown since it has an address that is inside it.
+fn add_inside(text: &mut Bytes, thing: Thing) -> Result<(), NoMemory> {
+    match thing {
+        Thing::Octa(a) if a % 8 != 0 => {
+            text.extend(b"  (the octa that has ")?;
+            add_short_hex(text, a)?;
+            text.extend(b")")
+        }
+        _ => Ok(()),
+    }
+}
+
+/// Adds what a thing had, if that is known: `  (was 10)`.
+pub fn add_was(
+    text: &mut Bytes,
+    book: &Book,
+    thing: Thing,
+    old: Option<u64>,
+) -> Result<(), NoMemory> {
+    let Some(old) = old else {
+        return Ok(());
+    };
+    text.extend(b"  (was ")?;
+    add_held(text, book, thing, old)?;
+    text.push(b')')
 }
 
 /// Adds what a thing has now, and what it had: `$1 (k) = 9  (was 10)`.
@@ -160,22 +188,27 @@ pub(crate) fn add_change(
     add_thing(text, book, thing)?;
     text.extend(b" = ")?;
     add_held(text, book, thing, new)?;
-    text.extend(b"  (was ")?;
-    add_held(text, book, thing, old)?;
-    text.extend(b")\n")
+    add_was(text, book, thing, Some(old))?;
+    text.push(b'\n')
 }
 
-/// Adds what a watched thing has now, and what it had: `watch 2: $1 (k) = 9  (was 10)`.
+/// Adds what a watched thing has now, what it had, if that is known, and a note: `watch 2: $1 (k) = 9  (was 10), here $5`.
 pub fn add_watched(
     text: &mut Bytes,
     book: &Book,
     number: u64,
     thing: Thing,
-    old: u64,
+    old: Option<u64>,
     new: u64,
+    note: &[u8],
 ) -> Result<(), NoMemory> {
     text.extend(b"watch ")?;
     add_decimal(text, number)?;
     text.extend(b": ")?;
-    add_change(text, book, thing, old, new)
+    add_thing(text, book, thing)?;
+    text.extend(b" = ")?;
+    add_held(text, book, thing, new)?;
+    add_was(text, book, thing, old)?;
+    text.extend(note)?;
+    text.push(b'\n')
 }

@@ -9,7 +9,7 @@ use Rattle.mx_registers.specs.Registers.{Registers}
 use Rattle.mx_ring.specs.Stack.{as_listed, register, in_stack_area}
 use Rattle.mx_code.specs.SpecialRegisters.{rS}
 use Rattle.mx_text.specs.Numbers.{hex_text}
-use Rattle.mx_cmd.specs.Specials.{special_name}
+use Rattle.mx_ops.specs.Predefined.{special_name}
 use Rattle.mx_dump.specs.Dump.{Line, named_octa, special_line, special_lines, register_line, register_lines, is_register_shown, is_address_shown, octa_line, octa_lines, octa_count, dump_lines}
 use Rattle.mx_dump.proofs.Dumps.{address-hidden}
 

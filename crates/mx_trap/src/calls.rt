@@ -2,10 +2,10 @@
 
 ghost use Rattle.std.specs.Prelude.{◌≡◌, ◌≢◌, ◌≤◌, IfErr};
 ghost use Rattle.mx_host.specs.Keeping.{Keeps};
-ghost use Rattle.mx_plan.specs.Clauses.{CarriesOutBoth, Stands};
-ghost use Rattle.mx_trap.specs.Clauses.{IsStopped, StopsByPages};
+ghost use Rattle.mx_plan.specs.Clauses.{Stands};
+ghost use Rattle.mx_trap.specs.Clauses.{CarriesOutTrap, StopsByPages, StopsFirst};
 ghost use Rattle.mx_trap.specs.FileTraps as spec;
-ghost use Rattle.mx_trap.specs.Requests.{request_of, IsInBounds, AreInBounds, bytes_from};
+ghost use Rattle.mx_trap.specs.Requests.{IsInBounds};
 
 use crate::answer::TrapAnswer;
 use crate::files::{fclose, fopen, fseek, ftell};
@@ -30,10 +30,9 @@ pub fn trap<M: Space, H: Host>(
     host: &mut H,
     call: &TrapCall,
 ) -> TrapAnswer
-    ensures told { CarriesOutBoth (H.told host.old) (H.told host.new) (M.contents memory.old) (M.contents memory.new)
-        TrapAnswer.OutOfMemory result (spec.trap_plan call.now) }
-    ensures stops { IsStopped (request_of (M.contents memory.old).bytes call.now) result
-        ((M.contents memory.new ≡ M.contents memory.old) × (host.new ≡ host.old)) }
+    ensures told { CarriesOutTrap M.contents H.told memory.old memory.new host.old host.new result
+        (spec.trap_plan call.now) }
+    ensures stops { StopsFirst M.contents memory.old memory.new host.old host.new call.now result }
     ensures rest { (M.contents memory.new).rest ≡ (M.contents memory.old).rest }
     ensures stands { Stands (H.told host.old) (H.told host.new) (H.faults host.old) (H.faults host.new) }
 {
@@ -55,8 +54,8 @@ fn do_request<M: Space, H: Host>(
 ) -> TrapAnswer
     requires slot { slot ≤ 255 }
     requires bounds { IsInBounds request }
-    ensures told { CarriesOutBoth (H.told host.old) (H.told host.new) (M.contents memory.old) (M.contents memory.new)
-        TrapAnswer.OutOfMemory result (spec.carried_out slot (M.contents memory.old).bytes request) }
+    ensures told { CarriesOutTrap M.contents H.told memory.old memory.new host.old host.new result
+        (spec.carried_out slot (M.contents memory.old).bytes request) }
     ensures stops { StopsByPages result }
     ensures rest { (M.contents memory.new).rest ≡ (M.contents memory.old).rest }
     ensures stands { Stands (H.told host.old) (H.told host.new) (H.faults host.old) (H.faults host.new) }

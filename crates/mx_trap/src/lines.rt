@@ -2,9 +2,9 @@
 
 ghost use Rattle.std.specs.Prelude.{◌≡◌, ◌≢◌, ◌≤◌, ◌<◌, ◌+◌, ◌^◌, length, Ok, Err, IfErr};
 ghost use Rattle.mx_plan.specs.Calls.{space};
-ghost use Rattle.mx_plan.specs.Clauses.{CarriesOutBoth, Stands};
+ghost use Rattle.mx_plan.specs.Clauses.{Stands};
 ghost use Rattle.mx_plan.specs.Plan.{Comes};
-ghost use Rattle.mx_trap.specs.Clauses.{StopsByPages};
+ghost use Rattle.mx_trap.specs.Clauses.{CarriesOutPart, CarriesOutTrap, StopsByPages};
 ghost use Rattle.mx_trap.specs.Moves as spec;
 ghost use Rattle.mx_trap.specs.Requests.{AreInBounds};
 
@@ -26,8 +26,8 @@ pub fn fgets<M: Space, H: Host>(
 ) -> TrapAnswer
     requires slot { slot ≤ 255 }
     requires bounds { AreInBounds at size }
-    ensures told { CarriesOutBoth (H.told host.old) (H.told host.new) (M.contents memory.old) (M.contents memory.new)
-        TrapAnswer.OutOfMemory result (spec.fgets slot at size) }
+    ensures told { CarriesOutTrap M.contents H.told memory.old memory.new host.old host.new result
+        (spec.fgets slot at size) }
     ensures stops { StopsByPages result }
     ensures rest { (M.contents memory.new).rest ≡ (M.contents memory.old).rest }
     ensures stands { Stands (H.told host.old) (H.told host.new) (H.faults host.old) (H.faults host.new) }
@@ -55,8 +55,8 @@ fn line_byte<M: Space, H: Host>(
 ) -> Result<bool, TrapAnswer>
     requires slot { slot ≤ 255 }
     requires below { at < 2 ^ 63 }
-    ensures told { CarriesOutBoth (H.told host.old) (H.told host.new) (M.contents memory.old) (M.contents memory.new)
-        (Err TrapAnswer.OutOfMemory) result (spec.line_byte slot at) }
+    ensures told { CarriesOutPart M.contents H.told memory.old memory.new host.old host.new result
+        (spec.line_byte slot at) }
     ensures rest { (M.contents memory.new).rest ≡ (M.contents memory.old).rest }
     ensures stops { IfErr result StopsByPages }
     ensures stands { Stands (H.told host.old) (H.told host.new) (H.faults host.old) (H.faults host.new) }
@@ -79,10 +79,8 @@ fn put_byte<M: Space>(memory: &mut M, at: u64, b: u8) -> Result<bool, TrapAnswer
     ensures stops { IfErr result StopsByPages }
     ensures rest { (M.contents memory.new).rest ≡ (M.contents memory.old).rest }
 {
-    match store_byte(memory, at, b) {
-        Ok(()) => Ok(b == b'\n'),
-        Err(answer) => Err(answer),
-    }
+    store_byte(memory, at, b)?;
+    Ok(b == b'\n')
 }
 
 /// Puts the zero byte after a line of `count` bytes.

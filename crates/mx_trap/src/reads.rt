@@ -1,8 +1,8 @@
 //! Reading bytes of a slot into a space, piece by piece: Fread.
 
 ghost use Rattle.std.specs.Prelude.{◌≡◌, ◌≢◌, ◌≤◌, ◌<◌, ◌+◌, ◌^◌, length, Ok, Err, IfOk, IfErr};
-ghost use Rattle.mx_plan.specs.Clauses.{CarriesOutBoth, Stands};
-ghost use Rattle.mx_trap.specs.Clauses.{StopsByPages};
+ghost use Rattle.mx_plan.specs.Clauses.{Stands};
+ghost use Rattle.mx_trap.specs.Clauses.{CarriesOutPart, CarriesOutTrap, StopsByPages};
 ghost use Rattle.mx_trap.specs.Moves as spec;
 ghost use Rattle.mx_trap.specs.Requests.{AreInBounds};
 
@@ -24,8 +24,8 @@ pub fn fread<M: Space, H: Host>(
 ) -> TrapAnswer
     requires slot { slot ≤ 255 }
     requires bounds { AreInBounds at size }
-    ensures told { CarriesOutBoth (H.told host.old) (H.told host.new) (M.contents memory.old) (M.contents memory.new)
-        TrapAnswer.OutOfMemory result (spec.fread slot at size) }
+    ensures told { CarriesOutTrap M.contents H.told memory.old memory.new host.old host.new result
+        (spec.fread slot at size) }
     ensures rest { (M.contents memory.new).rest ≡ (M.contents memory.old).rest }
     ensures stops { StopsByPages result }
     ensures stands { Stands (H.told host.old) (H.told host.new) (H.faults host.old) (H.faults host.new) }
@@ -63,8 +63,8 @@ fn read_piece<M: Space, H: Host>(
 ) -> Result<u64, TrapAnswer>
     requires slot { slot ≤ 255 }
     requires bounds { AreInBounds at (length buffer.old) }
-    ensures told { CarriesOutBoth (H.told host.old) (H.told host.new) (M.contents memory.old) (M.contents memory.new)
-        (Err TrapAnswer.OutOfMemory) result (spec.read_piece slot at (length buffer.old) size) }
+    ensures told { CarriesOutPart M.contents H.told memory.old memory.new host.old host.new result
+        (spec.read_piece slot at (length buffer.old) size) }
     ensures count { IfOk result (λ n. n ≤ length buffer.old) }
     ensures length { length buffer.new ≡ length buffer.old }
     ensures rest { (M.contents memory.new).rest ≡ (M.contents memory.old).rest }
@@ -72,10 +72,10 @@ fn read_piece<M: Space, H: Host>(
     ensures stands { Stands (H.told host.old) (H.told host.new) (H.faults host.old) (H.faults host.new) }
 {
     match read(host, slot, buffer) {
-        Ok(count) => match store_bytes(memory, at, &buffer[..count]) {
-            Ok(()) => Ok(count as u64),
-            Err(answer) => Err(answer),
-        },
+        Ok(count) => {
+            store_bytes(memory, at, &buffer[..count])?;
+            Ok(count as u64)
+        }
         Err(HostFault::OutOfMemory) => Err(TrapAnswer::OutOfMemory),
         Err(_) => Err(TrapAnswer::Value(MINUS_ONE - size)),
     }

@@ -39,10 +39,8 @@ pub fn request_of<M: Space>(memory: &M, call: &TrapCall) -> Result<Request, Trap
     ensures request { result ≡ spec.request_of (M.contents memory.now).bytes call.now }
     ensures bounds { IfOk result spec.IsInBounds }
 {
-    match service_of(call.word) {
-        Ok(service) => request_by(memory, service, call.arg),
-        Err(stop) => Err(stop),
-    }
+    let service = service_of(call.word)?;
+    request_by(memory, service, call.arg)
 }
 
 /// What a service asks for with this argument.
@@ -119,24 +117,14 @@ pub fn text_length<M: Space>(memory: &M, a: u64) -> Result<u64, TrapStop>
     ensures bounds { IfOk result (λ n. spec.AreInBounds a n) }
 {
     for count in 0..1u64 << 24 {
-        match byte_at(memory, a + count) {
-            Err(stop) => return Err(stop),
-            Ok(b) => {
-                if b == 0 {
-                    return Ok(count);
-                }
-            }
+        if byte_at(memory, a + count)? == 0 {
+            return Ok(count);
         }
     }
-    match byte_at(memory, a + (1 << 24)) {
-        Err(stop) => Err(stop),
-        Ok(b) => {
-            if b == 0 {
-                return Ok(1 << 24);
-            }
-            Err(TrapStop::TransferTooLarge)
-        }
+    if byte_at(memory, a + (1 << 24))? == 0 {
+        return Ok(1 << 24);
     }
+    Err(TrapStop::TransferTooLarge)
 }
 
 /// The byte at an address.

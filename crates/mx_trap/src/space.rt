@@ -46,10 +46,7 @@ pub fn store_bytes<M: Space>(memory: &mut M, at: u64, bytes: &[u8]) -> Result<()
     ensures rest { (M.contents memory.new).rest ≡ (M.contents memory.old).rest }
 {
     for (place, b) in bytes.iter().enumerate() {
-        match store_byte(memory, at + place as u64, *b) {
-            Ok(()) => {}
-            Err(answer) => return Err(answer),
-        }
+        store_byte(memory, at + place as u64, *b)?;
     }
     Ok(())
 }

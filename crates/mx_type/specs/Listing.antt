@@ -19,6 +19,11 @@ pub data AreLines : List Item → List ℕ → Type 0 where
 abbrev pub HasListed : ℕ → List Item → List ℕ → Type 0
 HasListed lambda items text = (lambda ≡ lambda_of items) × AreLines items text
 
+-- what was listed, and this text after it, are the lines of all these items
+abbrev pub ListsItem : ℕ → ℕ → Item → List ℕ → Type 0
+ListsItem old new item text =
+    (items : List Item) (lines : List ℕ) → HasListed old items lines → HasListed new (items ++ item ∷ []) (lines ++ text)
+
 -- the listing of items and of a trie: the lines of the items, that of the trie, and those of its symbols in the order
 -- of the trie
 pub record IsListing (text : List ℕ) (items : List Item) (trie : List ℕ) : Type 0 where
@@ -27,3 +32,8 @@ pub record IsListing (text : List ℕ) (items : List Item) (trie : List ℕ) : T
   pub listed : AreLines items lines
   pub told : IsTrie trie symbols
   pub whole : text ≡ lines ++ ended (stab_line trie) ++ flat_map (λ s. ended (symbol_line s)) symbols
+
+-- what was listed, and this text after it, are the listing of the items and the trie
+abbrev pub EndsListing : ℕ → List ℕ → List ℕ → Type 0
+EndsListing lambda trie text =
+    (items : List Item) (lines : List ℕ) → HasListed lambda items lines → IsListing (lines ++ text) items trie

@@ -5,7 +5,7 @@ ghost use Rattle.mx_mmo.specs.declared.items.Item.{Item};
 ghost use Rattle.mx_stab.specs.Grammar.{IsTrie};
 ghost use Rattle.mx_type.specs.Lambda.{lambda_after};
 ghost use Rattle.mx_type.specs.Lines.{ended, stab_line, symbol_line};
-ghost use Rattle.mx_type.specs.Listing.{HasListed, IsListing};
+ghost use Rattle.mx_type.specs.Listing.{EndsListing, HasListed, IsListing, ListsItem};
 ghost use Rattle.mx_type.specs.Texts.{item_text, items_text, listing_text, tail_text};
 
 use crate::lines::{add_item, lambda_after};
@@ -58,9 +58,7 @@ impl Lister {
     pub fn item(&mut self, item: &Item) -> Result<Bytes, NoMemory>
         ensures text { IfOk result (λ text. text ≡ item_text self.old item.now) }
         ensures lambda { OnOk result (self.new ≡ lambda_after self.old item.now) }
-        // What was listed, and this text after it, are the lines of all these items.
-        ensures joined { IfOk result (λ text. (items : List Item) (lines : List ℕ) →
-            HasListed self.old items lines → HasListed self.new (items ++ item.now ∷ []) (lines ++ text)) }
+        ensures joined { IfOk result (ListsItem self.old self.new item.now) }
         ensures err { OnErr result (self.new ≡ self.old) }
     {
         let mut line = Bytes::from_vec(Vec::with_capacity(self.alloc, USUAL_LINE)?);
@@ -73,8 +71,7 @@ impl Lister {
     pub fn item_into(&mut self, line: &mut Bytes, item: &Item) -> Result<(), NoMemory>
         ensures text { OnOk result (line.new ≡ item_text self.old item.now) }
         ensures lambda { OnOk result (self.new ≡ lambda_after self.old item.now) }
-        ensures joined { OnOk result ((items : List Item) (lines : List ℕ) →
-            HasListed self.old items lines → HasListed self.new (items ++ item.now ∷ []) (lines ++ line.new)) }
+        ensures joined { OnOk result (ListsItem self.old self.new item.now line.new) }
         ensures err { OnErr result (self.new ≡ self.old) }
     {
         clear(self.alloc, line);
@@ -107,9 +104,7 @@ impl Lister {
     pub fn tail(&self, trie: &Bytes, symbols: &Symbols) -> Result<Bytes, NoMemory>
         requires { IsTrie trie.now symbols.now }
         ensures text { IfOk result (λ text. text ≡ tail_text trie.now symbols.now) }
-        // What was listed, and this text after it, are the listing of the items and the trie.
-        ensures joined { IfOk result (λ text. (items : List Item) (lines : List ℕ) →
-            HasListed self.now items lines → IsListing (lines ++ text) items trie.now) }
+        ensures joined { IfOk result (EndsListing self.now trie.now) }
     {
         let mut text = Bytes::new(self.alloc);
         add_tail(&mut text, trie.as_slice(), symbols.as_slice())?;

@@ -1,11 +1,11 @@
 -- All faults of a source, up to 100 lines, in the order of the lines at fault; a fault of the source as a whole is the last. The form of
 -- their text is this program's own.
-use Rattle.std.specs.Prelude.{◌≡◌, ◌<◌, ℕ, ◌==◌, Bool, true, false, if◌then◌else◌, List, [], ◌∷◌, ◌++◌, map, Option, None, Some, option_map, codes, is_some}
+use Rattle.std.specs.Prelude.{◌≡◌, ◌<◌, ℕ, ◌==◌, Bool, true, false, if◌then◌else◌, List, [], ◌∷◌, ◌++◌, map, Option, None, Some, option_map, codes, decimal, is_some}
 use Rattle.std.specs.List.{flat_map}
 use Rattle.mx_line.specs.Lines.{lines_of}
 use Rattle.mx_asm.specs.Whole.{Line}
 use Rattle.mx_asm.specs.declared.refused.Refused.{Refused}
-use Rattle.mx_outcome.specs.Messages.{refused_text}
+use Rattle.mx_outcome.specs.Messages.{numbered_fault}
 use Rattle.mx_files.specs.Loading.{refusal_of}
 use Rattle.mx_files.specs.declared.refusal.Refusal.{Refusal}
 use Rattle.mx_marks.specs.declared.marks.Mark.{Mark}
@@ -85,8 +85,13 @@ refusals_of faults = map (λ (f : ToldFault). f.refused) faults
 
 -- ---- as a text
 
-unfoldable pub refusal_text : Refusal → List ℕ
-refusal_text r = refused_text r.line r.fault r.from_line
+-- the line of the label that does not suit a reference, if that is what the fault is about
+abbrev pub label_text : Refusal → List ℕ
+label_text r = if r.from_line == 0 then [] else codes " to line " ++ decimal r.line
+
+-- the line at fault, and the number and the name of the fault
+unfoldable pub heading_text : ToldFault → List ℕ
+heading_text f = codes "line " ++ decimal f.at_line ++ codes ": " ++ numbered_fault f.refused.fault ++ label_text f.refused ++ codes "\n"
 
 -- a line, and the marks below it
 unfoldable pub line_text : Option Line → Option ℕ → ℕ → List ℕ
@@ -101,13 +106,13 @@ abbrev pub meant_text : List ℕ → List ℕ
 meant_text [] = []
 meant_text (b ∷ bs) = question ++ (b ∷ bs) ++ codes "`?\n"
 
--- what is wrong, which name is meant perhaps, and what mends it
+-- what is wrong, which name is meant perhaps, and how to fix it
 unfoldable pub said_text : ToldFault → List ℕ
 said_text f = codes "    " ++ f.what ++ codes "\n" ++ meant_text f.meant ++ codes "    " ++ f.help ++ codes "\n"
 
--- a refusal, the line at fault, and what is said of it
+-- a fault, the line at fault, and what is said of it
 abbrev pub fault_text : ToldFault → List ℕ
-fault_text f = refusal_text f.refused ++ line_text f.line f.caret f.length ++ said_text f
+fault_text f = heading_text f ++ line_text f.line f.caret f.length ++ said_text f
 
 -- that there are more faulty lines
 abbrev pub cut_text : Bool → List ℕ

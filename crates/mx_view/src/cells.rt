@@ -10,14 +10,14 @@ use mx_word::{NoMemory, Sequence};
 use std::alloc::Global;
 
 /// A tetra at its address, a multiple of 4.
-#[derive(Clone, Copy, Debug, PartialEq, Eq)]
+#[derive(Clone, Copy, PartialEq, Eq)]
 pub struct Cell {
     pub address: u64,
     pub tetra: u32,
 }
 
 /// The tetras that are shown.
-#[derive(Clone, Copy, Debug, PartialEq, Eq)]
+#[derive(Clone, Copy)]
 pub enum Wanted {
     /// All, with every line of the source.
     All,

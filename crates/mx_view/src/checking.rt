@@ -18,7 +18,7 @@ use std::alloc::Global;
 const PAGES_FULL: u16 = 90;
 
 /// A fault of a source as it is told: the refusal, the number of the line at fault, and its text without the newline; how many bytes of it
-/// are in front of the marked text, and how many bytes this has; what is wrong, a name that is meant perhaps, or no text, and what mends
+/// are in front of the marked text, and how many bytes this has; what is wrong, a name that is meant perhaps, or no text, and how to fix
 /// the fault. The line at fault is the one that the refusal names; but where a label in one line does not suit a reference in another, it is
 /// the reference's. A fault of the source as a whole has the refusal's number and no text of a line.
 #[derive(Drop)]

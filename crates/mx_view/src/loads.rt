@@ -33,15 +33,11 @@ fn add_load(
     ensures standing { OnOk result (assembler.new ≡ turns.standing_at assembler.old line.now) }
 {
     let mut items = Items::new(alloc);
-    match take_line(assembler, &mut items, line) {
-        Ok(_) => {
-            let cells = cells_of(alloc, Wanted::All, *lambda, items.as_slice())?;
-            loads.push(cells)?;
-            *lambda = lambda_behind(*lambda, items.as_slice());
-            Ok(())
-        }
-        Err(e) => Err(e),
-    }
+    take_line(assembler, &mut items, line)?;
+    let cells = cells_of(alloc, Wanted::All, *lambda, items.as_slice())?;
+    loads.push(cells)?;
+    *lambda = lambda_behind(*lambda, items.as_slice());
+    Ok(())
 }
 
 /// Adds the tetras of the lines of a source.
@@ -70,9 +66,7 @@ fn add_loads(
 pub fn cells_by_line(alloc: Global, source: &[u8]) -> Result<LineCells, NoMemory>
     ensures { IfOk result (λ loads. loads ≡ spec.loads_of source.now) }
 {
-    let Ok(mut assembler) = Assembler::new(alloc) else {
-        return Err(NoMemory);
-    };
+    let mut assembler = Assembler::new(alloc)?;
     let mut loads = LineCells::new(alloc);
     add_loads(alloc, &mut assembler, &mut loads, source)?;
     Ok(loads)

@@ -93,7 +93,7 @@ pub(crate) fn insert_refusal(lines: &mut Vec<Refused>, refused: Refused) -> Resu
 }
 
 /// What a refusal is for the search.
-#[derive(Clone, Copy, Debug, PartialEq, Eq)]
+#[derive(Clone, Copy)]
 pub(crate) enum Finding {
     /// Its line was not refused before.
     New,

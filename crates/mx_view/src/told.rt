@@ -2,13 +2,16 @@
 
 ghost use Rattle.std.specs.Prelude.{◌≡◌, ◌++◌, IfOk, OnOk};
 ghost use Rattle.std.specs.List.{flat_map};
+ghost use Rattle.mx_outcome.specs.Messages.{numbered_fault};
 ghost use Rattle.mx_view.specs.Listing.{refusal_in};
 ghost use Rattle.mx_view.specs.Refusals as spec;
 
-use crate::checking::{ToldFault, ToldFaults, tell_faults};
+use crate::checking::{ToldFault, tell_faults};
 use crate::view::Sheet;
+use mx_files::Refusal;
 use mx_marks::add_marks;
-use mx_outcome::message;
+use mx_outcome::fault_name;
+use mx_text::add_decimal;
 use mx_word::{Bytes, NoMemory};
 use std::alloc::Global;
 
@@ -65,23 +68,54 @@ fn add_said(text: &mut Bytes, fault: &ToldFault) -> Result<(), NoMemory>
     text.extend(b"\n")
 }
 
+/// Adds the line of the label that does not suit a reference, if that is what a fault is about.
+fn add_label(text: &mut Bytes, refused: Refusal) -> Result<(), NoMemory>
+    ensures { OnOk result (text.new ≡ text.old ++ spec.label_text refused) }
+{
+    if refused.from_line == 0 {
+        return Ok(());
+    }
+    text.extend(b" to line ")?;
+    add_decimal(text, u64::from(refused.line))
+}
+
+/// Adds the number and the name of a fault.
+fn add_fault(text: &mut Bytes, number: u16) -> Result<(), NoMemory>
+    ensures { OnOk result (text.new ≡ text.old ++ numbered_fault number) }
+{
+    add_decimal(text, u64::from(number))?;
+    text.extend(b" ")?;
+    text.extend(fault_name(number).as_bytes())
+}
+
+/// Adds the number of the line at fault, and the number and the name of the fault.
+#[tactic(auto, unfolding(crate::specs::Refusals::heading_text))]
+fn add_heading(text: &mut Bytes, fault: &ToldFault) -> Result<(), NoMemory>
+    ensures { OnOk result (text.new ≡ text.old ++ spec.heading_text fault.now) }
+{
+    text.extend(b"line ")?;
+    add_decimal(text, u64::from(fault.at_line))?;
+    text.extend(b": ")?;
+    add_fault(text, fault.refused.fault)?;
+    add_label(text, fault.refused)?;
+    text.extend(b"\n")
+}
+
 /// Adds a fault, the line at fault and what is said of it.
-#[tactic(auto, unfolding(crate::specs::Refusals::refusal_text))]
-fn add_fault_text(alloc: Global, text: &mut Bytes, fault: &ToldFault) -> Result<(), NoMemory>
+fn add_fault_text(text: &mut Bytes, fault: &ToldFault) -> Result<(), NoMemory>
     ensures { OnOk result (text.new ≡ text.old ++ spec.fault_text fault.now) }
 {
-    let told = message(alloc, fault.refused.outcome())?;
-    text.extend(told.as_slice())?;
+    add_heading(text, fault)?;
     add_line(text, &fault.line, fault.caret, fault.length)?;
     add_said(text, fault)
 }
 
 /// Adds faults and the lines at fault.
-fn add_fault_texts(alloc: Global, text: &mut Bytes, faults: &[ToldFault]) -> Result<(), NoMemory>
+fn add_fault_texts(text: &mut Bytes, faults: &[ToldFault]) -> Result<(), NoMemory>
     ensures { OnOk result (text.new ≡ text.old ++ flat_map spec.fault_text faults.now) }
 {
     for fault in faults {
-        add_fault_text(alloc, text, fault)?;
+        add_fault_text(text, fault)?;
     }
     Ok(())
 }
@@ -97,25 +131,18 @@ fn add_cut(text: &mut Bytes, is_cut: bool) -> Result<(), NoMemory>
     }
 }
 
-/// The faults of a source as a text.
-fn format_faults(alloc: Global, told: &ToldFaults) -> Result<Bytes, NoMemory>
-    ensures { IfOk result (λ text. text ≡ spec.told_text told.now) }
-{
-    let mut text = Bytes::new(alloc);
-    add_fault_texts(alloc, &mut text, told.faults.as_slice())?;
-    add_cut(&mut text, told.is_cut)?;
-    Ok(text)
-}
-
 /// All faults of a source as a text: each with its line, marks under what it is about, where that
-/// is known, what is wrong, and what mends it.
+/// is known, what is wrong, and how to fix it.
 pub fn list_faults(alloc: Global, source: &[u8]) -> Result<Sheet, NoMemory>
     ensures text { IfOk result (λ sheet. sheet.text ≡ spec.faults_of source.now) }
     ensures refused { IfOk result (λ sheet. sheet.refused ≡ refusal_in source.now) }
 {
     let told = tell_faults(alloc, source)?;
+    let mut text = Bytes::new(alloc);
+    add_fault_texts(&mut text, told.faults.as_slice())?;
+    add_cut(&mut text, told.is_cut)?;
     Ok(Sheet {
-        text: format_faults(alloc, &told)?,
+        text,
         refused: told.refused,
     })
 }

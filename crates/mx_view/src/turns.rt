@@ -35,23 +35,19 @@ fn add_line(
     ensures open { IfOk result (λ is. is ≡ is_ok assembler.new) }
 {
     let mut items = Items::new(alloc);
-    match take_line(assembler, &mut items, line) {
-        Ok(open) => {
-            let cells = cells_of(alloc, wanted, *lambda, items.as_slice())?;
-            add_listed(
-                alloc,
-                lines,
-                meaning,
-                wanted,
-                number,
-                line,
-                cells.as_slice(),
-            )?;
-            *lambda = lambda_behind(*lambda, items.as_slice());
-            Ok(open)
-        }
-        Err(e) => Err(e),
-    }
+    let open = take_line(assembler, &mut items, line)?;
+    let cells = cells_of(alloc, wanted, *lambda, items.as_slice())?;
+    add_listed(
+        alloc,
+        lines,
+        meaning,
+        wanted,
+        number,
+        line,
+        cells.as_slice(),
+    )?;
+    *lambda = lambda_behind(*lambda, items.as_slice());
+    Ok(open)
 }
 
 /// Takes the lines of a source up to one that is refused, and adds those that are listed.
@@ -75,7 +71,7 @@ pub(crate) fn add_lines(
     let mut lambda = 0;
     while !rest.is_empty() {
         let (line, others) = cut_line(rest);
-        match add_line(
+        let open = add_line(
             alloc,
             assembler,
             lines,
@@ -84,10 +80,9 @@ pub(crate) fn add_lines(
             number,
             &mut lambda,
             line,
-        ) {
-            Ok(true) => {}
-            Ok(false) => return Ok(()),
-            Err(e) => return Err(e),
+        )?;
+        if !open {
+            return Ok(());
         }
         number = match number.checked_add(1) {
             Some(next) => next,

@@ -59,9 +59,7 @@ fn walk(alloc: Global, meaning: &Meaning, wanted: Wanted, source: &[u8]) -> Resu
         ≡ turns.all_listed (meaning_in meaning.now) wanted (lines_of source.now)) }
     ensures ended { IfOk result (λ walk. walk.ended ≡ (assembled_source source.now).1) }
 {
-    let Ok(mut assembler) = Assembler::new(alloc) else {
-        return Err(NoMemory);
-    };
+    let mut assembler = Assembler::new(alloc)?;
     let mut lines = ListedLines::new(alloc);
     add_lines(alloc, &mut assembler, &mut lines, meaning, wanted, source)?;
     let ended = finish_source(alloc, &mut assembler)?;

@@ -32,10 +32,10 @@ pub fn take_line(
 {
     match assembler.line(line, items) {
         Ok(()) => Ok(true),
-        Err(refused) => match separate_no_memory(refused) {
-            Ok(_) => Ok(false),
-            Err(e) => Err(e),
-        },
+        Err(refused) => {
+            separate_no_memory(refused)?;
+            Ok(false)
+        }
     }
 }
 
@@ -49,9 +49,6 @@ pub fn finish_source(
     let mut items = Items::new(alloc);
     match assembler.finish(&mut items) {
         Ok(trie) => Ok(Ok(trie)),
-        Err(refused) => match separate_no_memory(refused) {
-            Ok(refused) => Ok(Err(refused)),
-            Err(e) => Err(e),
-        },
+        Err(refused) => Ok(Err(separate_no_memory(refused)?)),
     }
 }

@@ -59,14 +59,11 @@ impl Walk {
         ensures at { IfOk result spec.IsAt }
         ensures front { IfOk result (λ walk. walk.front ≡ []) }
     {
-        match Assembler::new(alloc) {
-            Ok(assembler) => Ok(Walk {
-                assembler,
-                front: Bytes::new(alloc),
-                number: 1,
-            }),
-            Err(_) => Err(NoMemory),
-        }
+        Ok(Walk {
+            assembler: Assembler::new(alloc)?,
+            front: Bytes::new(alloc),
+            number: 1,
+        })
     }
 
     /// The number of the next line, counted from 1.

@@ -4,5 +4,8 @@ pub mod Overlaps
 pub mod Ends
 pub mod Idle
 pub mod Locals
+pub mod Traps
+pub mod Stops
+pub mod Widths
 pub mod Warnings
 pub mod Texts

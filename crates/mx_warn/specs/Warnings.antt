@@ -5,7 +5,7 @@ use Rattle.std.specs.Prelude.{ℕ, List, [], ◌∷◌, ◌++◌, length, Option
 use Rattle.mx_slips.specs.declared.sources.SourceLine.{SourceLine}
 use Rattle.mx_slips.specs.declared.sources.Statement.{Statement}
 use Rattle.mx_warn.specs.declared.warnings.Kind.{Kind}
-use Rattle.mx_warn.specs.declared.warnings.Kind.TheVariants.{OperatorAfterBlank, BackslashInString, NoLabelBefore, PlacedTwice, GregOfZero, UnusedBase, DataAfterCode, OtherCase, LostReturn}
+use Rattle.mx_warn.specs.declared.warnings.Kind.TheVariants.{OperatorAfterBlank, BackslashInString, NoLabelBefore, PlacedTwice, GregOfZero, UnusedBase, DataAfterCode, OtherCase, LostReturn, TrapOperands, EndlessJump, FloatInstruction, NarrowLabel}
 use Rattle.mx_slips.specs.declared.marks.Mark.{Mark}
 use Rattle.mx_warn.specs.declared.warnings.Warning.{Warning}
 use Rattle.mx_slips.specs.Afters.{operator_after_blank}
@@ -20,7 +20,10 @@ use Rattle.mx_slips.specs.Returns.{lost_return, place_after}
 use Rattle.mx_slips.specs.declared.returns.Place.{Place}
 use Rattle.mx_slips.specs.declared.returns.Place.TheVariants.{Outside}
 use Rattle.mx_slips.specs.Sources.{source_lines}
+use Rattle.mx_warn.specs.Stops.{endless_jump, float_instruction}
 use Rattle.mx_slips.specs.Surveys.{survey_of}
+use Rattle.mx_warn.specs.Traps.{trap_operand}
+use Rattle.mx_warn.specs.Widths.{narrow_label}
 use Rattle.mx_slips.specs.declared.surveys.Survey.{Survey}
 
 -- a warning of a line, if there is something to mark
@@ -28,6 +31,14 @@ abbrev pub marked : SourceLine → Kind → Option Mark → List Warning
 marked line kind None = []
 marked line kind (Some m) =
     record { line = line.number; kind = kind; text = line.text; place = m.place; length = m.length; other = m.other } ∷ []
+
+-- those of a statement that a run does not get past, or that loads or stores something else than is meant
+unfoldable pub run_warnings : List SourceLine → SourceLine → Statement → List Warning
+run_warnings lines line s =
+    marked line TrapOperands (trap_operand s)
+    ++ marked line EndlessJump (endless_jump s)
+    ++ marked line FloatInstruction (float_instruction s)
+    ++ marked line NarrowLabel (narrow_label lines s)
 
 -- those of a statement of a line, which is at this place of a subroutine
 unfoldable pub statement_warnings : Survey → SourceLine → Place → Statement → List Warning
@@ -38,6 +49,7 @@ statement_warnings survey line place s =
     ++ marked line GregOfZero (greg_of_zero survey.lines line s)
     ++ marked line OtherCase (other_case survey s)
     ++ marked line LostReturn (lost_return survey s place)
+    ++ run_warnings survey.lines line s
 
 -- those of statements, and the place after them
 unfoldable pub statements_warnings : Survey → SourceLine → Place → List Statement → List Warning

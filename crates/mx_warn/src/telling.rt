@@ -9,8 +9,11 @@ ghost use Rattle.mx_warn.specs.Warnings as spec;
 use crate::ends::data_after_code;
 use crate::locals::find_missing_label;
 use crate::overlaps::find_placed_twice;
+use crate::stops::{find_endless_jump, find_float};
+use crate::traps::find_trap_operand;
 use crate::unused_bases::find_unused_base;
 use crate::warnings::{Kind, Warning, Warnings};
+use crate::widths::find_narrow_label;
 use mx_slips::{
     Mark, Place, SourceLine, Statement, Survey, collect_lines_of, find_backslash, find_lost_return,
     find_operator_after_blank, find_other_case, find_zero_greg, is_accepted, place_after,
@@ -46,6 +49,28 @@ fn add_marked(
     })
 }
 
+/// Adds the warnings of a statement that a run does not get past, or that loads or stores something else than is meant.
+#[tactic(auto, unfolding(crate::specs::Warnings::run_warnings))]
+fn add_run(
+    alloc: Global,
+    told: &mut Warnings,
+    lines: &[SourceLine],
+    line: &SourceLine,
+    statement: &Statement,
+) -> Result<(), NoMemory>
+    ensures { OnOk result (
+        told.new ≡ told.old ++ spec.run_warnings lines.now line.now statement.now) }
+{
+    let operand = find_trap_operand(statement);
+    add_marked(alloc, told, line, Kind::TrapOperands, operand)?;
+    let target = find_endless_jump(statement);
+    add_marked(alloc, told, line, Kind::EndlessJump, target)?;
+    let float = find_float(statement);
+    add_marked(alloc, told, line, Kind::FloatInstruction, float)?;
+    let label = find_narrow_label(lines, statement);
+    add_marked(alloc, told, line, Kind::NarrowLabel, label)
+}
+
 /// Adds the warnings of a statement of a line.
 #[tactic(auto, unfolding(crate::specs::Warnings::statement_warnings))]
 fn add_statement(
@@ -71,7 +96,8 @@ fn add_statement(
     let case = find_other_case(survey, statement);
     add_marked(alloc, told, line, Kind::OtherCase, case)?;
     let pop = find_lost_return(survey, statement, place);
-    add_marked(alloc, told, line, Kind::LostReturn, pop)
+    add_marked(alloc, told, line, Kind::LostReturn, pop)?;
+    add_run(alloc, told, lines, line, statement)
 }
 
 /// The place after a statement of the line with this number.
@@ -175,7 +201,7 @@ pub fn tell_warnings_of(
     Ok(told)
 }
 
-/// The warnings of a source, in the order of lines: what is legal but hardly meant. A source of more than 16,384 bytes has
+/// The warnings of a source, in the order of lines: what is legal but probably not intended. A source of more than 16,384 bytes has
 /// none.
 ///
 /// Errors: out of memory.

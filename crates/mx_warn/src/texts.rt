@@ -77,7 +77,7 @@ pub fn add_other(text: &mut Bytes, line: u32) -> Result<(), NoMemory>
     text.extend(b")")
 }
 
-/// Adds what is odd, and what mends it.
+/// Adds what is odd, and how to fix it.
 fn add_sentence(text: &mut Bytes, warning: &Warning) -> Result<(), NoMemory>
     ensures { OnOk result (text.new ≡ text.old ++ spec.sentence_text warning.now) }
 {
@@ -109,7 +109,7 @@ fn add_warnings(text: &mut Bytes, told: &[Warning]) -> Result<(), NoMemory>
 }
 
 /// The warnings of a source as a text: each with its line, a caret under what is odd, and a sentence that says what is odd
-/// and what mends it.
+/// and how to fix it.
 ///
 /// Errors: out of memory.
 pub fn warnings_text(alloc: Global, source: &[u8]) -> Result<Bytes, NoMemory>

@@ -6,7 +6,7 @@ ghost use Rattle.mx_warn.specs.Kinds as spec;
 use mx_word::{Bytes, Sequence};
 
 /// What is odd about a place of a source.
-#[derive(Clone, Copy, Debug, PartialEq, Eq)]
+#[derive(Clone, Copy)]
 pub enum Kind {
     /// An operator and an operand follow the blank that ends the operands.
     OperatorAfterBlank,
@@ -26,6 +26,14 @@ pub enum Kind {
     OtherCase,
     /// A subroutine calls another one and does not save rJ.
     LostReturn,
+    /// A service is called with another first operand than 0, or with two operands.
+    TrapOperands,
+    /// JMP jumps to itself.
+    EndlessJump,
+    /// An instruction is on floating-point numbers.
+    FloatInstruction,
+    /// A label of wydes or tetras is loaded or stored as an octa.
+    NarrowLabel,
 }
 
 impl Kind {
@@ -43,6 +51,10 @@ impl Kind {
             Kind::DataAfterCode => 7,
             Kind::OtherCase => 8,
             Kind::LostReturn => 9,
+            Kind::TrapOperands => 10,
+            Kind::EndlessJump => 11,
+            Kind::FloatInstruction => 12,
+            Kind::NarrowLabel => 13,
         }
     }
 
@@ -61,10 +73,14 @@ impl Kind {
             Kind::DataAfterCode => "DataAfterCode",
             Kind::OtherCase => "OtherCase",
             Kind::LostReturn => "LostReturn",
+            Kind::TrapOperands => "TrapOperands",
+            Kind::EndlessJump => "EndlessJump",
+            Kind::FloatInstruction => "FloatInstruction",
+            Kind::NarrowLabel => "NarrowLabel",
         }
     }
 
-    /// What is odd, and what mends it.
+    /// What is odd, and how to fix it.
     #[tactic(auto, unfolding(crate::specs::Kinds::kind_sentence))]
     pub fn sentence(self) -> &'static str
         ensures { result.now ≡ spec.kind_sentence self }
@@ -77,7 +93,7 @@ impl Kind {
                 "a string has no escapes, so the backslash is a byte of it; write such a byte as a number, as in \"text\",10,0"
             }
             Kind::NoLabelBefore => {
-                "no such local label comes before, so this is 0; F in place of B means the next one"
+                "no such local label comes before, so this is 0; 1F means the next 1H, and for this line itself write JMP @"
             }
             Kind::PlacedTwice => {
                 "an earlier line placed some of these bytes, too, and memory gets the exclusive or; LOC leads elsewhere"
@@ -96,6 +112,18 @@ impl Kind {
             }
             Kind::LostReturn => {
                 "this may return to the wrong place: a call in the subroutine changed rJ; GET saves rJ before the call, and PUT restores it"
+            }
+            Kind::TrapOperands => {
+                "TRAP takes 0, a service and its handle, as in TRAP 0,Fputs,StdOut; by these operands it calls none, and the run stops"
+            }
+            Kind::EndlessJump => {
+                "this jumps to itself, so the run never gets past it; TRAP 0,Halt,0 ends the program"
+            }
+            Kind::FloatInstruction => {
+                "this machine has no floating-point numbers, so the run stops here; compute with whole numbers"
+            }
+            Kind::NarrowLabel => {
+                "this label has WYDEs or TETRAs, and an octa begins at a multiple of 8 and has 8 bytes; LDW and LDT load them, STW and STT store them"
             }
         }
     }

@@ -7,7 +7,7 @@ use mx_core::Trace;
 use mx_word::{Bytes, NoMemory};
 
 /// What a watcher wants after a trace: to be told more, or nothing more.
-#[derive(Clone, Copy, Debug, PartialEq, Eq)]
+#[derive(Clone, Copy)]
 pub enum Wish {
     More,
     Full,

@@ -8,7 +8,7 @@ use mx_word::{Bytes, NoMemory};
 use std::alloc::Global;
 
 /// Why a request is refused.
-#[derive(Clone, Copy, Debug, PartialEq, Eq)]
+#[derive(Clone, Copy)]
 pub enum Refused {
     /// What came is no JSON.
     NoJson,

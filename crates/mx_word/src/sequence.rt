@@ -7,7 +7,6 @@ use std::alloc::Global;
 use std::marker::Model;
 
 /// A list that grows at its end, which contracts see as the list of its elements.
-#[derive(Drop)]
 pub struct Sequence<T: Drop> {
     pub(crate) elements: Vec<T>,
 }
@@ -18,6 +17,14 @@ impl<T: Drop> Model for Sequence<T> {
     ghost Value = { List T };
 
     ghost view = { λ s. s.elements.items };
+}
+
+impl<T: Drop> Drop for Sequence<T> {
+    /// Lets the elements go. Written, so that a drop of a list is one call in every proof that has one.
+    fn drop(self) {
+        let Sequence { elements } = self;
+        drop(elements);
+    }
 }
 
 impl<T: Drop> Sequence<T> {
@@ -41,7 +48,8 @@ impl<T: Drop> Sequence<T> {
     pub fn into_vec(self) -> Vec<T>
         ensures { result.items ≡ self }
     {
-        self.elements
+        let Sequence { elements } = self;
+        elements
     }
 
     /// Adds an element at the end. `NoMemory` where there is no memory for it; then it is dropped, and nothing

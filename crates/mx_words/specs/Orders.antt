@@ -1,7 +1,7 @@
 -- What the words of the command line order. A fault has its kind, and the place of the word that is at fault, or the
 -- number of words where one is missing. The words are read from the left, and the first fault counts.
 -- A rule of this program.
-use Rattle.std.specs.Prelude.{ℕ, ◌+◌, ◌^◌, ◌==◌, ◌&&◌, ◌||◌, not, Bool, true, false, List, [], ◌∷◌, Option, None, Some, Result, Ok, Err, if◌then◌else◌, codes}
+use Rattle.std.specs.Prelude.{◌≡◌, ◌<◌, ◌≤◌, ℕ, ◌+◌, ◌^◌, ◌==◌, ◌&&◌, ◌||◌, not, Bool, true, false, List, [], ◌∷◌, Option, None, Some, Result, Ok, Err, if◌then◌else◌, codes}
 use Rattle.std.specs.Str.{bytes_eq}
 use Rattle.mx_words.specs.Values.{Word, is_option, ring_value, steps_value, last_value, blocks_value}
 use Rattle.mx_words.specs.declared.order.Command.{Command}
@@ -114,6 +114,11 @@ multi_order s place =
 abbrev pub gen_order : Settings → ℕ → Order
 gen_order s n =
     record { command = Gen; ring = s.ring; steps = s.steps; interactive = s.interactive; dump = s.dump; file = 0; rest = 0; number = n; report = s.report; last = s.last; schedule = 0 }
+
+-- The places that an order names lie among this many words, with what `asm` writes, and `gen` makes at most 10,000 blocks.
+abbrev pub LiesIn : ℕ → Order → Type 0
+LiesIn count o =
+    (o.file < count) × (o.rest ≤ count) × (o.schedule < count) × (o.command ≡ Asm → o.rest < count) × (o.number ≤ 10000)
 
 -- the words after the source of `asm`: one object, and no other word
 abbrev pub object_after : Settings → ℕ → List Word → Ordered

@@ -19,32 +19,32 @@ pub enum Command {
     Multi,
 }
 
-/// What the words order. A field that the command does not use has its default, 0 or false.
+/// What the words order. Each field says which commands read it; for the others it has its default, or a place that none of
+/// them reads.
 #[derive(Clone, Copy, Debug, PartialEq, Eq)]
 pub struct Order {
     /// What is asked for.
     pub command: Command,
-    /// The registers of the ring, by default 256.
+    /// `run`, `sim`, `gen`, `multi`: the registers of the ring, by default 256.
     pub ring: RingSize,
-    /// How many steps are made at most: 1 to 10^12, by default 10^9.
+    /// `run`, `sim`, `multi`: how many steps are made at most, 1 to 10^12, by default 10^9.
     pub steps: u64,
-    /// Whether the console is wanted.
+    /// `run`, `sim`: whether the console is wanted.
     pub interactive: bool,
-    /// Whether the state is written at the end.
+    /// `run`, `sim`, `multi`: whether the state is written at the end.
     pub dump: bool,
-    /// The place of the source or object among the words.
+    /// All but `gen`: the place of the source or object among the words.
     pub file: usize,
-    /// The place after the file: that of the first argument, or of the object that `asm` writes. No
-    /// word is there for `type` and `multi`.
+    /// `run`, `sim`: the place of the first argument among the words, or their number. `asm`: that of the object to write.
     pub rest: usize,
-    /// How many blocks `gen` makes: 1 to 10,000.
+    /// `gen`: how many blocks it makes, 1 to 10,000.
     pub number: u64,
-    /// Whether the reports of watchers are written at the end; not in an order that wants the console.
+    /// `run`, `sim`: whether the reports of watchers are written at the end; not in an order that wants the console.
     pub report: bool,
-    /// How many steps are taken back at the end at most: 1 to 1,024, or 0 where none is; 0 in an order that wants the
-    /// console or reports.
+    /// `run`, `sim`: how many steps are taken back at the end at most, 1 to 1,024, or 0 where none is; 0 in an order that
+    /// wants the console or reports.
     pub last: u64,
-    /// The place of the schedule of `multi` among the words.
+    /// `multi`: the place of the schedule among the words.
     pub schedule: usize,
 }
 

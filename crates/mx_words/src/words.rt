@@ -21,10 +21,7 @@ use mx_registers::RingSize;
 #[tactic(auto, using(crate::proofs::Places::places, crate::proofs::OrderedBlocks::orders))]
 pub fn read(words: &[String]) -> Result<Order, WordsFault>
     ensures value { result ≡ spec.order_of (map string_bytes words.now) }
-    ensures places { IfOk result (λ o. (o.file < length words.now) × (o.rest ≤ length words.now)) }
-    ensures schedule { IfOk result (λ o. o.schedule < length words.now) }
-    ensures object { IfOk result (λ o. o.command ≡ Command.Asm → o.rest < length words.now) }
-    ensures blocks { IfOk result (λ o. o.number ≤ 10000) }
+    ensures lies { IfOk result (spec.LiesIn (length words.now)) }
     ensures last { IfOk result (λ o. o.last ≤ 1024) }
 {
     if words.is_empty() {
@@ -81,10 +78,7 @@ fn defaults() -> Settings
 fn read_command(command: Command, words: &[String]) -> Result<Order, WordsFault>
     requires { 0 < length words.now }
     ensures value { result ≡ spec.options_from command spec.defaults 1 (drop 1 (map string_bytes words.now)) }
-    ensures places { IfOk result (λ o. (o.file < length words.now) × (o.rest ≤ length words.now)) }
-    ensures schedule { IfOk result (λ o. o.schedule < length words.now) }
-    ensures object { IfOk result (λ o. o.command ≡ Command.Asm → o.rest < length words.now) }
-    ensures blocks { IfOk result (λ o. o.number ≤ 10000) }
+    ensures lies { IfOk result (spec.LiesIn (length words.now)) }
 {
     let mut settings = defaults();
     let mut at = 1;
@@ -109,10 +103,7 @@ fn file(
     at: usize,
 ) -> Result<Order, WordsFault>
     ensures value { result ≡ files.behind command settings at (drop at (map string_bytes words.now)) }
-    ensures places { IfOk result (λ o. (o.file < length words.now) × (o.rest ≤ length words.now)) }
-    ensures schedule { IfOk result (λ o. o.schedule < length words.now) }
-    ensures object { IfOk result (λ o. o.command ≡ Command.Asm → o.rest < length words.now) }
-    ensures blocks { IfOk result (λ o. o.number ≤ 10000) }
+    ensures lies { IfOk result (spec.LiesIn (length words.now)) }
 {
     if at >= words.len() {
         return Err(WordsFault { kind: 7, word: at });
@@ -126,7 +117,7 @@ fn file(
     }
 }
 
-/// An order to run or to list the file at a place, with the arguments after it.
+/// An order on the file at a place, with what follows it.
 fn run_order(command: Command, settings: Settings, at: usize) -> Order
     requires { at + 1 < 2 ^ 63 }
     ensures { result ≡ spec.run_order command settings at }
@@ -152,10 +143,7 @@ fn show_order(settings: Settings, words: &[String], at: usize) -> Result<Order, 
     requires { at < length words.now }
     ensures value { result ≡ spec.none_after (spec.run_order Command.Show settings at) at
         (drop (at + 1) (map string_bytes words.now)) }
-    ensures places { IfOk result (λ o. (o.file < length words.now) × (o.rest ≤ length words.now)) }
-    ensures schedule { IfOk result (λ o. o.schedule < length words.now) }
-    ensures object { IfOk result (λ o. o.command ≡ Command.Asm → o.rest < length words.now) }
-    ensures blocks { IfOk result (λ o. o.number ≤ 10000) }
+    ensures lies { IfOk result (spec.LiesIn (length words.now)) }
 {
     if words.len() > at + 1 {
         return Err(WordsFault {
@@ -171,10 +159,7 @@ fn show_order(settings: Settings, words: &[String], at: usize) -> Result<Order, 
 fn asm_order(settings: Settings, words: &[String], at: usize) -> Result<Order, WordsFault>
     requires { at < length words.now }
     ensures value { result ≡ spec.object_after settings at (drop (at + 1) (map string_bytes words.now)) }
-    ensures places { IfOk result (λ o. (o.file < length words.now) × (o.rest ≤ length words.now)) }
-    ensures schedule { IfOk result (λ o. o.schedule < length words.now) }
-    ensures object { IfOk result (λ o. o.command ≡ Command.Asm → o.rest < length words.now) }
-    ensures blocks { IfOk result (λ o. o.number ≤ 10000) }
+    ensures lies { IfOk result (spec.LiesIn (length words.now)) }
 {
     if words.len() == at + 1 {
         return Err(WordsFault {
@@ -188,19 +173,7 @@ fn asm_order(settings: Settings, words: &[String], at: usize) -> Result<Order, W
             word: at + 2,
         });
     }
-    Ok(Order {
-        command: Command::Asm,
-        ring: settings.ring,
-        steps: settings.steps,
-        interactive: settings.interactive,
-        dump: settings.dump,
-        file: at,
-        rest: at + 1,
-        number: 0,
-        report: settings.report,
-        last: settings.last,
-        schedule: 0,
-    })
+    Ok(run_order(Command::Asm, settings, at))
 }
 
 /// An order to run the object after the schedule at a place on several processors: no word follows it.
@@ -208,10 +181,7 @@ fn asm_order(settings: Settings, words: &[String], at: usize) -> Result<Order, W
 fn multi_order(settings: Settings, words: &[String], at: usize) -> Result<Order, WordsFault>
     requires { at < length words.now }
     ensures value { result ≡ spec.processors_after settings at (drop (at + 1) (map string_bytes words.now)) }
-    ensures places { IfOk result (λ o. (o.file < length words.now) × (o.rest ≤ length words.now)) }
-    ensures schedule { IfOk result (λ o. o.schedule < length words.now) }
-    ensures object { IfOk result (λ o. o.command ≡ Command.Asm → o.rest < length words.now) }
-    ensures blocks { IfOk result (λ o. o.number ≤ 10000) }
+    ensures lies { IfOk result (spec.LiesIn (length words.now)) }
 {
     if words.len() == at + 1 {
         return Err(WordsFault {
@@ -245,10 +215,7 @@ fn multi_order(settings: Settings, words: &[String], at: usize) -> Result<Order,
 fn gen_order(settings: Settings, words: &[String], at: usize) -> Result<Order, WordsFault>
     requires { at < length words.now }
     ensures value { result ≡ files.blocks_after settings at (drop at (map string_bytes words.now)) }
-    ensures places { IfOk result (λ o. (o.file < length words.now) × (o.rest ≤ length words.now)) }
-    ensures schedule { IfOk result (λ o. o.schedule < length words.now) }
-    ensures object { IfOk result (λ o. o.command ≡ Command.Asm → o.rest < length words.now) }
-    ensures blocks { IfOk result (λ o. o.number ≤ 10000) }
+    ensures lies { IfOk result (spec.LiesIn (length words.now)) }
 {
     let number = match blocks_value(&words[at]) {
         Ok(n) => n,

@@ -18,7 +18,7 @@ use std::alloc::Global;
 const MOST_BYTES: usize = 1 << 26;
 
 /// How the run of a page ends.
-#[derive(Clone, Copy, Debug, PartialEq, Eq)]
+#[derive(Clone, Copy)]
 pub enum Ending {
     /// The program halted.
     Halted,

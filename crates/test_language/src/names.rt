@@ -263,7 +263,8 @@ fn places(names: &mut Names, who: &Awaited, want: &[u64]) -> Result<bool, NameFa
 /// Adds a reference to the name of a number at an address.
 fn wait_for_number(names: &mut Names, alloc: Global, n: u32, at: u64) -> Result<(), NameFault> {
     let name = numbered(alloc, n)?;
-    names.wait_for(octa_wait(name, at))
+    names.wait_for(octa_wait(name, at))?;
+    Ok(())
 }
 
 /// Adds a reference to a local label at an address, and one to a name at another.

@@ -2,6 +2,7 @@
 
 mod calls;
 mod faults;
+mod followed;
 mod steps;
 mod values;
 

@@ -1,4 +1,4 @@
-//! What mends a fault, row by row: slips of readers who come from other machines, each with the lines that are to be said of it. The
+//! How to fix a fault, row by row: slips of readers who come from other machines, each with the lines that are to be said of it. The
 //! operations are those of TAOCP 1, Fascicle 1.
 
 use mx_view::list_faults;
@@ -97,6 +97,107 @@ static ROWS: [Row; 20] = [
     ),
 ];
 
+/// Sources whose fault is told by the very operands, or with a hint of its own.
+static OPERANDS: [Row; 24] = [
+    // one hint for each place where operands cease to be expressions
+    (
+        "Main SET $0,1.5\n",
+        "                 ^\n    `.` does not belong here: a number has no point.\n    Only whole numbers can be written.",
+    ),
+    (
+        "Main BYTE 0,,1\n",
+        "                ^\n    `,` is not expected here: an operand is missing in front of it.\n    Write 0 for an operand",
+    ),
+    (
+        "Main JMP 2H\n",
+        "    `H` does not belong here: 2H is written only as a label.\n    An operand names the next label 2H by 2F, and the last one by 2B.\n",
+    ),
+    (
+        "Main BYTE \"He said \"hi\"\"\n",
+        "    `hi` does not belong here: a string ends at its next double quote.\n    For a double quote in a text write #22 outside of the string,",
+    ),
+    (
+        "Main SWYM // nothing\n",
+        "    `/` is read as an operand, and none can begin so.\n    Put an operand in front of a comment, as in SWYM 0 // nothing.\n",
+    ),
+    // numbers of SET: large, below 0, and far below 0
+    (
+        "Main SET $2,70000\n",
+        "    Take SETML $2,70000>>16 and INCL $2,70000&#ffff.\n",
+    ),
+    ("Main SET $2,-1\n", "    Take NEG $2,1.\n"),
+    (
+        "Main SET $2,-1000\n",
+        "    Take SET $2,1000 and NEG $2,$2.\n",
+    ),
+    // GETA that does not reach an address, which is known or comes later; and a branch
+    (
+        "Text BYTE 0\n LOC #100000\nMain GETA $255,Text\n",
+        "    The target is too far away for GETA.\n    Use LDA $255,Text, with GREG @ in front of Text.\n",
+    ),
+    (
+        "Main GETA $255,Text\n LOC Data_Segment\nText BYTE 0\n",
+        "line 1: 85 FutureTooFar to line 3\n    Main GETA $255,Text\n              ^~~~~~~~~\n    The target is too far away for GETA.\n    Use LDA $255,Text, with GREG @ in front of Text, both above this line.\n",
+    ),
+    (
+        "Main BZ $0,@+4*65536\n",
+        "    The target is too far away.\n    Branch around a JMP,",
+    ),
+    // operations that take such operands, and a number that is taken for an address
+    (
+        "Main JMP $1\n",
+        " GO $0,$1 goes to the address in a register.\n",
+    ),
+    (
+        "Main STO 5,$1\n",
+        "             ^\n    A number is given where a register is wanted.\n",
+    ),
+    ("Main STO 5,$1\n", " STCO 5,$1 stores a number up to 255.\n"),
+    (
+        "Main LDO $1,5\n",
+        " 5 is an address here: SET $1,5 makes a number.\n",
+    ),
+    // marks of one operand: a number for a register, a register that there is not, and a sum
+    (
+        "Main ADD $9,5,$8\n",
+        "    Main ADD $9,5,$8\n                ^\n    A number is given",
+    ),
+    (
+        "Main ADD $9,$256,$8\n",
+        "    Main ADD $9,$256,$8\n                ^~~~\n    There is no such register",
+    ),
+    (
+        "Main ADD $9,$8+$7,1\n",
+        "    Main ADD $9,$8+$7,1\n                  ^\n    The assembler cannot add",
+    ),
+    // labels that are like Main, and a name that lacks a letter
+    (
+        " LOC #100\nmain SWYM 0\n",
+        "    There is no label Main, where a program starts.\n    The label `main` in line 2 begins with a small letter: write Main.\n",
+    ),
+    (
+        "Mian SWYM 0\n",
+        "    The label `Mian` in line 1 is no Main: write Main, if the program starts there.\n",
+    ),
+    (
+        "Main JMP Lop\nLoop SWYM 0\n",
+        "    `Lop` is not defined.\n    Did you mean `Loop`?\n",
+    ),
+    (
+        "Main LDI $0,5\n",
+        "    There is no operation `LDI`.\n    SET copies a register or makes a number: SET $0,$1 or SET $0,5.\n",
+    ),
+    // a character of two bytes, and no base
+    (
+        "Main BYTE '\u{e9}'\n",
+        "    An apostrophe is not followed by one byte and an apostrophe.\n",
+    ),
+    (
+        "Main LDO $0,Data_Segment\n",
+        "    Write GREG @ right in front of the data, after their LOC,",
+    ),
+];
+
 /// Whether a text has a part.
 fn has(text: &[u8], part: &str) -> bool {
     let part = part.as_bytes();
@@ -114,6 +215,13 @@ fn is_said(alloc: Global, source: &str, lines: &str) -> Result<bool, NoMemory> {
 #[test]
 fn advice(rt: HostRuntime) {
     for (source, lines) in &ROWS {
+        assert!(rt; is_said(rt.alloc(), source, lines) == Ok(true), "{source}");
+    }
+}
+
+#[test]
+fn advice_by_operands(rt: HostRuntime) {
+    for (source, lines) in &OPERANDS {
         assert!(rt; is_said(rt.alloc(), source, lines) == Ok(true), "{source}");
     }
 }

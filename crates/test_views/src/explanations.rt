@@ -11,17 +11,17 @@ use std::alloc::Global;
 /// A word, and a part of what is answered.
 type Row = (&'static str, &'static str);
 
-static PARTS: [Row; 49] = [
+static PARTS: [Row; 53] = [
     // by number and by name, in any case
     ("43", "43 Fit: a fault of a source\n"),
     ("Fit", "43 Fit: a fault of a source\n"),
     ("fIT", "43 Fit: a fault of a source\n"),
     ("117", "117 UnhandledTrip: a reason of a stop\n"),
     ("61", "61 NoPre: a fault of an object\n"),
-    ("badring", "6 BadRing: a kind of faulty words\n"),
+    ("badring", "6 BadRing: a command-line error\n"),
     ("140", "140 NothingKept: a number inside the program\n"),
     ("39", "39 UnknownOpcode: a fault of a source\n"),
-    ("unknownopcode", "  Mended:    SUB $0,$0,1\n"),
+    ("unknownopcode", "  Fixed:     SUB $0,$0,1\n"),
     // warnings of a source
     ("7", "7 DataAfterCode: a warning of a source\n"),
     ("dataaftercode", "7 DataAfterCode: a warning of a source\n"),
@@ -31,16 +31,16 @@ static PARTS: [Row; 49] = [
     ),
     (
         "NoLabelBefore",
-        "  Mended:   Main JMP 1F;1H TRAP 0,Halt,0\n",
+        "  Fixed:    Main JMP 1F;1H TRAP 0,Halt,0\n",
     ),
     // exit statuses
     ("0", "0 Done: an exit status\n"),
     ("66", "66 NoFile: an exit status\n"),
     ("stopped", "70 Stopped: an exit status\n"),
-    ("74", "  Mended:   mmixware run examples/hello.mms\n"),
+    ("74", "  Fixed:    mmixware run examples/hello.mms\n"),
     // a number and a name of several
     ("3", "3 BadLocal: a fault of a source\n"),
-    ("3", "3 UnknownOption: a kind of faulty words\n"),
+    ("3", "3 UnknownOption: a command-line error\n"),
     ("3", "3 NoLabelBefore: a warning of a source\n"),
     ("70", "70 Truncated: a fault of an object\n"),
     ("Twice", "30 Twice: a fault of a source\n"),
@@ -58,9 +58,20 @@ static PARTS: [Row; 49] = [
         "NOP",
         "NOP: an operation of other machines\n  SWYM does nothing.\n",
     ),
-    // an example and what mends it
+    // parts of the language that are no rows
+    (
+        "Main",
+        "Main: a part of MMIXAL\n  A program starts at the label Main.",
+    ),
+    (
+        "@",
+        "@: a part of MMIXAL\n  The address of the statement in which it is,",
+    ),
+    ("1B", "1B: a part of MMIXAL\n  A local label."),
+    ("2F", "1F in an operand is the next 1H after the\n"),
+    // an example and how it is fixed
     ("80", "  Example:  Main JMP Later\n"),
-    ("80", "  Mended:   Main JMP Later;Later TRAP 0,Halt,0\n"),
+    ("80", "  Fixed:    Main JMP Later;Later TRAP 0,Halt,0\n"),
     // how operations are written
     ("ADD", "  ADD $X,$Y,$Z|Z\n"),
     ("negu", "  NEGU $X,$Z|Z or $X,Y,$Z|Z\n"),
@@ -203,7 +214,7 @@ fn is_warned(alloc: Global, example: &str, name: &str) -> Result<bool, NoMemory>
     Ok(told.is_empty() == name.is_empty() && only_name(told) == name)
 }
 
-/// Whether the example of a row has its warning and no other, and what mends it has none.
+/// Whether the example of a row has its warning and no other, and what is fixed has none.
 fn is_shown(alloc: Global, row: Meaning) -> Result<bool, NoMemory> {
     let is_of_warning = matches!(row.topic, Topic::Warning(_));
     Ok(
@@ -213,7 +224,7 @@ fn is_shown(alloc: Global, row: Meaning) -> Result<bool, NoMemory> {
     )
 }
 
-/// The name of the first row whose example, or what mends it, has other warnings.
+/// The name of the first row whose example, or what is fixed, has other warnings.
 fn first_unshown(alloc: Global, entries: &[Entry]) -> Result<&'static str, NoMemory> {
     for entry in entries {
         let row = row_of(entry);

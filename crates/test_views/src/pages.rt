@@ -238,7 +238,7 @@ static ROWS: [Row; 22] = [
     },
 ];
 
-static OBJECTS: [Row; 6] = [
+static OBJECTS: [Row; 9] = [
     Row {
         shows: "the listing of an object",
         asked: Asked::List(false),
@@ -292,6 +292,33 @@ symbol :Text #0000000000000100 1
         status: 65,
         output: "",
         errors: "byte 20: 64 Truncated\n",
+    },
+    Row {
+        shows: "an object is no source",
+        asked: Asked::Check(Form::Text),
+        name: "a.mms",
+        source: PRINTS,
+        status: 65,
+        output: "this is an object, and no source: mmixview list shows it, and mmixware sim runs it\n",
+        errors: "",
+    },
+    Row {
+        shows: "a file of two bytes for each character is no text",
+        asked: Asked::Check(Form::Text),
+        name: "a.mms",
+        source: b"M\0a\0i\0n\0",
+        status: 65,
+        output: "this is no text, for it has a byte 0: save a source as UTF-8\n",
+        errors: "",
+    },
+    Row {
+        shows: "a control character by its number, and a tab",
+        asked: Asked::List(false),
+        name: "a.mms",
+        source: b"*\t\x1b[2J\x7f\nMain SWYM 0\n",
+        status: 0,
+        output: "                                 1: *\t\\x1b[2J\\x7f\n#0000000000000000: fd000000      2: Main SWYM 0\n\nsymbol :Main #0000000000000000 1\n",
+        errors: "",
     },
     Row {
         shows: "an object is not written as JSON",

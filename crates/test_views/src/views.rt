@@ -122,7 +122,7 @@ static PLACED_TOLD: &str = "line 1: 43 Fit
     Main  SET $0,70000
                  ^~~~~
     `70000` does not fit: a number can be 0 to 65535 here.
-    Take SETML $0,x>>16 and INCL $0,x&#ffff for a large x, and NEG for a negative one.
+    Take SETML $0,70000>>16 and INCL $0,70000&#ffff.
 line 2: 40 Operands
     \tADD $0,$0
     \t    ^~~~~
@@ -168,7 +168,7 @@ line 2: 10 Syntax
     size IS 5,
              ^
     The operands end after `,`, where more has to follow.
-    No blanks are in operands: what follows a blank is a comment.
+    Operands contain no blanks: what follows a blank is a comment.
 line 3: 43 Fit
     Main ADD n,n,1000
                  ^~~~
@@ -188,7 +188,7 @@ x IS $1
 x BYTE 256
 ";
 
-static REFERRED_TOLD: &str = "line 2: 84 FutureRegister from line 1
+static REFERRED_TOLD: &str = "line 1: 84 FutureRegister to line 2
     Main JMP x
              ^
     A label that is used here is made a register further down.
@@ -249,8 +249,8 @@ line 6: 81 UndefinedLocal
 line 7: 10 Syntax
      SET $0,0x100
              ^~~~
-    `x100` does not belong here: an expression has ended, or none can begin so.
-    No blanks are in operands. Write #ff for 0xff. A jump to the local label 2H names 2F or 2B.
+    `x100` does not belong here: the number has ended in front of it.
+    A hexadecimal number begins with #: write #ff for 0xff.
 line 8: 39 UnknownOpcode
      SWYM 0; set $0,1
              ^~~

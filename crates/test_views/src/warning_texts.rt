@@ -12,7 +12,7 @@ loop SWYM 0
 static TOLD: &[u8] = b"line 1: warning 3 NoLabelBefore
     f\xc3\xbc\tJMP 1B
       \t    ^
-    no such local label comes before, so this is 0; F in place of B means the next one
+    no such local label comes before, so this is 0; 1F means the next 1H, and for this line itself write JMP @
 line 3: warning 8 OtherCase
     loop SWYM 0
     ^

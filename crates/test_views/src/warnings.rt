@@ -156,6 +156,46 @@ static RETURNS: [Row; 5] = [
     ),
 ];
 
+static TRAPS: [Row; 6] = [
+    (" LOC #100\nMain TRAP 0,Fputs\n", &[(2, 10, 12, 0)]),
+    ("Main TRAP Fputs,StdOut\n", &[(1, 10, 10, 0)]),
+    ("Main TRAP 1,Halt,0\n", &[(1, 10, 10, 0)]),
+    // three operands, Halt without the third, and a number
+    ("Main TRAP 0,Fputs,StdOut\n", &[]),
+    ("Main TRAP 0,Halt\n", &[]),
+    ("Main TRAP 1,2,3\n", &[]),
+];
+
+static STOPS: [Row; 6] = [
+    ("Main JMP @\n", &[(1, 11, 9, 0)]),
+    ("Main SWYM 0\nHere JMP Here\n", &[(2, 11, 9, 0)]),
+    ("Main SWYM 0\n FLOT $0,1\n", &[(2, 12, 1, 0)]),
+    ("Main LDSF $0,$1,0\n", &[(1, 12, 5, 0)]),
+    // a jump to another line, and a branch
+    ("Main SWYM 0\n JMP Main\n", &[]),
+    ("Main BZ $0,@\n", &[]),
+];
+
+static WIDTHS: [Row; 4] = [
+    (
+        " LOC Data_Segment\n GREG @\nk TETRA 5\n LOC #100\nMain LDO $1,k\n",
+        &[(5, 13, 12, 3)],
+    ),
+    (
+        " LOC Data_Segment\n GREG @\nk WYDE 5\n LOC #100\nx IS $1\nMain STO x,k\n",
+        &[(6, 13, 11, 3)],
+    ),
+    // a tetra as a tetra, and an octa
+    (
+        " LOC Data_Segment\n GREG @\nk TETRA 5\n LOC #100\nMain LDT $1,k\n",
+        &[],
+    ),
+    (
+        " LOC Data_Segment\n GREG @\nk OCTA 5\n LOC #100\nMain LDO $1,k\n",
+        &[],
+    ),
+];
+
 /// Whether a warning is what is due.
 fn is_due(warning: &Warning, due: Due) -> bool {
     (
@@ -237,4 +277,19 @@ fn labels_in_another_case(rt: HostRuntime) {
 #[test]
 fn subroutines_that_lose_their_return(rt: HostRuntime) {
     assert_eq!(rt; find_warning_mismatch(rt.alloc(), &RETURNS), None);
+}
+
+#[test]
+fn calls_with_other_operands(rt: HostRuntime) {
+    assert_eq!(rt; find_warning_mismatch(rt.alloc(), &TRAPS), None);
+}
+
+#[test]
+fn instructions_that_a_run_does_not_get_past(rt: HostRuntime) {
+    assert_eq!(rt; find_warning_mismatch(rt.alloc(), &STOPS), None);
+}
+
+#[test]
+fn octas_at_labels_of_less(rt: HostRuntime) {
+    assert_eq!(rt; find_warning_mismatch(rt.alloc(), &WIDTHS), None);
 }

@@ -1,7 +1,7 @@
 -- The memory of a machine is a whole space.
 use Rattle.std.proofs.Common.{◌≡◌, ◌<◌, ◌/◌, ◌^◌, ℕ, Bool, true, false, cond, arith, refl}
 use Rattle.std.specs.Prelude.{slice_index}
-use Rattle.mx_mem.specs.Memory.{Stored, octa_at}
+use Rattle.mx_mem.specs.Memory.{Stored, octa_at, octa_on}
 use Rattle.mx_ring.specs.Bounds.{IsRing}
 use Rattle.mx_ring.specs.Stack.{in_stack_area, stack_index, stack_octa}
 use Rattle.mx_core.specs.Kept.{Kept, state_of}
@@ -9,7 +9,7 @@ use Rattle.mx_core.specs.MachineSpace.{IsWholeSpace}
 use Rattle.mx_core.specs.State.{octa}
 
 pub octawise : (m : Stored) (q a : ℕ) → q / 8 ≡ a / 8 → octa_at m q ≡ octa_at m a
-unfolding octa_at
+unfolding octa_on
 octawise m q a e = let page : q / 4096 ≡ a / 4096 = omega (arith, e) in rw (page, e) refl
 
 fits : (k : Kept) → ((i : ℕ) → slice_index k.ring.hidden.stack i < 2 ^ 64) → ((a : ℕ) → octa_at k.memory a < 2 ^ 64) → (a : ℕ) → octa (state_of k) a < 2 ^ 64

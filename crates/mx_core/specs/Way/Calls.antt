@@ -52,6 +52,10 @@ MakesState f old new = Makes f (Ok tt) old new
 abbrev pub MakesWhereTold : (State → Result State Reason) → Bool → Kept → Kept → Type 0
 MakesWhereTold f told old new = IsTrue told → MakesState f old new
 
+-- the same of all but the address and the count of steps, once the machine goes on at an address
+abbrev pub MakesBefore : (State → Result State Reason) → ℕ → Bool → Kept → Kept → Type 0
+MakesBefore f a told old new = IsTrue told → (Ok tt, onward (state_of new) a) ≡ left (state_of old) (f (state_of old))
+
 abbrev pub KeepsWhereNot : Bool → Kept → Kept → Type 0
 KeepsWhereNot told old new = told ≡ false → state_of new ≡ state_of old
 

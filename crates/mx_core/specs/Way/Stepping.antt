@@ -11,8 +11,6 @@ use Rattle.mx_code.specs.declared.instruction.Instruction.{Instruction}
 use Rattle.mx_core.specs.State.{State, begins_page, is_negative}
 use Rattle.mx_core.specs.Step.{Stepped, went, calls, stopped, fetched, store_touch}
 use Rattle.mx_code.specs.declared.trace.Touch.{Touch}
-use Rattle.mx_code.specs.declared.groups.Group.{Group}
-use Rattle.mx_code.specs.declared.groups.Group.TheVariants as group
 use Rattle.mx_code.specs.declared.operation.Operation.{Operation}
 use Rattle.mx_code.specs.declared.operation.Operation.TheVariants as op
 use Rattle.mx_core.specs.declared.sight.Sight.{Sight}
@@ -49,14 +47,6 @@ abbrev pub may_store : Operation → Bool
 may_store (op.Store how) = true
 may_store op.CompareAndSwap = true
 may_store operation = false
-
--- whether a group tells an operation that stores nothing, other than PUT
-abbrev pub is_quiet_group : Group → Bool
-is_quiet_group group.Move = false
-is_quiet_group group.Put = false
-is_quiet_group group.Trap = false
-is_quiet_group group.Other = false
-is_quiet_group _ = true
 
 abbrev pub is_swap : Operation → Bool
 is_swap op.CompareAndSwap = true

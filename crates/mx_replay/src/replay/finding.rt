@@ -1,18 +1,21 @@
 //! What is looked for in a run.
 
-ghost use Rattle.std.specs.Prelude.{◌≡◌, ◌-◌, [], None, IfOk, IsTrue, OnErr};
+ghost use Rattle.std.specs.Prelude.{◌≡◌, ◌-◌, [], None, Ok, IfOk, IsTrue, OnErr};
 ghost use Rattle.mx_core.specs.Kept.{state_of};
 ghost use Rattle.mx_replay.specs.Frames.{AreLocals, AreLocalsAt, frames_at};
+ghost use Rattle.mx_word.specs.Results.{map_ok};
+ghost use Rattle.mx_stops.specs.Places as places;
 ghost use Rattle.mx_replay.specs.Marks.{changes, is_shallow, mark_of, stops_at};
+ghost use Rattle.mx_replay.specs.Programs.{step_of};
 ghost use Rattle.mx_replay.specs.Searches.{FoundAt, IsLast, IsLastBefore, IsLeft, IsNext};
 
 use super::Replay;
 use super::visiting::start_again;
 use crate::frames::{Frame, find_frames};
-use crate::marks::{Place, Sought, has_mark_at_start};
+use crate::marks::{Sought, has_mark_at_start};
 use crate::searches::{find_last, find_next};
-use crate::stops::{Break, Watch};
 use mx_core::Machine;
+use mx_stops::{Break, Place, Watch, value_at};
 use mx_word::{NoMemory, Sequence};
 use std::alloc::Global;
 
@@ -172,6 +175,18 @@ impl Replay {
     {
         let visit = self.visit(k)?;
         locals(self.alloc, &visit.machine)
+    }
+
+    /// The value at a place at the start. It stays where it is.
+    ///
+    /// Errors: out of memory.
+    #[tactic(auto, using(crate::proofs::Locals::showing))]
+    pub fn first_value(&mut self, place: Place) -> Result<u64, NoMemory>
+        ensures same { self.new ≡ self.old }
+        ensures value { IfOk result (λ x. map_ok (λ e. places.value_at place e.state) (step_of self.old.program 0) ≡ Ok x) }
+    {
+        let start = self.visit_start()?;
+        Ok(value_at(&start.machine, place))
     }
 
     /// The greatest step up to `until` that has a mark. Looked for backwards in pieces: a short one first, since it is mostly

@@ -28,13 +28,9 @@ impl Ring {
         ensures back { IfOk result (λ r. TakesBack r.0 self.new self.old) }
         ensures err { OnErr result (self.new ≡ self.old) }
     {
-        match self.note(work) {
-            Ok(note) => match self.perform(work) {
-                Ok(specials) => Ok((note, specials)),
-                Err(fault) => Err(fault),
-            },
-            Err(fault) => Err(fault),
-        }
+        let note = self.note(work)?;
+        let specials = self.perform(work)?;
+        Ok((note, specials))
     }
 
     /// Takes the last call back, by its note, where nothing else changed since: every register, every hidden one, and
@@ -218,18 +214,13 @@ fn above_room(count: usize, size: usize) -> usize
 fn plain(answer: Result<(), RingFault>) -> Result<Option<Saved>, RingFault>
     ensures { result ≡ plain_answer answer }
 {
-    match answer {
-        Ok(()) => Ok(None),
-        Err(fault) => Err(fault),
-    }
+    answer?;
+    Ok(None)
 }
 
 /// The answer of a call that gives special registers.
 fn with_specials(answer: Result<Saved, RingFault>) -> Result<Option<Saved>, RingFault>
     ensures { result ≡ specials_answer answer }
 {
-    match answer {
-        Ok(specials) => Ok(Some(specials)),
-        Err(fault) => Err(fault),
-    }
+    Ok(Some(answer?))
 }

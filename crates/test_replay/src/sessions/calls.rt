@@ -6,8 +6,8 @@ use crate::sessions::{CALLS_START, Row, find_mismatch};
 static ROWS: [Row; 11] = [
     Row {
         lines: "f\nrf\n",
-        answer: "no call that has not returned
-no call that has not returned
+        answer: "not inside a call
+not inside a call
 ",
     },
     Row {

@@ -26,8 +26,8 @@ $1 (k) = 3  (was #4000000000000008)
     },
     Row {
         lines: "s x\nstep 1 2\n",
-        answer: "? no number
-? no number
+        answer: "? not a number of steps
+? not a number of steps
 ",
     },
     Row {
@@ -73,8 +73,8 @@ $255 = 12  (was 5)
     },
     Row {
         lines: "g K\ng\n",
-        answer: "? no number of a step
-? no number of a step
+        answer: "? goto takes the number of a step
+? goto takes the number of a step
 ",
     },
     Row {
@@ -137,7 +137,7 @@ break 1
     Row {
         lines: "b 1\nb 99\nb #110\nb\n",
         answer: "1    break  sum.mms:8  Main
-? no such place: a label, a line that loads an instruction, or #ADDRESS
+? no such place: give a label, LABEL+N, a line with an instruction, or #ADDRESS
 2    break  sum.mms:12  Loop+8
 3    break  sum.mms:8  Main
 ",
@@ -169,9 +169,9 @@ halted with status 12
     },
     Row {
         lines: "b Loop if k\nb Loop when\nb Loop if $1 <> 2\n",
-        answer: "? no condition: if VALUE OP N, with OP ==, !=, <, <=, > or >=
-? no condition: if VALUE OP N, with OP ==, !=, <, <=, > or >=
-? no condition: if VALUE OP N, with OP ==, !=, <, <=, > or >=
+        answer: "? a condition is written: if VALUE OP N, where OP is ==, !=, <, <=, > or >=
+? a condition is written: if VALUE OP N, where OP is ==, !=, <, <=, > or >=
+? a condition is written: if VALUE OP N, where OP is ==, !=, <, <=, > or >=
 ",
     },
     Row {
@@ -203,8 +203,8 @@ break 2
     },
     Row {
         lines: "wa $300\nwa\n",
-        answer: "? nothing to watch: a name, $K, rX, M#ADDRESS
-? nothing to watch: a name, $K, rX, M#ADDRESS
+        answer: "? no such place: give NAME[+N], $K, rX or M8[ADDRESS]
+? no such place: give NAME[+N], $K, rX or M8[ADDRESS]
 ",
     },
     Row {
@@ -216,13 +216,13 @@ break 2
 deleted
 2    watch  $1 (k)
 all deleted
-no breaks and nothing watched
+no breaks and no watches
 ",
     },
     Row {
         lines: "d 1\nd x\n",
-        answer: "? no break and no watch has this number
-? no number
+        answer: "? no break or watch has this number
+? delete takes the number of a break or watch, or nothing
 ",
     },
     Row {

@@ -33,7 +33,7 @@ $2 (sum) has not changed since the start
         lines: "who $5\nwho Total\nwho Nope\n",
         answer: "$5 has not changed since the start
 M8[#2000000000000000] (Total) has not changed since the start
-? no place: a name, $K, rX, M#ADDRESS
+? no symbol Nope
 ",
     },
     Row {
@@ -66,9 +66,9 @@ M8[#2000000000000008] (Text) = #646f6e650a000000
     },
     Row {
         lines: "p/q sum\np Nope\np\n",
-        answer: "? no such form: /d decimal, /x hexadecimal, /t as text
-? nothing to show: a name, $K, rX, M#ADDRESS, a number
-? nothing to show: a name, $K, rX, M#ADDRESS, a number
+        answer: "? no such form: /d is decimal, /x hexadecimal, /t text
+? no symbol Nope
+? give NAME[+N], $K[+N], rX, M8[ADDRESS] or a number
 ",
     },
     Row {
@@ -90,19 +90,19 @@ M8[#2000000000000000] (Total) = 5  (was 3)
     Row {
         lines: "x $254\nx/9z Text\nx Nope\nx #8000000000000000\n",
         answer: "#2000000000000000 <Total>:       #0000000000000000
-? no such units: /NU with U o, t, w, b or s
-? no memory there: a name, $K, #ADDRESS
-? no memory there: a name, $K, #ADDRESS
+? no such units: x/NU, where U is o, d, t, w, b or s
+? no symbol Nope
+? no memory there: give NAME[+N], $K[+N] or #ADDRESS
 ",
     },
     Row {
         lines: "info output\ng 16\ni o\ni\n",
-        answer: "nothing is written yet
+        answer: "nothing has been written yet
 done
 step 16  sum.mms:16  Loop+24  SET $4,sum
 $255 = 5  (was #2000000000000008 <Text>)
 done
-? info breaks, output, registers, ring or symbols
+? info takes breaks, output, registers, registers all, ring or symbols
 ",
     },
     Row {
@@ -138,7 +138,7 @@ sum                 $2
       23        POP   1,0
 ? no more lines
 ? no more lines
-? no line there
+? no symbol Nope
 ",
     },
     Row {
@@ -161,17 +161,17 @@ $1 (k) = 3  (was #4000000000000008)
         lines: "help step\nh rs\nh foo\n",
         answer: "step [N]
 short s
-makes one step, or N steps
+makes one step, or N of them
 reverse-step [N]
 short rs
-takes one step back, or N steps
-? no word foo: help lists all
+takes one step back, or N of them
+? no such command: foo (help lists all)
 ",
     },
     Row {
         lines: "re\nfoo bar\ncont\n",
-        answer: "? several words begin like this: reverse-step reverse-next reverse-finish reverse-continue
-? no word foo: help lists all
+        answer: "? several commands begin like this: reverse-step reverse-next reverse-finish reverse-continue
+? no such command: foo (help lists all)
 done
 step 24  sum.mms:19  Loop+36  TRAP 0,Halt,0
 halted with status 12

@@ -4,10 +4,11 @@ use crate::programs::TEXT;
 use mx_ask::Unit;
 use mx_book::{Book, Thing};
 use mx_core::Machine;
+use mx_pieces::add_ring;
 use mx_replay::Replay;
 use mx_run::End;
 use mx_tell::{
-    Call, add_backtrace, add_break_row, add_end, add_instructions, add_lines, add_memory, add_ring,
+    Call, add_backtrace, add_break_row, add_end, add_instructions, add_lines, add_memory,
     add_shown, add_symbols, add_watch_row, add_watched, first_line_around,
 };
 use mx_text::Form;
@@ -138,7 +139,7 @@ k                   $1
     ),
     (
         What::Shown(Thing::Octa(TEXT + 3), Some(Form::Hex)),
-        "M8[#2000000000000000] (Text) = #05620aff00000000
+        "M8[#2000000000000000] (Text) = #05620aff00000000  (the octa that has #2000000000000003)
 ",
     ),
 ];
@@ -186,10 +187,10 @@ fn add_known(alloc: Global, text: &mut Bytes, book: &Book, what: What) -> Result
         What::Calls => add_call(alloc, text, book),
         What::Symbols => add_symbols(text, book),
         What::Break => add_break_row(text, book, 1, 0x108, b"k == 3"),
-        What::Watch => add_watch_row(text, book, 12, Thing::Octa(TEXT)),
+        What::Watch => add_watch_row(text, book, 12, Thing::Octa(TEXT), b""),
         What::Watched => {
             let old = 999_999_999_999;
-            add_watched(text, book, 2, Thing::Register(1), old, u64::MAX)
+            add_watched(text, book, 2, Thing::Register(1), Some(old), u64::MAX, b"")
         }
         What::Lines => {
             add_lines(text, book, first_line_around(12), 0x114)?;

@@ -1,7 +1,8 @@
 //! Steps far from the start, which are reached from steps that are kept.
 
 use crate::programs::{COUNTS, replay};
-use mx_replay::{Break, Condition, Place, Relation, Replay};
+use mx_replay::Replay;
+use mx_stops::{Break, Condition, Place, Relation};
 use std::alloc::Global;
 
 /// Steps that are visited, back and forth: step 2^20 = 1,048,576 is kept, and some that are before others gone back to.

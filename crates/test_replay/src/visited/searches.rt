@@ -1,7 +1,8 @@
 //! Turns that are found.
 
 use crate::programs::{CALLS, ECHOES, LETTER, SUM, SUMS, WHERE, replay};
-use mx_replay::{Break, Place, Replay, Watch};
+use mx_replay::Replay;
+use mx_stops::{Break, Place, Watch};
 use std::alloc::Global;
 
 /// A row: the step that one is at, what is looked for, and the step that is due.

@@ -9,7 +9,6 @@ use Rattle.mx_con.proofs.sessions.one_line.Goals as goal
 pub returns-in-Ok-clause-part : goal.returns-in-Ok-clause-part
 returns-in-Ok-clause-part g c =
     let read = c.as_slice.ensures in
-    let view = c.line.view_is in
     let seen : c.as_slice.result.now ≡ c.in-Ok.line = cc in
     part-behind c.in-Ok.ensures.stands c.obey_line.ensures.part (mapped-again _ _ c.obey_line.result)
     (λ t h. line-carried c.args.steps _ _ _ _ _ c.parse_command-command.result _ _ _ _ _ c.obey_line.result (c.in-Ok.ensures.told t)

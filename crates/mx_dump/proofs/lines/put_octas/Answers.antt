@@ -1,4 +1,5 @@
 use Rattle.std.proofs.Common.{Some, arith}
+use Rattle.std.proofs.lemmas.Result.{err_from_is_err_and}
 use Rattle.mx_core.specs.Kept.{state_of}
 use Rattle.mx_dump.specs.Shown.{IsNextShown}
 use Rattle.mx_dump.proofs.DumpLines.{writes-no-octa, writes-octa, writes-octas-ended, writes-octas}
@@ -7,9 +8,10 @@ use Rattle.mx_dump.proofs.lines.put_octas.Goals as goal
 pub loop-a-init : goal.loop-a-init
 loop-a-init g c = record { most = omega arith; octas = omega arith; written = writes-no-octa (state_of c.args.machine.now) _ _ }
 
-pub returns-in-Err : goal.returns-in-Err
-returns-in-Err g c =
-    writes-octas-ended (state_of c.args.machine.now) _ _ _ _ _ _ c.loop-a.from c.in-Some.a c.in-Some.x _ c.loop-a.invariant.octas c.in-Some.ensures c.loop-a.invariant.written c.in-Err.ensures
+pub returns-in_err-put_octa : goal.returns-in_err-put_octa
+returns-in_err-put_octa g c =
+    let p = err_from_is_err_and c.from_residual.result c.from_residual.ensures.1 in
+    rw (p.1, p.2) (writes-octas-ended (state_of c.args.machine.now) _ _ _ _ _ _ c.loop-a.from c.in-Some.a c.in-Some.x _ c.loop-a.invariant.octas c.in-Some.ensures c.loop-a.invariant.written c.in_err-put_octa.ensures)
 
 pub loop-a-preserved : goal.loop-a-preserved
 loop-a-preserved g c =
@@ -19,7 +21,7 @@ loop-a-preserved g c =
     record {
       most = omega (arith, below, octas);
       octas = omega (arith, octas);
-      written = writes-octa (state_of c.args.machine.now) _ _ _ _ _ _ c.loop-a.from c.in-Some.a c.in-Some.x c.loop-a.invariant.octas c.in-Some.ensures c.loop-a.invariant.written c.in-Ok.ensures;
+      written = writes-octa (state_of c.args.machine.now) _ _ _ _ _ _ c.loop-a.from c.in-Some.a c.in-Some.x c.loop-a.invariant.octas c.in-Some.ensures c.loop-a.invariant.written c.in_ok-put_octa.ensures;
     }
 
 pub returns : goal.returns

@@ -1,5 +1,5 @@
 use Rattle.mx_files.proofs.TakenLines.{no-items-fit}
 use Rattle.mx_files.proofs.emit.assembled.Goals as goal
 
-pub returns-in-Ok-clause-fits : goal.returns-in-Ok-clause-fits
-returns-in-Ok-clause-fits c = c.assemble_into.ensures.fits (no-items-fit _ c.new-items.ensures)
+pub returns-clause-fits : goal.returns-clause-fits
+returns-clause-fits c = c.assemble_into.ensures.fits (no-items-fit _ c.new-items.ensures)

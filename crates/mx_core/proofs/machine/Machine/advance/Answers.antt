@@ -1,18 +1,13 @@
-use Rattle.std.proofs.Common.{◌≡◌, ◌<◌, ◌^◌, sym, ap, ◌∙◌, arith}
-use Rattle.mx_code.specs.Instructions.{operation_in}
-use Rattle.mx_code.specs.Groups.{operation_by}
+use Rattle.std.proofs.Common.{sym, ◌∙◌}
+use Rattle.mx_core.proofs.Walks.{one-step, one-kept}
 use Rattle.mx_core.specs.Kept.{state_of}
-use Rattle.mx_code.specs.Operations.{operation_of}
-use Rattle.mx_core.specs.Step.{fetched}
-use Rattle.mx_core.specs.Way.Stepping.{advanced}
-use Rattle.mx_code.specs.declared.operation.Operation.TheVariants as op
-use Rattle.mx_core.proofs.Steps.{step_traps}
 use Rattle.mx_core.proofs.machine.Machine.advance.Goals as goal
 
-pub returns-in-Trap-clause-answer : goal.returns-in-Trap-clause-answer
-returns-in-Trap-clause-answer c = λ m.
-    let s = state_of c.args.self.now in
-    let l : s.pc < 2 ^ 63 = omega (arith, c.if-at-ge-STACK_SEGMENT.false, c.pc-at.ensures.value) in
-    let traps : operation_in (fetched s) ≡ op.Trap =
-    ap operation_in (sym c.fetch-i.ensures) ∙ ap operation_of (sym c.code.ensures) ∙ c.group_of.ensures.operation ∙ ap (λ g. operation_by g c.code.result) c.in-Trap.is in
-    ap (advanced s) (sym (step_traps s l traps))
+pub returns-clause-answer : goal.returns-clause-answer
+returns-clause-answer c = one-step _ (state_of c.args.self.now) (state_of c.advance_many.new.self) _ c.advance_many.ensures.goes c.advance_many.ensures.all c.advance_many.ensures.fewer c.advance_many.ensures.last
+
+pub returns-clause-memory : goal.returns-clause-memory
+returns-clause-memory c = λ e. one-kept _ (state_of c.args.self.now) (state_of c.advance_many.new.self) _ c.advance_many.ensures.goes c.advance_many.ensures.fewer (λ x. let f = sym e ∙ x in absurd (cc))
+
+pub returns-clause-lacks_memory : goal.returns-clause-lacks_memory
+returns-clause-lacks_memory c = λ e. rw (returns-clause-memory c e) at (c.advance_many.ensures.lacks_memory e)

@@ -1,4 +1,4 @@
-use Rattle.std.proofs.Common.{◌≡◌, ◌≢◌, ◌+◌, ◌-◌, suc, sym, subst, arith}
+use Rattle.std.proofs.Common.{rules, ◌≡◌, ◌≢◌, ◌+◌, ◌-◌, ℕ, suc, sym, subst, arith}
 use Rattle.std.proofs.lemmas.Grind.{common_steps}
 use Rattle.mx_core.specs.Walks.{Goes}
 use Rattle.mx_core.specs.Kept.{state_of}
@@ -14,10 +14,28 @@ loop-left-init c =
 pub loop-left-preserved : goal.loop-left-preserved
 loop-left-preserved c =
     let other : advance.Went ≢ advance.OutOfMemory = grind (arith, common_steps) in
-    let made = c.args.n - c.loop-left.left in
+    let made : ℕ = c.args.n - c.loop-left.left in
+    let usual : ℕ = c.loop-left.left - c.make_usual_ones-left.result in
     let most = c.loop-left.invariant.0 in
-    let usual = (c.loop-left.left - 1) - c.make_usual_ones-left.result in
-    let more : c.args.n - c.make_usual_ones-left.result ≡ suc made + usual = omega (arith, c.loop-left-test.true, most, c.make_usual_ones-left.ensures.most) in
-    let one = goes-end made (state_of c.args.self.now) (state_of c.loop-left.self) (state_of c.advance_quickly.new.self) (record { window = c.loop-left.self.ring; machine = c.machines_keep_the_invariant.ensures }) c.loop-left.invariant.1 (c.in-Went.ensures.answer other) in
-    let whole = goes-both (suc made) usual (state_of c.args.self.now) (state_of c.advance_quickly.new.self) (state_of c.make_usual_ones-left.new.self) one c.make_usual_ones-left.ensures.goes in
-    (omega (arith, most, c.make_usual_ones-left.ensures.most), subst (λ k. Goes k (state_of c.args.self.now) (state_of c.make_usual_ones-left.new.self)) (sym more) whole)
+    let more : c.args.n - (c.make_usual_ones-left.result - 1) ≡ suc (made + usual) = omega (arith, c.if-left-eq0.false, most, c.make_usual_ones-left.ensures.most) in
+    let all = goes-both made usual (state_of c.args.self.now) (state_of c.loop-left.self) (state_of c.make_usual_ones-left.new.self) c.loop-left.invariant.1 c.make_usual_ones-left.ensures.goes in
+    let one = goes-end (made + usual) (state_of c.args.self.now) (state_of c.make_usual_ones-left.new.self) (state_of c.advance_and_keep.new.self)
+    (record { window = c.make_usual_ones-left.new.self.ring; machine = c.machines_keep_the_invariant.ensures }) all (c.in-Went.ensures.answer other) in
+    (omega (arith, most, c.make_usual_ones-left.ensures.most), subst (λ k. Goes k (state_of c.args.self.now) (state_of c.advance_and_keep.new.self)) (sym more) one)
+
+pub returns-then-left-eq0-clause-goes : goal.returns-then-left-eq0-clause-goes
+returns-then-left-eq0-clause-goes c =
+    let made : ℕ = c.args.n - c.loop-left.left in
+    let usual : ℕ = c.loop-left.left - c.make_usual_ones-left.result in
+    let whole : made + usual ≡ c.args.n = omega (arith, c.if-left-eq0.true, c.loop-left.invariant.0, c.make_usual_ones-left.ensures.most) in
+    let all = goes-both made usual (state_of c.args.self.now) (state_of c.loop-left.self) (state_of c.make_usual_ones-left.new.self) c.loop-left.invariant.1 c.make_usual_ones-left.ensures.goes in
+    subst (λ k. Goes k (state_of c.args.self.now) (state_of c.make_usual_ones-left.new.self)) whole all
+
+pub returns-in_default : goal.returns-in_default
+returns-in_default c =
+    let made : ℕ = c.args.n - c.loop-left.left in
+    let usual : ℕ = c.loop-left.left - c.make_usual_ones-left.result in
+    let whole : made + usual ≡ c.args.n - c.make_usual_ones-left.result = omega (arith, c.loop-left.invariant.0, c.make_usual_ones-left.ensures.most) in
+    let all = goes-both made usual (state_of c.args.self.now) (state_of c.loop-left.self) (state_of c.make_usual_ones-left.new.self) c.loop-left.invariant.1 c.make_usual_ones-left.ensures.goes in
+    let goes = subst (λ k. Goes k (state_of c.args.self.now) (state_of c.make_usual_ones-left.new.self)) whole all in
+    search rules

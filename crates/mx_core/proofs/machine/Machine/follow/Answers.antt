@@ -11,7 +11,7 @@ use Rattle.mx_core.proofs.machine.Machine.follow.Goals as goal
 pub returns-in-Ok-clause-answer : goal.returns-in-Ok-clause-answer
 returns-in-Ok-clause-answer c = λ m.
     let s = state_of c.args.self.now in
-    let t = state_of c.carry_out_by.new.self in
+    let t = state_of c.carry_out_fetched.new.self in
     let u = state_of c.note_where.new.self in
     let w = went_as s t u c.args.i.now c.is_in_stack_segment.result c.requires.fetched c.requires.range c.requires.no_trap (c.in-Ok.ensures.answer (λ e. cc)) c.is_in_stack_segment.ensures c.note_where.ensures in
     let trace = trace_told s t u c.args.i.now c.sight_at-sight.result c.is_in_stack_segment.result c.touch_written.result c.pc.result c.requires.fetched (c.in-Ok.ensures.answer (λ e. cc)) c.is_in_stack_segment.ensures c.note_where.ensures
@@ -22,6 +22,6 @@ pub returns-in-Err-Stopped-clause-answer : goal.returns-in-Err-Stopped-clause-an
 returns-in-Err-Stopped-clause-answer c = λ m.
     let s = state_of c.args.self.now in
     let told = rw c.in-Err-Stopped.field-0-is at c.in-Err-Stopped.ensures.answer in
-    let err = stopped_as s (state_of c.carry_out_by.new.self) c.args.i.now c.in-Err-Stopped.reason c.requires.fetched c.requires.range c.requires.no_trap (told (λ e. cc)) in
-    let whole : (answer.Stopped c.in-Err-Stopped.reason, state_of c.carry_out_by.new.self) ≡ step_answer s (step s) = ap (λ (u : State). (answer.Stopped c.in-Err-Stopped.reason, u)) err.1 ∙ ap (step_answer s) (sym err.0) in
+    let err = stopped_as s (state_of c.carry_out_fetched.new.self) c.args.i.now c.in-Err-Stopped.reason c.requires.fetched c.requires.range c.requires.no_trap (told (λ e. cc)) in
+    let whole : (answer.Stopped c.in-Err-Stopped.reason, state_of c.carry_out_fetched.new.self) ≡ step_answer s (step s) = ap (λ (u : State). (answer.Stopped c.in-Err-Stopped.reason, u)) err.1 ∙ ap (step_answer s) (sym err.0) in
     rw c.in-Err-Stopped.reason-is whole

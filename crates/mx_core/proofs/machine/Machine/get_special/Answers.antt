@@ -25,7 +25,7 @@ pub returns-in-Ok : goal.returns-in-Ok
 returns-in-Ok c =
     let s = state_of c.args.self.now in
     let k = x_of c.args.i.now in
-    let ok = set-ok s (state_of c.set.new.self) c.x.result c.x_register.result c.in-Ok.ensures in
+    let ok = set-ok s (state_of c.set.new.self) c.x.result c.x_register.result c.in-Ok.ensures.made in
     let local : state_of c.set.new.self ≡ with_local s k = ok.1 ∙ rw (c.x.ensures, c.x_register.ensures) refl in
     let there : state_of c.note_where.new.self ≡ record (with_local s k) { touched = s.touched || z_of c.args.i.now == rS } =
     c.note_where.ensures ∙ rw (local, c.z-in-Ok-2.ensures) refl in
@@ -38,6 +38,6 @@ returns-in-Ok c =
 pub returns-in-Err : goal.returns-in-Err
 returns-in-Err c =
     let s = state_of c.args.self.now in
-    let err = set-err s (state_of c.set.new.self) c.x.result c.x_register.result c.in-Err.stop (rw c.in-Err.is at c.set.ensures) in
+    let err = set-err s (state_of c.set.new.self) c.x.result c.x_register.result c.in-Err.stop (rw c.in-Err.is at c.set.ensures.made) in
     refused-as _ _ s (state_of c.set.new.self) _ c.in-Err.stop _ (formed s c.args.i.now c.y.result c.z.result c.y.ensures c.z.ensures c.if-y-ne0.false c.if-z-gt31.false)
     (sym (ap (λ j. set_overfills s.stack j) c.x.ensures) ∙ err.0, err.1, err.2)

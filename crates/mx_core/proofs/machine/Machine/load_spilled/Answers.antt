@@ -13,7 +13,7 @@ pub returns-in-Ok : goal.returns-in-Ok
 returns-in-Ok c =
     let s = state_of c.args.self.now in
     let k = x_of c.args.i.now in
-    let ok = set-ok s (state_of c.set.new.self) c.x.result c.x_register.result c.in-Ok.ensures in
+    let ok = set-ok s (state_of c.set.new.self) c.x.result c.x_register.result c.in-Ok.ensures.made in
     let local : state_of c.set.new.self ≡ with_local s k = ok.1 ∙ rw (c.x.ensures, c.x_register.ensures) refl in
     let there : state_of c.note_touch.new.self ≡ with_touch (with_local s k) = c.note_touch.ensures ∙ ap with_touch local in
     let value : c.extract_loaded-value.result ≡ loaded_value c.args.how (octa (with_local s k) c.args.a) c.args.a =
@@ -26,6 +26,6 @@ returns-in-Ok c =
 pub returns-in-Err : goal.returns-in-Err
 returns-in-Err c =
     let s = state_of c.args.self.now in
-    let err = set-err s (state_of c.set.new.self) c.x.result c.x_register.result c.in-Err.stop (rw c.in-Err.is at c.set.ensures) in
+    let err = set-err s (state_of c.set.new.self) c.x.result c.x_register.result c.in-Err.stop (rw c.in-Err.is at c.set.ensures.made) in
     refused-as _ _ s (state_of c.set.new.self) _ c.in-Err.stop _ (load_inside c.args.how s c.args.i.now c.args.a c.requires.address c.requires.least c.requires.most)
     (sym (ap (λ j. set_overfills s.stack j) c.x.ensures) ∙ err.0, err.1, err.2)

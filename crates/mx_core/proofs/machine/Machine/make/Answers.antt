@@ -17,7 +17,7 @@ use Rattle.mx_core.proofs.machine.Machine.make.Goals as goal
 pub returns-in-Ok-clause-answer : goal.returns-in-Ok-clause-answer
 returns-in-Ok-clause-answer c = λ m.
     let s = state_of c.args.self.now in
-    let t = state_of c.carry_out_by.new.self in
+    let t = state_of c.carry_out_fetched.new.self in
     let n : operation_in (fetched s) ≢ op.Trap = λ x. c.requires.no_trap (ap operation_in c.requires.fetched ∙ x) in
     let e = c.in-Ok.ensures.answer (λ e. cc) ∙ ap (λ (j : Instruction). left s (outcome s (deed_at s j))) c.requires.fetched in
     let looks : state_of c.note_where.new.self ≡ with_touch_where t (is_in_stack_segment s.pc) =
@@ -27,7 +27,7 @@ returns-in-Ok-clause-answer c = λ m.
 pub returns-in-Err-Stopped-clause-answer : goal.returns-in-Err-Stopped-clause-answer
 returns-in-Err-Stopped-clause-answer c = λ m.
     let s = state_of c.args.self.now in
-    let t = state_of c.carry_out_by.new.self in
+    let t = state_of c.carry_out_fetched.new.self in
     let n : operation_in (fetched s) ≢ op.Trap = λ x. c.requires.no_trap (ap operation_in c.requires.fetched ∙ x) in
     let told = rw c.in-Err-Stopped.field-0-is at c.in-Err-Stopped.ensures.answer in
     let e = told (λ e. cc) ∙ ap (λ (j : Instruction). left s (outcome s (deed_at s j))) c.requires.fetched in

@@ -7,5 +7,5 @@ pub returns-clause-puts : goal.returns-clause-puts
 returns-clause-puts c = λ t. record {
   value = c.z_operand.result;
   next = c.next.result;
-  is = c.go_to.ensures ∙ ap (λ (u : State). onward u c.next.result) c.put.ensures;
+  is = c.go_to.ensures ∙ ap (λ (u : State). onward u c.next.result) c.put.ensures.state;
 }

@@ -1,5 +1,5 @@
-use Rattle.std.proofs.Common.{sym, ◌∙◌, ap}
-use Rattle.std.specs.Prelude.{ℕ, min, ◌+◌, ◌-◌, ◌^◌}
+use Rattle.std.proofs.Common.{◌∙◌, ap}
+use Rattle.std.specs.Prelude.{min, ◌+◌, ◌-◌, ◌^◌}
 use Rattle.mx_debug.specs.Sessions.{Debugged}
 use Rattle.mx_debug.proofs.Reaching.{on-ok, reached-on}
 use Rattle.mx_debug.proofs.session.Session.step_on.Goals as goal

@@ -1,5 +1,5 @@
 use Rattle.std.proofs.Common.{◌/◌, ap, sym, ◌∙◌}
-use Rattle.mx_mem.specs.Memory.{has_page}
+use Rattle.mx_mem.specs.Memory.{Stored, has_page}
 use Rattle.mx_mem.proofs.Views.{has_page-view}
 use Rattle.mx_mem.proofs.memory.Memory.has_page.Goals as goal
 

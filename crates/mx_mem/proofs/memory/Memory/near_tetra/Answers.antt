@@ -5,7 +5,7 @@ use Rattle.std.specs.Ordering.{nat_cmp}
 use Rattle.std.specs.BTreeMap.{get}
 use Rattle.mx_mem.specs.Held.{number_in}
 use Rattle.mx_mem.specs.Low.{low_pages}
-use Rattle.mx_mem.specs.Memory.{tetra_of}
+use Rattle.mx_mem.specs.Memory.{Stored, tetra_of}
 use Rattle.mx_mem.proofs.Views.{octa-found}
 use Rattle.mx_mem.proofs.memory.Memory.near_tetra.Goals as goal
 
@@ -27,7 +27,7 @@ returns-then-within-self-clause-value c =
     let number : n ≡ c.args.a / 4096 = omega (arith, at, small) in
     let here : Some i.code_place ≡ get nat_cmp i.places (c.args.a / 4096) =
     sym (c.self.invariant.indexed.named i.code_place kept.1) ∙ ap (get nat_cmp i.places) number in
-    let there = octa-found i.pages.items i.places _ c.args.a (Some i.code_place) c.self.view_is here in
+    let there = octa-found i.pages.items i.places c.args.self.now c.args.a (Some i.code_place) (ap (λ (m : Stored). m.pages) c.self.view_is) here in
     let page = get_or_read i.pages.items i.code_place c.index.result.now kept.1 c.index.ensures (0, []) in
     let octa : d / 8 % 512 ≡ c.args.a / 8 % 512 = omega (arith, at, small) in
     let low : d % 8 ≡ c.args.a % 8 = omega (arith, at, small) in

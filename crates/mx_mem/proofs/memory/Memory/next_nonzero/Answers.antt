@@ -3,6 +3,7 @@ use Rattle.std.proofs.lemmas.Bool.{cases_lt}
 use Rattle.std.proofs.lemmas.List.{get_or_read}
 use Rattle.mx_mem.specs.Held.{octas_in}
 use Rattle.mx_mem.proofs.Searches.{zero-on, zero-after, octa-on}
+use Rattle.mx_mem.specs.Memory.{Stored}
 use Rattle.mx_mem.proofs.memory.Memory.next_nonzero.Goals as goal
 
 -- the page that was found
@@ -38,11 +39,11 @@ returns-in-Some-next_nonzero c =
     let address : ℕ = 4096 * c.in-Some.number + 8 * c.in-Some-next_nonzero.i in
     let at : address / 8 % 512 ≡ c.in-Some-next_nonzero.i = omega arith in
     let page : address / 4096 ≡ c.in-Some.number = omega arith in
-    let zeros = zero-on c.self.inside.pages.items c.self.inside.places c.args.self.now c.args.from c.loop-number.at c.in-Some.number c.in-Some.place c.max-at.result c.self.view_is c.loop-number.invariant.zeros
+    let zeros = zero-on c.self.inside.pages.items c.self.inside.places c.args.self.now c.args.from c.loop-number.at c.in-Some.number c.in-Some.place c.max-at.result (ap (λ (m : Stored). m.pages) c.self.view_is) c.loop-number.invariant.zeros
     found.1 found.0 found.2 start.0 start.1 start.2 c.in-Some-next_nonzero.i (omega arith) (λ k f l. ap (λ octas. get_or octas k 0) (sym read) ∙ here.4 k f l) in (
       omega arith,
       omega arith,
-      octa-on c.self.inside.pages.items c.self.inside.places c.args.self.now address c.in-Some.number c.in-Some.place c.self.view_is found.1 page
+      octa-on c.self.inside.pages.items c.self.inside.places c.args.self.now address c.in-Some.number c.in-Some.place (ap (λ (m : Stored). m.pages) c.self.view_is) found.1 page
           ∙ ap (λ i. get_or (octas_in c.self.inside.pages.items c.in-Some.place) i 0) at ∙ ap (λ octas. get_or octas c.in-Some-next_nonzero.i 0) (sym read) ∙ here.2,
       here.3,
       λ q f w l. zeros q f w (omega arith),
@@ -55,7 +56,7 @@ loop-number-preserved c =
     let in-list = c.self.invariant.indexed.placed c.in-Some.number c.in-Some.place found.1 in
     let low = c.self.invariant.bounded.below c.in-Some.place in-list.0 in
     let read = page-read c.self.inside.pages.items c.in-Some.place c.index.result.now in-list.0 c.index.ensures in
-    let zeros = zero-on c.self.inside.pages.items c.self.inside.places c.args.self.now c.args.from c.loop-number.at c.in-Some.number c.in-Some.place c.max-at.result c.self.view_is c.loop-number.invariant.zeros
+    let zeros = zero-on c.self.inside.pages.items c.self.inside.places c.args.self.now c.args.from c.loop-number.at c.in-Some.number c.in-Some.place c.max-at.result (ap (λ (m : Stored). m.pages) c.self.view_is) c.loop-number.invariant.zeros
     found.1 found.0 found.2 start.0 start.1 start.2 512 (omega arith) (λ k f l. ap (λ octas. get_or octas k 0) (sym read) ∙ c.in_default-next_nonzero.ensures k f l) in
     record {
       reached = omega arith;
@@ -64,4 +65,4 @@ loop-number-preserved c =
     }
 
 pub returns : goal.returns
-returns c = zero-after c.self.inside.pages.items c.self.inside.places c.args.self.now c.args.from c.loop-number.at c.self.view_is c.loop-number.invariant.zeros c.in_default.ensures
+returns c = zero-after c.self.inside.pages.items c.self.inside.places c.args.self.now c.args.from c.loop-number.at (ap (λ (m : Stored). m.pages) c.self.view_is) c.loop-number.invariant.zeros c.in_default.ensures

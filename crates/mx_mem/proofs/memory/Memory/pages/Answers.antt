@@ -1,7 +1,7 @@
 use Rattle.std.proofs.Common.{sym, ap, ◌∙◌, subst}
 use Rattle.std.specs.Ordering.{nat_cmp}
 use Rattle.std.specs.List.Sorted.{IsStrictlySortedBy}
-use Rattle.mx_mem.specs.Memory.{page_numbers}
+use Rattle.mx_mem.specs.Memory.{Stored, page_numbers}
 use Rattle.mx_mem.proofs.Views.{page_numbers-view}
 use Rattle.mx_mem.proofs.memory.Memory.pages.Goals as goal
 
