@@ -18,7 +18,7 @@ use Rattle.mx_con.specs.declared.dialog.Dialog.{Dialog}
 use Rattle.mx_con.specs.declared.end.SessionEnd.{SessionEnd}
 use Rattle.mx_con.specs.declared.end.SessionEnd.TheVariants.{Quit, Limit, OutOfMemory}
 use Rattle.mx_con.specs.declared.judgement.Bad.TheVariants.{UnknownCommand}
-use Rattle.mx_con.specs.Clauses.{Proceeds}
+use Rattle.mx_con.specs.Clauses.{DoesPlan}
 use Rattle.mx_con.proofs.Parts.{part-so}
 use Rattle.mx_con.proofs.Rests.{then-comes, part-ends, returned}
 use Rattle.mx_con.proofs.ReplyPlans.{shows, state-comes, flags-comes}
@@ -80,7 +80,7 @@ answered-comes steps shown v w r command.Quit i c = absurd i
 answered-comes steps shown v w r command i c = c
 
 pub answered-part : {Host : Type 0} {says : Host → Option HostModel} {faults : Host → ℕ} {a b : Host} {v w : SessionWorld} {r : Result (Option ℕ) SessionEnd} (steps : ℕ) (shown : Option ℕ) (command : Command) → IsAnswered command →
-    Proceeds conversing says faults a b v w r (answered_plan shown command) → Proceeds conversing says faults a b v w r (command_plan steps shown (Some command))
+    DoesPlan conversing says faults a b v w r (answered_plan shown command) → DoesPlan conversing says faults a b v w r (command_plan steps shown (Some command))
 answered-part {v = v} {w = w} {r = r} steps shown command i h = part-so h (λ c. answered-comes steps shown v w r command i c)
 
 -- ---- a session

@@ -7,7 +7,7 @@ use Rattle.mx_host.specs.Keeping.{Keeps}
 use Rattle.mx_plan.specs.Plan.{Comes}
 use Rattle.mx_plan.specs.Wild.{Course, ends, meets_wild, ComesBoth, IsRestBoth}
 use Rattle.mx_core.specs.State.{State}
-use Rattle.mx_run.specs.Clauses.{CarriesOutRun}
+use Rattle.mx_run.specs.Clauses.{CarriesOutOnMachine}
 use Rattle.mx_run.specs.RunPlans as run
 use Rattle.mx_run.specs.Runs.{IsLater}
 use Rattle.mx_run.specs.WildRuns.{HasWindow, list_machine, window_machine}
@@ -26,15 +26,15 @@ use Rattle.mx_multi.specs.declared.end.MultiEnd.TheVariants as end
 -- Over a host that tells its contents, the plan is carried out: unless the answer is `none`, which is that of no memory, the
 -- answer, the processors and the contents are its end; where it is, the turns that were completed stay, and of one that lacked
 -- memory what it leaves then; nothing else changed.
-abbrev pub CarriesOutTurns : {A : Type 0} → Option HostModel → Option HostModel → Joint → Joint → A → A → MultiPlan A → Type 0
-CarriesOutTurns old new before after none result plan =
+abbrev pub CarriesOutOnProcessors : {A : Type 0} → Option HostModel → Option HostModel → Joint → Joint → A → A → MultiPlan A → Type 0
+CarriesOutOnProcessors old new before after none result plan =
     IsTrue (tells old) → Comes multi (before, contents old) (after, contents new) none result plan
 
 -- the turn of one machine on all of its memory, told without a trace: what the answer of its step tells, which is carried out
 pub record MakesTurn (old new : Option HostModel) (before after : State) (result : Turn) : Type 0 where
   pub step : TurnAnswer
   pub told : result ≡ told_at before.pc step
-  pub carried : CarriesOutRun old new before after answer.OutOfMemory step run.turn_plan
+  pub carried : CarriesOutOnMachine old new before after answer.OutOfMemory step run.turn_plan
 
 -- what holds of such a turn over every host: it is made where the host tells its contents, from a state over a window; it is one
 -- step at most, and the host keeps what it keeps at every call
@@ -85,7 +85,7 @@ TurnsTo old new before after who result =
 -- list machines too; it is idle exactly where the processor had halted, and a Halt alone marks it; it is one step at most; and
 -- the host keeps what it keeps at every call
 pub record TakesTurn (old new : Option HostModel) (earlier later : ℕ) (before after : Joint) (who : ℕ) (result : Turn) : Type 0 where
-  pub plan : CarriesOutTurns old new before after turned.OutOfMemory result (turn_plan who)
+  pub plan : CarriesOutOnProcessors old new before after turned.OutOfMemory result (turn_plan who)
   pub told : TurnsTo old new before after who result
   pub listed : TurnsAsLists old new before after who result
   pub idle : (result ≡ turned.Idle) ↔ IsTrue (has_halted before.halted who)
@@ -114,7 +114,7 @@ pub record MakesAtMost (n : ℕ) (old new : Joint) : Type 0 where
 -- they should, beside list machines too; they end so that all have halted exactly where each that the schedule names then has; at most
 -- n steps are made; and the host keeps what it keeps at every call.
 pub record TakesTurns (schedule : List ℕ) (n : ℕ) (old new : Option HostModel) (earlier later : ℕ) (before after : Joint) (result : MultiEnd) : Type 0 where
-  pub plan : CarriesOutTurns old new before after end.OutOfMemory result (turns_plan schedule n schedule)
+  pub plan : CarriesOutOnProcessors old new before after end.OutOfMemory result (turns_plan schedule n schedule)
   pub told : EndAs old new before after result (λ j m. turns window_machine schedule n schedule j m)
   pub listed : EndAsLists old new before after result (λ j m. turns list_machine schedule n schedule j m)
   pub halted : (result ≡ end.AllHalted) ↔ AllHaveHalted after.halted schedule

@@ -4,16 +4,16 @@ use Rattle.std.specs.Prelude.{Option}
 use Rattle.mx_host.specs.HostModel.{HostModel, Rose}
 use Rattle.mx_host.specs.Keeping.{Keeps, OnlyByFailure}
 use Rattle.mx_host.proofs.Keeping.{streams-kept}
-use Rattle.mx_plan.specs.Clauses.{Stands}
+use Rattle.mx_plan.specs.Clauses.{KeepsHost}
 
-pub stands-all : (old : Option HostModel) (earlier : ℕ) → Stands old old earlier earlier
+pub stands-all : (old : Option HostModel) (earlier : ℕ) → KeepsHost old old earlier earlier
 stands-all old earlier = (refl, le_refl earlier, λ h. h)
 
-pub stands-then : (old mid new : Option HostModel) (a b d : ℕ) → Stands old mid a b → Stands mid new b d → Stands old new a d
+pub stands-then : (old mid new : Option HostModel) (a b d : ℕ) → KeepsHost old mid a b → KeepsHost mid new b d → KeepsHost old new a d
 stands-then old mid new a b d h k = let first : a ≤ b = h.1 in let second : b ≤ d = k.1 in (k.0 ∙ h.0, omega (arith, first, second), λ s. k.2 (h.2 s))
 
 -- what keeps the streams stands
-pub stands-kept : (old new : Option HostModel) (a b : ℕ) → Keeps old new a b → Stands old new a b
+pub stands-kept : (old new : Option HostModel) (a b : ℕ) → Keeps old new a b → KeepsHost old new a b
 stands-kept old new a b h = (h.telling, h.counting, streams-kept old new a b h)
 
 -- what came by a failure after a step came by one over both
@@ -21,5 +21,5 @@ pub rose-on : (k m n : ℕ) → k ≤ m → Rose m n → Rose k n
 rose-on k m n l (inl h) = inl (omega (arith, l, h))
 rose-on k m n l (inr e) = inr e
 
-pub only-behind : {A : Type 0} (old mid : Option HostModel) (a b d : ℕ) (answer result : A) → Stands old mid a b → OnlyByFailure mid answer result b d → OnlyByFailure old answer result a d
+pub only-behind : {A : Type 0} (old mid : Option HostModel) (a b d : ℕ) (answer result : A) → KeepsHost old mid a b → OnlyByFailure mid answer result b d → OnlyByFailure old answer result a d
 only-behind old mid a b d answer result h only had e = rose-on a b d h.1 (only (h.2 had) e)

@@ -11,19 +11,19 @@ use Rattle.mx_plan.specs.Calls.{host, HostPlan, both, BothPlan}
 
 -- whether the host tells its contents is as before, its count of faults did not fall, and where the slots of the tool's
 -- standard input and output led to these streams, they still do
-abbrev pub Stands : Option HostModel → Option HostModel → ℕ → ℕ → Type 0
-Stands old new earlier later = (tells new ≡ tells old) × (earlier ≤ later) × (HasStreams old → HasStreams new)
+abbrev pub KeepsHost : Option HostModel → Option HostModel → ℕ → ℕ → Type 0
+KeepsHost old new earlier later = (tells new ≡ tells old) × (earlier ≤ later) × (HasStreams old → HasStreams new)
 
 -- Over a host that tells its contents, the plan is carried out: unless the answer is `none`, which is that of no memory, the
 -- answer and the contents are its end; where it is, the calls that were completed stay, and nothing else changed.
-abbrev pub CarriesOut : {A : Type 0} → Option HostModel → Option HostModel → A → A → HostPlan A → Type 0
-CarriesOut old new none result plan = IsTrue (tells old) → Comes host (contents old) (contents new) none result plan
+abbrev pub CarriesOutOnHost : {A : Type 0} → Option HostModel → Option HostModel → A → A → HostPlan A → Type 0
+CarriesOutOnHost old new none result plan = IsTrue (tells old) → Comes host (contents old) (contents new) none result plan
 
 -- the same of a call on a slot of a host: `told` is what that tells, `old` and `new` are the host before and after
-abbrev pub AnswersCall : {H A : Type 0} → (H → Option HostModel) → H → H → Result A HostFault → HostPlan (Result A HostFault) → Type 0
-AnswersCall told old new result plan = CarriesOut (told old) (told new) (Err OutOfMemory) result plan
+abbrev pub CarriesOutCall : {H A : Type 0} → (H → Option HostModel) → H → H → Result A HostFault → HostPlan (Result A HostFault) → Type 0
+CarriesOutCall told old new result plan = CarriesOutOnHost (told old) (told new) (Err OutOfMemory) result plan
 
 -- the same over a space and such a host: the bytes that were put stay, and the calls that were completed
-abbrev pub CarriesOutBoth : {A Rest : Type 0} → Option HostModel → Option HostModel → Contents Rest → Contents Rest → A → A → BothPlan A → Type 0
-CarriesOutBoth old new first last none result plan =
+abbrev pub CarriesOutOnSpace : {A Rest : Type 0} → Option HostModel → Option HostModel → Contents Rest → Contents Rest → A → A → BothPlan A → Type 0
+CarriesOutOnSpace old new first last none result plan =
     IsTrue (tells old) → Comes both (first, contents old) (last, contents new) none result plan

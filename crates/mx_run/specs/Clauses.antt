@@ -4,12 +4,12 @@ use Rattle.std.specs.Prelude.{ℕ, suc, ◌≡◌, ◌≢◌, IsTrue, Bool, true
 use Rattle.mx_word.specs.Lists.{IsFront}
 use Rattle.mx_host.specs.HostModel.{HostModel, tells, contents}
 use Rattle.mx_host.specs.Keeping.{Keeps}
-use Rattle.mx_plan.specs.Clauses.{Stands}
+use Rattle.mx_plan.specs.Clauses.{KeepsHost}
 use Rattle.mx_plan.specs.Plan.{Comes}
 use Rattle.mx_plan.specs.Wild.{Course, GoesAs}
 use Rattle.mx_core.specs.Bounds.{as_list_state}
 use Rattle.mx_core.specs.State.{State}
-use Rattle.mx_run.specs.RunCourses.{as_list_world, IsUntouched, WritesOn, CarriesOutBothRuns}
+use Rattle.mx_run.specs.RunCourses.{as_list_world, IsUntouched, WritesOn, CarriesOutOnBothMachines}
 use Rattle.mx_run.specs.RunPlans.{RunPlan, RunWorld, running, run_plan, turn_plan, SparesMemory, SparesStep}
 use Rattle.mx_run.specs.Runs.{Ended, ended, FlagsOf, IsLater, run}
 use Rattle.mx_run.specs.Turns.{Answered, turn_answer, turn}
@@ -22,8 +22,8 @@ use Rattle.mx_run.specs.declared.turn_answer.TurnAnswer.TheVariants as answer
 -- Over a host that tells its contents, the plan is carried out: unless the answer is `none`, which is that of no memory, the
 -- answer, the machine and the contents are its end; where it is, the turns that were completed stay, and of one that lacked
 -- memory what it leaves then; nothing else changed.
-abbrev pub CarriesOutRun : {A : Type 0} → Option HostModel → Option HostModel → State → State → A → A → RunPlan A → Type 0
-CarriesOutRun old new before after none result plan =
+abbrev pub CarriesOutOnMachine : {A : Type 0} → Option HostModel → Option HostModel → State → State → A → A → RunPlan A → Type 0
+CarriesOutOnMachine old new before after none result plan =
     IsTrue (tells old) → Comes running (before, contents old) (after, contents new) none result plan
 
 -- over a host that tells its contents, the answer and what it leaves are those of f, unless the answer is `none`, which is
@@ -81,7 +81,7 @@ TurnsAsList old new before after result =
 -- what holds of a turn: its plan is carried out, so it answers, leaves and writes what the turn does, and beside the list machine
 -- what that does; it is one step at most; and the host keeps what it keeps at every call
 pub record IsTurn (old new : Option HostModel) (earlier later : ℕ) (before after : State) (result : TurnAnswer) : Type 0 where
-  pub plan : CarriesOutRun old new before after answer.OutOfMemory result turn_plan
+  pub plan : CarriesOutOnMachine old new before after answer.OutOfMemory result turn_plan
   pub told : LeavesMachine old new before after answer.OutOfMemory result (λ s m. turn_answer (turn s m))
   pub front : LeavesFront old new before answer.OutOfMemory result (λ s m. turn_answer (turn s m))
   pub listed : TurnsAsList old new before after result
@@ -101,14 +101,14 @@ pub record IsRun (old new : Option HostModel) (earlier later : ℕ) (before afte
 
 -- a step of a run, or its end
 pub record TakesStep (old new : Option HostModel) (earlier later : ℕ) (before after : State) (result : Result (Unit {0}) End) (plan : RunPlan (Result (Unit {0}) End)) : Type 0 where
-  pub told : CarriesOutRun old new before after (Err OutOfMemory) result plan
+  pub told : CarriesOutOnMachine old new before after (Err OutOfMemory) result plan
   pub spared : (n : ℕ) → SparesMemory (suc n) before → SparesStep n result after
   pub bound : IsLater 1 before after
-  pub stands : Stands old new earlier later
+  pub stands : KeepsHost old new earlier later
 
 -- the steps of a run, over both machines
 pub record TakesSteps (old new : Option HostModel) (earlier later : ℕ) (before after : State) (n : ℕ) (f : FlagsOf) (pass : Bool) (result : End) : Type 0 where
-  pub both : CarriesOutBothRuns old new before after OutOfMemory result (run_plan n f pass)
+  pub both : CarriesOutOnBothMachines old new before after OutOfMemory result (run_plan n f pass)
   pub spared : SparesMemory n before → result ≢ OutOfMemory
   pub bound : IsLater n before after
-  pub stands : Stands old new earlier later
+  pub stands : KeepsHost old new earlier later

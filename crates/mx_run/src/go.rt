@@ -2,7 +2,7 @@
 
 ghost use Rattle.std.specs.Prelude.{◌≡◌, ◌≢◌, [], true, false};
 ghost use Rattle.mx_core.specs.Kept.{state_of};
-ghost use Rattle.mx_run.specs.Clauses.{CarriesOutRun, IsRun, TakesSteps};
+ghost use Rattle.mx_run.specs.Clauses.{CarriesOutOnMachine, IsRun, TakesSteps};
 ghost use Rattle.mx_run.specs.FlagMaps.{flags_at};
 ghost use Rattle.mx_run.specs.RunPlans.{run_plan, SparesMemory};
 ghost use Rattle.mx_run.specs.Runs.{no_flags};
@@ -70,7 +70,7 @@ pub fn go_freely<H: Host>(
 /// written to standard output is a front of what the run writes.
 #[tactic(auto)]
 pub fn run_freely<H: Host>(alloc: Global, machine: &mut Machine, host: &mut H, n: u64) -> End
-    ensures plan { CarriesOutRun (H.told host.old) (H.told host.new) (state_of machine.old) (state_of machine.new)
+    ensures plan { CarriesOutOnMachine (H.told host.old) (H.told host.new) (state_of machine.old) (state_of machine.new)
         End.OutOfMemory result (run_plan n no_flags false) }
     ensures spared { SparesMemory n (state_of machine.old) → result ≢ End.OutOfMemory }
     ensures run { IsRun (H.told host.old) (H.told host.new) (H.faults host.old) (H.faults host.new) (state_of machine.old)

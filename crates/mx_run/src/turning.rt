@@ -2,13 +2,13 @@
 
 ghost use Rattle.std.specs.Prelude.{◌≡◌, ◌≢◌, ℕ, suc, false};
 ghost use Rattle.mx_host.specs.HostModel.{HostModel};
-ghost use Rattle.mx_plan.specs.Clauses.{CarriesOutBoth, Stands};
+ghost use Rattle.mx_plan.specs.Clauses.{CarriesOutOnSpace, KeepsHost};
 ghost use Rattle.mx_core.specs.Kept.{state_of};
 ghost use Rattle.mx_core.specs.MachineSpace.{machine_contents, IsWholeSpace};
 ghost use Rattle.mx_core.specs.Step.{calls, step};
 ghost use Rattle.mx_core.specs.Traps as traps;
 ghost use Rattle.mx_trap.specs.FileTraps.{trap_plan};
-ghost use Rattle.mx_run.specs.Clauses.{CarriesOutRun, IsTurn};
+ghost use Rattle.mx_run.specs.Clauses.{CarriesOutOnMachine, IsTurn};
 ghost use Rattle.mx_run.specs.RunPlans.{turn_plan, SparesAfter, SparesMemory};
 ghost use Rattle.mx_run.specs.Runs.{IsLater};
 ghost use Rattle.mx_run.specs.Turns.{turn_answer};
@@ -40,12 +40,12 @@ pub fn turn<H: Host>(alloc: Global, machine: &mut Machine, host: &mut H) -> Turn
 /// A turn of the machine over a host.
 #[tactic(auto, using(crate::proofs::TurnAnswers::turns, crate::proofs::TurnAnswers::sparing, crate::proofs::Later::stepping))]
 pub(crate) fn make_turn<H: Host>(alloc: Global, machine: &mut Machine, host: &mut H) -> TurnAnswer
-    ensures told { CarriesOutRun (H.told host.old) (H.told host.new) (state_of machine.old) (state_of machine.new)
+    ensures told { CarriesOutOnMachine (H.told host.old) (H.told host.new) (state_of machine.old) (state_of machine.new)
         TurnAnswer.OutOfMemory result turn_plan }
     ensures has_window { HasWindow (state_of machine.old) }
     ensures spared { (n : ℕ) → SparesMemory (suc n) (state_of machine.old) → SparesAfter n result (state_of machine.new) }
     ensures bound { IsLater 1 (state_of machine.old) (state_of machine.new) }
-    ensures stands { Stands (H.told host.old) (H.told host.new) (H.faults host.old) (H.faults host.new) }
+    ensures stands { KeepsHost (H.told host.old) (H.told host.new) (H.faults host.old) (H.faults host.new) }
 {
     know_window(machine);
     match machine.step() {
@@ -68,11 +68,11 @@ pub fn trap_turn<H: Host>(
     call: &TrapCall,
 ) -> TurnAnswer
     requires { step (state_of machine.old) ≡ calls call.now }
-    ensures told { CarriesOutRun (H.told host.old) (H.told host.new) (state_of machine.old) (state_of machine.new)
+    ensures told { CarriesOutOnMachine (H.told host.old) (H.told host.new) (state_of machine.old) (state_of machine.new)
         TurnAnswer.OutOfMemory result turn_plan }
     ensures same { spec.may_change result ≡ false → state_of machine.new ≡ state_of machine.old }
     ensures bound { IsLater 1 (state_of machine.old) (state_of machine.new) }
-    ensures stands { Stands (H.told host.old) (H.told host.new) (H.faults host.old) (H.faults host.new) }
+    ensures stands { KeepsHost (H.told host.old) (H.told host.new) (H.faults host.old) (H.faults host.new) }
 {
     let looks = touches(machine, call);
     let answer = do_trap(alloc, machine, host, call);
@@ -87,12 +87,12 @@ fn do_trap<H: Host>(
     host: &mut H,
     call: &TrapCall,
 ) -> TrapAnswer
-    ensures told { CarriesOutBoth (H.told host.old) (H.told host.new) (machine_contents (state_of machine.old))
+    ensures told { CarriesOutOnSpace (H.told host.old) (H.told host.new) (machine_contents (state_of machine.old))
         (machine_contents (state_of machine.new)) TrapAnswer.OutOfMemory result (trap_plan call.now) }
     ensures whole { IsWholeSpace (state_of machine.new) }
     ensures same { spec.moves_bytes result ≡ false → state_of machine.new ≡ state_of machine.old }
     ensures steps { (state_of machine.new).steps ≡ (state_of machine.old).steps }
-    ensures stands { Stands (H.told host.old) (H.told host.new) (H.faults host.old) (H.faults host.new) }
+    ensures stands { KeepsHost (H.told host.old) (H.told host.new) (H.faults host.old) (H.faults host.new) }
 {
     machines_are_whole(machine);
     let answer = trap(alloc, machine, host, call);

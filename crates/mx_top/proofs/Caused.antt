@@ -10,7 +10,7 @@ use Rattle.mx_words.specs.declared.order.Order.{Order}
 use Rattle.mx_words.specs.declared.order.WordsFault.{WordsFault}
 use Rattle.mx_outcome.specs.Kinds.{is_usage}
 use Rattle.mx_files.specs.Assembling.{refused_with}
-use Rattle.mx_files.specs.Clauses.{WorksBetween}
+use Rattle.mx_files.specs.Clauses.{DoesPartBetween}
 use Rattle.mx_files.specs.declared.refusal.Refusal.{Refusal}
 use Rattle.mx_files.specs.FilePlans.{lines_plan}
 use Rattle.mx_outcome.specs.declared.outcome.Outcome.{Outcome}
@@ -46,7 +46,7 @@ fails-behind told faults a b c r kept rest = (
 )
 
 -- lines that were not written
-pub fails-lines : {H : Type 0} (told : H → Option HostModel) (faults : H → ℕ) (a b : H) (r : Outcome) (lines : List (List ℕ)) → WorksBetween (told a) (told b) (faults a) (faults b) (Err r) (lines_plan lines) → FailsOnlyBy told faults a b r
+pub fails-lines : {H : Type 0} (told : H → Option HostModel) (faults : H → ℕ) (a b : H) (r : Outcome) (lines : List (List ℕ)) → DoesPartBetween (told a) (told b) (faults a) (faults b) (Err r) (lines_plan lines) → FailsOnlyBy told faults a b r
 fails-lines told faults a b r lines w = (
   λ had e. only-lines (told a) (told b) (faults a) (faults b) (Err r) lines w had (ap Err e),
   λ n e. w.absent n (ap Err e),
@@ -55,7 +55,7 @@ fails-lines told faults a b r lines w = (
 )
 
 -- lines that were written, with an outcome that tells no fault of the host
-pub fails-written : {H : Type 0} (told : H → Option HostModel) (faults : H → ℕ) (a b : H) (r : Outcome) (lines : List (List ℕ)) → IsOfMachine r → WorksBetween (told a) (told b) (faults a) (faults b) (Ok tt) (lines_plan lines) →
+pub fails-written : {H : Type 0} (told : H → Option HostModel) (faults : H → ℕ) (a b : H) (r : Outcome) (lines : List (List ℕ)) → IsOfMachine r → DoesPartBetween (told a) (told b) (faults a) (faults b) (Ok tt) (lines_plan lines) →
     FailsOnlyBy told faults a b r
 fails-written told faults a b r lines of w = (λ had e. absurd (of.0 e), λ n e. absurd (of.1 e), of.2, part-keeps (told a) (told b) (faults a) (faults b) (Ok tt) (lines_plan lines) w)
 

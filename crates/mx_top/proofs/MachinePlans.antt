@@ -26,7 +26,7 @@ use Rattle.mx_outcome.specs.declared.outcome.Outcome.TheVariants.{OutOfMemory}
 use Rattle.mx_top.specs.MachineWork.{Work, WorkCall, WorkSays, WorkPlan, working, work_goes, on_host, calling, stepping, reporting, keeping, sitting as seated, after_run, after_session}
 use Rattle.mx_top.specs.Product.{at_start, worked, answer_of, told_of}
 use Rattle.mx_top.specs.Runs.{outcome_of, session_outcome}
-use Rattle.mx_top.specs.WorkClauses.{WorkComes, WorksBoth, left_of, work_by}
+use Rattle.mx_top.specs.WorkClauses.{CarriesOutWorkOnBoth, WorkComes, left_of, work_by}
 use Rattle.mx_top.proofs.Followed.{ComesTo, work-comes}
 use Rattle.mx_top.proofs.PlainEnds.{ended-well}
 
@@ -177,13 +177,13 @@ taken-course : (kind : MachineKind) (plan : WorkPlan Outcome) (w : Work) → cou
 unfolding course bind on_host need host working
 taken-course kind plan w = refl
 
-pub works-taking : (a b : Option HostModel) (s : State) (r : Outcome) (plan : WorkPlan Outcome) → WorksBoth a b s r plan → WorksBoth a b s r (bind (λ (u : Unit {0}). plan) (on_host need))
+pub works-taking : (a b : Option HostModel) (s : State) (r : Outcome) (plan : WorkPlan Outcome) → CarriesOutWorkOnBoth a b s r plan → CarriesOutWorkOnBoth a b s r (bind (λ (u : Unit {0}). plan) (on_host need))
 works-taking a b s r plan h = record {
   window = λ t. taken plan (at_start s (contents a, [])) (contents b) r (h.window t);
   list = λ t ne. subst (λ (c : Course Outcome Work). GoesAs (answer_of (worked c)) r (contents b)) (sym (taken-course list_machine plan (at_start (as_list_state s) (contents a, [])))) (h.list t ne);
 }
 
-pub works-lacks : (a : Option HostModel) (s : State) (plan : WorkPlan Outcome) → WorksBoth a a s OutOfMemory (bind (λ (u : Unit {0}). plan) (on_host need))
+pub works-lacks : (a : Option HostModel) (s : State) (plan : WorkPlan Outcome) → CarriesOutWorkOnBoth a a s OutOfMemory (bind (λ (u : Unit {0}). plan) (on_host need))
 unfolding bind on_host need Stops working host
 works-lacks a s plan = record {
   window = λ t. record { ending = λ ne. absurd (ne refl); stopping = λ e. record { left = at_start s (contents a, []); stops = inl (refl, refl); host = refl } };

@@ -6,7 +6,7 @@ use Rattle.mx_host.specs.declared.faults.HostFault.{HostFault}
 use Rattle.mx_host.specs.declared.faults.HostFault.TheVariants as slot
 use Rattle.mx_plan.specs.Plan.{Comes, Stops, end_of}
 use Rattle.mx_plan.specs.Calls.{host, HostPlan}
-use Rattle.mx_plan.specs.Clauses.{CarriesOut}
+use Rattle.mx_plan.specs.Clauses.{CarriesOutOnHost}
 use Rattle.mx_plan.specs.Wild.{Course, course}
 use Rattle.mx_code.specs.declared.trace.Trace.{Trace}
 use Rattle.mx_core.specs.Bounds.{as_list_state}
@@ -39,8 +39,8 @@ pub record PlanComes (old new : HostModel) (result : Outcome) (plan : ProgramPla
   pub ending : result ≢ OutOfMemory → (result, new) ≡ host_of (end_of program plan (old, []))
   pub stopping : result ≡ OutOfMemory → PlanStops plan old new
 
-abbrev pub CarriesOutWork : Option HostModel → Option HostModel → Outcome → ProgramPlan Outcome → Type 0
-CarriesOutWork old new result plan = IsTrue (tells old) → PlanComes (contents old) (contents new) result plan
+abbrev pub CarriesOutProgram : Option HostModel → Option HostModel → Outcome → ProgramPlan Outcome → Type 0
+CarriesOutProgram old new result plan = IsTrue (tells old) → PlanComes (contents old) (contents new) result plan
 
 -- what it comes to by the kind of its machines, and what watchers are told
 abbrev pub answer_by : MachineKind → ProgramPlan Outcome → HostModel → Answer
@@ -50,13 +50,13 @@ abbrev pub told_by : MachineKind → ProgramPlan Outcome → HostModel → List 
 told_by kind plan m = told_of (course (program_goes kind) plan (m, []))
 
 -- So it is over a window of registers; and over the unbounded list that this stands for, up to what is wild.
-pub record CarriesOutBoth (old new : Option HostModel) (result : Outcome) (plan : ProgramPlan Outcome) : Type 0 where
-  pub window : CarriesOutWork old new result plan
+pub record CarriesOutProgramOnBoth (old new : Option HostModel) (result : Outcome) (plan : ProgramPlan Outcome) : Type 0 where
+  pub window : CarriesOutProgram old new result plan
   pub list : AnswersAsList old new result (λ m. answer_by list_machine plan m)
 
 -- A part of the program, of the host before and after: its plan is carried out over both, and it fails only so.
-pub record Performs {H : Type 0} (told : H → Option HostModel) (faults : H → ℕ) (old new : H) (result : Outcome) (plan : ProgramPlan Outcome) : Type 0 where
-  pub both : CarriesOutBoth (told old) (told new) result plan
+pub record DoesProgram {H : Type 0} (told : H → Option HostModel) (faults : H → ℕ) (old new : H) (result : Outcome) (plan : ProgramPlan Outcome) : Type 0 where
+  pub both : CarriesOutProgramOnBoth (told old) (told new) result plan
   pub causes : FailsOnlyBy told faults old new result
 
 abbrev pub HearsPlan : Option HostModel → Outcome → List Watching → List Watching → List Report → List Report → ProgramPlan Outcome → Type 0
@@ -76,12 +76,12 @@ pub record WorkComes (w : Work) (new : HostModel) (result : Outcome) (work : Wor
 abbrev pub work_by : MachineKind → WorkPlan Outcome → State → HostModel → Course Outcome ProgramWorld
 work_by kind work s m = work_on kind work (Ok s) (m, [])
 
-pub record WorksBoth (old new : Option HostModel) (s : State) (result : Outcome) (work : WorkPlan Outcome) : Type 0 where
+pub record CarriesOutWorkOnBoth (old new : Option HostModel) (s : State) (result : Outcome) (work : WorkPlan Outcome) : Type 0 where
   pub window : IsTrue (tells old) → WorkComes (at_start s (contents old, [])) (contents new) result work
   pub list : AnswersAsList old new result (λ m. answer_of (work_by list_machine work (as_list_state s) m))
 
-pub record PerformsWork {H : Type 0} (told : H → Option HostModel) (faults : H → ℕ) (old new : H) (s : State) (result : Outcome) (work : WorkPlan Outcome) : Type 0 where
-  pub both : WorksBoth (told old) (told new) s result work
+pub record DoesWork {H : Type 0} (told : H → Option HostModel) (faults : H → ℕ) (old new : H) (s : State) (result : Outcome) (work : WorkPlan Outcome) : Type 0 where
+  pub both : CarriesOutWorkOnBoth (told old) (told new) s result work
   pub causes : FailsOnlyBy told faults old new result
 
 abbrev pub HearsWork : Option HostModel → State → Outcome → List Watching → List Watching → List Report → List Report → WorkPlan Outcome → Type 0
@@ -92,9 +92,9 @@ HearsWork old s result watchers left earlier later work =
 -- ---- WHAT FOLLOWS
 
 -- What follows an outcome: nothing, where that is that there was no memory, and else a plan of the host.
-pub record Follows {H : Type 0} (told : H → Option HostModel) (faults : H → ℕ) (old new : H) (outcome result : Outcome) (work : HostPlan Outcome) : Type 0 where
+pub record DoesNext {H : Type 0} (told : H → Option HostModel) (faults : H → ℕ) (old new : H) (outcome result : Outcome) (work : HostPlan Outcome) : Type 0 where
   pub lacked : outcome ≡ OutOfMemory → (result ≡ OutOfMemory) × (new ≡ old)
-  pub plan : outcome ≢ OutOfMemory → CarriesOut (told old) (told new) OutOfMemory result work
+  pub plan : outcome ≢ OutOfMemory → CarriesOutOnHost (told old) (told new) OutOfMemory result work
   pub causes : FailsOnlyBy told faults old new result
 
 -- Over such a host an outcome is told: the plan comes to its end, or memory runs out in it, which is then the outcome. Its own

@@ -5,7 +5,7 @@ ghost use Rattle.mx_core.specs.Kept.{state_of};
 ghost use Rattle.mx_top.specs.Causes.{IsOfMachine};
 ghost use Rattle.mx_top.specs.MachineWork as work;
 ghost use Rattle.mx_top.specs.Runs as spec;
-ghost use Rattle.mx_top.specs.WorkClauses.{HearsWork, PerformsWork};
+ghost use Rattle.mx_top.specs.WorkClauses.{DoesWork, HearsWork};
 
 use crate::console::run_session;
 use crate::ending::tell_end;
@@ -35,7 +35,7 @@ pub fn outcome_of(steps: u64, end: End) -> Outcome
 /// Makes the steps of a machine that was started, in one run.
 fn run_steps<H: Host>(alloc: Global, host: &mut H, order: &Order, machine: Machine) -> Outcome
     requires { (state_of machine).touched ≡ false }
-    ensures { PerformsWork H.told H.faults host.old host.new (state_of machine) result (work.stepped_plan order.now) }
+    ensures { DoesWork H.told H.faults host.old host.new (state_of machine) result (work.stepped_plan order.now) }
 {
     let mut runner = Runner::new(alloc, machine);
     let end = runner.go(host, order.steps, false);
@@ -58,7 +58,7 @@ fn run_told<H: Host>(
     kept: &mut Reports,
 ) -> Outcome
     requires { (state_of machine).touched ≡ false }
-    ensures part { PerformsWork H.told H.faults host.old host.new (state_of machine) result
+    ensures part { DoesWork H.told H.faults host.old host.new (state_of machine) result
         (work.reported_plan order.now) }
     ensures heard { HearsWork (H.told host.old) (state_of machine) result (map meaning watchers.old.items)
         (map meaning watchers.new.items) kept.old kept.new (work.reported_plan order.now) }
@@ -85,7 +85,7 @@ pub fn run_machine<H: Host>(
     kept: &mut Reports,
 ) -> Outcome
     requires { (state_of machine).touched ≡ false }
-    ensures part { PerformsWork H.told H.faults host.old host.new (state_of machine) result
+    ensures part { DoesWork H.told H.faults host.old host.new (state_of machine) result
         (work.machine_plan order.now) }
     ensures heard { HearsWork (H.told host.old) (state_of machine) result (map meaning watchers.old.items)
         (map meaning watchers.new.items) kept.old kept.new (work.machine_plan order.now) }

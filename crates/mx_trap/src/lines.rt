@@ -2,9 +2,9 @@
 
 ghost use Rattle.std.specs.Prelude.{◌≡◌, ◌≢◌, ◌≤◌, ◌<◌, ◌+◌, ◌^◌, length, Ok, Err, IfErr};
 ghost use Rattle.mx_plan.specs.Calls.{space};
-ghost use Rattle.mx_plan.specs.Clauses.{Stands};
+ghost use Rattle.mx_plan.specs.Clauses.{KeepsHost};
 ghost use Rattle.mx_plan.specs.Plan.{Comes};
-ghost use Rattle.mx_trap.specs.Clauses.{CarriesOutPart, CarriesOutTrap, StopsByPages};
+ghost use Rattle.mx_trap.specs.Clauses.{CarriesOutTrap, CarriesOutTrapPart, StopsByPages};
 ghost use Rattle.mx_trap.specs.Moves as spec;
 ghost use Rattle.mx_trap.specs.Requests.{AreInBounds};
 
@@ -30,7 +30,7 @@ pub fn fgets<M: Space, H: Host>(
         (spec.fgets slot at size) }
     ensures stops { StopsByPages result }
     ensures rest { (M.contents memory.new).rest ≡ (M.contents memory.old).rest }
-    ensures stands { Stands (H.told host.old) (H.told host.new) (H.faults host.old) (H.faults host.new) }
+    ensures stands { KeepsHost (H.told host.old) (H.told host.new) (H.faults host.old) (H.faults host.new) }
 {
     if size == 0 {
         return TrapAnswer::Value(MINUS_ONE);
@@ -55,11 +55,11 @@ fn line_byte<M: Space, H: Host>(
 ) -> Result<bool, TrapAnswer>
     requires slot { slot ≤ 255 }
     requires below { at < 2 ^ 63 }
-    ensures told { CarriesOutPart M.contents H.told memory.old memory.new host.old host.new result
+    ensures told { CarriesOutTrapPart M.contents H.told memory.old memory.new host.old host.new result
         (spec.line_byte slot at) }
     ensures rest { (M.contents memory.new).rest ≡ (M.contents memory.old).rest }
     ensures stops { IfErr result StopsByPages }
-    ensures stands { Stands (H.told host.old) (H.told host.new) (H.faults host.old) (H.faults host.new) }
+    ensures stands { KeepsHost (H.told host.old) (H.told host.new) (H.faults host.old) (H.faults host.new) }
 {
     let mut byte = [0u8; 1];
     match read(host, slot, &mut byte) {

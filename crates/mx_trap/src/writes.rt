@@ -1,8 +1,8 @@
 //! Writing bytes of a space to a slot, piece by piece: Fwrite and Fputs.
 
 ghost use Rattle.std.specs.Prelude.{◌≡◌, ◌≢◌, ◌≤◌, ◌<◌, ◌+◌, ◌^◌, length, Ok, Err};
-ghost use Rattle.mx_plan.specs.Clauses.{CarriesOut, Stands};
-ghost use Rattle.mx_trap.specs.Clauses.{Fulfils};
+ghost use Rattle.mx_plan.specs.Clauses.{CarriesOutOnHost, KeepsHost};
+ghost use Rattle.mx_trap.specs.Clauses.{DoesService};
 ghost use Rattle.mx_trap.specs.Moves as spec;
 ghost use Rattle.mx_trap.specs.Requests.{bytes_from, AreInBounds};
 
@@ -35,7 +35,7 @@ pub fn fwrite<M: Space, H: Host>(
 ) -> TrapAnswer
     requires slot { slot ≤ 255 }
     requires bounds { AreInBounds at size }
-    ensures { Fulfils H.told H.faults host.old host.new result
+    ensures { DoesService H.told H.faults host.old host.new result
         (spec.fwrite slot (bytes_from (M.contents memory.now).bytes at size)) }
 {
     match write_pieces(memory, host, slot, at, size) {
@@ -56,7 +56,7 @@ pub fn fputs<M: Space, H: Host>(
 ) -> TrapAnswer
     requires slot { slot ≤ 255 }
     requires bounds { AreInBounds at size }
-    ensures { Fulfils H.told H.faults host.old host.new result
+    ensures { DoesService H.told H.faults host.old host.new result
         (spec.fputs slot (bytes_from (M.contents memory.now).bytes at size)) }
 {
     match write_pieces(memory, host, slot, at, size) {
@@ -77,9 +77,9 @@ fn write_pieces<M: Space, H: Host>(
 ) -> Written
     requires slot { slot ≤ 255 }
     requires bounds { AreInBounds at size }
-    ensures told { CarriesOut (H.told host.old) (H.told host.new) Written.OutOfMemory result
+    ensures told { CarriesOutOnHost (H.told host.old) (H.told host.new) Written.OutOfMemory result
         (spec.written slot (bytes_from (M.contents memory.now).bytes at size)) }
-    ensures stands { Stands (H.told host.old) (H.told host.new) (H.faults host.old) (H.faults host.new) }
+    ensures stands { KeepsHost (H.told host.old) (H.told host.new) (H.faults host.old) (H.faults host.new) }
 {
     let mut buffer = [0u8; 4096];
     let mut moved = 0;
@@ -112,10 +112,10 @@ fn write_piece<M: Space, H: Host>(
 ) -> Written
     requires slot { slot ≤ 255 }
     requires bounds { AreInBounds at (length buffer.old) }
-    ensures told { CarriesOut (H.told host.old) (H.told host.new) Written.OutOfMemory result
+    ensures told { CarriesOutOnHost (H.told host.old) (H.told host.new) Written.OutOfMemory result
         (spec.write_piece slot (bytes_from (M.contents memory.now).bytes at (length buffer.old)) moved) }
     ensures length { length buffer.new ≡ length buffer.old }
-    ensures stands { Stands (H.told host.old) (H.told host.new) (H.faults host.old) (H.faults host.new) }
+    ensures stands { KeepsHost (H.told host.old) (H.told host.new) (H.faults host.old) (H.faults host.new) }
 {
     fill(memory, at, buffer);
     match write(host, slot, buffer) {
