@@ -7,7 +7,7 @@ use Rattle.mx_word.specs.Results.{map_ok}
 use Rattle.mx_host.specs.HostModel.{HostModel, tells, contents}
 use Rattle.mx_host.specs.Keeping.{OnlyByFailure}
 use Rattle.mx_plan.specs.Calls.{host, HostPlan}
-use Rattle.mx_plan.specs.Clauses.{KeepsHost}
+use Rattle.mx_plan.specs.Clauses.{CarriesOut, KeepsHost}
 use Rattle.mx_plan.specs.Plan.{Plan, Acts, Comes}
 use Rattle.mx_plan.specs.Wild.{Course, ends, GoesAs, ComesBoth, IsRestBoth}
 use Rattle.mx_plan.specs.Wild as wild
@@ -29,12 +29,10 @@ use Rattle.mx_con.specs.declared.end.SessionEnd.TheVariants.{HostFault, OutOfMem
 abbrev pub world_of : Running → Option HostModel → SessionWorld
 world_of r told = ((state_of r.machine, contents told), flags_at r.flags)
 
--- Over a host that tells its contents, the plan is carried out: unless the answer is `none`, which is that of no memory, the
--- answer, the machine, the flags and the contents are its end; where it is, the calls that were completed stay, and of one
--- that lacked memory what it leaves then; nothing else changed.
+-- a call carries out a plan over a runner and a host: the machine, the host and the flags
 abbrev pub CarriesOutOnRunner : {A : Type 0} → Option HostModel → Option HostModel → Running → Running → A → A → SessionPlan A → Type 0
 CarriesOutOnRunner old new r s none result plan =
-    IsTrue (tells old) → Comes conversing (world_of r old) (world_of s new) none result plan
+    CarriesOut conversing old (world_of r old) (world_of s new) none result plan
 
 -- ---- PARTS of a session
 
@@ -46,7 +44,7 @@ pub record DoesSessionPart {Host A : Type 0} (says : Host → Option HostModel) 
   pub cause : OnlyByFailure (says old) (Err HostFault) result (faults old) (faults new)
   pub stands : KeepsHost (says old) (says new) (faults old) (faults new)
 
--- its plan is carried out, from the world `first` to `last`, as `CarriesOut` says it
+-- what is told of it is that it carries out its plan, from the world `first` to `last`: `told` is then `CarriesOut` of that
 abbrev pub DoesPlan : {O : Type 0} {R : O → Type 0} {W Host A : Type 0} → Acts O R W → (Host → Option HostModel) → (Host → ℕ) → Host → Host → W → W →
     Result A SessionEnd → Plan O R (Result A SessionEnd) → Type 0
 DoesPlan d says faults old new first last result plan = DoesSessionPart says faults old new result (Comes d first last (Err OutOfMemory) result plan)

@@ -4,7 +4,7 @@ use Rattle.std.specs.Prelude.{ℕ, zero, suc, ◌≡◌, ◌≢◌, ◌↔◌, �
 use Rattle.mx_word.specs.Lists.{IsFront}
 use Rattle.mx_host.specs.HostModel.{HostModel, tells, contents}
 use Rattle.mx_host.specs.Keeping.{Keeps}
-use Rattle.mx_plan.specs.Plan.{Comes}
+use Rattle.mx_plan.specs.Clauses.{CarriesOut}
 use Rattle.mx_plan.specs.Wild.{Course, ends, meets_wild, ComesBoth, IsRestBoth}
 use Rattle.mx_core.specs.State.{State}
 use Rattle.mx_run.specs.Clauses.{CarriesOutOnMachine}
@@ -23,12 +23,10 @@ use Rattle.mx_multi.specs.declared.turn.Turn.TheVariants as turned
 use Rattle.mx_multi.specs.declared.end.MultiEnd.{MultiEnd}
 use Rattle.mx_multi.specs.declared.end.MultiEnd.TheVariants as end
 
--- Over a host that tells its contents, the plan is carried out: unless the answer is `none`, which is that of no memory, the
--- answer, the processors and the contents are its end; where it is, the turns that were completed stay, and of one that lacked
--- memory what it leaves then; nothing else changed.
+-- a call carries out a plan over processors and a host
 abbrev pub CarriesOutOnProcessors : {A : Type 0} → Option HostModel → Option HostModel → Joint → Joint → A → A → MultiPlan A → Type 0
 CarriesOutOnProcessors old new before after none result plan =
-    IsTrue (tells old) → Comes multi (before, contents old) (after, contents new) none result plan
+    CarriesOut multi old (before, contents old) (after, contents new) none result plan
 
 -- the turn of one machine on all of its memory, told without a trace: what the answer of its step tells, which is carried out
 pub record MakesTurn (old new : Option HostModel) (before after : State) (result : Turn) : Type 0 where

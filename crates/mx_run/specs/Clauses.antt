@@ -4,8 +4,7 @@ use Rattle.std.specs.Prelude.{ℕ, suc, ◌≡◌, ◌≢◌, IsTrue, Bool, true
 use Rattle.mx_word.specs.Lists.{IsFront}
 use Rattle.mx_host.specs.HostModel.{HostModel, tells, contents}
 use Rattle.mx_host.specs.Keeping.{Keeps}
-use Rattle.mx_plan.specs.Clauses.{KeepsHost}
-use Rattle.mx_plan.specs.Plan.{Comes}
+use Rattle.mx_plan.specs.Clauses.{CarriesOut, KeepsHost}
 use Rattle.mx_plan.specs.Wild.{Course, GoesAs}
 use Rattle.mx_core.specs.Bounds.{as_list_state}
 use Rattle.mx_core.specs.State.{State}
@@ -19,12 +18,10 @@ use Rattle.mx_run.specs.declared.end.End.TheVariants.{OutOfMemory}
 use Rattle.mx_run.specs.declared.turn_answer.TurnAnswer.{TurnAnswer}
 use Rattle.mx_run.specs.declared.turn_answer.TurnAnswer.TheVariants as answer
 
--- Over a host that tells its contents, the plan is carried out: unless the answer is `none`, which is that of no memory, the
--- answer, the machine and the contents are its end; where it is, the turns that were completed stay, and of one that lacked
--- memory what it leaves then; nothing else changed.
+-- a call carries out a plan over a machine and a host
 abbrev pub CarriesOutOnMachine : {A : Type 0} → Option HostModel → Option HostModel → State → State → A → A → RunPlan A → Type 0
 CarriesOutOnMachine old new before after none result plan =
-    IsTrue (tells old) → Comes running (before, contents old) (after, contents new) none result plan
+    CarriesOut running old (before, contents old) (after, contents new) none result plan
 
 -- over a host that tells its contents, the answer and what it leaves are those of f, unless the answer is `none`, which is
 -- that of no memory

@@ -33,12 +33,12 @@ pub record PlanStops (plan : ProgramPlan Outcome) (m v : HostModel) : Type 0 whe
   pub heard : List Trace
   pub stops : Stops program (v, heard) plan (m, [])
 
--- Unless there was no memory, the outcome and the host are its end; where there was none, the calls that were completed stay, of one that
--- lacked it what it leaves then, and nothing else changed.
+-- What comes of it, as `Comes` says it, of a host and an outcome alone: what watchers heard is left out.
 pub record PlanComes (old new : HostModel) (result : Outcome) (plan : ProgramPlan Outcome) : Type 0 where
   pub ending : result ≢ OutOfMemory → (result, new) ≡ host_of (end_of program plan (old, []))
   pub stopping : result ≡ OutOfMemory → PlanStops plan old new
 
+-- a call carries out such a plan, where the host tells its contents
 abbrev pub CarriesOutProgram : Option HostModel → Option HostModel → Outcome → ProgramPlan Outcome → Type 0
 CarriesOutProgram old new result plan = IsTrue (tells old) → PlanComes (contents old) (contents new) result plan
 
@@ -54,10 +54,15 @@ pub record CarriesOutProgramOnBoth (old new : Option HostModel) (result : Outcom
   pub window : CarriesOutProgram old new result plan
   pub list : AnswersAsList old new result (λ m. answer_by list_machine plan m)
 
--- A part of the program, of the host before and after: its plan is carried out over both, and it fails only so.
-pub record DoesProgram {H : Type 0} (told : H → Option HostModel) (faults : H → ℕ) (old new : H) (result : Outcome) (plan : ProgramPlan Outcome) : Type 0 where
-  pub both : CarriesOutProgramOnBoth (told old) (told new) result plan
+-- A part of the program is done, of the host before and after: `Both` says of its plan that it is carried out over both, and it fails
+-- only so.
+pub record DoesProgramPart {H : Type 0} (told : H → Option HostModel) (faults : H → ℕ) (old new : H) (result : Outcome) (Both : Type 0) : Type 0 where
+  pub both : Both
   pub causes : FailsOnlyBy told faults old new result
+
+abbrev pub DoesProgram : {H : Type 0} → (H → Option HostModel) → (H → ℕ) → H → H → Outcome → ProgramPlan Outcome → Type 0
+DoesProgram told faults old new result plan =
+    DoesProgramPart told faults old new result (CarriesOutProgramOnBoth (told old) (told new) result plan)
 
 abbrev pub HearsPlan : Option HostModel → Outcome → List Watching → List Watching → List Report → List Report → ProgramPlan Outcome → Type 0
 HearsPlan old result watchers left earlier later plan =
@@ -80,9 +85,9 @@ pub record CarriesOutWorkOnBoth (old new : Option HostModel) (s : State) (result
   pub window : IsTrue (tells old) → WorkComes (at_start s (contents old, [])) (contents new) result work
   pub list : AnswersAsList old new result (λ m. answer_of (work_by list_machine work (as_list_state s) m))
 
-pub record DoesWork {H : Type 0} (told : H → Option HostModel) (faults : H → ℕ) (old new : H) (s : State) (result : Outcome) (work : WorkPlan Outcome) : Type 0 where
-  pub both : CarriesOutWorkOnBoth (told old) (told new) s result work
-  pub causes : FailsOnlyBy told faults old new result
+abbrev pub DoesWork : {H : Type 0} → (H → Option HostModel) → (H → ℕ) → H → H → State → Outcome → WorkPlan Outcome → Type 0
+DoesWork told faults old new s result work =
+    DoesProgramPart told faults old new result (CarriesOutWorkOnBoth (told old) (told new) s result work)
 
 abbrev pub HearsWork : Option HostModel → State → Outcome → List Watching → List Watching → List Report → List Report → WorkPlan Outcome → Type 0
 HearsWork old s result watchers left earlier later work =
