@@ -1,7 +1,7 @@
 //! Stores, and the exchange of an octa.
 
 ghost use Rattle.std.specs.Prelude.{◌≡◌, ◌<◌, ◌^◌, Err, Some};
-ghost use Rattle.mx_core.specs.Way.Calls.{KeepsOnErr, LacksMemoryOnlyWhere, MakesWithMemory, DoesOperationWithMemory};
+ghost use Rattle.mx_core.specs.Way.Calls.{KeepsOnErr, LacksMemoryOnlyWhere, MakesWithMemory, PerformsWithMemory};
 ghost use Rattle.mx_core.specs.Way.Calls as spec;
 ghost use Rattle.mx_code.specs.LoadsAndStores.{stored_event};
 ghost use Rattle.mx_alu.specs.declared.decision.Trip.TheVariants as trips;
@@ -25,7 +25,7 @@ impl Machine {
     #[tactic(auto, using(crate::proofs::Results::Stores::store_outcome_is, crate::proofs::Results::Plain::store_as_plain))]
     #[inline(always)]
     pub(crate) fn store_register(&mut self, how: Storing, i: &Instruction) -> Result<(), Stop>
-        ensures answer { DoesOperationWithMemory (Operation.Store how) i.now result self.old self.new }
+        ensures answer { PerformsWithMemory (Operation.Store how) i.now result self.old self.new }
         ensures err { KeepsOnErr result self.old self.new }
         ensures lacks_memory { LacksMemoryOnlyWhere
             (needs_page (state_of self.old) (deed_of (Operation.Store how) (state_of self.old) i.now)) result }

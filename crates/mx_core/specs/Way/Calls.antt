@@ -81,12 +81,12 @@ is_made (Err reason) = false
 abbrev pub makes_page : State → ℕ → Result State Reason → Bool
 makes_page s a made = is_made made && begins_page s a
 
--- a call carries an operation out
-abbrev pub DoesOperation : Operation → Instruction → Result (Unit {0}) Stop → Kept → Kept → Type 0
-DoesOperation operation i result old new = Makes (λ s. outcome s (deed_of operation s i)) result old new
+-- a call performs an operation
+abbrev pub Performs : Operation → Instruction → Result (Unit {0}) Stop → Kept → Kept → Type 0
+Performs operation i result old new = Makes (λ s. outcome s (deed_of operation s i)) result old new
 
-abbrev pub DoesOperationWithMemory : Operation → Instruction → Result (Unit {0}) Stop → Kept → Kept → Type 0
-DoesOperationWithMemory operation i result old new = MakesWithMemory (λ s. outcome s (deed_of operation s i)) result old new
+abbrev pub PerformsWithMemory : Operation → Instruction → Result (Unit {0}) Stop → Kept → Kept → Type 0
+PerformsWithMemory operation i result old new = MakesWithMemory (λ s. outcome s (deed_of operation s i)) result old new
 
 -- a state, unless it is refused for a reason
 abbrev pub unless : Bool → Reason → State → Result State Reason
