@@ -37,7 +37,7 @@ pub(crate) fn trap_kept<H: Host>(
     ensures kept { states_before back.new (state_of machine.new)
         ≡ kept_turn (spec.trap_kind result) (state_of machine.old) (states_before back.old (state_of machine.old)) }
     ensures bound { IsLater 1 (state_of machine.old) (state_of machine.new) }
-    ensures stands { KeepsHost (H.told host.old) (H.told host.new) (H.faults host.old) (H.faults host.new) }
+    ensures keeps { KeepsHost (H.told host.old) (H.told host.new) (H.faults host.old) (H.faults host.new) }
 {
     let answer = trap_turn(alloc, machine, host, call);
     forget_where(back, may_change(&answer));

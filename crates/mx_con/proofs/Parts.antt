@@ -4,7 +4,7 @@ use Rattle.std.specs.Prelude.{Option, Result}
 use Rattle.mx_host.specs.HostModel.{HostModel, tells}
 use Rattle.mx_word.specs.Results.{map_ok}
 use Rattle.mx_plan.proofs.Plans.{rest_after}
-use Rattle.mx_plan.proofs.Standing.{only-behind, stands-all, stands-then}
+use Rattle.mx_plan.proofs.KeptHosts.{only-behind, keeps_host-all, keeps_host-then}
 use Rattle.mx_plan.specs.Clauses.{KeepsHost}
 use Rattle.mx_plan.specs.Plan.{Plan, returns, bind, Acts, IsRest}
 use Rattle.mx_con.specs.Clauses.{DoesPlan, DoesSessionPart}
@@ -16,7 +16,7 @@ use Rattle.mx_con.proofs.Rests.{rest-all, rest-ended, rest-done}
 -- of a whole, this is left
 pub record IsLeft {Host : Type 0} (says : Host → Option HostModel) (faults : Host → ℕ) (old new : Host) (Left : Type 0) : Type 0 where
   pub told : IsTrue (tells (says old)) → Left
-  pub stands : KeepsHost (says old) (says new) (faults old) (faults new)
+  pub keeps : KeepsHost (says old) (says new) (faults old) (faults new)
 
 -- a plan in the world `now`
 abbrev pub Leaves : {O : Type 0} {R : O → Type 0} {W Host A : Type 0} → Acts O R W → (Host → Option HostModel) → (Host → ℕ) → Host → Host → W → W → Plan O R A → Plan O R A → Type 0
@@ -33,12 +33,12 @@ pub part-behind : {Host A B : Type 0} {says : Host → Option HostModel} {faults
 part-behind {says = says} {faults = faults} {a = a} {b = b} {c = c} h k only comes = record {
   told = λ t. comes t (k.told (there (says a) (says b) h.0 t));
   cause = only-behind (says a) (says b) (faults a) (faults b) (faults c) (Err HostFault) _ h (λ s e. k.cause s (only e));
-  stands = stands-then (says a) (says b) (says c) (faults a) (faults b) (faults c) h k.stands;
+  keeps = keeps_host-then (says a) (says b) (says c) (faults a) (faults b) (faults c) h k.keeps;
 }
 
 -- with the same answer
 pub part-so : {Host A : Type 0} {says : Host → Option HostModel} {faults : Host → ℕ} {a b : Host} {r : Result A SessionEnd} {P Q : Type 0} → DoesSessionPart says faults a b r P → (P → Q) → DoesSessionPart says faults a b r Q
-part-so k comes = record { told = λ t. comes (k.told t); cause = k.cause; stands = k.stands }
+part-so k comes = record { told = λ t. comes (k.told t); cause = k.cause; keeps = k.keeps }
 
 mapped-fault : {A B : Type 0} (f : A → B) (r : Result A SessionEnd) → map_ok f r ≡ Err HostFault → r ≡ Err HostFault
 mapped-fault f (Ok x) e = absurd (cc)
@@ -51,40 +51,40 @@ mapped-again f g (Err end) e = cc
 -- with another value where it is done
 pub part-with : {Host A B : Type 0} {says : Host → Option HostModel} {faults : Host → ℕ} {a b : Host} {P Q : Type 0} (f : A → B) (r : Result A SessionEnd) →
     DoesSessionPart says faults a b r P → (P → Q) → DoesSessionPart says faults a b (map_ok f r) Q
-part-with f r k comes = record { told = λ t. comes (k.told t); cause = λ s e. k.cause s (mapped-fault f r e); stands = k.stands }
+part-with f r k comes = record { told = λ t. comes (k.told t); cause = λ s e. k.cause s (mapped-fault f r e); keeps = k.keeps }
 
 -- it ends the session, and so does what it begins
 pub part-over : {Host A B : Type 0} {says : Host → Option HostModel} {faults : Host → ℕ} {a b : Host} {P Q : Type 0} (end : SessionEnd) →
     DoesSessionPart {A = A} says faults a b (Err end) P → (P → Q) → DoesSessionPart {A = B} says faults a b (Err end) Q
-part-over end k comes = record { told = λ t. comes (k.told t); cause = λ s e. k.cause s (cc); stands = k.stands }
+part-over end k comes = record { told = λ t. comes (k.told t); cause = λ s e. k.cause s (cc); keeps = k.keeps }
 
 -- without a further call of the host
 pub part-alone : {Host A : Type 0} {says : Host → Option HostModel} {faults : Host → ℕ} {a b : Host} {r : Result A SessionEnd} {P : Type 0} →
     KeepsHost (says a) (says b) (faults a) (faults b) → r ≢ Err HostFault → (IsTrue (tells (says a)) → P) → DoesSessionPart says faults a b r P
-part-alone h done comes = record { told = comes; cause = λ s e. absurd (done e); stands = h }
+part-alone h done comes = record { told = comes; cause = λ s e. absurd (done e); keeps = h }
 
 -- ---- what is left of a whole
 
 pub all-left : {Host : Type 0} {says : Host → Option HostModel} {faults : Host → ℕ} (a : Host) {P : Type 0} → (IsTrue (tells (says a)) → P) → IsLeft says faults a a P
-all-left {says = says} {faults = faults} a h = record { told = h; stands = stands-all (says a) (faults a) }
+all-left {says = says} {faults = faults} a h = record { told = h; keeps = keeps_host-all (says a) (faults a) }
 
 -- the next part of it is done
 pub next-left : {Host A : Type 0} {says : Host → Option HostModel} {faults : Host → ℕ} {a b c : Host} {r : Result A SessionEnd} {L P M : Type 0} →
     IsLeft says faults a b L → DoesSessionPart says faults b c r P → (L → P → M) → IsLeft says faults a c M
 next-left {says = says} {faults = faults} {a = a} {b = b} {c = c} h k f = record {
-  told = λ t. f (h.told t) (k.told (there (says a) (says b) h.stands.0 t));
-  stands = stands-then (says a) (says b) (says c) (faults a) (faults b) (faults c) h.stands k.stands;
+  told = λ t. f (h.told t) (k.told (there (says a) (says b) h.keeps.0 t));
+  keeps = keeps_host-then (says a) (says b) (says c) (faults a) (faults b) (faults c) h.keeps k.keeps;
 }
 
 -- or ends the session
 pub over-left : {Host A B : Type 0} {says : Host → Option HostModel} {faults : Host → ℕ} {a b c : Host} {L P Q : Type 0} (end : SessionEnd) →
     IsLeft says faults a b L → DoesSessionPart {A = A} says faults b c (Err end) P → (L → P → Q) → DoesSessionPart {A = B} says faults a c (Err end) Q
-over-left end h k f = part-behind h.stands k (λ e. cc) (λ t p. f (h.told t) p)
+over-left end h k f = part-behind h.keeps k (λ e. cc) (λ t p. f (h.told t) p)
 
 -- an answer is left
 pub answer-left : {Host A : Type 0} {says : Host → Option HostModel} {faults : Host → ℕ} {a b : Host} {r : Result A SessionEnd} {L Q : Type 0} →
     r ≢ Err HostFault → IsLeft says faults a b L → (L → Q) → DoesSessionPart says faults a b r Q
-answer-left done h f = part-alone h.stands done (λ t. f (h.told t))
+answer-left done h f = part-alone h.keeps done (λ t. f (h.told t))
 
 -- ---- the same of plans
 

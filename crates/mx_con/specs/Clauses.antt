@@ -42,7 +42,7 @@ CarriesOutOnRunner old new r s none result plan =
 pub record DoesSessionPart {Host A : Type 0} (says : Host → Option HostModel) (faults : Host → ℕ) (old new : Host) (result : Result A SessionEnd) (Told : Type 0) : Type 0 where
   pub told : IsTrue (tells (says old)) → Told
   pub cause : OnlyByFailure (says old) (Err HostFault) result (faults old) (faults new)
-  pub stands : KeepsHost (says old) (says new) (faults old) (faults new)
+  pub keeps : KeepsHost (says old) (says new) (faults old) (faults new)
 
 -- what is told of it is that it carries out its plan, from the world `first` to `last`: `told` is then `CarriesOut` of that
 abbrev pub DoesPlan : {O : Type 0} {R : O → Type 0} {W Host A : Type 0} → Acts O R W → (Host → Option HostModel) → (Host → ℕ) → Host → Host → W → W →

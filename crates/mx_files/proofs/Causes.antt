@@ -97,7 +97,7 @@ by-failing {A} a b k m f p served told misused makes = misused (λ t.
 misused-works : {A B C : Type 0} (a b : Option HostModel) (k m : ℕ) (f : Result A HostFault → Part B) (p : HostPlan (Result A HostFault)) → f (Err Misused) ≡ returns (Err Broken) →
     ((n : HostModel) → Makes host Serves p n → IsServed (end_of host p n)) →
     CarriesOutOnHost a b (Err OutOfMemory) (Err Misused) p → ComesByFault {A = Result C HostFault} a (Err Misused) (Err Misused) k m → KeepsHost a b k m → DoesPartBetween a b k m (Err Broken) (bind f p)
-misused-works {A} {B} {C} a b k m f p e served told misused stands = record {
+misused-works {A} {B} {C} a b k m f p e served told misused keeps = record {
   told = λ t. record {
     ending = λ ne. sym (end_bind host f p (contents a) ∙ ap (end_after host f) (sym ((told t).ending (λ x. absurd (cc)))) ∙ ap (λ (q : Part B). end_of host q (contents b)) e ∙ end_returns host (Err Broken) (contents b));
     stopping = λ x. absurd (cc);
@@ -105,23 +105,23 @@ misused-works {A} {B} {C} a b k m f p e served told misused stands = record {
   cause = λ makes x. by-failing {C = C} a b k m f p served told misused makes;
   absent = λ u x. absurd (cc);
   ends = refl;
-  stands = stands;
+  keeps = keeps;
 }
 
 pub read-misused : (a b : Option HostModel) (k m : ℕ) (got : List ℕ) → CarriesOutOnHost a b (Err OutOfMemory) (Err Misused) (read_plan 256 4096) →
     ComesByFault {A = Result ℕ HostFault} a (Err Misused) (Err Misused) k m → KeepsHost a b k m → DoesPartBetween a b k m (Err Broken) (read_piece got)
 unfolding read_piece
-read-misused a b k m got told misused stands = misused-works {C = ℕ} a b k m (piece_added got) (read_plan 256 4096) refl (read-served 256 4096) told misused stands
+read-misused a b k m got told misused keeps = misused-works {C = ℕ} a b k m (piece_added got) (read_plan 256 4096) refl (read-served 256 4096) told misused keeps
 
 pub write-misused : (a b : Option HostModel) (k m slot : ℕ) (from : List ℕ) → CarriesOutOnHost a b (Err OutOfMemory) (Err Misused) (write_plan slot from) →
     ComesByFault {A = Result (Unit {0}) HostFault} a (Err Misused) (Err Misused) k m → KeepsHost a b k m → DoesPartBetween a b k m (Err Broken) (write_piece slot from)
 unfolding write_piece
-write-misused a b k m slot from told misused stands = misused-works {C = Unit {0}} a b k m (λ r. returns (carried r)) (write_plan slot from) refl (write-served slot from) told misused stands
+write-misused a b k m slot from told misused keeps = misused-works {C = Unit {0}} a b k m (λ r. returns (carried r)) (write_plan slot from) refl (write-served slot from) told misused keeps
 
 pub close-misused : (a b : Option HostModel) (k m slot : ℕ) → slot ≤ 257 → CarriesOutOnHost a b (Err OutOfMemory) (Err Misused) (close_plan slot) →
     ComesByFault {A = Result (Unit {0}) HostFault} a (Err Misused) (Err Misused) k m → KeepsHost a b k m → DoesPartBetween a b k m (Err Broken) (close_file slot)
 unfolding close_file
-close-misused a b k m slot l told misused stands = misused-works {C = Unit {0}} a b k m (λ r. returns (carried r)) (close_plan slot) refl (λ n. close-served slot n l) told misused stands
+close-misused a b k m slot l told misused keeps = misused-works {C = Unit {0}} a b k m (λ r. returns (carried r)) (close_plan slot) refl (λ n. close-served slot n l) told misused keeps
 
 -- ---- a file that is opened for writing is made where it is not there
 
@@ -140,12 +140,12 @@ present name n = failing-present (is_failing n) _ _ (λ e. absurd (cc)) (opened-
 pub object-absent : (a b : Option HostModel) (k m : ℕ) (name : List ℕ) → CarriesOutOnHost a b (Err opening.OutOfMemory) (Err Absent) (open_plan 257 name BinaryWrite) →
     ComesByFault {A = Result (Unit {0}) OpenFault} a (Err Absent) (Err Absent) k m → KeepsHost a b k m → DoesPartBetween a b k m (Err Broken) (open_object name)
 unfolding open_object
-object-absent a b k m name told absent stands = record {
+object-absent a b k m name told absent keeps = record {
   told = λ t. record { ending = λ ne. absurd (never t); stopping = λ x. absurd (cc) };
   cause = λ makes x. absent never refl;
   absent = λ u x. absurd (cc);
   ends = refl;
-  stands = stands;
+  keeps = keeps;
 }
   where
     never : IsTrue (tells a) → ⊥

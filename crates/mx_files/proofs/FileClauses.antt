@@ -40,7 +40,7 @@ file-output most name m n r c = by (decided-part r)
     by (inr ne) = ap (λ (t : Result (List ℕ) Outcome × HostModel). t.1.output) (c.ending ne) ∙ file-ends-quiet most name m
 
 pub part-keeps : {A : Type 0} (a b : Option HostModel) (k m : ℕ) (r : Result A Outcome) (p : Part A) → DoesPartBetween a b k m r p → Keeps a b k m
-part-keeps a b k m r p w = comes-keeps a b k m (Err OutOfMemory) r p (decided-part r) w.told w.stands
+part-keeps a b k m r p w = comes-keeps a b k m (Err OutOfMemory) r p (decided-part r) w.told w.keeps
 
 pub end-words : (r : Outcome) → is_end r ≡ true → is_usage r ≡ false
 end-words (Usage fault) i = absurd (cc)
@@ -100,4 +100,4 @@ listed-front name m n o c e =
     subst (IsFront n.output) (sym (answer-output (end_of host (list_plan name) m))) (stop-front (list_plan name) n m (c.stopping e))
 
 pub whole-keeps : (a b : Option HostModel) (k m : ℕ) (o : Outcome) (p : HostPlan Outcome) → CarriesOutOnHost a b OutOfMemory o p → KeepsHost a b k m → Keeps a b k m
-whole-keeps a b k m o p told stands = comes-keeps a b k m OutOfMemory o p (decided o) told stands
+whole-keeps a b k m o p told keeps = comes-keeps a b k m OutOfMemory o p (decided o) told keeps

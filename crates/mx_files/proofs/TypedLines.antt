@@ -28,7 +28,7 @@ use Rattle.mx_files.specs.Typed.{Typed, shown, item_lines, tail_lines, trie_type
 use Rattle.mx_outcome.specs.declared.outcome.Outcome.{Outcome}
 use Rattle.mx_outcome.specs.declared.outcome.Outcome.TheVariants.{Done, Usage, NoFile, HostFault, Refused, BadObject, BadSchedule, Stopped, StepsSpent, Quit, ConsoleLimit, OutOfMemory}
 use Rattle.mx_files.proofs.FileParts.{lines-end}
-use Rattle.mx_plan.proofs.Standing.{stands-all}
+use Rattle.mx_plan.proofs.KeptHosts.{keeps_host-all}
 use Rattle.mx_files.proofs.Parts.{works-on, works-then, works-ends, works-done, leaves-all, leaves-on, leaves-next, leaves-bind}
 
 -- ---- lines and outcomes
@@ -102,7 +102,7 @@ refused-works a k r t lacks i h n is = record {
   cause = λ s e. absurd (h (cc));
   absent = λ u e. absurd (n (cc));
   ends = i;
-  stands = stands-all a k;
+  keeps = keeps_host-all a k;
 }
 
 -- all lines, where nothing is left but that
@@ -162,8 +162,8 @@ line-leaves a b k m line lines outcome w =
 pub item-leaves : (a b : Option HostModel) (k m : ℕ) (text : List ℕ) (t : Typed) → DoesPartBetween a b k m (Ok tt) (item_plan text) → Leaves a b k m (typed_plan t) (typed_plan (behind (shown text) t))
 item-leaves a b k m [] t w = record {
   told = λ u. subst (λ n. IsRest host (typed_plan t) n (typed_plan t) (contents a)) (sym (none-shown a b k m w u)) (record { ending = refl; stopping = λ v h. h });
-  cause = λ s u. let v : IsTrue (tells a) = subst IsTrue w.stands.0 u in subst (λ n. Makes host Serves (typed_plan t) n) (sym (none-shown a b k m w v)) (s v);
-  stands = w.stands;
+  cause = λ s u. let v : IsTrue (tells a) = subst IsTrue w.keeps.0 u in subst (λ n. Makes host Serves (typed_plan t) n) (sym (none-shown a b k m w v)) (s v);
+  keeps = w.keeps;
 }
 item-leaves a b k m (x ∷ text) t w = line-leaves a b k m (x ∷ text) t.0 t.1 (one-made a b k m (Ok tt) x text w)
 
@@ -177,7 +177,7 @@ item-ends a b k m [] t outcome lacks w = record {
   cause = λ s e. w.cause (λ u. none-made (contents a)) e;
   absent = w.absent;
   ends = w.ends;
-  stands = w.stands;
+  keeps = w.keeps;
 }
 item-ends a b k m (x ∷ text) t outcome lacks w =
     works-ends a b k m outcome (λ u. typed_end t.1) (lines_plan ((x ∷ text) ∷ t.0)) (works-ends a b k m outcome (λ u. lines_plan t.0) (made_plan (x ∷ text)) (one-made a b k m (Err outcome) x text w))

@@ -84,7 +84,7 @@ pub record DoesPartBetween {A : Type 0} (old new : Option HostModel) (earlier la
   pub cause : ComesByFailing old (Err HostFault) result earlier later part
   pub absent : ComesByFault old (Err NoFile) result earlier later
   pub ends : IfErr result (λ outcome. is_end outcome ≡ true)
-  pub stands : KeepsHost old new earlier later
+  pub keeps : KeepsHost old new earlier later
 
 -- the same of a host: `told` is what it tells, `faults` its count of faults, `old` and `new` are the host before and after
 abbrev pub DoesPart : {H A : Type 0} → (H → Option HostModel) → (H → ℕ) → H → H → Result A Outcome → Part A → Type 0
@@ -106,7 +106,7 @@ WritesFrontOfPlan told old new result plan = WritesFront (told old) (told new) O
 pub record Leaves {A : Type 0} (old new : Option HostModel) (earlier later : ℕ) (rest whole : Part A) : Type 0 where
   pub told : IsTrue (tells old) → IsRest host rest (contents new) whole (contents old)
   pub cause : (IsTrue (tells old) → Makes host Serves whole (contents old)) → IsTrue (tells new) → Makes host Serves rest (contents new)
-  pub stands : KeepsHost old new earlier later
+  pub keeps : KeepsHost old new earlier later
 
 -- whether all was written, as a part of the work, with the model after it
 abbrev pub part_of : Then Bool → Then (Result (Unit {0}) Outcome)

@@ -21,7 +21,7 @@ pub fn open<H: Host>(host: &mut H, slot: u16, name: &[u8], mode: Mode) -> Result
     ensures failed { result ≡ Err OpenFault.Failed → Rose (H.faults host.old) (H.faults host.new) }
     ensures absent { ComesByFault (H.told host.old) (Err OpenFault.Absent) result
         (H.faults host.old) (H.faults host.new) }
-    ensures stands { KeepsHost (H.told host.old) (H.told host.new) (H.faults host.old) (H.faults host.new) }
+    ensures keeps { KeepsHost (H.told host.old) (H.told host.new) (H.faults host.old) (H.faults host.new) }
 {
     host.open_file(slot, name, mode)
 }
@@ -35,7 +35,7 @@ pub fn close<H: Host>(host: &mut H, slot: u16) -> Result<(), HostFault>
     ensures failed { result ≡ Err HostFault.Failed → Rose (H.faults host.old) (H.faults host.new) }
     ensures misused { ComesByFault (H.told host.old) (Err HostFault.Misused) result
         (H.faults host.old) (H.faults host.new) }
-    ensures stands { KeepsHost (H.told host.old) (H.told host.new) (H.faults host.old) (H.faults host.new) }
+    ensures keeps { KeepsHost (H.told host.old) (H.told host.new) (H.faults host.old) (H.faults host.new) }
 {
     host.close_slot(slot)
 }
@@ -53,7 +53,7 @@ pub fn read<H: Host>(host: &mut H, slot: u16, into: &mut [u8]) -> Result<usize, 
         (H.faults host.old) (H.faults host.new) }
     ensures served { slot ≡ 258 → OnlyByFailure (H.told host.old) (Err HostFault.Misused) result
         (H.faults host.old) (H.faults host.new) }
-    ensures stands { KeepsHost (H.told host.old) (H.told host.new) (H.faults host.old) (H.faults host.new) }
+    ensures keeps { KeepsHost (H.told host.old) (H.told host.new) (H.faults host.old) (H.faults host.new) }
 {
     host.read_slot(slot, into)
 }
@@ -69,7 +69,7 @@ pub fn write<H: Host>(host: &mut H, slot: u16, from: &[u8]) -> Result<(), HostFa
         (H.faults host.old) (H.faults host.new) }
     ensures served { slot ≡ 259 → OnlyByFailure (H.told host.old) (Err HostFault.Misused) result
         (H.faults host.old) (H.faults host.new) }
-    ensures stands { KeepsHost (H.told host.old) (H.told host.new) (H.faults host.old) (H.faults host.new) }
+    ensures keeps { KeepsHost (H.told host.old) (H.told host.new) (H.faults host.old) (H.faults host.new) }
 {
     host.write_slot(slot, from)
 }
@@ -83,7 +83,7 @@ pub fn seek<H: Host>(host: &mut H, slot: u16, to: i64) -> Result<(), HostFault>
     ensures failed { result ≡ Err HostFault.Failed → Rose (H.faults host.old) (H.faults host.new) }
     ensures misused { ComesByFault (H.told host.old) (Err HostFault.Misused) result
         (H.faults host.old) (H.faults host.new) }
-    ensures stands { KeepsHost (H.told host.old) (H.told host.new) (H.faults host.old) (H.faults host.new) }
+    ensures keeps { KeepsHost (H.told host.old) (H.told host.new) (H.faults host.old) (H.faults host.new) }
 {
     host.seek_slot(slot, to)
 }
@@ -97,7 +97,7 @@ pub fn tell<H: Host>(host: &mut H, slot: u16) -> Result<u64, HostFault>
     ensures failed { result ≡ Err HostFault.Failed → Rose (H.faults host.old) (H.faults host.new) }
     ensures misused { ComesByFault (H.told host.old) (Err HostFault.Misused) result
         (H.faults host.old) (H.faults host.new) }
-    ensures stands { KeepsHost (H.told host.old) (H.told host.new) (H.faults host.old) (H.faults host.new) }
+    ensures keeps { KeepsHost (H.told host.old) (H.told host.new) (H.faults host.old) (H.faults host.new) }
 {
     host.tell_slot(slot)
 }

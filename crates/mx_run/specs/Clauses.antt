@@ -101,11 +101,11 @@ pub record TakesStep (old new : Option HostModel) (earlier later : ℕ) (before 
   pub told : CarriesOutOnMachine old new before after (Err OutOfMemory) result plan
   pub spared : (n : ℕ) → SparesMemory (suc n) before → SparesStep n result after
   pub bound : IsLater 1 before after
-  pub stands : KeepsHost old new earlier later
+  pub keeps : KeepsHost old new earlier later
 
 -- the steps of a run, over both machines
 pub record TakesSteps (old new : Option HostModel) (earlier later : ℕ) (before after : State) (n : ℕ) (f : FlagsOf) (pass : Bool) (result : End) : Type 0 where
   pub both : CarriesOutOnBothMachines old new before after OutOfMemory result (run_plan n f pass)
   pub spared : SparesMemory n before → result ≢ OutOfMemory
   pub bound : IsLater n before after
-  pub stands : KeepsHost old new earlier later
+  pub keeps : KeepsHost old new earlier later

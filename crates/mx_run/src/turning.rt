@@ -45,7 +45,7 @@ pub(crate) fn make_turn<H: Host>(alloc: Global, machine: &mut Machine, host: &mu
     ensures has_window { HasWindow (state_of machine.old) }
     ensures spared { (n : ℕ) → SparesMemory (suc n) (state_of machine.old) → SparesAfter n result (state_of machine.new) }
     ensures bound { IsLater 1 (state_of machine.old) (state_of machine.new) }
-    ensures stands { KeepsHost (H.told host.old) (H.told host.new) (H.faults host.old) (H.faults host.new) }
+    ensures keeps { KeepsHost (H.told host.old) (H.told host.new) (H.faults host.old) (H.faults host.new) }
 {
     know_window(machine);
     match machine.step() {
@@ -72,7 +72,7 @@ pub fn trap_turn<H: Host>(
         TurnAnswer.OutOfMemory result turn_plan }
     ensures same { spec.may_change result ≡ false → state_of machine.new ≡ state_of machine.old }
     ensures bound { IsLater 1 (state_of machine.old) (state_of machine.new) }
-    ensures stands { KeepsHost (H.told host.old) (H.told host.new) (H.faults host.old) (H.faults host.new) }
+    ensures keeps { KeepsHost (H.told host.old) (H.told host.new) (H.faults host.old) (H.faults host.new) }
 {
     let looks = touches(machine, call);
     let answer = do_trap(alloc, machine, host, call);
@@ -92,7 +92,7 @@ fn do_trap<H: Host>(
     ensures whole { IsWholeSpace (state_of machine.new) }
     ensures same { spec.moves_bytes result ≡ false → state_of machine.new ≡ state_of machine.old }
     ensures steps { (state_of machine.new).steps ≡ (state_of machine.old).steps }
-    ensures stands { KeepsHost (H.told host.old) (H.told host.new) (H.faults host.old) (H.faults host.new) }
+    ensures keeps { KeepsHost (H.told host.old) (H.told host.new) (H.faults host.old) (H.faults host.new) }
 {
     machines_are_whole(machine);
     let answer = trap(alloc, machine, host, call);

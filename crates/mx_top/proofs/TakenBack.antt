@@ -43,7 +43,7 @@ backed-plan a b c k m dump outcome r states s t e is w h =
     let follow : Result (Unit {0}) Outcome → HostPlan Outcome = then_dumped dump outcome (reached s states) in
     by-taken a c r (bind follow (lines_plan (state_lines states))) (dumped_plan dump outcome s) (takes_back outcome) e (λ told.
     let first : (Ok tt, contents b) ≡ end_of host (lines_plan (state_lines states)) (contents a) = (w.told told).ending (λ o. absurd (cc)) in
-    let second = subst (λ (u : State). CarriesOutOnHost b c OutOfMemory r (dumped_plan dump outcome u)) is h (subst IsTrue (sym w.stands.0) told) in
+    let second = subst (λ (u : State). CarriesOutOnHost b c OutOfMemory r (dumped_plan dump outcome u)) is h (subst IsTrue (sym w.keeps.0) told) in
     record {
       ending = λ ne. second.ending ne ∙ sym (end_bind host follow (lines_plan (state_lines states)) (contents a) ∙ ap (end_after host follow) (sym first));
       stopping = λ o. stops_after host follow (lines_plan (state_lines states)) (contents c) (contents a) (subst (StopsAfter host (contents c) follow) first (second.stopping o));

@@ -45,4 +45,4 @@ CarriesOutTrapPart holds says first last old new result plan =
 pub record DoesService {Host : Type 0} (says : Host → Option HostModel) (faults : Host → ℕ) (old new : Host) (result : TrapAnswer) (plan : HostPlan TrapAnswer) : Type 0 where
   pub told : CarriesOutOnHost (says old) (says new) OutOfMemory result plan
   pub stops : StopsByPages result
-  pub stands : KeepsHost (says old) (says new) (faults old) (faults new)
+  pub keeps : KeepsHost (says old) (says new) (faults old) (faults new)

@@ -34,7 +34,7 @@ pub fn trap<M: Space, H: Host>(
         (spec.trap_plan call.now) }
     ensures stops { StopsFirst M.contents memory.old memory.new host.old host.new call.now result }
     ensures rest { (M.contents memory.new).rest ≡ (M.contents memory.old).rest }
-    ensures stands { KeepsHost (H.told host.old) (H.told host.new) (H.faults host.old) (H.faults host.new) }
+    ensures keeps { KeepsHost (H.told host.old) (H.told host.new) (H.faults host.old) (H.faults host.new) }
 {
     let slot = (call.word % 256) as u16;
     match request_of(memory, call) {
@@ -58,7 +58,7 @@ fn do_request<M: Space, H: Host>(
         (spec.carried_out slot (M.contents memory.old).bytes request) }
     ensures stops { StopsByPages result }
     ensures rest { (M.contents memory.new).rest ≡ (M.contents memory.old).rest }
-    ensures stands { KeepsHost (H.told host.old) (H.told host.new) (H.faults host.old) (H.faults host.new) }
+    ensures keeps { KeepsHost (H.told host.old) (H.told host.new) (H.faults host.old) (H.faults host.new) }
 {
     match request {
         Request::Ending => TrapAnswer::Halt,

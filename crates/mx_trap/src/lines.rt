@@ -30,7 +30,7 @@ pub fn fgets<M: Space, H: Host>(
         (spec.fgets slot at size) }
     ensures stops { StopsByPages result }
     ensures rest { (M.contents memory.new).rest ≡ (M.contents memory.old).rest }
-    ensures stands { KeepsHost (H.told host.old) (H.told host.new) (H.faults host.old) (H.faults host.new) }
+    ensures keeps { KeepsHost (H.told host.old) (H.told host.new) (H.faults host.old) (H.faults host.new) }
 {
     if size == 0 {
         return TrapAnswer::Value(MINUS_ONE);
@@ -59,7 +59,7 @@ fn line_byte<M: Space, H: Host>(
         (spec.line_byte slot at) }
     ensures rest { (M.contents memory.new).rest ≡ (M.contents memory.old).rest }
     ensures stops { IfErr result StopsByPages }
-    ensures stands { KeepsHost (H.told host.old) (H.told host.new) (H.faults host.old) (H.faults host.new) }
+    ensures keeps { KeepsHost (H.told host.old) (H.told host.new) (H.faults host.old) (H.faults host.new) }
 {
     let mut byte = [0u8; 1];
     match read(host, slot, &mut byte) {

@@ -28,7 +28,7 @@ pub fn fread<M: Space, H: Host>(
         (spec.fread slot at size) }
     ensures rest { (M.contents memory.new).rest ≡ (M.contents memory.old).rest }
     ensures stops { StopsByPages result }
-    ensures stands { KeepsHost (H.told host.old) (H.told host.new) (H.faults host.old) (H.faults host.new) }
+    ensures keeps { KeepsHost (H.told host.old) (H.told host.new) (H.faults host.old) (H.faults host.new) }
 {
     let mut buffer = [0u8; 4096];
     let mut moved = 0;
@@ -69,7 +69,7 @@ fn read_piece<M: Space, H: Host>(
     ensures length { length buffer.new ≡ length buffer.old }
     ensures rest { (M.contents memory.new).rest ≡ (M.contents memory.old).rest }
     ensures stops { IfErr result StopsByPages }
-    ensures stands { KeepsHost (H.told host.old) (H.told host.new) (H.faults host.old) (H.faults host.new) }
+    ensures keeps { KeepsHost (H.told host.old) (H.told host.new) (H.faults host.old) (H.faults host.new) }
 {
     match read(host, slot, buffer) {
         Ok(count) => {

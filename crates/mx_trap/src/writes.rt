@@ -79,7 +79,7 @@ fn write_pieces<M: Space, H: Host>(
     requires bounds { AreInBounds at size }
     ensures told { CarriesOutOnHost (H.told host.old) (H.told host.new) Written.OutOfMemory result
         (spec.written slot (bytes_from (M.contents memory.now).bytes at size)) }
-    ensures stands { KeepsHost (H.told host.old) (H.told host.new) (H.faults host.old) (H.faults host.new) }
+    ensures keeps { KeepsHost (H.told host.old) (H.told host.new) (H.faults host.old) (H.faults host.new) }
 {
     let mut buffer = [0u8; 4096];
     let mut moved = 0;
@@ -115,7 +115,7 @@ fn write_piece<M: Space, H: Host>(
     ensures told { CarriesOutOnHost (H.told host.old) (H.told host.new) Written.OutOfMemory result
         (spec.write_piece slot (bytes_from (M.contents memory.now).bytes at (length buffer.old)) moved) }
     ensures length { length buffer.new ≡ length buffer.old }
-    ensures stands { KeepsHost (H.told host.old) (H.told host.new) (H.faults host.old) (H.faults host.new) }
+    ensures keeps { KeepsHost (H.told host.old) (H.told host.new) (H.faults host.old) (H.faults host.new) }
 {
     fill(memory, at, buffer);
     match write(host, slot, buffer) {

@@ -13,5 +13,5 @@ invariant-loop-count g l = record {
       IsRest both (left l.slot l.at l.size l.count) (g.M.Space.contents l.memory, contents (g.H.Host.told l.host))
       (fgets l.slot l.at l.size) (g.M.Space.contents l.fn.memory, contents (g.H.Host.told l.fn.host));
   rest : (g.M.Space.contents l.memory).rest ≡ (g.M.Space.contents l.fn.memory).rest;
-  stands : KeepsHost (g.H.Host.told l.fn.host) (g.H.Host.told l.host) (g.H.Host.faults l.fn.host) (g.H.Host.faults l.host);
+  keeps : KeepsHost (g.H.Host.told l.fn.host) (g.H.Host.told l.host) (g.H.Host.faults l.fn.host) (g.H.Host.faults l.host);
 }

@@ -15,7 +15,7 @@ invariant-loop-moved g l = record {
   inside : l.moved ≤ l.size;
   buffer : length l.buffer ≡ 4096;
   rest : (g.M.Space.contents l.memory).rest ≡ (g.M.Space.contents l.fn.memory).rest;
-  stands : KeepsHost (g.H.Host.told l.fn.host) (g.H.Host.told l.host) (g.H.Host.faults l.fn.host) (g.H.Host.faults l.host);
+  keeps : KeepsHost (g.H.Host.told l.fn.host) (g.H.Host.told l.host) (g.H.Host.faults l.fn.host) (g.H.Host.faults l.host);
 }
 
 abbrev pub decreases-loop-moved : goal.decreases-loop-moved

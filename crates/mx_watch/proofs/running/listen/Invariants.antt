@@ -34,5 +34,5 @@ invariant-loop-made g l = record {
       (listening l.fn.places.items (map (λ b. (goal.Watcher-dyn g (b.vtable, b.value)).meaning b.value) l.fn.watchers.items) l.fn.kept));
   same : length l.places.items ≡ length l.watchers.items;
   bound : IsLater l._made (state_of l.fn.machine) (state_of l.machine);
-  stands : KeepsHost (g.H.Host.told l.fn.host) (g.H.Host.told l.host) (g.H.Host.faults l.fn.host) (g.H.Host.faults l.host);
+  keeps : KeepsHost (g.H.Host.told l.fn.host) (g.H.Host.told l.host) (g.H.Host.faults l.fn.host) (g.H.Host.faults l.host);
 }

@@ -1,6 +1,6 @@
 use Rattle.std.proofs.Common.{arith, eqb-true, ◌∙◌, sym, refl}
 use Rattle.std.proofs.lemmas.List.{nil_from_length}
-use Rattle.mx_plan.proofs.Standing.{stands-all}
+use Rattle.mx_plan.proofs.KeptHosts.{keeps_host-all}
 use Rattle.mx_run.proofs.AccompaniedRuns.{of-run, lacking-so, accompanied-is}
 use Rattle.mx_run.proofs.FreeTurns.{none-made}
 use Rattle.mx_run.proofs.Later.{none-later}
@@ -49,7 +49,7 @@ pub returns-in-Err-clause-plan : goal.returns-in-Err-clause-plan
 returns-in-Err-clause-plan g c = λ t. lacking-so _ 0 _ _ (omega arith) (none-made _ _)
 
 pub returns-in-Err-clause-run : goal.returns-in-Err-clause-run
-returns-in-Err-clause-run g c = accompanied-is _ _ _ _ _ _ _ _ (returns-in-Err-clause-plan g c) (λ t ne. absurd (ne refl)) (none-later _ _ _ refl) (stands-all _ _)
+returns-in-Err-clause-run g c = accompanied-is _ _ _ _ _ _ _ _ (returns-in-Err-clause-plan g c) (λ t ne. absurd (ne refl)) (none-later _ _ _ refl) (keeps_host-all _ _)
 
 pub returns-in-Err-clause-stops : goal.returns-in-Err-clause-stops
 returns-in-Err-clause-stops g c = λ t o. lacked-first _ _ _ _

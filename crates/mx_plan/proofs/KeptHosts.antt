@@ -1,4 +1,4 @@
--- What stands over two steps stands over both.
+-- What two steps keep of a host, both together keep.
 use Rattle.std.proofs.Common.{ℕ, ◌≤◌, inl, inr, ◌∙◌, refl, le_refl, arith}
 use Rattle.std.specs.Prelude.{Option}
 use Rattle.mx_host.specs.HostModel.{HostModel, Rose}
@@ -6,15 +6,15 @@ use Rattle.mx_host.specs.Keeping.{Keeps, OnlyByFailure}
 use Rattle.mx_host.proofs.Keeping.{streams-kept}
 use Rattle.mx_plan.specs.Clauses.{KeepsHost}
 
-pub stands-all : (old : Option HostModel) (earlier : ℕ) → KeepsHost old old earlier earlier
-stands-all old earlier = (refl, le_refl earlier, λ h. h)
+pub keeps_host-all : (old : Option HostModel) (earlier : ℕ) → KeepsHost old old earlier earlier
+keeps_host-all old earlier = (refl, le_refl earlier, λ h. h)
 
-pub stands-then : (old mid new : Option HostModel) (a b d : ℕ) → KeepsHost old mid a b → KeepsHost mid new b d → KeepsHost old new a d
-stands-then old mid new a b d h k = let first : a ≤ b = h.1 in let second : b ≤ d = k.1 in (k.0 ∙ h.0, omega (arith, first, second), λ s. k.2 (h.2 s))
+pub keeps_host-then : (old mid new : Option HostModel) (a b d : ℕ) → KeepsHost old mid a b → KeepsHost mid new b d → KeepsHost old new a d
+keeps_host-then old mid new a b d h k = let first : a ≤ b = h.1 in let second : b ≤ d = k.1 in (k.0 ∙ h.0, omega (arith, first, second), λ s. k.2 (h.2 s))
 
--- what keeps the streams stands
-pub stands-kept : (old new : Option HostModel) (a b : ℕ) → Keeps old new a b → KeepsHost old new a b
-stands-kept old new a b h = (h.telling, h.counting, streams-kept old new a b h)
+-- what every call keeps is that and more
+pub keeps_host-kept : (old new : Option HostModel) (a b : ℕ) → Keeps old new a b → KeepsHost old new a b
+keeps_host-kept old new a b h = (h.telling, h.counting, streams-kept old new a b h)
 
 -- what came by a failure after a step came by one over both
 pub rose-on : (k m n : ℕ) → k ≤ m → Rose m n → Rose k n
