@@ -44,7 +44,7 @@ use Rattle.mx_top.specs.Product.{ordered_plan, product}
 use Rattle.mx_top.specs.Telling.{with_message}
 use Rattle.mx_files.specs.ObjectPlans.{list_plan}
 use Rattle.mx_files.specs.Source.{object_pieces}
-use Rattle.mx_files.specs.Typed.{Typed, shown, item_lines, tail_lines, trie_typed, tail_typed, unread, unread_trie, behind, walk_typed, typed}
+use Rattle.mx_files.specs.Typed.{Typed, shown, item_lines, tail_lines, trie_typed, tail_typed, unread, unread_trie, with_lines_first, walk_typed, typed}
 use Rattle.mx_outcome.specs.declared.outcome.Outcome.{Outcome}
 use Rattle.mx_outcome.specs.declared.outcome.Outcome.TheVariants.{Done, OutOfMemory}
 use Rattle.law_runs.specs.Called.{IsCalled, NoCallFails}
@@ -87,22 +87,22 @@ all-joined items trie symbols =
 -- ---- what is written, by what the bytes are
 
 tail-typed : (items : List Item) (r : Result Tail MmoFault) (object : Object) → with_tail items r ≡ Ok object →
-    behind (item_lines 0 items) (tail_typed r) ≡ behind (item_lines 0 object.items) (tail_typed (Ok object.tail))
+    with_lines_first (item_lines 0 items) (tail_typed r) ≡ with_lines_first (item_lines 0 object.items) (tail_typed (Ok object.tail))
 tail-typed items (Ok tail) object e =
     let is : record { items = items; tail = tail } ≡ object = cc in
-    ap (λ (o : Object). behind (item_lines 0 o.items) (tail_typed (Ok o.tail))) is
+    ap (λ (o : Object). with_lines_first (item_lines 0 o.items) (tail_typed (Ok o.tail))) is
 tail-typed items (Err fault) object e = absurd (cc)
 
-walk-typed : (w : Walk) (object : Object) → object_after w.0 w.1 ≡ Ok object → walk_typed 0 w ≡ behind (item_lines 0 object.items) (tail_typed (Ok object.tail))
+walk-typed : (w : Walk) (object : Object) → object_after w.0 w.1 ≡ Ok object → walk_typed 0 w ≡ with_lines_first (item_lines 0 object.items) (tail_typed (Ok object.tail))
 walk-typed (items, Ok left) object e = tail-typed items (tail_of left.phase left.at left.rest) object e
 walk-typed (items, Err fault) object e = absurd (cc)
 
 either-object : (b : Bool) (long : MmoFault) (w : Walk) (object : Object) → cond b (Err long) (object_after w.0 w.1) ≡ Ok object →
-    cond b ([], unread long) (walk_typed 0 w) ≡ behind (item_lines 0 object.items) (tail_typed (Ok object.tail))
+    cond b ([], unread long) (walk_typed 0 w) ≡ with_lines_first (item_lines 0 object.items) (tail_typed (Ok object.tail))
 either-object true long w object e = absurd (cc)
 either-object false long w object e = walk-typed w object e
 
-pub object-typed : (bytes : List ℕ) (object : Object) → object_of bytes ≡ Ok object → typed bytes ≡ behind (item_lines 0 object.items) (tail_typed (Ok object.tail))
+pub object-typed : (bytes : List ℕ) (object : Object) → object_of bytes ≡ Ok object → typed bytes ≡ with_lines_first (item_lines 0 object.items) (tail_typed (Ok object.tail))
 unfolding typed
 object-typed bytes object e = either-object (nat_lt limit (length bytes)) (TooLong limit) (items_of Start 0 bytes) object e
 
@@ -153,7 +153,7 @@ pub listing-typed : (bytes : List ℕ) (object : Object) (symbols : List Symbol)
     ((typed bytes).1 ≡ Done 0) × IsListing (concat (typed bytes).0) object.items object.tail.trie
 listing-typed bytes object symbols e h =
     let is : typed bytes ≡ (item_lines 0 object.items ++ tail_lines object.tail.trie symbols, Done 0) =
-    object-typed bytes object e ∙ ap (λ r. behind (item_lines 0 object.items) (trie_typed object.tail.place object.tail.trie r)) (trie-read object.tail.trie symbols h) in (
+    object-typed bytes object e ∙ ap (λ r. with_lines_first (item_lines 0 object.items) (trie_typed object.tail.place object.tail.trie r)) (trie-read object.tail.trie symbols h) in (
       ap (λ (t : Typed). t.1) is,
       all-listed (concat (typed bytes).0) object.items object.tail.trie symbols h
           (ap (λ (t : Typed). concat t.0) is ∙ all-joined object.items object.tail.trie symbols),

@@ -107,7 +107,7 @@ unfoldable pub use Rattle.mx_asm.specs.Fixes.{fixes, from_last}
 pub use Rattle.mx_asm.specs.Fronts.{GrowsAlike, IsFront}
 pub use Rattle.mx_asm.specs.Image.{image, image_with, is_covered, octa_from, octa_in, page_count, pages_of, symbols_of, with_lines}
 unfoldable pub use Rattle.mx_asm.specs.Image.{pages_below, placements}
-pub use Rattle.mx_asm.specs.OnePass.{Assembly, Ended, Labelled, Progress, Standing, Taken, and_entries, assembled, assembly_fault, beginning, after_entry, count_fault, counted, end_behind, ended, ended_main, ended_waits, entry_taken, is_open, labelled, last_number, line_behind, line_taken, line_unless, main_fault, naming_of, opened, statement_taken, symbol_defined, with_symbol_label, taken_items, taken_label, taken_with, with_local, with_opening, with_waits}
+pub use Rattle.mx_asm.specs.OnePass.{Assembly, Ended, Labelled, Progress, Status, Taken, and_entries, assembled, assembly_fault, beginning, after_entry, count_fault, counted, end_behind, ended, ended_main, ended_waits, entry_taken, is_open, labelled, last_number, line_behind, line_taken, line_unless, main_fault, naming_of, opened, statement_taken, symbol_defined, with_symbol_label, taken_items, taken_label, taken_with, with_local, with_opening, with_waits}
 unfoldable pub use Rattle.mx_asm.specs.OnePass.{entries_taken}
 pub use Rattle.mx_asm.specs.Pages.{AreAccepted, accepted_in, has_room, loaded_image, page_fault, page_refusal, run_refusal, run_refusal_with}
 unfoldable pub use Rattle.mx_asm.specs.Pages.{outlined, page_refusal_from}

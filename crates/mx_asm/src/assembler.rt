@@ -31,11 +31,11 @@ pub struct Assembler {
 impl Model for Assembler {
     ghost use Rattle.std.specs.Option.{IfSome};
     ghost use Rattle.mx_asm.specs.Faults.{IsTold};
-    ghost use Rattle.mx_asm.specs.OnePass.{Standing, standing};
+    ghost use Rattle.mx_asm.specs.OnePass.{Status, status_unless};
 
-    ghost Value = { Standing };
+    ghost Value = { Status };
 
-    ghost view = { λ a. standing a.assembly a.refused };
+    ghost view = { λ a. status_unless a.assembly a.refused };
 
     ghost invariant = { λ a. IfSome a.refused IsTold };
 }
@@ -165,7 +165,7 @@ fn take_line(
     text: &[u8],
 ) -> Result<Result<(), Refused>, Refused>
     ensures taken { let answer = spec.line_answer result in spec.TakesLine
-        answer out.old out.new (Ok assembly.old) (spec.standing_after answer assembly.new) text.now }
+        answer out.old out.new (Ok assembly.old) (spec.status_after answer assembly.new) text.now }
     ensures kept { IfOk result (λ answer. IfErr answer (λ refused. assembly.new ≡ spec.opened assembly.old)) }
     ensures sparing { assembly.old.opened ≡ true → holds_statement text.now ≡ false → spec.line_answer result ≢ Err no_memory }
     ensures told { IfErr (spec.line_answer result) IsTold }

@@ -42,7 +42,7 @@ impl Head {
         let end = start + bytes.len() as u64;
         Head {
             lambda: round_up(end),
-            line: line_behind(short_line(line), round_up(end) / 4 - start / 4),
+            line: line_number_after(short_line(line), round_up(end) / 4 - start / 4),
         }
     }
 
@@ -92,8 +92,8 @@ fn short_line(line: u32) -> u16
 }
 
 /// The line in force after this many tetras.
-fn line_behind(line: u16, tetras: u64) -> u32
-    ensures { result ≡ spec.line_behind line tetras }
+fn line_number_after(line: u16, tetras: u64) -> u32
+    ensures { result ≡ spec.line_number_after line tetras }
 {
     if line == 0 {
         return 0;

@@ -19,7 +19,7 @@ ghost use Rattle.mx_asm.specs.Entries.{entry_of, source_entries, statements_in};
 ghost use Rattle.mx_asm.specs.Faults.{fault_number, refused};
 ghost use Rattle.mx_asm.specs.Fronts.{GrowsAlike};
 ghost use Rattle.mx_asm.specs.Locals.{HasNoLocal};
-ghost use Rattle.mx_asm.specs.OnePass.{Standing, beginning, end_behind, line_behind};
+ghost use Rattle.mx_asm.specs.OnePass.{Status, beginning, end_behind, line_behind};
 ghost use Rattle.mx_asm.specs.Refusal.{refusal};
 ghost use Rattle.mx_asm.specs.TwoPass.{final_known, value_in};
 ghost use Rattle.mx_asm.specs.Whole.{HasTaken, accepted_in, assembled_lines, assembled_source, lines_entries};
@@ -53,13 +53,13 @@ pub fn one_pass_gives_the_whole()
 /// the items of the lines grow.
 pub fn lines_are_taken_in_turn()
     ensures none { HasTaken [] (Ok beginning) }
-    ensures line { (lines : List (List ℕ)) (text : List ℕ) (out : List Item) (a : Standing) → HasTaken lines a →
+    ensures line { (lines : List (List ℕ)) (text : List ℕ) (out : List Item) (a : Status) → HasTaken lines a →
         HasTaken (lines ++ text ∷ []) (line_behind out a text).1 }
-    ensures items { (lines : List (List ℕ)) (text : List ℕ) (out : List Item) (a : Standing) → HasTaken lines a →
+    ensures items { (lines : List (List ℕ)) (text : List ℕ) (out : List Item) (a : Status) → HasTaken lines a →
         GrowsAlike (lines_items lines) (lines_items (lines ++ text ∷ [])) out (line_behind out a text).0 }
-    ensures end { (lines : List (List ℕ)) (out : List Item) (a : Standing) → HasTaken lines a →
+    ensures end { (lines : List (List ℕ)) (out : List Item) (a : Status) → HasTaken lines a →
         (end_behind out a).1 ≡ (assembled_lines lines).1 }
-    ensures whole { (lines : List (List ℕ)) (out : List Item) (a : Standing) → HasTaken lines a →
+    ensures whole { (lines : List (List ℕ)) (out : List Item) (a : Status) → HasTaken lines a →
         GrowsAlike (lines_items lines) (assembled_lines lines).0 out (end_behind out a).0 }
 {}
 

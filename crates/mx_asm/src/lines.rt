@@ -60,7 +60,7 @@ fn take_cut(
     line: u32,
 ) -> Result<(), Refused>
     requires { CutWithin (length text.now) cut.now }
-    ensures taken { result ≢ Err no_memory → (out.new, spec.standing_after result assembly.new) ≡
+    ensures taken { result ≢ Err no_memory → (out.new, spec.status_after result assembly.new) ≡
         spec.cut_taken line text.now cut.now out.old assembly.old }
     ensures front { IsFront out.new (spec.cut_taken line text.now cut.now out.old assembly.old).0 }
     ensures early { IfErr result (λ refused. is_early refused.fault ≡ true → assembly.new ≡ assembly.old) }
@@ -93,7 +93,7 @@ pub(crate) fn take_statements(
     text: &[u8],
     line: u32,
 ) -> Result<Result<(), Refused>, Refused>
-    ensures taken { spec.line_answer result ≢ Err no_memory → (out.new, spec.standing_after (spec.line_answer result) assembly.new) ≡
+    ensures taken { spec.line_answer result ≢ Err no_memory → (out.new, spec.status_after (spec.line_answer result) assembly.new) ≡
         spec.entries_taken (entries.line_entries line text.now) out.old assembly.old }
     ensures kept { IfOk result (λ answer. IfErr answer (λ refused. assembly.new ≡ assembly.old)) }
     ensures front { IsFront out.new (spec.entries_taken (entries.line_entries line text.now) out.old assembly.old).0 }

@@ -61,7 +61,7 @@ fn add_new(
     done: usize,
 ) -> Result<usize, NoMemory>
     ensures text { OnOk result (text.new ≡ text.old ++ spec.part line.now done o.now.from ++ spec.new_text o.now name.now) }
-    ensures done { IfOk result (λ n. n ≡ spec.behind line.now o.now) }
+    ensures done { IfOk result (λ n. n ≡ spec.place_after line.now o.now) }
 {
     let new = new_text(alloc, o, name)?;
     text.extend(part(line, done, o.from))?;

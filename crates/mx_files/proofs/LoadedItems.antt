@@ -5,12 +5,12 @@ use Rattle.mx_asm.specs.OnePass.{Assembly, Progress}
 use Rattle.mx_asm.specs.declared.refused.Refused.{Refused}
 use Rattle.mx_load.specs.Faults.{number_of}
 use Rattle.mx_load.specs.Kept.{Kept, image_of}
-use Rattle.mx_load.specs.Standing.{after, answer, image_in}
+use Rattle.mx_load.specs.Status.{after, answer, image_in}
 use Rattle.mx_load.specs.declared.fault.LoadFault.{LoadFault}
 use Rattle.mx_mmo.specs.Image.{Image}
 use Rattle.mx_mmo.specs.Meaning.{Loading}
 use Rattle.mx_mmo.specs.declared.items.Item.{Item}
-use Rattle.mx_files.specs.Loading.{Standing, standing, judged, all_loaded, progress_loaded, refusal_in, refused_at, image_loaded}
+use Rattle.mx_files.specs.Loading.{LoadingStatus, loading_status, judged, all_loaded, progress_loaded, refusal_in, refused_at, image_loaded}
 use Rattle.mx_files.specs.declared.refusal.Refusal.{Refusal}
 
 -- a fault stays
@@ -31,17 +31,17 @@ pub ruleset loading = (fault-stays, fault-answered, loaded-faulty)
 -- what a line comes to: it is taken and loaded, or the assembler refuses it, or its items cannot be loaded
 pub judged-whole : (line : ℕ) (before behind : Result Loading LoadFault) (items : List Item) (a : Result Assembly Refused) (p : Progress) →
     (items, a) ≡ p → behind ≡ all_loaded before items → Ok tt ≡ answer behind → Ok tt ≡ refusal_in a →
-    ◌≡◌ {A = Result Standing Refusal} (Ok (standing a behind)) (progress_loaded line before p)
+    ◌≡◌ {A = Result LoadingStatus Refusal} (Ok (loading_status a behind)) (progress_loaded line before p)
 judged-whole line before behind items a p ep el ea er = rw (← ep, ← el) (on a behind ea er)
   where
-    on : (a : Result Assembly Refused) (l : Result Loading LoadFault) → Ok tt ≡ answer l → Ok tt ≡ refusal_in a → Ok (standing a l) ≡ judged line a l
+    on : (a : Result Assembly Refused) (l : Result Loading LoadFault) → Ok tt ≡ answer l → Ok tt ≡ refusal_in a → Ok (loading_status a l) ≡ judged line a l
     on (Ok assembly) (Ok s) ea er = refl
     on (Err refused) l ea er = absurd (cc)
     on (Ok assembly) (Err fault) ea er = absurd (cc)
 
 pub judged-refused : (line : ℕ) (before behind : Result Loading LoadFault) (items : List Item) (a : Result Assembly Refused) (p : Progress) (refusal : Refusal) →
     (items, a) ≡ p → behind ≡ all_loaded before items → Ok tt ≡ answer behind → Err refusal ≡ refusal_in a →
-    ◌≡◌ {A = Result Standing Refusal} (Err refusal) (progress_loaded line before p)
+    ◌≡◌ {A = Result LoadingStatus Refusal} (Err refusal) (progress_loaded line before p)
 judged-refused line before behind items a p refusal ep el ea er = rw (← ep, ← el) (on a behind ea er)
   where
     on : (a : Result Assembly Refused) (l : Result Loading LoadFault) → Ok tt ≡ answer l → Err refusal ≡ refusal_in a → Err refusal ≡ judged line a l
@@ -51,7 +51,7 @@ judged-refused line before behind items a p refusal ep el ea er = rw (← ep, �
 
 pub judged-faulty : (line : ℕ) (before behind : Result Loading LoadFault) (items : List Item) (a : Result Assembly Refused) (p : Progress) (fault : LoadFault) →
     (items, a) ≡ p → behind ≡ all_loaded before items → Err fault ≡ answer behind →
-    ◌≡◌ {A = Result Standing Refusal} (Err (refused_at line (number_of fault))) (progress_loaded line before p)
+    ◌≡◌ {A = Result LoadingStatus Refusal} (Err (refused_at line (number_of fault))) (progress_loaded line before p)
 judged-faulty line before behind items a p fault ep el ea = rw (← ep, ← el, fault-answered behind fault ea) refl
 
 pub ruleset judging = (judged-whole, judged-refused, judged-faulty)

@@ -25,7 +25,7 @@ use Rattle.mx_asm.proofs.MeaningLaws.{page-refusal-is}
 use Rattle.mx_asm.proofs.MeaningLines.{line-is-refused}
 use Rattle.mx_asm.proofs.MeaningSources.{bytes-fault, run-means, source-bytes}
 use Rattle.mx_asm.proofs.MeaningStates.{take-append}
-use Rattle.mx_files.specs.Loading.{standing, refused_at, refusal_of, all_loaded, judged, progress_loaded, and_lines, lines_loaded, image_loaded, ended_with, end_loaded, end_after, standing_after, source_image}
+use Rattle.mx_files.specs.Loading.{loading_status, refused_at, refusal_of, all_loaded, judged, progress_loaded, and_lines, lines_loaded, image_loaded, ended_with, end_loaded, end_after, loading_status_after, source_image}
 use Rattle.mx_files.specs.Sources.{meaning_unless, source_meaning}
 use Rattle.mx_files.specs.declared.refusal.Refusal.{Refusal}
 use Rattle.mx_files.specs.declared.refusal.SourceFault.{SourceFault}
@@ -153,7 +153,7 @@ module _ (source : List ℕ) (bytes : AreBytes source) where
 
   abbrev Whole : List Line → List Line → Type 0
   Whole front rest = (a : Assembly) (s : Loading) → Stands front rest a s →
-      end_loaded (lines_loaded (length front + 1) rest (standing (Ok a) (Ok s))) ≡ source_meaning source
+      end_loaded (lines_loaded (length front + 1) rest (loading_status (Ok a) (Ok s))) ≡ source_meaning source
 
   next : (front texts : List Line) (text : Line) → Whole (front ++ text ∷ []) texts → Whole front (text ∷ texts)
   unfolding lines_loaded
@@ -186,7 +186,7 @@ module _ (source : List ℕ) (bytes : AreBytes source) where
       by b (Err e) taken loaded = full e (sym (ap result_err loaded) ∙ fault-of next_lines texts whole)
       by (Err r) (Ok t) taken loaded = refuses r t taken loaded
       by (Ok b) (Ok t) taken loaded =
-          ap (λ n. end_loaded (lines_loaded (n + 1) texts (standing (Ok b) (Ok t)))) (sym (length-append front (text ∷ [])))
+          ap (λ n. end_loaded (lines_loaded (n + 1) texts (loading_status (Ok b) (Ok t)))) (sym (length-append front (text ∷ [])))
           ∙ more b t (record { whole = whole; taken = taken; loaded = loaded })
 
       step : (p : Progress) → line_behind [] (Ok a) text ≡ p → end_loaded (and_lines (lines_loaded (length front + 1 + 1) texts) (progress_loaded (length front + 1) (Ok s) p)) ≡ source_meaning source
@@ -209,11 +209,11 @@ module _ (source : List ℕ) (bytes : AreBytes source) where
 -- ---- what is answered
 
 pub source-loaded : (source : List ℕ) → AreBytes source → (a : Result Assembly Refused) (l : Result Loading LoadFault) (r : Result Image Refusal) → a ≡ Ok beginning → l ≡ Ok nothing →
-    r ≡ end_loaded (lines_loaded 1 (lines_of source) (standing a l)) → r ≡ source_meaning source
+    r ≡ end_loaded (lines_loaded 1 (lines_of source) (loading_status a l)) → r ≡ source_meaning source
 unfolding source_image
-source-loaded source bytes a l r ea el e = e ∙ (λ i. end_loaded (lines_loaded 1 (lines_of source) (standing (ea i) (el i)))) ∙ source-is source bytes
+source-loaded source bytes a l r ea el e = e ∙ (λ i. end_loaded (lines_loaded 1 (lines_of source) (loading_status (ea i) (el i)))) ∙ source-is source bytes
 
-pub refusal-ends : (fault : SourceFault) (a : Result Assembly Refused) (l k : Result Loading LoadFault) → end_after (Err fault) k ≡ end_loaded (standing_after (Err fault) a l)
+pub refusal-ends : (fault : SourceFault) (a : Result Assembly Refused) (l k : Result Loading LoadFault) → end_after (Err fault) k ≡ end_loaded (loading_status_after (Err fault) a l)
 refusal-ends (Refusing refusal) a l k = refl
 refusal-ends NoRoom a l k = refl
 

@@ -24,7 +24,7 @@ use Rattle.mx_word.specs.declared.symbols.Symbol.{Symbol}
 use Rattle.mx_files.specs.Clauses.{Serves, DoesPartBetween, Leaves, is_end}
 use Rattle.mx_files.specs.FilePlans.{Part, line_plan, made_plan, lines_plan}
 use Rattle.mx_files.specs.ObjectPlans.{typed_end, typed_plan, shown_plan, item_plan}
-use Rattle.mx_files.specs.Typed.{Typed, shown, item_lines, tail_lines, trie_typed, behind, end_typed, unread, tail_typed, walk_typed, still_typed, typed}
+use Rattle.mx_files.specs.Typed.{Typed, shown, item_lines, tail_lines, trie_typed, with_lines_first, end_typed, unread, tail_typed, walk_typed, still_typed, typed}
 use Rattle.mx_outcome.specs.declared.outcome.Outcome.{Outcome}
 use Rattle.mx_outcome.specs.declared.outcome.Outcome.TheVariants.{Done, Usage, NoFile, HostFault, Refused, BadObject, BadSchedule, Stopped, StepsSpent, Quit, ConsoleLimit, OutOfMemory}
 use Rattle.mx_files.proofs.FileParts.{lines-end}
@@ -33,7 +33,7 @@ use Rattle.mx_files.proofs.Parts.{works-on, works-then, works-ends, works-done, 
 
 -- ---- lines and outcomes
 
-behind-behind : (xs ys : List (List ℕ)) (t : Typed) → behind xs (behind ys t) ≡ behind (xs ++ ys) t
+behind-behind : (xs ys : List (List ℕ)) (t : Typed) → with_lines_first xs (with_lines_first ys t) ≡ with_lines_first (xs ++ ys) t
 behind-behind xs ys t = ap (λ zs. (zs, t.1)) (sym (append_assoc xs ys t.0))
 
 -- memory may run out before anything of a listing is written
@@ -48,7 +48,7 @@ fault-lacks : (place fault : ℕ) → Lacks ([], BadObject place fault)
 unfolding typed_plan lines_plan bind need Stops host
 fault-lacks place fault m = inl refl
 
-behind-lacks : (lines : List (List ℕ)) (t : Typed) → Lacks t → Lacks (behind lines t)
+behind-lacks : (lines : List (List ℕ)) (t : Typed) → Lacks t → Lacks (with_lines_first lines t)
 behind-lacks [] t h = h
 behind-lacks (line ∷ lines) t h = lines-lack line (lines ++ t.0) t.1
 
@@ -159,7 +159,7 @@ unfolding typed_plan lines_plan
 line-leaves a b k m line lines outcome w =
     leaves-bind a b k m (λ u. typed_end outcome) (lines_plan lines) (lines_plan (line ∷ lines)) (leaves-next a b k m tt (λ u. lines_plan lines) (made_plan line) w)
 
-pub item-leaves : (a b : Option HostModel) (k m : ℕ) (text : List ℕ) (t : Typed) → DoesPartBetween a b k m (Ok tt) (item_plan text) → Leaves a b k m (typed_plan t) (typed_plan (behind (shown text) t))
+pub item-leaves : (a b : Option HostModel) (k m : ℕ) (text : List ℕ) (t : Typed) → DoesPartBetween a b k m (Ok tt) (item_plan text) → Leaves a b k m (typed_plan t) (typed_plan (with_lines_first (shown text) t))
 item-leaves a b k m [] t w = record {
   told = λ u. subst (λ n. IsRest host (typed_plan t) n (typed_plan t) (contents a)) (sym (none-shown a b k m w u)) (record { ending = refl; stopping = λ v h. h });
   cause = λ s u. let v : IsTrue (tells a) = subst IsTrue w.keeps.0 u in subst (λ n. Makes host Serves (typed_plan t) n) (sym (none-shown a b k m w v)) (s v);
@@ -167,7 +167,7 @@ item-leaves a b k m [] t w = record {
 }
 item-leaves a b k m (x ∷ text) t w = line-leaves a b k m (x ∷ text) t.0 t.1 (one-made a b k m (Ok tt) x text w)
 
-pub item-ends : (a b : Option HostModel) (k m : ℕ) (text : List ℕ) (t : Typed) (outcome : Outcome) → Lacks t → DoesPartBetween a b k m (Err outcome) (item_plan text) → DoesPartBetween a b k m (Err outcome) (typed_plan (behind (shown text) t))
+pub item-ends : (a b : Option HostModel) (k m : ℕ) (text : List ℕ) (t : Typed) (outcome : Outcome) → Lacks t → DoesPartBetween a b k m (Err outcome) (item_plan text) → DoesPartBetween a b k m (Err outcome) (typed_plan (with_lines_first (shown text) t))
 unfolding typed_plan lines_plan
 item-ends a b k m [] t outcome lacks w = record {
   told = λ u. record {
@@ -194,16 +194,16 @@ pub still-fault : (lambda : ℕ) (m n : ReaderModel) (fault : MmoFault) → m.fa
 unfolding item_lines
 still-fault lambda m n fault well h = ap (walk_typed lambda) (next-fault m n fault well h)
 
-first-line : (lambda : ℕ) (item : Item) (w : Walk) → walk_typed lambda (item ∷ w.0, w.1) ≡ behind (shown (item_text lambda item)) (walk_typed (lambda_after lambda item) w)
+first-line : (lambda : ℕ) (item : Item) (w : Walk) → walk_typed lambda (item ∷ w.0, w.1) ≡ with_lines_first (shown (item_text lambda item)) (walk_typed (lambda_after lambda item) w)
 unfolding item_lines
 first-line lambda item w = sym (behind-behind (shown (item_text lambda item)) (item_lines (lambda_after lambda item) w.0) (end_typed w.1))
 
 pub still-item : (lambda next : ℕ) (m n : ReaderModel) (item : Item) → m.fault ≡ None → (Ok (Some item), n) ≡ next_answer m → next ≡ lambda_after lambda item →
-    still_typed lambda m ≡ behind (shown (item_text lambda item)) (still_typed next n)
+    still_typed lambda m ≡ with_lines_first (shown (item_text lambda item)) (still_typed next n)
 still-item lambda next m n item well h e =
     ap (walk_typed lambda) (sym (next-gave [] m n item well h).same)
     ∙ first-line lambda item (items_of n.phase n.at n.rest)
-    ∙ ap (λ l. behind (shown (item_text lambda item)) (still_typed l n)) (sym e)
+    ∙ ap (λ l. with_lines_first (shown (item_text lambda item)) (still_typed l n)) (sym e)
 
 -- ---- an item that is next
 
@@ -216,7 +216,7 @@ pub next-ends : (a b : Option HostModel) (k o lambda : ℕ) (m n : ReaderModel) 
     DoesPartBetween a b k o (Err outcome) (item_plan (item_text lambda item)) → DoesPartBetween a b k o (Err outcome) (typed_plan (still_typed lambda m))
 next-ends a b k o lambda m n item outcome well h w =
     let next : ℕ = lambda_after lambda item in
-    works-named a b k o (Err outcome) (still_typed lambda m) (behind (shown (item_text lambda item)) (still_typed next n)) (still-item lambda next m n item well h refl)
+    works-named a b k o (Err outcome) (still_typed lambda m) (with_lines_first (shown (item_text lambda item)) (still_typed next n)) (still-item lambda next m n item well h refl)
     (item-ends a b k o (item_text lambda item) (still_typed next n) outcome (walk-lacks next (items_of n.phase n.at n.rest)) w)
 
 -- ---- lines of a list

@@ -19,7 +19,7 @@ pub record Read : Type 0 where
 abbrev pub read_with : List Frame → Coming → Read
 read_with frames coming = record { frames = frames; coming = coming }
 
--- behind a header that says how long the body is
+-- after a header that says how long the body is
 abbrev pub body_after : List ℕ → Option ℕ → Coming
 body_after head None = Faulty
 body_after head (Some n) = Body head n []

@@ -11,7 +11,7 @@ use Rattle.mx_stab.specs.Faults as tries
 use Rattle.mx_stab.specs.declared.faults.StabFault.{StabFault}
 use Rattle.mx_load.specs.Kept.{Kept, image_of}
 use Rattle.mx_load.specs.Faults as loads
-use Rattle.mx_load.specs.Standing.{loading_of}
+use Rattle.mx_load.specs.Status.{loading_of}
 use Rattle.mx_load.specs.Objects.{Loaded, items_loaded, taken}
 use Rattle.mx_load.specs.declared.progress.Progress.{Progress}
 use Rattle.mx_load.specs.declared.fault.LoadFault.{LoadFault}

@@ -12,7 +12,7 @@ ghost use Rattle.mx_mmo.specs.declared.due.Phase.{Phase};
 ghost use Rattle.mx_stab.specs.Reading.{trie_answer};
 ghost use Rattle.mx_mmo.specs.declared.items.Item.{Item};
 ghost use Rattle.mx_load.specs.Faults.{fault_of, number_of, told};
-ghost use Rattle.mx_load.specs.Standing.{after, image_in};
+ghost use Rattle.mx_load.specs.Status.{after, image_in};
 ghost use Rattle.mx_load.specs.Objects.{MeansNothing, fault_at, object_loaded, trie_read, with_symbols};
 
 /// What is loaded of the bytes of an object, by reading, meaning and trie apart: an object whose items

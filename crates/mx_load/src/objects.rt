@@ -6,7 +6,7 @@ ghost use Rattle.mx_mmo.specs.Valid.{Fits};
 ghost use Rattle.mx_mmo.specs.Whole.{left_of};
 ghost use Rattle.mx_load.specs.Answers as spec;
 ghost use Rattle.mx_load.specs.Objects.{object_loaded, trie_read, whole_loaded};
-ghost use Rattle.mx_load.specs.Standing.{loading_of};
+ghost use Rattle.mx_load.specs.Status.{loading_of};
 ghost use Rattle.mx_stab.specs.Faults as tries;
 ghost use Rattle.mx_stab.specs.Reading.{trie_answer};
 

@@ -5,7 +5,7 @@ ghost use Rattle.mx_mmo.specs.Meaning as spec;
 ghost use Rattle.mx_mmo.specs.Meaning.{nothing, after_load, with_image, with_name, noted, take_item};
 ghost use Rattle.mx_mmo.specs.Valid.{Fits};
 ghost use Rattle.mx_load.specs.Faults.{told, given};
-ghost use Rattle.mx_load.specs.Standing.{GoesOn, loading_of};
+ghost use Rattle.mx_load.specs.Status.{GoesOn, loading_of};
 
 use crate::{Image, LoadFault};
 use mx_mmo::Item;

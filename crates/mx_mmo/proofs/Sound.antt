@@ -1,6 +1,6 @@
 -- What is read is in the grammar.
 use Rattle.std.proofs.Common.{◌≡◌, ℕ, zero, suc, ◌+◌, ◌-◌, ◌*◌, ◌/◌, ◌%◌, ◌^◌, ◌<◌, ◌≤◌, length, List, [], ◌∷◌, ◌++◌, take, drop, arith, refl, sym, ◌∙◌, ap, subst, Ok, Err, Some, None, Bool, true, false, cond, length-append, append_assoc, add-zero, zero-add, length-take, length-drop, Result, Option, nat_lt, ◌==◌, ◌&&◌, rules}
-use Rattle.mx_mmo.proofs.Words.{AllByRecursion, take-append-drop, wide_lop, AreBytes, Fits, Spelled, Due, IsWithin, first_item, limit, phase_after, tail_of, tail_after, counted_tail, end_count, StandFirst, phase_end, Left, StandAt, Walk, behind, walk_on, walk, items_of, SpellsObject, object_of, object_after, with_tail, Item, Tail, Object, MmoFault, TooLong, Phase, Start, Ended, bytes-behind, same-number, nat_tests}
+use Rattle.mx_mmo.proofs.Words.{AllByRecursion, take-append-drop, wide_lop, AreBytes, Fits, Spelled, Due, IsWithin, first_item, limit, phase_after, tail_of, tail_after, counted_tail, end_count, StandFirst, phase_end, Left, StandAt, Walk, after_item, walk_on, walk, items_of, SpellsObject, object_of, object_after, with_tail, Item, Tail, Object, MmoFault, TooLong, Phase, Start, Ended, bytes-behind, same-number, nat_tests}
 use Rattle.mx_mmo.proofs.Ends.{last-cons, specs-cons}
 use Rattle.mx_mmo.proofs.Firsts.{first-within}
 use Rattle.mx_mmo.proofs.Phases.{Reaches, placed-items}
@@ -45,7 +45,7 @@ cons-first phase bytes item size items front rest f s =
     }
 
 behind-stands : (phase : Phase) (at : ℕ) (bytes : List ℕ) (item : Item) (size : ℕ) (w : Walk) → Found phase bytes item size → size ≤ length bytes →
-    Stands (phase_after item phase) (at + size) (drop size bytes) w → Stands phase at bytes (behind item w)
+    Stands (phase_after item phase) (at + size) (drop size bytes) w → Stands phase at bytes (after_item item w)
 behind-stands phase at bytes item size (items, Err fault) f l s = record {
   front = take size bytes ++ s.front;
   rest = s.rest;
@@ -163,11 +163,11 @@ with-tail-stands bytes items left (Ok tail) s t =
 
 -- what is left of bytes are bytes
 pub left-bytes : (front rest bytes : List ℕ) → bytes ≡ front ++ rest → AreBytes bytes → AreBytes rest
-left-bytes front rest bytes e b = behind front rest (subst (λ (x : List ℕ). AreBytes x) e b)
+left-bytes front rest bytes e b = rest-bytes front rest (subst (λ (x : List ℕ). AreBytes x) e b)
   where
-    behind : (front rest : List ℕ) → AreBytes (front ++ rest) → AreBytes rest
-    behind [] rest b = b
-    behind (x ∷ front) rest b = behind front rest b.1
+    rest-bytes : (front rest : List ℕ) → AreBytes (front ++ rest) → AreBytes rest
+    rest-bytes [] rest b = b
+    rest-bytes (x ∷ front) rest b = rest-bytes front rest b.1
 
 behind-read : (bytes : List ℕ) (w : Walk) → AreBytes bytes → Stands Start 0 bytes w → IsRead bytes (object_after w.0 w.1)
 behind-read bytes w h1 h2 = search (rules, with-tail-stands, tail-tells, left-bytes)

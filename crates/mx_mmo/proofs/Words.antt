@@ -17,7 +17,7 @@ pub use Rattle.mx_mmo.specs.Spelling.{bytes_of, ending, file, written}
 pub use Rattle.mx_mmo.specs.Tetras.{lop, tetras_for, wide_lop}
 pub use Rattle.mx_mmo.specs.Turns.{ComeInTurn, EndsItem, EndsLast, MayCome, StandFirst, phase_end}
 pub use Rattle.mx_mmo.specs.Valid.{AreBytes, AreOctas, AreTetras, Fits, IsMiddle, IsName, IsPlaced, MayFollow, SpecsEnd, Valid}
-pub use Rattle.mx_mmo.specs.Whole.{Left, SpellsObject, StandAt, Walk, behind, extended, fault_in, fed, left_of, object_after, object_fault, object_of, onto, passed_limit, pieces_within, walk_on, with_more, with_rest, with_tail}
+pub use Rattle.mx_mmo.specs.Whole.{Left, SpellsObject, StandAt, Walk, after_item, extended, fault_in, fed, left_of, object_after, object_fault, object_of, onto, passed_limit, pieces_within, walk_on, with_more, with_rest, with_tail}
 unfoldable pub use Rattle.mx_mmo.specs.Whole.{items_of, walk}
 pub use Rattle.mx_mmo.specs.declared.due.Phase.{Phase}
 pub use Rattle.mx_mmo.specs.declared.due.Phase.TheVariants.{Ended, Middle, Posted, Start}

@@ -24,14 +24,14 @@ pub record Left : Type 0 where
 abbrev pub Walk : Type 0
 Walk = List Item × Result Left MmoFault
 
-abbrev pub behind : Item → Walk → Walk
-behind item w = (item ∷ w.0, w.1)
+abbrev pub after_item : Item → Walk → Walk
+after_item item w = (item ∷ w.0, w.1)
 
 -- an item and those that follow it, by `others`; a fault; or nothing more
 abbrev pub walk_on : (Phase → ℕ → List ℕ → Walk) → Phase → ℕ → List ℕ → Due → Walk
 walk_on others phase at bytes (Ok None) = ([], Ok (record { phase = phase; at = at; rest = bytes }))
 walk_on others phase at bytes (Ok (Some (item, size))) =
-    behind item (others (phase_after item phase) (at + size) (drop size bytes))
+    after_item item (others (phase_after item phase) (at + size) (drop size bytes))
 walk_on others phase at bytes (Err fault) = ([], Err fault)
 
 -- at most this many items

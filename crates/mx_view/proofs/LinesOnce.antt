@@ -1,7 +1,7 @@
 -- Each line of a source is in its listing once, in order.
 use Rattle.std.proofs.Common.{◌≡◌, ℕ, ◌+◌, List, [], ◌∷◌, ◌++◌, length, append-nil, append_assoc, refl, sym, ap, ◌∙◌, Option, None, Some, Ok, Err}
 use Rattle.mx_line.specs.Lines.{lines_of}
-use Rattle.mx_asm.specs.OnePass.{Standing}
+use Rattle.mx_asm.specs.OnePass.{Status}
 use Rattle.mx_asm.specs.Refusal.{refusal}
 use Rattle.mx_asm.specs.Whole.{Line, lines_refusal, lines_taken}
 use Rattle.mx_asm.specs.declared.refused.Refused.{Refused}
@@ -20,7 +20,7 @@ lasting front later r e = by (lines_taken front).1 refl
     same : (s : Refused) → Some s ≡ lines_refusal front → s ≡ r
     same s h = cc
 
-    by : (a : Standing) → (lines_taken front).1 ≡ a → lines_refusal (front ++ later) ≡ Some r
+    by : (a : Status) → (lines_taken front).1 ≡ a → lines_refusal (front ++ later) ≡ Some r
     by (Ok b) is = let h = (stands-at front (Ok b) (sym is)).refusal in absurd (cc)
     by (Err s) is =
         let h = stands-at front (Err s) (sym is) in

@@ -4,7 +4,7 @@ use Rattle.std.specs.Prelude.{ℕ, ◌+◌, List, [], ◌∷◌, ◌++◌, Resul
 use Rattle.mx_mmo.specs.declared.items.Item.{Item}
 use Rattle.mx_type.specs.Lambda.{lambda_behind}
 use Rattle.mx_asm.specs.Whole.{Line}
-use Rattle.mx_asm.specs.OnePass.{Standing, beginning, line_behind, end_behind}
+use Rattle.mx_asm.specs.OnePass.{Status, beginning, line_behind, end_behind}
 use Rattle.mx_asm.specs.declared.refused.Refused.{Refused}
 use Rattle.mx_view.specs.declared.cells.Wanted.{Wanted}
 use Rattle.mx_view.specs.declared.lines.ListedLine.{ListedLine}
@@ -12,18 +12,18 @@ use Rattle.mx_view.specs.Cells.{cells_of}
 use Rattle.mx_view.specs.Rows.{Meaning, listed}
 
 -- the items that a line gives, and what follows it
-abbrev pub items_at : Standing → Line → List Item
+abbrev pub items_at : Status → Line → List Item
 items_at a line = (line_behind [] a line).0
 
-abbrev pub standing_at : Standing → Line → Standing
+abbrev pub standing_at : Status → Line → Status
 standing_at a line = (line_behind [] a line).1
 
 -- a line with this number, if it is listed, where lambda is an address before it
-abbrev pub listed_at : Meaning → Wanted → ℕ → ℕ → Standing → Line → List ListedLine
+abbrev pub listed_at : Meaning → Wanted → ℕ → ℕ → Status → Line → List ListedLine
 listed_at m wanted number lambda a line = listed m wanted number line (cells_of wanted lambda (items_at a line))
 
 -- those of lines that are listed, up to one that is refused
-unfoldable pub listed_in_turn : Meaning → Wanted → ℕ → ℕ → Standing → List Line → List ListedLine
+unfoldable pub listed_in_turn : Meaning → Wanted → ℕ → ℕ → Status → List Line → List ListedLine
 listed_in_turn m wanted number lambda a [] = []
 listed_in_turn m wanted number lambda (Err refused) (line ∷ later) = []
 listed_in_turn m wanted number lambda (Ok a) (line ∷ later) =
@@ -31,7 +31,7 @@ listed_in_turn m wanted number lambda (Ok a) (line ∷ later) =
     ++ listed_in_turn m wanted (number + 1) (lambda_behind lambda (items_at (Ok a) line)) (standing_at (Ok a) line) later
 
 -- what follows lines
-unfoldable pub standing_behind : Standing → List Line → Standing
+unfoldable pub standing_behind : Status → List Line → Status
 standing_behind a [] = a
 standing_behind a (line ∷ later) = standing_behind (standing_at a line) later
 

@@ -7,7 +7,7 @@ use Rattle.mx_word.specs.declared.waits.Wait.{Wait}
 use Rattle.mx_line.specs.Lines.{lines_of}
 use Rattle.mx_mmo.specs.declared.items.Item.{Item}
 use Rattle.mx_stab.proofs.Orders.{all-both}
-use Rattle.mx_asm.specs.OnePass.{Assembly, Ended, Progress, Standing, beginning, end_behind, ended_main, ended_waits, line_answer, line_behind, opened, standing_with, with_opening, Tried}
+use Rattle.mx_asm.specs.OnePass.{Assembly, Ended, Progress, Status, beginning, end_behind, ended_main, ended_waits, line_answer, line_behind, opened, status_with, with_opening, Tried}
 use Rattle.mx_asm.specs.Faults.{no_memory}
 use Rattle.mx_asm.specs.Whole.{Line, assembled_lines, line_after, lines_taken}
 use Rattle.mx_asm.specs.declared.faults.AsmFault.{AsmFault}
@@ -22,17 +22,17 @@ use Rattle.mx_walk.proofs.PlainLines.{plain-lines, line-first, text-lines, text-
 -- ---- standings, but for whether the opening was added
 
 -- what a line leaves
-abbrev after : Standing → Line → Standing
+abbrev after : Status → Line → Status
 after a t = (line_behind [] a t).1
 
 opened-line : (a : Assembly) (t : Line) → after (Ok a) t ≡ after (Ok (opened a)) t
 opened-line a t = ap (λ (p : Progress). p.1) (line-behind (with_opening a.opened []) (Ok (opened a)) t)
 
-opened-after : (a : Standing) (t : Line) → after a t ≡ after (map_ok opened a) t
+opened-after : (a : Status) (t : Line) → after a t ≡ after (map_ok opened a) t
 opened-after (Ok a) t = opened-line a t
 opened-after (Err r) t = refl
 
-same-after : (a b : Standing) (t : Line) → map_ok opened a ≡ map_ok opened b → after a t ≡ after b t
+same-after : (a b : Status) (t : Line) → map_ok opened a ≡ map_ok opened b → after a t ≡ after b t
 same-after a b t e = opened-after a t ∙ ap (λ s. after s t) e ∙ sym (opened-after b t)
 
 trie-alike : (long : Bool) (out next more others : List Item) (r : Refused) (trie : List ℕ) →
@@ -48,14 +48,14 @@ waits-alike : (w : Option Wait) (out next : List Item) (a : Assembly) → (ended
 waits-alike (Some wait) out next a = refl
 waits-alike None out next a = main-alike _ out next a
 
-opened-end : (a : Standing) (out next : List Item) → (end_behind out a).1 ≡ (end_behind next (map_ok opened a)).1
+opened-end : (a : Status) (out next : List Item) → (end_behind out a).1 ≡ (end_behind next (map_ok opened a)).1
 opened-end (Ok a) out next = waits-alike _ _ _ a
 opened-end (Err r) out next = refl
 
-same-end : (a b : Standing) (out next : List Item) → map_ok opened a ≡ map_ok opened b → (end_behind out a).1 ≡ (end_behind next b).1
+same-end : (a b : Status) (out next : List Item) → map_ok opened a ≡ map_ok opened b → (end_behind out a).1 ≡ (end_behind next b).1
 same-end a b out next e = opened-end a out [] ∙ ap (λ s. (end_behind [] s).1) e ∙ sym (opened-end b next [])
 
-opened-twice : (a : Standing) → map_ok opened (map_ok opened a) ≡ map_ok opened a
+opened-twice : (a : Status) → map_ok opened (map_ok opened a) ≡ map_ok opened a
 opened-twice (Ok a) = refl
 opened-twice (Err r) = refl
 
@@ -68,7 +68,7 @@ taken-push : (lines : List Line) (line : Line) → (lines_taken (lines ++ line �
 taken-push lines line = ap (λ (p : Progress). p.1) (fold-append line_after ([], Ok beginning) lines (line ∷ [])) ∙ next-after (lines_taken lines) line
 
 stays : (p : Progress) (later : List Line) (r : Refused) → p.1 ≡ Err r → (fold line_after p later).1 ≡ Err r
-stays p later r e = ap (λ (s : Standing). (fold line_after (p.0, s) later).1) e ∙ ap (λ (q : Progress). q.1) (refusal-stays later p.0 r)
+stays p later r e = ap (λ (s : Status). (fold line_after (p.0, s) later).1) e ∙ ap (λ (q : Progress). q.1) (refusal-stays later p.0 r)
 
 taken-refused : (done later : List Line) (line : Line) (r : Refused) → after (lines_taken done).1 line ≡ Err r → (lines_taken (done ++ line ∷ later)).1 ≡ Err r
 taken-refused done later line r e =
@@ -85,7 +85,7 @@ end-refusal lines = ap (λ (e : Ended). result_err e.1) (sym (whole-is lines))
 refused-here : (done later : List Line) (line : Line) (r : Refused) → ArePlain (done ++ line ∷ later) → after (lines_taken done).1 line ≡ Err r → source_refusal (text_of (done ++ line ∷ later)) ≡ Some r
 refused-here done later line r plain e =
     let lines = done ++ line ∷ later in
-    ap (λ ls. result_err (assembled_lines ls).1) (text-back lines plain) ∙ end-refusal lines ∙ ap (λ (s : Standing). result_err (end_behind (lines_taken lines).0 s).1) (taken-refused done later line r e)
+    ap (λ ls. result_err (assembled_lines ls).1) (text-back lines plain) ∙ end-refusal lines ∙ ap (λ (s : Status). result_err (end_behind (lines_taken lines).0 s).1) (taken-refused done later line r e)
 
 -- ---- turns of a walk
 
@@ -128,26 +128,26 @@ refused-at w line items r h plain is = λ later others.
 
 -- ---- what the assembler answers
 
-module _ (w x : Walk) (line : Line) (out items : List Item) (a : Standing) (t : Tried) where
+module _ (w x : Walk) (line : Line) (out items : List Item) (a : Status) (t : Tried) where
   pub took : (v : Walk) (u : Unit {0}) → IsAt w → IsPlain line → x ≡ w → out ≡ [] → t ≡ Ok (Ok u) →
-      (line_answer t ≢ Err no_memory → (items, standing_with (line_answer t) a) ≡ line_behind out x.assembler line) →
+      (line_answer t ≢ Err no_memory → (items, status_with (line_answer t) a) ≡ line_behind out x.assembler line) →
       v ≡ record { assembler = a; front = x.front ++ with_newline line; number = x.number + 1 } → HasTurned w v line None
   took v u h plain same none is taken e =
-      let taken_so : (items, a) ≡ line_behind [] x.assembler line = subst (λ l. (items, a) ≡ line_behind l x.assembler line) none (subst (λ q. line_answer q ≢ Err no_memory → (items, standing_with (line_answer q) a) ≡ line_behind out x.assembler line) is taken (λ m. cc)) in (
+      let taken_so : (items, a) ≡ line_behind [] x.assembler line = subst (λ l. (items, a) ≡ line_behind l x.assembler line) none (subst (λ q. line_answer q ≢ Err no_memory → (items, status_with (line_answer q) a) ≡ line_behind out x.assembler line) is taken (λ m. cc)) in (
         at-next x v line items (subst IsAt (sym same) h) plain (ap (λ (y : Walk). (items, y.assembler)) e ∙ taken_so) (ap (λ (y : Walk). y.front) e) (ap (λ (y : Walk). y.number) e),
         ap (λ (y : Walk). y.front) e ∙ ap (λ (y : Walk). y.front ++ with_newline line) same,
       )
 
   refused-so : (r : Refused) → IsAt x → IsPlain line → out ≡ [] → line_answer t ≡ Err r → r ≢ no_memory →
-      (line_answer t ≢ Err no_memory → (items, standing_with (line_answer t) a) ≡ line_behind out x.assembler line) → IsRefused x.front line r
+      (line_answer t ≢ Err no_memory → (items, status_with (line_answer t) a) ≡ line_behind out x.assembler line) → IsRefused x.front line r
   refused-so r h plain none is memory taken =
       let taken_so : (items, Err r) ≡ line_behind [] x.assembler line =
       subst (λ l. (items, Err r) ≡ line_behind l x.assembler line) none
-      (subst (λ q. q ≢ Err no_memory → (items, standing_with q a) ≡ line_behind out x.assembler line) is taken (λ m. let same : r ≡ no_memory = cc in memory same)) in
+      (subst (λ q. q ≢ Err no_memory → (items, status_with q a) ≡ line_behind out x.assembler line) is taken (λ m. let same : r ≡ no_memory = cc in memory same)) in
       refused-at x line items r h plain taken_so
 
   pub left-out : (r : Refused) (s : Stop) → IsAt w → IsPlain line → x ≡ w → out ≡ [] → t ≡ Ok (Err r) → r ≢ no_memory →
-      (line_answer t ≢ Err no_memory → (items, standing_with (line_answer t) a) ≡ line_behind out x.assembler line) →
+      (line_answer t ≢ Err no_memory → (items, status_with (line_answer t) a) ≡ line_behind out x.assembler line) →
       IfOk t (λ answer. IfErr answer (λ (q : Refused). a ≡ map_ok opened x.assembler)) → s ≡ record { text = line; refused = r; is_kept = true } →
       HasTurned w (record { assembler = a; front = x.front; number = x.number }) line (Some s)
   left-out r s h plain same none is memory taken kept e =
@@ -160,7 +160,7 @@ module _ (w x : Walk) (line : Line) (out items : List Item) (a : Standing) (t : 
       )
 
   pub lost : (r : Refused) (s : Stop) → IsAt w → IsPlain line → x ≡ w → out ≡ [] → t ≡ Err r → r ≢ no_memory →
-      (line_answer t ≢ Err no_memory → (items, standing_with (line_answer t) a) ≡ line_behind out x.assembler line) → s ≡ record { text = line; refused = r; is_kept = false } →
+      (line_answer t ≢ Err no_memory → (items, status_with (line_answer t) a) ≡ line_behind out x.assembler line) → s ≡ record { text = line; refused = r; is_kept = false } →
       HasTurned w (record { assembler = a; front = x.front; number = x.number }) line (Some s)
   lost r s h plain same none is memory taken e = (
     ap (λ (y : Walk). y.front) same,

@@ -102,7 +102,7 @@ fn file(
     words: &[String],
     at: usize,
 ) -> Result<Order, WordsFault>
-    ensures value { result ≡ files.behind command settings at (drop at (map string_bytes words.now)) }
+    ensures value { result ≡ files.after_options command settings at (drop at (map string_bytes words.now)) }
     ensures lies { IfOk result (spec.LiesIn (length words.now)) }
 {
     if at >= words.len() {

@@ -25,7 +25,7 @@ loading_of p = record {
 abbrev pub GoesOn : Result (Unit {0}) LoadFault → Progress → Progress → (Loading → Result Loading Meaningless) → Type 0
 GoesOn result old new next = result ≢ Err OutOfMemory → given result (loading_of new) ≡ told (next (loading_of old))
 
--- a loader: how far it has come, and the fault that it answered; contracts speak of it through `standing` alone
+-- a loader: how far it has come, and the fault that it answered; contracts speak of it through `status` alone
 pub record Held : Type 0 where
   pub progress : Progress
   pub fault : Option LoadFault
@@ -36,8 +36,8 @@ unless None x = Ok x
 unless (Some fault) x = Err fault
 
 -- what stands after the items that were taken, or the fault that was answered
-unfoldable pub standing : Held → Result Loading LoadFault
-standing h = unless h.fault (loading_of h.progress)
+unfoldable pub status : Held → Result Loading LoadFault
+status h = unless h.fault (loading_of h.progress)
 
 -- what stands after one item more; a fault stays
 abbrev pub after : Result Loading LoadFault → Item → Result Loading LoadFault
