@@ -106,7 +106,7 @@ module _ (symbols : List Symbol) (full : List ℕ) (at : ℕ) (new : value_in fu
   one-count = length-inserted (record { name = full; value = Pure at; serial = length symbols + 1 }) symbols
 
 -- Main and the first blocks are defined, and nothing else.
-pub record Stands (b : ℕ) (symbols : List Symbol) : Type 0 where
+pub record HasBlocks (b : ℕ) (symbols : List Symbol) : Type 0 where
   pub count : length symbols ≡ b + 1
   pub main : value_in main_full symbols ≡ Some (Pure 0x100)
   pub procedure : value_in procedure_full symbols ≡ None
@@ -115,12 +115,12 @@ pub record Stands (b : ℕ) (symbols : List Symbol) : Type 0 where
   pub next : (j : ℕ) → b < j → j < 2 ^ 16 → value_in (block_full j) symbols ≡ None
   pub light : AllByRecursion IsLight symbols
 
-pub stands-next : (b c : ℕ) (symbols : List Symbol) (at : ℕ) → c ≡ b + 1 → c ≤ 10001 → at < 2 ^ 18 → Stands b symbols → Stands c (with_one symbols (block_full c) at)
-stands-next b c symbols at is few low h = search (rules, one-count, short-digits, other-value, one-light, decimal_injective, bytes_eq-Decides)
+pub has_blocks-next : (b c : ℕ) (symbols : List Symbol) (at : ℕ) → c ≡ b + 1 → c ≤ 10001 → at < 2 ^ 18 → HasBlocks b symbols → HasBlocks c (with_one symbols (block_full c) at)
+has_blocks-next b c symbols at is few low h = search (rules, one-count, short-digits, other-value, one-light, decimal_injective, bytes_eq-Decides)
 
 -- after the second line
 abbrev pub first_symbols : List Symbol
 first_symbols = with_one [] main_full 0x100
 
-pub stands-first : Stands 0 first_symbols
-stands-first = search rules
+pub has_blocks-first : HasBlocks 0 first_symbols
+has_blocks-first = search rules

@@ -8,7 +8,7 @@ use Rattle.law_gen.proofs.SourceRead.{random-low, depth-low, increment-low}
 use Rattle.law_gen.proofs.Refusals.{AreGood, Leads, Ends, ends-none, ends-then, good-then}
 use Rattle.law_gen.proofs.Tries.{IsLight}
 use Rattle.law_gen.proofs.Placings.{known, placing, IsPlace, Tetras, code-placed, set-placed, plain-tetras, setl-tetra, incl-tetra, call-tetra, bod-tetra, get-tetra, put-tetra, trap-tetra, again-tetra}
-use Rattle.law_gen.proofs.Names.{block_full, main_full, procedure_full, link_full, halt_full, block-free, procedure-free, main-free, link-predefined, halt-predefined, value-none, value-some, value-predefined, block-form, label-new, with_one, other-value, own-value, still-there, one-light, one-count, Stands, stands-next, first_symbols, stands-first}
+use Rattle.law_gen.proofs.Names.{block_full, main_full, procedure_full, link_full, halt_full, block-free, procedure-free, main-free, link-predefined, halt-predefined, value-none, value-some, value-predefined, block-form, label-new, with_one, other-value, own-value, still-there, one-light, one-count, HasBlocks, has_blocks-next, first_symbols, has_blocks-first}
 use Rattle.law_gen.proofs.Steps.{good-end, plain-good, waiting-good, local-later, local-here}
 
 -- the local labels before the first one
@@ -40,7 +40,7 @@ code-leads symbols backs at place line label code operands word wait k tetra beh
 
 -- ---- a block
 
-module _ (b c : ℕ) (is : c ≡ b + 1) (few : c ≤ 10001) (symbols : List Symbol) (stands : Stands b symbols) (at : ℕ) (whole : at % 4 ≡ 0) (low : at + 60 ≤ 2 ^ 18) where
+module _ (b c : ℕ) (is : c ≡ b + 1) (few : c ≤ 10001) (symbols : List Symbol) (has_blocks : HasBlocks b symbols) (at : ℕ) (whole : at % 4 ≡ 0) (low : at + 60 ≤ 2 ^ 18) where
   abbrev grown : List Symbol
   grown = with_one symbols (block_full c) at
 
@@ -48,10 +48,10 @@ module _ (b c : ℕ) (is : c ≡ b + 1) (few : c ≤ 10001) (symbols : List Symb
   place = place-of at whole low
 
   new : value_in (block_full c) symbols ≡ None
-  new = stands.next c (omega (arith, is)) (omega (arith, few))
+  new = has_blocks.next c (omega (arith, is)) (omega (arith, few))
 
-  grown-stands : Stands c grown
-  grown-stands = stands-next b c symbols at is few (omega (arith, low)) stands
+  grown-has : HasBlocks c grown
+  grown-has = has_blocks-next b c symbols at is few (omega (arith, low)) has_blocks
 
   module _ (line deep more : ℕ) (deep_low : deep < 2 ^ 16) (more_low : more < 2 ^ 16) where
     lead0 : Leads (known symbols no_backs at) (stated line (Some (Name (block_name c))) (Code 0xe3) (reg 2 ∷ number deep ∷ [])) (placing line at (Some (Name (block_name c))) (tetra_wyde 0xe3 2 deep) None) (known grown no_backs (at + 4))
@@ -60,7 +60,7 @@ module _ (b c : ℕ) (is : c ≡ b + 1) (few : c ≤ 10001) (symbols : List Symb
     lead1 : Leads (known grown no_backs (at + 4)) (stated (line + 1) None (Code 0xf2) (reg 1 ∷ name procedure_name ∷ [])) (placing (line + 1) (at + 4) None (tetra_wyde 0xf2 1 0) (Some (awaited.Name procedure_full, Near))) (known grown no_backs (at + 4 + 4))
     lead1 =
         code-leads grown no_backs (at + 4) (place 1 (omega arith)) _ _ _ _ _ _ _
-        (call-tetra (known grown no_backs (at + 4)) procedure_name procedure_full refl (value-none grown no_backs (at + 4) procedure_full grown-stands.procedure procedure-free)) refl
+        (call-tetra (known grown no_backs (at + 4)) procedure_name procedure_full refl (value-none grown no_backs (at + 4) procedure_full grown-has.procedure procedure-free)) refl
 
     lead2 : Leads (known grown no_backs (at + 4 + 4)) (stated (line + 2) None (Code 0x22) (reg 0 ∷ reg 0 ∷ reg 1 ∷ [])) (placing (line + 2) (at + 4 + 4) None (tetra_xyz 0x22 0 0 1) None) (known grown no_backs (at + 4 + 4 + 4))
     lead2 = code-leads grown no_backs (at + 4 + 4) (place 2 (omega arith)) _ _ _ _ _ _ _ (plain-tetras (known grown no_backs (at + 4 + 4))).sum-tetra refl
@@ -68,7 +68,7 @@ module _ (b c : ℕ) (is : c ≡ b + 1) (few : c ≤ 10001) (symbols : List Symb
     lead3 : Leads (known grown no_backs (at + 4 + 4 + 4)) (stated (line + 3) None (Code 0x46) (reg 0 ∷ name (block_name (c + 1)) ∷ [])) (placing (line + 3) (at + 4 + 4 + 4) None (tetra_wyde 0x46 0 0) (Some (awaited.Name (block_full (c + 1)), Near))) (known grown no_backs (at + 4 + 4 + 4 + 4))
     lead3 =
         code-leads grown no_backs (at + 4 + 4 + 4) (place 3 (omega arith)) _ _ _ _ _ _ _
-        (bod-tetra (known grown no_backs (at + 4 + 4 + 4)) (block_name (c + 1)) (block_full (c + 1)) (block-form grown no_backs (at + 4 + 4 + 4) (c + 1) (omega (arith, few))) (value-none grown no_backs (at + 4 + 4 + 4) (block_full (c + 1)) (grown-stands.next (c + 1) (omega arith) (omega (arith, few))) (block-free (c + 1) (omega (arith, few))))) refl
+        (bod-tetra (known grown no_backs (at + 4 + 4 + 4)) (block_name (c + 1)) (block_full (c + 1)) (block-form grown no_backs (at + 4 + 4 + 4) (c + 1) (omega (arith, few))) (value-none grown no_backs (at + 4 + 4 + 4) (block_full (c + 1)) (grown-has.next (c + 1) (omega arith) (omega (arith, few))) (block-free (c + 1) (omega (arith, few))))) refl
 
     lead4 : Leads (known grown no_backs (at + 4 + 4 + 4 + 4)) (stated (line + 4) None (Code 0xe7) (reg 0 ∷ number more ∷ [])) (placing (line + 4) (at + 4 + 4 + 4 + 4) None (tetra_wyde 0xe7 0 more) None) (known grown no_backs (at + 4 + 4 + 4 + 4 + 4))
     lead4 = code-leads grown no_backs (at + 4 + 4 + 4 + 4) (place 4 (omega arith)) _ _ _ _ _ _ _ (incl-tetra (known grown no_backs (at + 4 + 4 + 4 + 4)) more more_low) refl
@@ -101,7 +101,7 @@ procedure_after line =
     ∷ stated (line + 7) (Some (Local 1)) (Code 0xf8) (number 1 ∷ number 0 ∷ [])
     ∷ []
 
-module _ (b c : ℕ) (is : c ≡ b + 1) (few : c ≤ 10001) (symbols : List Symbol) (stands : Stands b symbols) (at : ℕ) (whole : at % 4 ≡ 0) (low : at + 60 ≤ 2 ^ 18) (line : ℕ) where
+module _ (b c : ℕ) (is : c ≡ b + 1) (few : c ≤ 10001) (symbols : List Symbol) (has_blocks : HasBlocks b symbols) (at : ℕ) (whole : at % 4 ≡ 0) (low : at + 60 ≤ 2 ^ 18) (line : ℕ) where
   abbrev last : List Symbol
   last = with_one symbols (block_full c) at
 
@@ -119,16 +119,16 @@ module _ (b c : ℕ) (is : c ≡ b + 1) (few : c ≤ 10001) (symbols : List Symb
   lies = place-of at whole low
 
   last-new : value_in (block_full c) symbols ≡ None
-  last-new = stands.next c (omega (arith, is)) (omega (arith, few))
+  last-new = has_blocks.next c (omega (arith, is)) (omega (arith, few))
 
-  last-stands : Stands c last
-  last-stands = stands-next b c symbols at is few (omega (arith, low)) stands
+  last-has : HasBlocks c last
+  last-has = has_blocks-next b c symbols at is few (omega (arith, low)) has_blocks
 
   all-new : value_in procedure_full last ≡ None
-  all-new = last-stands.procedure
+  all-new = last-has.procedure
 
   link-none : value_in link_full all ≡ None
-  link-none = other-value last procedure_full (to 2) all-new link_full refl ∙ last-stands.link
+  link-none = other-value last procedure_full (to 2) all-new link_full refl ∙ last-has.link
 
   end0 : Leads (known symbols no_backs at) (stated line (Some (Name (block_name c))) Set (reg 255 ∷ reg 0 ∷ [])) (placing line at (Some (Name (block_name c))) (tetra_xyz 0xc1 255 0 0) None) (known last no_backs (to 1))
   end0 = record { placed = set-placed symbols no_backs at (lies 0 (omega arith)) line (Some (Name (block_name c))); behind = refl }
@@ -136,7 +136,7 @@ module _ (b c : ℕ) (is : c ≡ b + 1) (few : c ≤ 10001) (symbols : List Symb
   end1 : Leads (known last no_backs (to 1)) (stated (line + 1) None (Code 0) (number 0 ∷ name (codes "Halt") ∷ number 0 ∷ [])) (placing (line + 1) (to 1) None (tetra_xyz 0 0 0 0) None) (known last no_backs (to 2))
   end1 =
       code-leads last no_backs (to 1) (lies 1 (omega arith)) _ _ _ _ _ _ _
-      (trap-tetra (known last no_backs (to 1)) (codes "Halt") halt_full refl (value-predefined last no_backs (to 1) halt_full 0 last-stands.halt halt-predefined)) refl
+      (trap-tetra (known last no_backs (to 1)) (codes "Halt") halt_full refl (value-predefined last no_backs (to 1) halt_full 0 last-has.halt halt-predefined)) refl
 
   end2 : Leads (known last no_backs (to 2)) (stated (line + 2) (Some (Name procedure_name)) (Code 0x42) (reg 0 ∷ ahead 1 ∷ [])) (placing (line + 2) (to 2) (Some (Name procedure_name)) (tetra_wyde 0x42 0 0) (Some (awaited.Local 1, Near))) (known all no_backs (to 3))
   end2 = code-leads last no_backs (to 2) (lies 2 (omega arith)) _ _ _ _ _ _ _ (plain-tetras (known last no_backs (to 2))).skip-tetra refl
@@ -207,9 +207,9 @@ pub record IsEnd (b n : ℕ) (symbols : List Symbol) (k : Known) : Type 0 where
   pub light : AllByRecursion IsLight k.names.symbols
   pub count : length k.names.symbols ≤ n + 3
 
-pub closing-known : (b n line at : ℕ) (symbols : List Symbol) → n ≡ b → b ≤ 10000 → Stands b symbols → at % 4 ≡ 0 → at + 60 ≤ 2 ^ 18 → IsEnd b n symbols (fold known_after (known symbols no_backs at) (closing_at line (b + 1)))
-closing-known b n line at symbols same few stands whole low =
-    subst (IsEnd b n symbols) (sym (closing-ends b (b + 1) refl (omega (arith, few)) symbols stands at whole low line).is) (record {
+pub closing-known : (b n line at : ℕ) (symbols : List Symbol) → n ≡ b → b ≤ 10000 → HasBlocks b symbols → at % 4 ≡ 0 → at + 60 ≤ 2 ^ 18 → IsEnd b n symbols (fold known_after (known symbols no_backs at) (closing_at line (b + 1)))
+closing-known b n line at symbols same few has_blocks whole low =
+    subst (IsEnd b n symbols) (sym (closing-ends b (b + 1) refl (omega (arith, few)) symbols has_blocks at whole low line).is) (record {
       kept = λ x there. still-there grown procedure_full (at + 4 + 4) new x (still-there symbols (block_full (b + 1)) at absent x there);
       blocks = λ j above most. still-there grown procedure_full (at + 4 + 4) new (block_full j)
           (subst (λ i. is_some (value_in (block_full i) grown) ≡ true) (let e : b + 1 ≡ j = omega (arith, above, most, same) in e) (ap is_some (own-value symbols (block_full (b + 1)) at absent)));
@@ -223,29 +223,29 @@ closing-known b n line at symbols same few stands whole low =
     grown = with_one symbols (block_full (b + 1)) at
 
     absent : value_in (block_full (b + 1)) symbols ≡ None
-    absent = stands.next (b + 1) (omega arith) (omega (arith, few))
+    absent = has_blocks.next (b + 1) (omega arith) (omega (arith, few))
 
-    then : Stands (b + 1) grown
-    then = stands-next b (b + 1) symbols at refl (omega (arith, few)) (omega (arith, low)) stands
+    then : HasBlocks (b + 1) grown
+    then = has_blocks-next b (b + 1) symbols at refl (omega (arith, few)) (omega (arith, low)) has_blocks
 
     new : value_in procedure_full grown ≡ None
     new = then.procedure
 
-pub blocks-known : (b more n line at : ℕ) (symbols : List Symbol) → n ≡ b + more → n ≤ 10000 → Stands b symbols → Room at more → IsEnd b n symbols (fold known_after (known symbols no_backs at) (blocks_at line b more))
+pub blocks-known : (b more n line at : ℕ) (symbols : List Symbol) → n ≡ b + more → n ≤ 10000 → HasBlocks b symbols → Room at more → IsEnd b n symbols (fold known_after (known symbols no_backs at) (blocks_at line b more))
 unfolding blocks_at
-blocks-known b zero n line at symbols is few stands room =
+blocks-known b zero n line at symbols is few has_blocks room =
     let low = room.low in
-    closing-known b n line at symbols (omega (arith, is)) (omega (arith, is, few)) stands room.whole (omega (arith, low))
-blocks-known b (suc more) n line at symbols is few stands room =
+    closing-known b n line at symbols (omega (arith, is)) (omega (arith, is, few)) has_blocks room.whole (omega (arith, low))
+blocks-known b (suc more) n line at symbols is few has_blocks room =
     let low = room.low in
     let whole = room.whole in
     let x = random (suc b) in
-    let new : value_in (block_full (suc b)) symbols ≡ None = stands.next (suc b) (omega arith) (omega (arith, is, few)) in
+    let new : value_in (block_full (suc b)) symbols ≡ None = has_blocks.next (suc b) (omega arith) (omega (arith, is, few)) in
     let c_few : suc b ≤ 10001 = omega (arith, is, few) in
-    let then = stands-next b (suc b) symbols at (omega arith) c_few (omega (arith, low)) stands in
+    let then = has_blocks-next b (suc b) symbols at (omega arith) c_few (omega (arith, low)) has_blocks in
     let rest = blocks-known (suc b) more n (line + 5) (at + 4 + 4 + 4 + 4 + 4) (with_one symbols (block_full (suc b)) at) (omega (arith, is)) few then
     (record { whole = omega (arith, whole); low = omega (arith, low) }) in
-    let ends = block-ends b (suc b) (omega arith) c_few symbols stands at whole (omega (arith, low)) line (depth x) (increment x) (depth-low x (random-low (suc b))) (increment-low x)
+    let ends = block-ends b (suc b) (omega arith) c_few symbols has_blocks at whole (omega (arith, low)) line (depth x) (increment x) (depth-low x (random-low (suc b))) (increment-low x)
     (blocks_at (line + 5) (suc b) more) (fold known_after (known (with_one symbols (block_full (suc b)) at) no_backs (at + 4 + 4 + 4 + 4 + 4)) (blocks_at (line + 5) (suc b) more)) (record { is = refl }) in
     subst (IsEnd b n symbols) (sym ends.is) (record {
       kept = λ y there. rest.kept y (still-there symbols (block_full (suc b)) at new y there);
@@ -264,20 +264,20 @@ pub record AreFinal (n : ℕ) (final : NameTable) : Type 0 where
   pub block : (j : ℕ) → 0 < j → j ≤ n + 1 → is_some (value_of_name final (block_full j)) ≡ true
   pub procedure : is_some (value_of_name final procedure_full) ≡ true
 
-pub blocks-good : (final : NameTable) (b more n line at : ℕ) (symbols : List Symbol) → AreFinal n final → n ≡ b + more → n ≤ 10000 → Stands b symbols → Room at more → AreGood final (known symbols no_backs at) (blocks_at line b more)
+pub blocks-good : (final : NameTable) (b more n line at : ℕ) (symbols : List Symbol) → AreFinal n final → n ≡ b + more → n ≤ 10000 → HasBlocks b symbols → Room at more → AreGood final (known symbols no_backs at) (blocks_at line b more)
 unfolding blocks_at
-blocks-good final b zero n line at symbols finals is few stands room =
+blocks-good final b zero n line at symbols finals is few has_blocks room =
     let low = room.low in
-    closing-good b (b + 1) refl (omega (arith, is, few)) symbols stands at room.whole (omega (arith, low)) line final
-blocks-good final b (suc more) n line at symbols finals is few stands room =
+    closing-good b (b + 1) refl (omega (arith, is, few)) symbols has_blocks at room.whole (omega (arith, low)) line final
+blocks-good final b (suc more) n line at symbols finals is few has_blocks room =
     let low = room.low in
     let whole = room.whole in
     let x = random (suc b) in
     let c_few : suc b ≤ 10001 = omega (arith, is, few) in
-    let then = stands-next b (suc b) symbols at (omega arith) c_few (omega (arith, low)) stands in
+    let then = has_blocks-next b (suc b) symbols at (omega arith) c_few (omega (arith, low)) has_blocks in
     let rest = blocks-good final (suc b) more n (line + 5) (at + 4 + 4 + 4 + 4 + 4) (with_one symbols (block_full (suc b)) at) finals (omega (arith, is)) few then
     (record { whole = omega (arith, whole); low = omega (arith, low) }) in
-    block-good b (suc b) (omega arith) c_few symbols stands at whole (omega (arith, low)) line (depth x) (increment x) (depth-low x (random-low (suc b))) (increment-low x)
+    block-good b (suc b) (omega arith) c_few symbols has_blocks at whole (omega (arith, low)) line (depth x) (increment x) (depth-low x (random-low (suc b))) (increment-low x)
     final (blocks_at (line + 5) (suc b) more) finals.procedure (finals.block (suc b + 1) (omega arith) (omega (arith, is))) rest
 
 -- ---- the whole program
@@ -297,7 +297,7 @@ first-room n few = record { whole = refl; low = omega (arith, few) }
 pub program-known : (n : ℕ) → n ≤ 10000 → IsEnd 0 n first_symbols (fold known_after nothing_known (program n))
 program-known n few =
     subst (IsEnd 0 n first_symbols) (sym (ends-then _ _ _ _ _ _ loc-leads (ends-then _ _ _ _ (blocks_at 3 0 n) (fold known_after (known first_symbols no_backs 0x104) (blocks_at 3 0 n)) main-leads (record { is = refl }))).is)
-    (blocks-known 0 n n 3 0x104 first_symbols (omega arith) few stands-first (first-room n few))
+    (blocks-known 0 n n 3 0x104 first_symbols (omega arith) few has_blocks-first (first-room n few))
 
 pub program-good : (final : NameTable) (n : ℕ) → n ≤ 10000 → AreFinal n final → AreGood final nothing_known (program n)
 unfolding unreferenced
@@ -305,4 +305,4 @@ program-good final n few finals =
     good-then final nothing_known (stated 1 None (Pseudo Loc) (number 0x100 ∷ [])) (record { start = 0; bytes = []; waits = []; label = None; effect = effect.Plain; after = 0x100 }) (known [] no_backs 0x100) _ loc-leads
     (record { label = refl; waits = tt; value = tt; effect = refl; room = omega arith; met = refl })
     (plain-good final [] no_backs 0x100 main-place _ _ _ _ (tetra_wyde 0xe3 0 0) _ _ (label-new [] no_backs 0x100 (codes "Main") main_full refl main-free refl) main-leads
-    (blocks-good final 0 n n 3 0x104 first_symbols finals (omega arith) few stands-first (first-room n few)))
+    (blocks-good final 0 n n 3 0x104 first_symbols finals (omega arith) few has_blocks-first (first-room n few)))

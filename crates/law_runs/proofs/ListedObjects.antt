@@ -19,7 +19,7 @@ use Rattle.mx_mmo.specs.declared.items.Object.{Object}
 use Rattle.mx_mmo.specs.declared.items.Tail.{Tail}
 use Rattle.mx_mmo.specs.Object.{IsObject}
 use Rattle.mx_mmo.specs.Tetras.{wide_lop}
-use Rattle.mx_mmo.proofs.Sound.{left-bytes, object-stands}
+use Rattle.mx_mmo.proofs.Sound.{left-bytes, object-sound}
 use Rattle.mx_plan.specs.Counts.{unscheduled}
 use Rattle.mx_plan.proofs.Spared.{uncalled}
 use Rattle.mx_plan.specs.Wild.{ends}
@@ -166,7 +166,7 @@ front-bytes (x ∷ xs) ys b = (b.0, front-bytes xs ys b.1)
 -- the trie of an object of bytes has bytes
 object-trie : (bytes : List ℕ) (object : Object) → AreBytes bytes → object_of bytes ≡ Ok object → AreBytes object.tail.trie
 object-trie bytes object b e =
-    let spelled : IsObject bytes object.items object.tail.trie = (object-stands bytes object b e).spelled in
+    let spelled : IsObject bytes object.items object.tail.trie = (object-sound bytes object b e).spelled in
     let whole : bytes ≡ spelled.front ++ (object.tail.trie ++ wide_lop 12 spelled.count) =
     spelled.whole ∙ append_assoc spelled.front object.tail.trie (wide_lop 12 spelled.count) in
     front-bytes object.tail.trie (wide_lop 12 spelled.count) (left-bytes spelled.front (object.tail.trie ++ wide_lop 12 spelled.count) bytes whole b)
@@ -199,8 +199,8 @@ pub once-typed : (bytes others : List ℕ) (object other : Object) → AreBytes 
     (typed bytes).1 ≡ Done 0 → (typed others).1 ≡ Done 0 → concat (typed bytes).0 ≡ concat (typed others).0 →
     (object.items ≡ other.items) × (object.tail.trie ≡ other.tail.trie)
 once-typed bytes others object other b c e f h k same =
-    let v : Valid object.items = (object-stands bytes object b e).spelled.valid in
-    let w : Valid other.items = (object-stands others other c f).spelled.valid in
+    let v : Valid object.items = (object-sound bytes object b e).spelled.valid in
+    let w : Valid other.items = (object-sound others other c f).spelled.valid in
     let one : IsListing (concat (typed bytes).0) object.items object.tail.trie = listed-of bytes object b e h in
     let two : IsListing (concat (typed bytes).0) other.items other.tail.trie =
     subst (λ (t : List ℕ). IsListing t other.items other.tail.trie) (sym same) (listed-of others other c f k) in (

@@ -6,7 +6,7 @@ use Rattle.mx_names.specs.Waiting.{first_of as earliest}
 use Rattle.mx_asm.specs.TwoPass.{value_in}
 use Rattle.mx_asm.proofs.StatementForms.{HasLabel, encoding-label}
 use Rattle.mx_asm.proofs.OpenWaits.{any_settles, is_settled, unsettled, open_waits, local-is, or-false}
-use Rattle.mx_asm.proofs.OneStatement.{AreLabels, labels-kept, standing_at, sight_local, locals_from, outcome}
+use Rattle.mx_asm.proofs.OneStatement.{AreLabels, labels-kept, status_at, sight_local, locals_from, outcome}
 use Rattle.mx_line.specs.Source.{items_from as line_items}
 use Rattle.mx_asm.proofs.OnePassLaw.{counting, counted_progress, lines_after, size_after, no-labels, some-lines}
 
@@ -172,7 +172,7 @@ module _ (out : List Item) (statements : List StatementTree) (last n m : ℕ) (h
   k = final_known statements
 
   abbrev a : Assembly
-  a = counting n m (standing_at k h sights (locals_from 0 sights))
+  a = counting n m (status_at k h sights (locals_from 0 sights))
 
   refused-alike : (fault : AsmFault) → (out, Err (refused (last_number n) fault)) ≡ assembled_with statements items (Some (refused last fault))
   refused-alike fault = λ i. (whole i, Err (refused (number i) fault))
@@ -197,7 +197,7 @@ module _ (out : List Item) (statements : List StatementTree) (last n m : ℕ) (h
 -- ---- the law
 
 outcome-ends : (line : Line) (lines : List Line) (statements : List StatementTree) (h : Head) (items : List Item) (r : Option Refused) → (r ≡ None → first_fault [] (sights_of statements) ≡ None) →
-    let p = counted_progress (lines_after 0 (line ∷ lines)) (size_after 0 (line ∷ lines)) (outcome (opening ++ items) r (standing_at (final_known statements) h (sights_of statements) (locals_from 0 (sights_of statements)))) in
+    let p = counted_progress (lines_after 0 (line ∷ lines)) (size_after 0 (line ∷ lines)) (outcome (opening ++ items) r (status_at (final_known statements) h (sights_of statements) (locals_from 0 (sights_of statements)))) in
     end_behind p.0 p.1 ≡ assembled_with statements items (first_of r (end_refusal (last_line (line ∷ lines)) statements))
 outcome-ends line lines statements h items r none = grind (arith, ended-alike, last-is)
 

@@ -48,14 +48,14 @@ end-behind out a = search (rules, append-nil, opening-behind, waits-behind)
 
 -- ---- lines that were taken
 
-pub stands-at : (lines : List Line) (a : Status) → a ≡ (lines_taken lines).1 → HasTaken lines a
-stands-at lines a is = record { taken = is; refusal = ap result_err is ∙ refusal-is lines }
+pub taken-at : (lines : List Line) (a : Status) → a ≡ (lines_taken lines).1 → HasTaken lines a
+taken-at lines a is = record { taken = is; refusal = ap result_err is ∙ refusal-is lines }
 
 taken-so : (lines : List Line) (a : Status) → HasTaken lines a → (lines_items lines, a) ≡ lines_taken lines
 taken-so lines a h = λ i. (sym (items-are lines) i, h.taken i)
 
 pub none-taken : HasTaken [] (Ok beginning)
-none-taken = stands-at [] (Ok beginning) refl
+none-taken = taken-at [] (Ok beginning) refl
 
 -- one line more
 more-taken : (lines : List Line) (text : Line) (a : Status) → HasTaken lines a → lines_taken (lines ++ text ∷ []) ≡ after_items (lines_items lines) (line_behind [] a text)
@@ -63,7 +63,7 @@ more-taken lines text a h = search (rules, fold-append, taken-so, line-behind)
 
 pub line-taken : (lines : List Line) (text : Line) (out next : List Item) (a b : Status) → (next, b) ≡ line_behind out a text → HasTaken lines a → HasTaken (lines ++ text ∷ []) b
 line-taken lines text out next a b is h =
-    stands-at (lines ++ text ∷ []) b (ap (λ (p : Progress). p.1) (is ∙ line-behind out a text) ∙ sym (ap (λ (p : Progress). p.1) (more-taken lines text a h)))
+    taken-at (lines ++ text ∷ []) b (ap (λ (p : Progress). p.1) (is ∙ line-behind out a text) ∙ sym (ap (λ (p : Progress). p.1) (more-taken lines text a h)))
 
 pub line-grows : (lines : List Line) (text : Line) (out next : List Item) (a b : Status) → (next, b) ≡ line_behind out a text → HasTaken lines a →
     GrowsAlike (lines_items lines) (lines_items (lines ++ text ∷ [])) out next

@@ -4,7 +4,7 @@ use Rattle.mx_asm.proofs.Words.{xor_zero_r, xor_zero_l, length-replicate, cond_b
 use Rattle.mx_mmo.specs.Meaning.{lined as lined_with}
 use Rattle.mx_asm.specs.Emission.{line_number_after}
 use Rattle.mx_asm.proofs.MeaningMemory.{pages-alike, HaveBytes, append-pages, pages-run, tetras-run, many-pages, same-numbers}
-use Rattle.mx_asm.proofs.MeaningStates.{State, stands, count_of, limited, Takes, lines_with, line_after, takes-both, takes-none, after_tetras, takes-tetras}
+use Rattle.mx_asm.proofs.MeaningStates.{State, loading_at, count_of, limited, Takes, lines_with, line_after, takes-both, takes-none, after_tetras, takes-tetras}
 
 -- ---- the items of bytes that a statement places, and what follows them
 
@@ -61,7 +61,7 @@ takes-same n items s t u e h = record { taken = h.taken ∙ e }
 abbrev pub at_lambda : State → ℕ → State
 at_lambda s a = record s { lambda = a }
 
-load-same : (n : ℕ) (s : State) (b t : ℕ) → s.lambda / 4 ≡ b / 4 → take_item (stands n s) (Load t) ≡ take_item (stands n (at_lambda s b)) (Load t)
+load-same : (n : ℕ) (s : State) (b t : ℕ) → s.lambda / 4 ≡ b / 4 → take_item (loading_at n s) (Load t) ≡ take_item (loading_at n (at_lambda s b)) (Load t)
 load-same n s b t e = grind (arith, nat_tests)
 
 pub loads-same : (n : ℕ) (s : State) (b : ℕ) (ts : List ℕ) → s.lambda / 4 ≡ b / 4 → 0 < length ts → take_items (map Load ts) (limited n s) ≡ take_items (map Load ts) (limited n (at_lambda s b))

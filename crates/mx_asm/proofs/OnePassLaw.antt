@@ -5,7 +5,7 @@ use Rattle.mx_line.specs.Source.{Item as Listed, before as listed_before, items_
 use Rattle.mx_asm.specs.Faults.{no_memory}
 use Rattle.mx_asm.specs.OnePass.{Tried, status_after, status_unless}
 use Rattle.mx_asm.proofs.OpenWaits.{open_waits}
-use Rattle.mx_asm.proofs.OneStatement.{standing_at, AreLabels, outcome, entries_outcome, entries-are}
+use Rattle.mx_asm.proofs.OneStatement.{status_at, AreLabels, outcome, entries_outcome, entries-are}
 
 -- ---- lines that are taken one after another: their entries are
 
@@ -154,7 +154,7 @@ no-labels full = refl
 abbrev pub lines_outcome : List StatementTree → Option Refused → Progress
 lines_outcome statements refusal = entries_outcome nothing_known first_head [] 0 opening statements refusal
 
-begun : (line : Line) (lines : List Line) → fold line_after ([], Ok beginning) (line ∷ lines) ≡ fold line_after (opening, Ok (counting 0 0 (standing_at nothing_known first_head [] 0))) (line ∷ lines)
+begun : (line : Line) (lines : List Line) → fold line_after ([], Ok beginning) (line ∷ lines) ≡ fold line_after (opening, Ok (counting 0 0 (status_at nothing_known first_head [] 0))) (line ∷ lines)
 unfolding open_waits
 begun line lines = refl
 
@@ -163,7 +163,7 @@ pub some-lines : (line : Line) (lines : List Line) →
 some-lines line lines =
     let listed : Same (lines_entries (line ∷ lines)) (entries_after 0 0 (line ∷ lines)) = are-listed (line ∷ lines) [] (line ∷ lines) refl in
     begun line lines
-    ∙ lines-are (line ∷ lines) 0 0 opening (standing_at nothing_known first_head [] 0)
+    ∙ lines-are (line ∷ lines) 0 0 opening (status_at nothing_known first_head [] 0)
     ∙ ap (counted_progress (lines_after 0 (line ∷ lines)) (size_after 0 (line ∷ lines)))
     (entries-are (entries_after 0 0 (line ∷ lines)) nothing_known first_head [] 0 opening no-labels
     ∙ (λ i. lines_outcome (sym listed.0 i) (sym listed.1 i)))

@@ -50,7 +50,7 @@ pub fn sheets_are_read_back()
 {}
 
 /// A column begins with a blank, so the numbers of a row are apart, however many digits they have.
-pub fn columns_stand_apart()
+pub fn columns_are_apart()
     ensures { (n : ℕ) → take 1 (column n) ≡ codes " " }
 {}
 

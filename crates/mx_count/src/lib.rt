@@ -17,7 +17,7 @@ pub use count::{Counted, count_image, count_source};
 pub use counted::count_lines;
 pub use counts::{Counts, Form};
 pub use laws::{
-    all_steps_are_counted, columns_stand_apart, counted_lines_are_those_of_the_traces,
+    all_steps_are_counted, columns_are_apart, counted_lines_are_those_of_the_traces,
     lines_are_sums_over_their_tetras, sheets_are_read_back, tallies_count_traces,
 };
 pub use lines::{CountedLine, CountedLines, LineSheet, next_tally};

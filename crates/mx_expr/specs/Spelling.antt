@@ -103,7 +103,7 @@ pub data FaultAt : List ℕ → ExprFault → ℕ → Type 0 where
 -- The least place counts, and at one place a field that is not spelled comes before the others.
 pub record IsFirst (field : List ℕ) (fault : ExprFault) : Type 0 where
   pub place : ℕ
-  pub stands : FaultAt field fault place
+  pub is_there : FaultAt field fault place
   pub least : (other : ExprFault) (there : ℕ) → FaultAt field other there → place ≤ there
   pub only : (other : ExprFault) → FaultAt field other place → (fault ≡ Syntax) ⊎ (other ≡ fault)
 

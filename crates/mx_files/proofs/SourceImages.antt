@@ -74,7 +74,7 @@ full-only false e h = cc
 
 module _ (source : List ℕ) (bytes : AreBytes source) where
   -- what lines before the rest stand for: they were taken, and their items mean something
-  record Stands (front rest : List Line) (a : Assembly) (s : Loading) : Type 0 where
+  record HasLoaded (front rest : List Line) (a : Assembly) (s : Loading) : Type 0 where
     whole : lines_of source ≡ front ++ rest
     taken : HasTaken front (Ok a)
     loaded : take_items (lines_items front) (Ok nothing) ≡ Ok s
@@ -119,7 +119,7 @@ module _ (source : List ℕ) (bytes : AreBytes source) where
   image-of (Ok s) m e = cc
   image-of (Err why) m e = absurd (cc)
 
-  ends : (front : List Line) (a : Assembly) (s : Loading) → Stands front [] a s → ended_with (Ok s) (end_behind [] (Ok a)) ≡ source_meaning source
+  ends : (front : List Line) (a : Assembly) (s : Loading) → HasLoaded front [] a s → ended_with (Ok s) (end_behind [] (Ok a)) ≡ source_meaning source
   ends front a s h = by (refusal source) refl
     where
       whole : lines_of source ≡ front
@@ -152,7 +152,7 @@ module _ (source : List ℕ) (bytes : AreBytes source) where
   -- ---- a line more
 
   abbrev Whole : List Line → List Line → Type 0
-  Whole front rest = (a : Assembly) (s : Loading) → Stands front rest a s →
+  Whole front rest = (a : Assembly) (s : Loading) → HasLoaded front rest a s →
       end_loaded (lines_loaded (length front + 1) rest (loading_status (Ok a) (Ok s))) ≡ source_meaning source
 
   next : (front texts : List Line) (text : Line) → Whole (front ++ text ∷ []) texts → Whole front (text ∷ texts)

@@ -1,7 +1,7 @@
 -- Lines that are taken one after another.
 use Rattle.std.proofs.Common.{◌≡◌, ℕ, List, [], ◌∷◌, fold, length, arith, refl, ap, subst, ◌∙◌, Ok, Err}
 use Rattle.mx_asm.proofs.EndLaw.{whole-is}
-use Rattle.mx_asm.proofs.InTurn.{refusal-stays, stands-at}
+use Rattle.mx_asm.proofs.InTurn.{refusal-stays, taken-at}
 use Rattle.mx_asm.proofs.OnePassLaw.{items-are}
 use Rattle.mx_asm.specs.OnePass.{Progress, Status, Ended, beginning, line_behind, end_behind}
 use Rattle.mx_asm.specs.Fitting.{AreFit}
@@ -33,7 +33,7 @@ pub start-taken : (lines : List (List ℕ)) (none out : List Item) (begun a : St
 start-taken lines none out begun a en eb e = e ∙ rw (en, eb) refl
 
 pub source-taken : (lines : List (List ℕ)) (out : List Item) (a : Status) → (out, a) ≡ lines_taken lines → HasTaken lines a
-source-taken lines out a e = stands-at lines a (ap (λ (p : Progress). p.1) e)
+source-taken lines out a e = taken-at lines a (ap (λ (p : Progress). p.1) e)
 
 pub source-ends : (lines : List (List ℕ)) (out : List Item) (a : Status) (ended : Ended) → (out, a) ≡ lines_taken lines → ended ≡ end_behind out a → ended ≡ assembled_lines lines
 source-ends lines out a ended e is = is ∙ ap (λ (p : Progress). end_behind p.0 p.1) e ∙ whole-is lines

@@ -21,7 +21,7 @@ pub use labels::{
     is_code_label, is_label,
 };
 pub use laws::{
-    carets_count_characters, carets_stand_under_their_fields, marks_begin_within_their_fields,
+    carets_are_under_their_fields, carets_count_characters, marks_begin_within_their_fields,
 };
 pub use marks::{Mark, field_mark, operation_at, room_at, slice_marked};
 pub use mending::{line_text, with_blank, with_label};

@@ -3,7 +3,7 @@ use Rattle.std.proofs.Common.{◌≡◌, ◌≢◌, ℕ, ◌+◌, ◌-◌, ◌*�
 use Rattle.mx_mmo.proofs.Words.{take-append-drop, drop_at, length-replicate, wide_lop, AreBytes, IsSkipped, Spells, Spelled, limit, tail_of, tail_after, end_count, phase_end, ItemFault, EndsWith, FaultOf, Left, Walk, items_of, object_of, object_after, object_fault, fault_in, onto, Item, Object, MmoFault, NotTetras, BadFields, Truncated, Phase, Start, Middle, Posted, Ended, bytes-behind, same-number, other-number, nat_tests, common_steps}
 use Rattle.mx_mmo.proofs.Complete.{end-told, items-read, left_behind, walk-spelled}
 use Rattle.mx_mmo.proofs.Pieces.{not-long}
-use Rattle.mx_mmo.proofs.Sound.{Stood, Stopped, Stands, left-bytes, stands}
+use Rattle.mx_mmo.proofs.Sound.{Stood, Stopped, IsSoundWalk, left-bytes, items-sound}
 use Rattle.mx_mmo.proofs.Spelt.{tetras-length, octas-length}
 use Rattle.mx_mmo.proofs.TetraFaults.{fault-first}
 use Rattle.mx_mmo.proofs.Told.{fault-found}
@@ -41,13 +41,13 @@ ends-met bytes trie count e = search (rules, items-read)
 abbrev Unmet : List ℕ → Type 0
 Unmet bytes = (f : MmoFault) → ¬ ItemFault bytes f
 
-behind-fault : (bytes : List ℕ) (fault : MmoFault) (w : Walk) → items_of Start 0 bytes ≡ w → Stands Start 0 bytes w → Unmet bytes →
+behind-fault : (bytes : List ℕ) (fault : MmoFault) (w : Walk) → items_of Start 0 bytes ≡ w → IsSoundWalk Start 0 bytes w → Unmet bytes →
     ((items : List Item) (left : Left) → Stood Start 0 bytes items left → tail_of left.phase left.at left.rest ≡ Err fault) → object_after w.0 w.1 ≡ Err fault
 behind-fault bytes fault w h1 h2 h3 h4 = search (rules, stopped-fault)
 
 end-fault : (bytes : List ℕ) (fault : MmoFault) → AreBytes bytes → length bytes ≤ limit → Unmet bytes →
     ((items : List Item) (left : Left) → Stood Start 0 bytes items left → tail_of left.phase left.at left.rest ≡ Err fault) → object_of bytes ≡ Err fault
-end-fault bytes fault b l n h = not-long bytes l ∙ behind-fault bytes fault (items_of Start 0 bytes) refl (stands bytes b) n h
+end-fault bytes fault b l n h = not-long bytes l ∙ behind-fault bytes fault (items_of Start 0 bytes) refl (items-sound bytes b) n h
 
 sizes : (bytes : List ℕ) (items : List Item) (left : Left) (s : Stood Start 0 bytes items left) → length bytes ≡ length s.front + length left.rest
 sizes bytes items left s = ap (λ (b : List ℕ). length b) s.first.whole ∙ length-append s.front left.rest
@@ -154,7 +154,7 @@ by-length bytes items left s fault true b l e h f = by-end bytes items left s fa
 by-length bytes items left s fault false b l e h f =
     record { fault = _; is = FaultOf.left_over bytes (no-fault-met bytes items left e) (other-number (length bytes % 4) 0 h) }
 
-by-walk : (bytes : List ℕ) (w : Walk) (fault : MmoFault) → AreBytes bytes → length bytes ≤ limit → items_of Start 0 bytes ≡ w → Stands Start 0 bytes w → object_of bytes ≡ Err fault → InTable bytes
+by-walk : (bytes : List ℕ) (w : Walk) (fault : MmoFault) → AreBytes bytes → length bytes ≤ limit → items_of Start 0 bytes ≡ w → IsSoundWalk Start 0 bytes w → object_of bytes ≡ Err fault → InTable bytes
 by-walk bytes (items, Err other) fault b l e s f = record { fault = other; is = FaultOf.of_item bytes other (stopped-fault bytes items other s) }
 by-walk bytes (items, Ok left) fault b l e s f = by-length bytes items left s fault (length bytes % 4 == 0) b l e refl f
 
@@ -167,5 +167,5 @@ refused r fault h = grind arith
 pub table-found : (bytes : List ℕ) (fault : MmoFault) → AreBytes bytes → length bytes ≤ limit → object_fault bytes ≡ Some fault → FaultOf bytes fault
 table-found bytes fault b l e =
     let r = refused (object_of bytes) fault e in
-    let t = by-walk bytes (items_of Start 0 bytes) fault b l refl (stands bytes b) r in
+    let t = by-walk bytes (items_of Start 0 bytes) fault b l refl (items-sound bytes b) r in
     subst (λ (f : MmoFault). FaultOf bytes f) (same-fault bytes fault t.fault r (told b l t.is)) t.is

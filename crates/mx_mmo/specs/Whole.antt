@@ -5,7 +5,7 @@ use Rattle.std.specs.Prelude.{◌≡◌, ℕ, zero, suc, ◌+◌, nat_lt, List, 
 use Rattle.mx_mmo.specs.Object.{IsObject}
 use Rattle.mx_mmo.specs.Reading.{Due, first_item}
 use Rattle.mx_mmo.specs.Replies.{ReaderModel, phase_after, tail_of, limit}
-use Rattle.mx_mmo.specs.Turns.{StandFirst}
+use Rattle.mx_mmo.specs.Turns.{ComeFirst}
 use Rattle.mx_mmo.specs.declared.items.Item.{Item}
 use Rattle.mx_mmo.specs.declared.items.Tail.{Tail}
 use Rattle.mx_mmo.specs.declared.items.Object.{Object}
@@ -107,7 +107,7 @@ pub record SpellsObject (bytes : List ℕ) (object : Object) : Type 0 where
   pub place : object.tail.place ≡ length spelled.front
 
 -- these items are first in bytes, and what is left begins where they end
-pub record StandAt (bytes : List ℕ) (items : List Item) (left : Left) : Type 0 where
+pub record AreAt (bytes : List ℕ) (items : List Item) (left : Left) : Type 0 where
   pub front : List ℕ
-  pub first : StandFirst Start bytes items front left.rest
+  pub first : ComeFirst Start bytes items front left.rest
   pub place : left.at ≡ length front

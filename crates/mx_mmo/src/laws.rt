@@ -6,7 +6,7 @@ ghost use Rattle.mx_mmo.specs.Reading.{first_item};
 ghost use Rattle.mx_mmo.specs.Replies.{limit};
 ghost use Rattle.mx_mmo.specs.Spelling.{ending, written};
 ghost use Rattle.mx_mmo.specs.Valid.{AreBytes, Valid};
-ghost use Rattle.mx_mmo.specs.Whole.{Left, SpellsObject, StandAt, extended, items_of, object_fault, object_of, walk};
+ghost use Rattle.mx_mmo.specs.Whole.{AreAt, Left, SpellsObject, extended, items_of, object_fault, object_of, walk};
 ghost use Rattle.mx_mmo.specs.Whole.{walk_on};
 ghost use Rattle.mx_mmo.specs.declared.due.Phase.{Phase};
 ghost use Rattle.mx_mmo.specs.declared.faults.MmoFault.{MmoFault};
@@ -40,9 +40,9 @@ pub fn faults_are_the_table()
 {}
 
 /// An item begins where the items before it end.
-pub fn items_stand_at_their_places()
+pub fn items_are_at_their_places()
     ensures { (count : ℕ) (bytes : List ℕ) (items : List Item) (left : Left) → AreBytes bytes →
-        walk count Phase.Start 0 bytes ≡ (items, Ok left) → StandAt bytes items left }
+        walk count Phase.Start 0 bytes ≡ (items, Ok left) → AreAt bytes items left }
 {}
 
 /// The items of bytes are the first one and those of the bytes after it; and where more bytes come,

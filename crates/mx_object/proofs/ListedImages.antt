@@ -22,7 +22,7 @@ use Rattle.mx_mmo.specs.declared.items.Item.{Item}
 use Rattle.mx_mmo.specs.declared.items.Item.TheVariants.{Load, Loc, Skip, FixOcta, FixNear, FixFar, File, Line, Spec, Pre, Post, Stab}
 use Rattle.mx_mmo.specs.declared.items.Object.{Object}
 use Rattle.mx_mmo.specs.declared.items.Tail.{Tail}
-use Rattle.mx_mmo.proofs.Sound.{object-stands}
+use Rattle.mx_mmo.proofs.Sound.{object-sound}
 use Rattle.mx_load.specs.Objects.{object_loaded}
 use Rattle.mx_load.proofs.Apart.{loaded-means}
 use Rattle.mx_type.proofs.Lambdas.{meaning-moved}
@@ -311,7 +311,7 @@ listing-is-image bytes m symbols a are loaded low =
     let means = loaded-means bytes m symbols loaded in
     let object : Object = means.0 in
     let items : items_in bytes ≡ object.items = object-items bytes object means.1 in
-    let left : Left-at a (items_in bytes) m = subst (λ is. Left-at a is m) (sym items) (image-left object.items m a (object-stands bytes object are means.1).spelled.valid.fits means.2) in
+    let left : Left-at a (items_in bytes) m = subst (λ is. Left-at a is m) (sym items) (image-left object.items m a (object-sound bytes object are means.1).spelled.valid.fits means.2) in
     by (has (addresses_of (items_in bytes)) (tetra_address a)) refl left
   where
     by : (b : Bool) → has (addresses_of (items_in bytes)) (tetra_address a) ≡ b → Left-at a (items_in bytes) m →

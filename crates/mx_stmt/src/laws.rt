@@ -52,7 +52,7 @@ pub fn knowledge_stays_sound()
 
 /// The bytes of a statement are bytes below the stack segment, and each of its references is at a
 /// multiple of 4 within them.
-pub fn references_stand_in_their_bytes()
+pub fn references_are_in_their_bytes()
     ensures { (t : Targets) (k : Known) (s : StatementTree) (p : Placed) → encoding t k s ≡ Ok p → IsLaid p }
 {}
 

@@ -45,9 +45,9 @@ fn add_stop(text: &mut Bytes, who: u8, end: MultiEnd) -> Result<(), NoMemory>
 }
 
 /// Adds what became of a processor.
-fn add_standing(text: &mut Bytes, multi: &Multi, end: MultiEnd, who: u8) -> Result<(), NoMemory>
+fn add_status(text: &mut Bytes, multi: &Multi, end: MultiEnd, who: u8) -> Result<(), NoMemory>
     requires { who < processor_count multi.now }
-    ensures { OnOk result (text.new ≡ text.old ++ spec.standing_text end (joint_of multi.now) who) }
+    ensures { OnOk result (text.new ≡ text.old ++ spec.status_text end (joint_of multi.now) who) }
 {
     if multi.halted(who) {
         text.extend(b" halted ")?;
@@ -63,7 +63,7 @@ fn processor_text(alloc: Global, multi: &Multi, end: MultiEnd, who: u8) -> Resul
 {
     let mut text = Bytes::copy(alloc, b"processor ")?;
     add_decimal(&mut text, u64::from(who))?;
-    add_standing(&mut text, multi, end, who)?;
+    add_status(&mut text, multi, end, who)?;
     text.extend(b" steps ")?;
     add_decimal(&mut text, multi.processor(who).steps())?;
     text.extend(b"\n")?;

@@ -68,7 +68,7 @@ pub fn lines_come_with_their_newline<M: Space>()
 /// Bytes that are stored, none of them refused, are at the addresses from a on; every other byte and
 /// the rest of the space are as before.
 #[tactic(auto, using(crate::proofs::StoredBytes::storing))]
-pub fn stored_bytes_stand<M: Space>()
+pub fn stored_bytes_are_there<M: Space>()
     ensures bytes { (bytes : List ℕ) (a : ℕ) (s : Contents M.Rest) (q : ℕ) →
         (end_of space (bytes_stored bytes a) s).0 ≡ Ok tt →
         (end_of space (bytes_stored bytes a) s).1.bytes q ≡ stored_byte bytes a s.bytes q }

@@ -3,7 +3,7 @@ use Rattle.std.proofs.Common.{◌≡◌, ℕ, List, [], ◌∷◌, ◌++◌, app
 use Rattle.mx_mmo.specs.declared.items.Item.{Item}
 use Rattle.mx_type.specs.Lambda.{lambda_after, lambda_behind}
 use Rattle.mx_asm.specs.Whole.{Line, lines_items, lines_taken}
-use Rattle.mx_asm.proofs.InTurn.{stands-at}
+use Rattle.mx_asm.proofs.InTurn.{taken-at}
 use Rattle.mx_view.specs.declared.cells.Wanted.{Wanted}
 use Rattle.mx_view.specs.Cells.{cell_of, cells_of}
 use Rattle.mx_view.specs.Listing.{added_items, line_cells, cells_after}
@@ -20,7 +20,7 @@ cells-append w lambda (item ∷ items) more =
 pub items-grow : (before : List Line) (line : Line) → lines_items (before ++ line ∷ []) ≡ lines_items before ++ added_items before line
 items-grow before line =
     let a = (lines_taken before).1 in
-    let taken = stands-at before a refl in
+    let taken = taken-at before a refl in
     grown before line a taken ∙ ap (λ x. lines_items before ++ x) (sym (added-is before line a taken))
 
 cells-grow : (w : Wanted) (before : List Line) (line : Line) → cells_of w 0 (lines_items (before ++ line ∷ [])) ≡ cells_of w 0 (lines_items before) ++ line_cells w before line

@@ -6,7 +6,7 @@ use Rattle.mx_asm.specs.Refusal.{refusal}
 use Rattle.mx_asm.specs.Whole.{Line, lines_refusal, lines_taken}
 use Rattle.mx_asm.specs.declared.refused.Refused.{Refused}
 use Rattle.mx_asm.proofs.EndLaw.{both-none}
-use Rattle.mx_asm.proofs.InTurn.{stands-at, refusal-lasts}
+use Rattle.mx_asm.proofs.InTurn.{taken-at, refusal-lasts}
 use Rattle.mx_view.specs.declared.cells.Cell.{Cell}
 use Rattle.mx_view.specs.declared.cells.Wanted.TheVariants.{All}
 use Rattle.mx_view.specs.ListingParts.{each_line_once}
@@ -21,10 +21,10 @@ lasting front later r e = by (lines_taken front).1 refl
     same s h = cc
 
     by : (a : Status) → (lines_taken front).1 ≡ a → lines_refusal (front ++ later) ≡ Some r
-    by (Ok b) is = let h = (stands-at front (Ok b) (sym is)).refusal in absurd (cc)
+    by (Ok b) is = let h = (taken-at front (Ok b) (sym is)).refusal in absurd (cc)
     by (Err s) is =
-        let h = stands-at front (Err s) (sym is) in
-        sym (stands-at (front ++ later) (Err s) (sym (ap (λ p. p.1) (refusal-lasts front later s h)))).refusal ∙ ap (λ q. Some q) (same s h.refusal)
+        let h = taken-at front (Err s) (sym is) in
+        sym (taken-at (front ++ later) (Err s) (sym (ap (λ p. p.1) (refusal-lasts front later s h)))).refusal ∙ ap (λ q. Some q) (same s h.refusal)
 
 open-front : (front later : List Line) → lines_refusal (front ++ later) ≡ None → lines_refusal front ≡ None
 open-front front later none = by (lines_refusal front) refl

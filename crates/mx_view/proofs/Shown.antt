@@ -14,7 +14,7 @@ use Rattle.mx_view.specs.declared.cells.Wanted.{Wanted}
 use Rattle.mx_view.specs.Cells.{cells_of}
 use Rattle.mx_view.specs.Rows.{Meaning, listed}
 use Rattle.mx_view.specs.Listing.{added_items, line_cells, line_listed, listed_unless, listed_after, lines_listed}
-use Rattle.mx_view.specs.InTurn.{items_at, standing_at, listed_at, listed_in_turn, standing_behind, all_listed, end_of}
+use Rattle.mx_view.specs.InTurn.{items_at, status_at, listed_at, listed_in_turn, status_after_lines, all_listed, end_of}
 use Rattle.mx_view.proofs.LineTurns.{listed-behind}
 
 pub lambda-append : (lambda : ℕ) (items more : List Item) → lambda_behind lambda (items ++ more) ≡ lambda_behind (lambda_behind lambda items) more
@@ -58,21 +58,21 @@ unfolding listed_after listed_in_turn
 lines-are m w [] before a h = refl
 lines-are m w (line ∷ later) before (Ok a) h =
     (λ i. open-line m w before line (Ok a) h (sym h.refusal) i
-    ++ (lines-are m w later (before ++ line ∷ []) (standing_at (Ok a) line) (one-more-taken before line [] (Ok a) h)
-    ∙ (λ j. listed_in_turn m w (more-length before line j + 1) (lambda-is before line (Ok a) h j) (standing_at (Ok a) line) later)) i)
+    ++ (lines-are m w later (before ++ line ∷ []) (status_at (Ok a) line) (one-more-taken before line [] (Ok a) h)
+    ∙ (λ j. listed_in_turn m w (more-length before line j + 1) (lambda-is before line (Ok a) h j) (status_at (Ok a) line) later)) i)
 lines-are m w (line ∷ later) before (Err r) h =
     (λ i. closed-line m w before line r (sym h.refusal) i
     ++ (lines-are m w later (before ++ line ∷ []) (Err r) (one-more-taken before line [] (Err r) h) ∙ listed-behind m w _ _ (Err r) later refl) i)
 
-all-taken : (later before : List Line) (a : Status) → HasTaken before a → HasTaken (before ++ later) (standing_behind a later)
-unfolding standing_behind
+all-taken : (later before : List Line) (a : Status) → HasTaken before a → HasTaken (before ++ later) (status_after_lines a later)
+unfolding status_after_lines
 all-taken [] before a h = subst (λ l. HasTaken l a) (sym (append-nil before)) h
 all-taken (line ∷ later) before a h =
-    subst (λ l. HasTaken l (standing_behind (standing_at a line) later)) (append_assoc before (line ∷ []) later)
-    (all-taken later (before ++ line ∷ []) (standing_at a line) (one-more-taken before line [] a h))
+    subst (λ l. HasTaken l (status_after_lines (status_at a line) later)) (append_assoc before (line ∷ []) later)
+    (all-taken later (before ++ line ∷ []) (status_at a line) (one-more-taken before line [] a h))
 
-ends-are : (lines : List Line) → (end_behind [] (standing_behind (Ok beginning) lines)).1 ≡ (assembled_lines lines).1
-ends-are lines = taken-ends lines [] (standing_behind (Ok beginning) lines) (all-taken lines [] (Ok beginning) none-taken)
+ends-are : (lines : List Line) → (end_behind [] (status_after_lines (Ok beginning) lines)).1 ≡ (assembled_lines lines).1
+ends-are lines = taken-ends lines [] (status_after_lines (Ok beginning) lines) (all-taken lines [] (Ok beginning) none-taken)
 
 pub lines-shown : (m : Meaning) (w : Wanted) (source : List ℕ) → m ≡ source_meaning source → all_listed m w (lines_of source) ≡ lines_listed w source
 unfolding lines_of lambda_behind

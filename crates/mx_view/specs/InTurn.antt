@@ -15,8 +15,8 @@ use Rattle.mx_view.specs.Rows.{Meaning, listed}
 abbrev pub items_at : Status → Line → List Item
 items_at a line = (line_behind [] a line).0
 
-abbrev pub standing_at : Status → Line → Status
-standing_at a line = (line_behind [] a line).1
+abbrev pub status_at : Status → Line → Status
+status_at a line = (line_behind [] a line).1
 
 -- a line with this number, if it is listed, where lambda is an address before it
 abbrev pub listed_at : Meaning → Wanted → ℕ → ℕ → Status → Line → List ListedLine
@@ -28,12 +28,12 @@ listed_in_turn m wanted number lambda a [] = []
 listed_in_turn m wanted number lambda (Err refused) (line ∷ later) = []
 listed_in_turn m wanted number lambda (Ok a) (line ∷ later) =
     listed_at m wanted number lambda (Ok a) line
-    ++ listed_in_turn m wanted (number + 1) (lambda_behind lambda (items_at (Ok a) line)) (standing_at (Ok a) line) later
+    ++ listed_in_turn m wanted (number + 1) (lambda_behind lambda (items_at (Ok a) line)) (status_at (Ok a) line) later
 
 -- what follows lines
-unfoldable pub standing_behind : Status → List Line → Status
-standing_behind a [] = a
-standing_behind a (line ∷ later) = standing_behind (standing_at a line) later
+unfoldable pub status_after_lines : Status → List Line → Status
+status_after_lines a [] = a
+status_after_lines a (line ∷ later) = status_after_lines (status_at a line) later
 
 -- those of all lines that are listed
 abbrev pub all_listed : Meaning → Wanted → List Line → List ListedLine
@@ -41,4 +41,4 @@ all_listed m wanted lines = listed_in_turn m wanted 1 0 (Ok beginning) lines
 
 -- the trie or the refusal after all lines
 abbrev pub end_of : List Line → Result (List ℕ) Refused
-end_of lines = (end_behind [] (standing_behind (Ok beginning) lines)).1
+end_of lines = (end_behind [] (status_after_lines (Ok beginning) lines)).1

@@ -7,7 +7,7 @@ use Rattle.mx_asm.specs.OnePass.{Status}
 use Rattle.mx_view.specs.declared.cells.Cell.{Cell}
 use Rattle.mx_view.specs.declared.cells.Wanted.TheVariants.{All}
 use Rattle.mx_view.specs.Cells.{cells_of}
-use Rattle.mx_view.specs.InTurn.{items_at, standing_at}
+use Rattle.mx_view.specs.InTurn.{items_at, status_at}
 use Rattle.mx_view.specs.Listing.{line_cells}
 
 -- those of lines that follow others; a line after a faulty one loads none
@@ -27,4 +27,4 @@ load_at lambda a line = cells_of All lambda (items_at a line)
 unfoldable pub loads_in_turn : ℕ → Status → List Line → List (List Cell)
 loads_in_turn lambda a [] = []
 loads_in_turn lambda a (line ∷ later) =
-    load_at lambda a line ∷ loads_in_turn (lambda_behind lambda (items_at a line)) (standing_at a line) later
+    load_at lambda a line ∷ loads_in_turn (lambda_behind lambda (items_at a line)) (status_at a line) later

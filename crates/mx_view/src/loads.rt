@@ -30,7 +30,7 @@ fn add_load(
         loads.new ≡ loads.old ++ spec.load_at lambda.old assembler.old line.now ∷ []) }
     ensures lambda { OnOk result (
         lambda.new ≡ lambdas.lambda_behind lambda.old (turns.items_at assembler.old line.now)) }
-    ensures standing { OnOk result (assembler.new ≡ turns.standing_at assembler.old line.now) }
+    ensures status { OnOk result (assembler.new ≡ turns.status_at assembler.old line.now) }
 {
     let mut items = Items::new(alloc);
     take_line(assembler, &mut items, line)?;

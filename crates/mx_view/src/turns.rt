@@ -31,7 +31,7 @@ fn add_line(
         ++ spec.listed_at (meaning_in meaning.now) wanted number lambda.old assembler.old line.now) }
     ensures lambda { OnOk result (
         lambda.new ≡ lambdas.lambda_behind lambda.old (spec.items_at assembler.old line.now)) }
-    ensures standing { OnOk result (assembler.new ≡ spec.standing_at assembler.old line.now) }
+    ensures status { OnOk result (assembler.new ≡ spec.status_at assembler.old line.now) }
     ensures open { IfOk result (λ is. is ≡ is_ok assembler.new) }
 {
     let mut items = Items::new(alloc);
@@ -63,8 +63,8 @@ pub(crate) fn add_lines(
     requires open { is_ok assembler.old ≡ true }
     ensures listed { OnOk result (lines.new ≡ lines.old
         ++ spec.listed_in_turn (meaning_in meaning.now) wanted 1 0 assembler.old (lines_of source.now)) }
-    ensures standing { OnOk result (
-        assembler.new ≡ spec.standing_behind assembler.old (lines_of source.now)) }
+    ensures status { OnOk result (
+        assembler.new ≡ spec.status_after_lines assembler.old (lines_of source.now)) }
 {
     let mut rest = source;
     let mut number = 1u32;

@@ -19,7 +19,7 @@ use Rattle.mx_walk.specs.declared.walk.Stop.{Stop}
 use Rattle.mx_walk.specs.Walks.{HasTurned, ArePlain, IsAt, IsPlain, IsRefused, IsText, Walk, source_refusal, text_of}
 use Rattle.mx_walk.proofs.PlainLines.{plain-lines, line-first, text-lines, text-back, text-push, text-append}
 
--- ---- standings, but for whether the opening was added
+-- ---- statuses, but for whether the opening was added
 
 -- what a line leaves
 abbrev after : Status → Line → Status
@@ -94,7 +94,7 @@ pub text-with : (front : List ℕ) (h : IsText front) (more : List Line) → fro
 text-with front h more = ap (λ (t : List ℕ). t ++ text_of more) h.is ∙ sym (text-append h.lines more)
 
 pub at-start : (w : Walk) → w.assembler ≡ Ok beginning → w.front ≡ [] → w.number ≡ 1 → IsAt w
-at-start w a f n = record { text = record { lines = []; plain = tt; is = f }; standing = ap (map_ok opened) a; number = n }
+at-start w a f n = record { text = record { lines = []; plain = tt; is = f }; status = ap (map_ok opened) a; number = n }
 
 pub at-next : (w v : Walk) (line : Line) (items : List Item) → IsAt w → IsPlain line → (items, v.assembler) ≡ line_behind [] w.assembler line →
     v.front ≡ w.front ++ with_newline line → v.number ≡ w.number + 1 → IsAt v
@@ -107,8 +107,8 @@ at-next w v line items h plain is front number =
         plain = all-both IsPlain lines (line ∷ []) h.text.plain (plain, tt);
         is = front ∙ ap (λ (t : List ℕ). t ++ with_newline line) h.text.is ∙ sym (text-push lines line);
       };
-      standing =
-          ap (map_ok opened) (ap (λ (p : Progress). p.1) is ∙ same-after w.assembler (lines_taken lines).1 line h.standing
+      status =
+          ap (map_ok opened) (ap (λ (p : Progress). p.1) is ∙ same-after w.assembler (lines_taken lines).1 line h.status
           ∙ sym (taken-push lines line));
       number = omega (arith, number, h.number, size);
     }
@@ -116,7 +116,7 @@ at-next w v line items h plain is front number =
 pub at-kept : (w v : Walk) → IsAt w → v.assembler ≡ map_ok opened w.assembler → v.front ≡ w.front → v.number ≡ w.number → IsAt v
 at-kept w v h a f n = record {
   text = record { lines = h.text.lines; plain = h.text.plain; is = f ∙ h.text.is };
-  standing = ap (map_ok opened) a ∙ opened-twice w.assembler ∙ h.standing;
+  status = ap (map_ok opened) a ∙ opened-twice w.assembler ∙ h.status;
   number = n ∙ h.number;
 }
 
@@ -124,7 +124,7 @@ pub refused-at : (w : Walk) (line : Line) (items : List Item) (r : Refused) → 
 refused-at w line items r h plain is = λ later others.
     ap source_refusal (text-with w.front h.text (line ∷ later))
     ∙ refused-here h.text.lines later line r (all-both IsPlain h.text.lines (line ∷ later) h.text.plain (plain, others))
-    (sym (same-after w.assembler (lines_taken h.text.lines).1 line h.standing) ∙ sym (ap (λ (p : Progress). p.1) is))
+    (sym (same-after w.assembler (lines_taken h.text.lines).1 line h.status) ∙ sym (ap (λ (p : Progress). p.1) is))
 
 -- ---- what the assembler answers
 
@@ -174,7 +174,7 @@ module _ (w x : Walk) (line : Line) (out items : List Item) (a : Status) (t : Tr
 pub end-refused : (w : Walk) (out : List Item) → IsAt w → source_refusal w.front ≡ result_err (end_behind out w.assembler).1
 end-refused w out h =
     ap (λ ls. result_err (assembled_lines ls).1) (ap lines_of h.text.is ∙ text-back h.text.lines h.text.plain) ∙ end-refusal h.text.lines
-    ∙ ap result_err (sym (same-end w.assembler (lines_taken h.text.lines).1 out (lines_taken h.text.lines).0 h.standing))
+    ∙ ap result_err (sym (same-end w.assembler (lines_taken h.text.lines).1 out (lines_taken h.text.lines).0 h.status))
 
 -- the source that a text is refused in
 pub text-source : (front rest : List ℕ) (text : Line) → IsText front → IsPlain text → lines_of (front ++ (with_newline text ++ rest)) ≡ lines_of (front ++ text_of (text ∷ lines_of rest))

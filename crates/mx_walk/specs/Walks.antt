@@ -37,7 +37,7 @@ pub record Walk : Type 0 where
 -- The assembler is that after the lines that were taken, but that it may have added the opening before the first one.
 pub record IsAt (w : Walk) : Type 0 where
   pub text : IsText w.front
-  pub standing : map_ok opened w.assembler ≡ map_ok opened (lines_taken text.lines).1
+  pub status : map_ok opened w.assembler ≡ map_ok opened (lines_taken text.lines).1
   pub number : w.number ≡ length text.lines + 1
 
 -- why a source is refused when it is assembled, if it is

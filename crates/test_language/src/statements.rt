@@ -117,7 +117,7 @@ fn first_faults(rt: HostRuntime) {
 }
 
 #[test]
-fn predefined_symbols_behind_a_prefix(rt: HostRuntime) {
+fn predefined_symbols_after_a_prefix(rt: HostRuntime) {
     words_are(&rt, rt.alloc(), ":p:", &Gregs::new(), 0, &PREFIXED);
 }
 

@@ -138,6 +138,6 @@ fn ends_with(alloc: Global, last: &str) -> Option<bool> {
 }
 
 #[test]
-fn numbers_of_lines_stand_apart(rt: HostRuntime) {
+fn numbers_of_lines_are_apart(rt: HostRuntime) {
     assert_eq!(rt; ends_with(rt.alloc(), FAR_DOWN), Some(true));
 }
