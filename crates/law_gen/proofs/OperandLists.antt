@@ -136,15 +136,15 @@ register-taken text n lt is done =
 comma-read : (mode : Mode) (rest : List Waiting) (e : Tree) (done : List Tree) → ends mode rest ≡ Some (e, []) → step (st mode rest 0 done) 44 ≡ Ok (st operand [] 0 (done ++ e ∷ []))
 comma-read mode rest e done h1 = search rules
 
-behind : (t : List ℕ) (ts : List (List ℕ)) (e : Tree) (es done : List Tree) → Each IsTaken (t ∷ ts) (e ∷ es) →
+following : (t : List ℕ) (ts : List (List ℕ)) (e : Tree) (es done : List Tree) → Each IsTaken (t ∷ ts) (e ∷ es) →
     reading_end (steps (st operand [] 0 done) (join_with_byte 44 (t ∷ ts))) ≡ Ok (done ++ e ∷ es)
-behind t [] e [] done are = let q = are.0 done in ap reading_end q.read ∙ finish-ends q.mode q.rest (e, []) done q.ending
-behind t (u ∷ ts) e (f ∷ es) done are =
+following t [] e [] done are = let q = are.0 done in ap reading_end q.read ∙ finish-ends q.mode q.rest (e, []) done q.ending
+following t (u ∷ ts) e (f ∷ es) done are =
     let q = are.0 done in
     ap reading_end (steps-on _ _ t (44 ∷ join_with_byte 44 (u ∷ ts)) q.read ∙ steps-first _ _ 44 (join_with_byte 44 (u ∷ ts)) (comma-read q.mode q.rest e done q.ending))
-    ∙ behind u ts f es (done ++ e ∷ []) are.1
+    ∙ following u ts f es (done ++ e ∷ []) are.1
     ∙ ap Ok (append_assoc done (e ∷ []) (f ∷ es))
-behind t ts e es done are = absurd are.1
+following t ts e es done are = absurd are.1
 
 field-read : (field : List ℕ) (list : List Tree) → reading_end (steps start field) ≡ Ok list → reading.reading field ≡ Ok list
 field-read field list h1 = search (rules, steps-none)
@@ -153,4 +153,4 @@ field-read field list h1 = search (rules, steps-none)
 pub list-read : (ts : List (List ℕ)) (es : List Tree) → 0 < length es → Each IsTaken ts es → reading.reading (join_with_byte 44 ts) ≡ Ok es
 list-read ts [] some are = absurd (omega (arith, some))
 list-read [] (e ∷ es) some are = absurd are
-list-read (t ∷ ts) (e ∷ es) some are = field-read (join_with_byte 44 (t ∷ ts)) (e ∷ es) (behind t ts e es [] are)
+list-read (t ∷ ts) (e ∷ es) some are = field-read (join_with_byte 44 (t ∷ ts)) (e ∷ es) (following t ts e es [] are)

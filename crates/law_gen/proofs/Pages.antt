@@ -14,14 +14,14 @@ low-from : (start : ℕ) (bytes : List ℕ) → start + length bytes ≤ 2 ^ 18 
 low-from start [] h = tt
 low-from start (b ∷ bytes) h = (omega (arith, h), low-from (start + 1) bytes (omega (arith, h)))
 
-behind-front : (front old new : List (ℕ × ℕ)) → (AllByRecursion IsLowPlace old → AllByRecursion IsLowPlace new) → AllByRecursion IsLowPlace (front ++ old) → AllByRecursion IsLowPlace (front ++ new)
-behind-front [] old new f h = f h
-behind-front (x ∷ xs) old new f h = (h.0, behind-front xs old new f h.1)
+after-front : (front old new : List (ℕ × ℕ)) → (AllByRecursion IsLowPlace old → AllByRecursion IsLowPlace new) → AllByRecursion IsLowPlace (front ++ old) → AllByRecursion IsLowPlace (front ++ new)
+after-front [] old new f h = f h
+after-front (x ∷ xs) old new f h = (h.0, after-front xs old new f h.1)
 
 placements-append : (ps qs : List Piece) → AllByRecursion IsLowPlace (placements ps) → AllByRecursion IsLowPlace (placements qs) → AllByRecursion IsLowPlace (placements (ps ++ qs))
 unfolding placements
 placements-append [] qs h g = g
-placements-append (p ∷ ps) qs h g = behind-front (from_place p.start p.bytes) (placements ps) (placements (ps ++ qs)) (λ k. placements-append ps qs k g) h
+placements-append (p ∷ ps) qs h g = after-front (from_place p.start p.bytes) (placements ps) (placements (ps ++ qs)) (λ k. placements-append ps qs k g) h
 
 low-outlined : (sights : List Sight) → AllByRecursion IsFine sights → AllByRecursion IsLowPlace (placements (outlined sights))
 unfolding outlined placements

@@ -8,8 +8,8 @@ module _ (k : Known) where
   field-read : (limit n : ℕ) → n < limit → field_at limit k (number n) ≡ Ok n
   field-read limit n lt = rw (lt-ltb n limit lt) refl
 
-  behind-byte : {A : Type 0} (n : ℕ) (next : ℕ → Answer A) → n < 256 → and_then (field_at 256 k (number n)) next ≡ next n
-  behind-byte n next lt = ap (λ a. and_then a next) (field-read 256 n lt)
+  after-byte : {A : Type 0} (n : ℕ) (next : ℕ → Answer A) → n < 256 → and_then (field_at 256 k (number n)) next ≡ next n
+  after-byte n next lt = ap (λ a. and_then a next) (field-read 256 n lt)
 
   -- the last operand, and the code by it
   last-read : (i : Bool) (low code x y z : ℕ) → z < 256 → cond i (low + 1) low ≡ code →

@@ -1,6 +1,6 @@
 -- Statements that place few bytes low in memory, and whose references are near, are not refused.
 use Rattle.std.proofs.Common.{◌≡◌, ℕ, ◌+◌, ◌-◌, ◌/◌, ◌%◌, ◌^◌, ◌<◌, ◌≤◌, Bool, false, cond, List, [], ◌∷◌, ◌++◌, length, fold, filter, Option, None, Some, Ok, refl, sym, ap, ◌∙◌, arith, subst, ⊎_elim, nat_le, rules}
-use Rattle.law_gen.proofs.Words.{AllByRecursion, list_any, cond_both, cases_lt, le-leb, lt-ltb, nat_tests, Value, Pure, Reg, Wait, Near, NameTable, Placed, near_reach, forward_word, backward_word, relative_word, Known, no_targets, StatementTree, encoding, Sight, known_behind, known_with, known_after, sights_from, outline, waits_in, references, is_local, label_fault, refusal_of, statement_fault, first_of, first_fault, unreferenced, first_undefined, locals}
+use Rattle.law_gen.proofs.Words.{AllByRecursion, list_any, cond_both, cases_lt, le-leb, lt-ltb, nat_tests, Value, Pure, Reg, Wait, Near, NameTable, Placed, near_reach, forward_word, backward_word, relative_word, Known, no_targets, StatementTree, encoding, Sight, known_following, known_with, known_after, sights_from, outline, waits_in, references, is_local, label_fault, refusal_of, statement_fault, first_of, first_fault, unreferenced, first_undefined, locals}
 use Rattle.mx_mmo.specs.declared.items.Item.{Item}
 use Rattle.mx_stmt.specs.declared.placed.Effect.TheVariants as effect
 use Rattle.mx_asm.specs.Fixes.{from_last, relative_fix, word_fix, pure_fix, fix_of, with_fix, fixes, awaited_value}
@@ -140,11 +140,11 @@ pub record AreGood (final : NameTable) (k : Known) (statements : List StatementT
 -- a statement that comes to this and leads to what is known then
 pub record Leads (k : Known) (s : StatementTree) (p : Placed) (k' : Known) : Type 0 where
   pub placed : encoding no_targets k s ≡ Ok p
-  pub behind : known_behind k s p ≡ k'
+  pub following : known_following k s p ≡ k'
 
 pub known-then : (k : Known) (s : StatementTree) (p : Placed) (k' : Known) → Leads k s p k' → known_after k s ≡ k'
 unfolding known_after
-known-then k s p k' h = ap (known_with k s) h.placed ∙ h.behind
+known-then k s p k' h = ap (known_with k s) h.placed ∙ h.following
 
 pub sights-then : (k : Known) (s : StatementTree) (p : Placed) (k' : Known) (later : List StatementTree) → Leads k s p k' → sights_from k (s ∷ later) ≡ record { known = k; statement = s } ∷ sights_from k' later
 unfolding sights_from

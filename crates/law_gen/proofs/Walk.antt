@@ -1,6 +1,6 @@
 -- The statements of the program are good, and what is known at the end.
 use Rattle.std.proofs.Common.{◌≡◌, ℕ, zero, suc, ◌+◌, ◌*◌, ◌%◌, ◌^◌, ◌<◌, ◌≤◌, true, List, [], ◌∷◌, length, codes, fold, replicate, slice_set, Option, None, Some, refl, sym, ap, ◌∙◌, arith, subst, ⊎_elim, is_some}
-use Rattle.law_gen.proofs.Words.{AllByRecursion, cases_lt, Symbol, Value, Pure, Awaited, Near, Tree, number, name, ahead, Pseudo, Code, Set, Loc, NameTable, value_in, value_of_name, Name, Local, Known, tetra_xyz, tetra_wyde, StatementTree, Label, known_behind, known_after, nothing_known, sights_from, next_local, unreferenced, depth, increment, random, stated, reg, block_name, procedure_name, block_before, closing_at, blocks_at, program}
+use Rattle.law_gen.proofs.Words.{AllByRecursion, cases_lt, Symbol, Value, Pure, Awaited, Near, Tree, number, name, ahead, Pseudo, Code, Set, Loc, NameTable, value_in, value_of_name, Name, Local, Known, tetra_xyz, tetra_wyde, StatementTree, Label, known_following, known_after, nothing_known, sights_from, next_local, unreferenced, depth, increment, random, stated, reg, block_name, procedure_name, block_before, closing_at, blocks_at, program}
 use Rattle.mx_word.specs.declared.waits.Awaited.TheVariants as awaited
 use Rattle.mx_word.specs.declared.waits.WaitKind.{WaitKind}
 use Rattle.mx_stmt.specs.declared.placed.Effect.TheVariants as effect
@@ -34,9 +34,9 @@ place-of at whole low j few = let e = at-is at j in record { whole = omega (arit
 
 -- a coded statement by its tetra
 code-leads : (symbols : List Symbol) (backs : List Value) (at : ℕ) → IsPlace at → (line : ℕ) (label : Option Label) (code : ℕ) (operands : List Tree) (word : ℕ) (wait : Option (Awaited × WaitKind)) (k : Known) →
-    Tetras (known symbols backs at) code operands word wait → known_behind (known symbols backs at) (stated line label (Code code) operands) (placing line at label word wait) ≡ k →
+    Tetras (known symbols backs at) code operands word wait → known_following (known symbols backs at) (stated line label (Code code) operands) (placing line at label word wait) ≡ k →
     Leads (known symbols backs at) (stated line label (Code code) operands) (placing line at label word wait) k
-code-leads symbols backs at place line label code operands word wait k tetra behind = record { placed = code-placed symbols backs at place line label code operands word wait tetra; behind = behind }
+code-leads symbols backs at place line label code operands word wait k tetra following = record { placed = code-placed symbols backs at place line label code operands word wait tetra; following = following }
 
 -- ---- a block
 
@@ -131,7 +131,7 @@ module _ (b c : ℕ) (is : c ≡ b + 1) (few : c ≤ 10001) (symbols : List Symb
   link-none = other-value last procedure_full (to 2) all-new link_full refl ∙ last-has.link
 
   end0 : Leads (known symbols no_backs at) (stated line (Some (Name (block_name c))) Set (reg 255 ∷ reg 0 ∷ [])) (placing line at (Some (Name (block_name c))) (tetra_xyz 0xc1 255 0 0) None) (known last no_backs (to 1))
-  end0 = record { placed = set-placed symbols no_backs at (lies 0 (omega arith)) line (Some (Name (block_name c))); behind = refl }
+  end0 = record { placed = set-placed symbols no_backs at (lies 0 (omega arith)) line (Some (Name (block_name c))); following = refl }
 
   end1 : Leads (known last no_backs (to 1)) (stated (line + 1) None (Code 0) (number 0 ∷ name (codes "Halt") ∷ number 0 ∷ [])) (placing (line + 1) (to 1) None (tetra_xyz 0 0 0 0) None) (known last no_backs (to 2))
   end1 =
@@ -283,7 +283,7 @@ blocks-good final b (suc more) n line at symbols finals is few has_blocks room =
 -- ---- the whole program
 
 loc-leads : Leads nothing_known (stated 1 None (Pseudo Loc) (number 0x100 ∷ [])) (record { start = 0; bytes = []; waits = []; label = None; effect = effect.Plain; after = 0x100 }) (known [] no_backs 0x100)
-loc-leads = record { placed = refl; behind = refl }
+loc-leads = record { placed = refl; following = refl }
 
 main-place : IsPlace 0x100
 main-place = record { whole = refl; low = omega arith }

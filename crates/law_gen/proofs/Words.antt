@@ -14,7 +14,7 @@ pub use Rattle.mx_asm.specs.Pages.{accepted_in, page_refusal, run_refusal, run_r
 unfoldable pub use Rattle.mx_asm.specs.Pages.{outlined, page_refusal_from}
 pub use Rattle.mx_asm.specs.Refusal.{at_line, end_fault, end_refusal, entries_refusal, fault_after, fault_with, first_of, label_fault, last_fault, last_line, local_in, local_of, name_fault, name_refusal, refusal, refusal_of, statement_fault, trie_limit, undefined}
 unfoldable pub use Rattle.mx_asm.specs.Refusal.{first_fault, first_undefined, locals, unreferenced}
-pub use Rattle.mx_asm.specs.TwoPass.{Piece, Sight, final_known, is_local, known_behind, known_with, nothing_known, outline, piece_with, referent, sights_of, waits_in}
+pub use Rattle.mx_asm.specs.TwoPass.{Piece, Sight, final_known, is_local, known_following, known_with, nothing_known, outline, piece_with, referent, sights_of, waits_in}
 unfoldable pub use Rattle.mx_asm.specs.TwoPass.{known_after, next_local, references, sights_from}
 pub use Rattle.mx_asm.specs.Whole.{accepted_with}
 unfoldable pub use Rattle.mx_asm.specs.Whole.{accepted}

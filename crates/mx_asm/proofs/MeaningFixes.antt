@@ -1,6 +1,6 @@
 -- A fix record joins what its reference adds to the bytes at its place.
 use Rattle.std.proofs.Common.{◌≡◌, ℕ, ◌+◌, ◌-◌, ◌*◌, ◌/◌, ◌%◌, ◌^◌, ◌<◌, ◌≤◌, List, [], ◌∷◌, ◌++◌, false, not, cond, arith, refl, sym, ◌∙◌, ap, Some, Result, Ok, Err, ◌⊎◌, append_assoc, ◌&&◌, nat_le, rules}
-use Rattle.mx_asm.proofs.Words.{nat_tests, octa_to_bytes, tetra_to_bytes, AreBytes, tetra-back, Pure, Wait, WaitKind, Octa, Near, Far, BadPlace, is_below, join, then_join, join_octa, tetras_before, tetras_behind, with_image, take_item, take_items, Item, relative_word, future_word, near_reach, far_reach, fix_bytes, kind_size, from_place, placed, from-append, AsmFault, pages_of, pages_below, word_fix, relative_fix, pure_fix, fix_of}
+use Rattle.mx_asm.proofs.Words.{nat_tests, octa_to_bytes, tetra_to_bytes, AreBytes, tetra-back, Pure, Wait, WaitKind, Octa, Near, Far, BadPlace, is_below, join, then_join, join_octa, tetras_before, tetras_following, with_image, take_item, take_items, Item, relative_word, future_word, near_reach, far_reach, fix_bytes, kind_size, from_place, placed, from-append, AsmFault, pages_of, pages_below, word_fix, relative_fix, pure_fix, fix_of}
 use Rattle.mx_asm.proofs.MeaningMemory.{HaveBytes, more-count, append-more, unless_full}
 use Rattle.mx_asm.proofs.MeaningStates.{State, image_at, loading_at, count_of, limited, Takes, take-none, takes-few, tetra-joined, more-bytes}
 
@@ -75,7 +75,7 @@ relative-is place value bits reach item h = grind (arith, nat_tests)
 before-is : (place value word : ℕ) → place + 4 * word ≡ value → place < 2 ^ 63 → tetras_before word value ≡ place
 before-is place value word h l = omega (arith, h, l)
 
-behind-place : (place value reach back : ℕ) → value + 4 * back ≡ place → 0 < back → back ≤ reach → reach ≤ 2 ^ 24 → place < 2 ^ 63 → tetras_behind reach (tetras_before (reach - back) value) ≡ place
+behind-place : (place value reach back : ℕ) → value + 4 * back ≡ place → 0 < back → back ≤ reach → reach ≤ 2 ^ 24 → place < 2 ^ 63 → tetras_following reach (tetras_before (reach - back) value) ≡ place
 behind-place place value reach back h some near small l = omega (arith, h, some, near, small, l)
 
 low-bits : (reach back word : ℕ) → word ≡ 2 ^ 24 + (reach - back) → 0 < back → reach ≤ 2 ^ 24 → word % 2 ^ 24 ≡ reach - back

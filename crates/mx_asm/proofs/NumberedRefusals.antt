@@ -11,7 +11,7 @@ use Rattle.mx_asm.proofs.ReadEntries.{Says, said}
 use Rattle.mx_asm.proofs.InTurn.{source-refused}
 use Rattle.mx_asm.proofs.EndLaw.{whole-is}
 use Rattle.mx_asm.proofs.OnePassLaw.{refusal-is}
-use Rattle.mx_asm.proofs.Words.{result_err, Value, Wait, Item, Naming, Label, Placed, Answer, StatementTree, encoding, no_targets, AsmFault, Refused, Head, statement_items, fixes, Entry, Fields, statement_in, entry_with, entry_of, entries_of, line_entries, Assembly, Status, Progress, Ended, Labelled, Taken, beginning, labelled, taken_label, taken_with, statement_taken, entry_taken, after_entry, and_entries, entries_taken, count_fault, counted, line_unless, line_behind, end_behind, refusal, Line, lines_refusal, line_after, lines_taken, one_pass, nat_tests}
+use Rattle.mx_asm.proofs.Words.{result_err, Value, Wait, Item, Naming, Label, Placed, Answer, StatementTree, encoding, no_targets, AsmFault, Refused, Head, statement_items, fixes, Entry, Fields, statement_in, entry_with, entry_of, entries_of, line_entries, Assembly, Status, Progress, Ended, Labelled, Taken, beginning, labelled, taken_label, taken_with, statement_taken, entry_taken, after_entry, and_entries, entries_taken, count_fault, counted, line_unless, line_following, end_following, refusal, Line, lines_refusal, line_after, lines_taken, one_pass, nat_tests}
 
 -- a refusal has a number above 0
 unfoldable HasNumber : {A : Type 0} → Result A Refused → Type 0
@@ -89,16 +89,16 @@ unless-number : (f : Option Refused) (out : List Item) (a : Assembly) (text : Li
 unless-number (Some r) out a text h = err-has Assembly r (h r refl)
 unless-number None out a text h = entries-number (items_of (a.lines + 1) text) out (counted a text)
 
-behind-number : (out : List Item) (s : Status) (text : List ℕ) → HasNumber s → HasNumber (line_behind out s text).1
-behind-number out s text h = grind (arith, unless-number, count-number)
+following-number : (out : List Item) (s : Status) (text : List ℕ) → HasNumber s → HasNumber (line_following out s text).1
+following-number out s text h = grind (arith, unless-number, count-number)
 
 lines-number : (lines : List Line) (p : Progress) → HasNumber p.1 → HasNumber (fold line_after p lines).1
 lines-number [] p h = h
-lines-number (line ∷ lines) p h = lines-number lines (line_after p line) (behind-number p.0 p.1 line h)
+lines-number (line ∷ lines) p h = lines-number lines (line_after p line) (following-number p.0 p.1 line h)
 
 -- ---- the end
 
-end-number : (out : List Item) (s : Status) → HasNumber s → HasNumber (end_behind out s).1
+end-number : (out : List Item) (s : Status) → HasNumber s → HasNumber (end_following out s).1
 unfolding HasNumber
 end-number out s h = grind (arith, nat_tests)
 

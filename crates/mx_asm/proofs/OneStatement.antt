@@ -1,6 +1,6 @@
 -- One statement in one pass, and entries one after another, as the two passes have them.
 use Rattle.std.proofs.Common.{◌≡◌, ℕ, Bool, true, false, cond, nat_lt, List, [], ◌∷◌, ◌++◌, length, Option, None, Some, is_some, Result, Ok, Err, refl, ap, sym, ◌∙◌, slice_set, ◌||◌, bytes_eq, rules, fold, append_assoc, append-nil, arith}
-use Rattle.mx_asm.proofs.Words.{result_unwrap_or, list_any-append, Value, Wait, Item, predefined_value, NameFault, Twice, Predefined, NameTooLong, NameTable, Naming, complete_form, value_in, define_answer, with_symbol, waits_for, waits_for_others, value-inserted, not-some, Label, Name, Local, Effect, Placed, Answer, Known, no_targets, symbol_form, StatementTree, encoding, AsmFault, Refused, Head, Sight, outline, waits_in, with_label, with_effect, known_behind, known_with, known_after, fixes, awaited_value, waiting_for, waiting_at, statement_items, statement_head, sight_items, sight_head, refusal_of, name_refusal, name_fault, label_fault, fault_after, fault_with, statement_fault, Assembly, Taken, naming_of, labelled, with_symbol_label, symbol_defined, with_local, taken_items, taken_label, taken_with, statement_taken, Entry, statements_in, refusal_in, sights_from, items_from, first_fault, first_of, Progress, after_entry, and_entries, entries_taken, accepted}
+use Rattle.mx_asm.proofs.Words.{result_unwrap_or, list_any-append, Value, Wait, Item, predefined_value, NameFault, Twice, Predefined, NameTooLong, NameTable, Naming, complete_form, value_in, define_answer, with_symbol, waits_for, waits_for_others, value-inserted, not-some, Label, Name, Local, Effect, Placed, Answer, Known, no_targets, symbol_form, StatementTree, encoding, AsmFault, Refused, Head, Sight, outline, waits_in, with_label, with_effect, known_following, known_with, known_after, fixes, awaited_value, waiting_for, waiting_at, statement_items, statement_head, sight_items, sight_head, refusal_of, name_refusal, name_fault, label_fault, fault_after, fault_with, statement_fault, Assembly, Taken, naming_of, labelled, with_symbol_label, symbol_defined, with_local, taken_items, taken_label, taken_with, statement_taken, Entry, statements_in, refusal_in, sights_from, items_from, first_fault, first_of, Progress, after_entry, and_entries, entries_taken, accepted}
 use Rattle.mx_word.specs.declared.waits.Awaited.TheVariants as awaited
 use Rattle.mx_asm.proofs.OpenWaits.{or-false, settled_by, any_settles, open_waits, open-unlabelled, open-named, open-local, named-waits, local-waits}
 use Rattle.mx_asm.proofs.StatementForms.{HasLabel, encoding-label}
@@ -59,7 +59,7 @@ module _ (k : Known) (h : Head) (before : List Sight) (l : ℕ) (st : StatementT
       n ≡ record { names = with_label k.names st.label p.label; waiting = open_waits after } →
       taken_label (status_at k h before l) st.line p (Ok (n, waits)) ≡ stepped (fault_after before here p None)
       (result_unwrap_or (statement_items h st.line p (waiting_at before here)) [])
-      (status_at (known_behind k st p) (statement_head h st.line p (waiting_at before here)) after (with_local l p.effect))
+      (status_at (known_following k st p) (statement_head h st.line p (waiting_at before here)) after (with_local l p.effect))
   settled p n waits ws ns = grind (arith, items-by)
 
   -- what a statement with this fault of its label comes to
@@ -68,7 +68,7 @@ module _ (k : Known) (h : Head) (before : List Sight) (l : ℕ) (st : StatementT
       taken_label (status_at k h before l) st.line p (labelled (naming_of (status_at k h before l)) label value waits)
       ≡ stepped (fault_after before here p (label_fault k.names label))
       (result_unwrap_or (statement_items h st.line p (waiting_at before here)) [])
-      (status_at (known_behind k st p) (statement_head h st.line p (waiting_at before here)) after (with_local l p.effect))
+      (status_at (known_following k st p) (statement_head h st.line p (waiting_at before here)) after (with_local l p.effect))
 
   unlabelled-comes : (p : Placed) → st.label ≡ None → p.label ≡ None → outline here ≡ Ok p → Comes p None None p.waits
   unlabelled-comes p label value is =
@@ -89,7 +89,7 @@ module _ (k : Known) (h : Head) (before : List Sight) (l : ℕ) (st : StatementT
         taken_label (status_at k h before l) st.line p (symbol_defined (naming_of (status_at k h before l)) form value p.waits (Ok u))
         ≡ stepped (fault_after before here p None)
         (result_unwrap_or (statement_items h st.line p (waiting_at before here)) [])
-        (status_at (known_behind k st p) (statement_head h st.line p (waiting_at before here)) after (with_local l p.effect))
+        (status_at (known_following k st p) (statement_head h st.line p (waiting_at before here)) after (with_local l p.effect))
     defined-comes u new =
         settled p (record { names = with_symbol k.names form value; waiting = waits_for_others (awaited.Name form) (open_waits before ++ p.waits) }) (waits_for (awaited.Name form) (open_waits before ++ p.waits))
         (ap (λ r. waits_for (awaited.Name form) (open_waits before ++ waits_in r)) (sym is) ∙ named-waits form before here (labels form ∙ new) ∙ ap (waiting_for before here) (sym label))
@@ -99,7 +99,7 @@ module _ (k : Known) (h : Head) (before : List Sight) (l : ℕ) (st : StatementT
         taken_label (status_at k h before l) st.line p (symbol_defined (naming_of (status_at k h before l)) full value p.waits answer)
         ≡ stepped (fault_after before here p (name_refusal answer))
         (result_unwrap_or (statement_items h st.line p (waiting_at before here)) [])
-        (status_at (known_behind k st p) (statement_head h st.line p (waiting_at before here)) after (with_local l p.effect))
+        (status_at (known_following k st p) (statement_head h st.line p (waiting_at before here)) after (with_local l p.effect))
     answered-comes full (Err fault) form_is told = refl
     answered-comes full (Ok u) form_is told =
         let same = form-is k.names text full form_is in
@@ -110,7 +110,7 @@ module _ (k : Known) (h : Head) (before : List Sight) (l : ℕ) (st : StatementT
         taken_label (status_at k h before l) st.line p (with_symbol_label (naming_of (status_at k h before l)) value p.waits r)
         ≡ stepped (fault_after before here p (name_fault k.names r))
         (result_unwrap_or (statement_items h st.line p (waiting_at before here)) [])
-        (status_at (known_behind k st p) (statement_head h st.line p (waiting_at before here)) after (with_local l p.effect))
+        (status_at (known_following k st p) (statement_head h st.line p (waiting_at before here)) after (with_local l p.effect))
     formed-comes (Err fault) is = refl
     formed-comes (Ok full) is = answered-comes full (define_answer k.names full) is refl
 

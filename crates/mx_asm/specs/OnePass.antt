@@ -189,9 +189,9 @@ with_opening false out = out ++ opening
 abbrev pub opened : Assembly → Assembly
 opened a = record a { opened = true }
 
-abbrev pub line_behind : List Item → Status → List ℕ → Progress
-line_behind out (Err refused) text = (out, Err refused)
-line_behind out (Ok a) text = line_taken (with_opening a.opened out) (opened a) text
+abbrev pub line_following : List Item → Status → List ℕ → Progress
+line_following out (Err refused) text = (out, Err refused)
+line_following out (Ok a) text = line_taken (with_opening a.opened out) (opened a) text
 
 -- ---- the end
 
@@ -229,9 +229,9 @@ ended_waits out a None = ended_main out a (assembly_fault a)
 abbrev pub ended : List Item → Assembly → Ended
 ended out a = ended_waits out a (first_of a.waiting)
 
-abbrev pub end_behind : List Item → Status → Ended
-end_behind out (Err refused) = (out, Err refused)
-end_behind out (Ok a) = ended (with_opening a.opened out) a
+abbrev pub end_following : List Item → Status → Ended
+end_following out (Err refused) = (out, Err refused)
+end_following out (Ok a) = ended (with_opening a.opened out) a
 
 -- what calls answer, with what they leave
 abbrev pub waits_taken : Awaited → Naming → Labelled
@@ -261,9 +261,9 @@ abbrev pub line_answer : Tried → Result (Unit {0}) Refused
 line_answer (Ok answer) = answer
 line_answer (Err refused) = Err refused
 
--- Unless there was no memory, the items and what stands after a line that was answered so are those of `line_behind`.
+-- Unless there was no memory, the items and what stands after a line that was answered so are those of `line_following`.
 abbrev pub TakesLine : Result (Unit {0}) Refused → List Item → List Item → Status → Status → List ℕ → Type 0
-TakesLine answer old new before after text = answer ≢ Err no_memory → (new, after) ≡ line_behind old before text
+TakesLine answer old new before after text = answer ≢ Err no_memory → (new, after) ≡ line_following old before text
 
 -- what stands after a line that is line_answer so, as long as a refusal ends the source
 abbrev pub status_with : Result (Unit {0}) Refused → Status → Status

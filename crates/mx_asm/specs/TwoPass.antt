@@ -34,12 +34,12 @@ with_effect k (effect.Greg reg value) = record k { gregs = with_greg k.gregs reg
 with_effect k (effect.Local reg) = k
 
 -- what is known after a statement that is placed
-abbrev pub known_behind : Known → StatementTree → Placed → Known
-known_behind k s p = with_effect (record { names = with_label k.names s.label p.label; at = p.after; gregs = k.gregs }) p.effect
+abbrev pub known_following : Known → StatementTree → Placed → Known
+known_following k s p = with_effect (record { names = with_label k.names s.label p.label; at = p.after; gregs = k.gregs }) p.effect
 
 abbrev pub known_with : Known → StatementTree → Answer Placed → Known
 known_with k s (Err fault) = k
-known_with k s (Ok p) = known_behind k s p
+known_with k s (Ok p) = known_following k s p
 
 -- what is known after a statement; where its references lead makes no difference
 unfoldable pub known_after : Known → StatementTree → Known

@@ -19,7 +19,7 @@ ghost use Rattle.mx_asm.specs.Entries.{entry_of, source_entries, statements_in};
 ghost use Rattle.mx_asm.specs.Faults.{fault_number, refused};
 ghost use Rattle.mx_asm.specs.Fronts.{GrowsAlike};
 ghost use Rattle.mx_asm.specs.Locals.{HasNoLocal};
-ghost use Rattle.mx_asm.specs.OnePass.{Status, beginning, end_behind, line_behind};
+ghost use Rattle.mx_asm.specs.OnePass.{Status, beginning, end_following, line_following};
 ghost use Rattle.mx_asm.specs.Refusal.{refusal};
 ghost use Rattle.mx_asm.specs.TwoPass.{final_known, value_in};
 ghost use Rattle.mx_asm.specs.Whole.{HasTaken, accepted_in, assembled_lines, assembled_source, lines_entries};
@@ -54,13 +54,13 @@ pub fn one_pass_gives_the_whole()
 pub fn lines_are_taken_in_turn()
     ensures none { HasTaken [] (Ok beginning) }
     ensures line { (lines : List (List ℕ)) (text : List ℕ) (out : List Item) (a : Status) → HasTaken lines a →
-        HasTaken (lines ++ text ∷ []) (line_behind out a text).1 }
+        HasTaken (lines ++ text ∷ []) (line_following out a text).1 }
     ensures items { (lines : List (List ℕ)) (text : List ℕ) (out : List Item) (a : Status) → HasTaken lines a →
-        GrowsAlike (lines_items lines) (lines_items (lines ++ text ∷ [])) out (line_behind out a text).0 }
+        GrowsAlike (lines_items lines) (lines_items (lines ++ text ∷ [])) out (line_following out a text).0 }
     ensures end { (lines : List (List ℕ)) (out : List Item) (a : Status) → HasTaken lines a →
-        (end_behind out a).1 ≡ (assembled_lines lines).1 }
+        (end_following out a).1 ≡ (assembled_lines lines).1 }
     ensures whole { (lines : List (List ℕ)) (out : List Item) (a : Status) → HasTaken lines a →
-        GrowsAlike (lines_items lines) (assembled_lines lines).0 out (end_behind out a).0 }
+        GrowsAlike (lines_items lines) (assembled_lines lines).0 out (end_following out a).0 }
 {}
 
 /// A source that is not refused is assembled into what its statements emit, and their symbol trie.

@@ -31,17 +31,17 @@ abbrev pub LinesLeft : {Host : Type 0} → (Host → Option HostModel) → (Host
 LinesLeft says faults a b lines whole = Leaves host says faults a b (contents (says a)) (contents (says b)) (lines_plan lines) whole
 
 -- a line is written, and those after it are left; or it ends the session; or none is left
-next-line : {Host : Type 0} (says : Host → Option HostModel) (faults : Host → ℕ) (a b c : Host) (lines behind : List (List ℕ)) (line : List ℕ) (whole : HostPlan (Result (Unit {0}) SessionEnd)) →
-    lines ≡ line ∷ behind → LinesLeft says faults a b lines whole → DoesOnHost says faults b c (Ok tt) (line_plan line) → LinesLeft says faults a c behind whole
+next-line : {Host : Type 0} (says : Host → Option HostModel) (faults : Host → ℕ) (a b c : Host) (lines following : List (List ℕ)) (line : List ℕ) (whole : HostPlan (Result (Unit {0}) SessionEnd)) →
+    lines ≡ line ∷ following → LinesLeft says faults a b lines whole → DoesOnHost says faults b c (Ok tt) (line_plan line) → LinesLeft says faults a c following whole
 unfolding lines_plan
-next-line says faults a b c lines behind line whole e h w =
-    left-next host says faults a b c _ _ _ tt (λ u. lines_plan behind) (line_plan line) whole (subst (λ ls. LinesLeft says faults a b ls whole) e h) w
+next-line says faults a b c lines following line whole e h w =
+    left-next host says faults a b c _ _ _ tt (λ u. lines_plan following) (line_plan line) whole (subst (λ ls. LinesLeft says faults a b ls whole) e h) w
 
-line-over : {Host : Type 0} (says : Host → Option HostModel) (faults : Host → ℕ) (a b c : Host) (end : SessionEnd) (lines behind : List (List ℕ)) (line : List ℕ) (whole : HostPlan (Result (Unit {0}) SessionEnd)) →
-    lines ≡ line ∷ behind → LinesLeft says faults a b lines whole → DoesOnHost says faults b c (Err end) (line_plan line) → DoesOnHost says faults a c (Err end) whole
+line-over : {Host : Type 0} (says : Host → Option HostModel) (faults : Host → ℕ) (a b c : Host) (end : SessionEnd) (lines following : List (List ℕ)) (line : List ℕ) (whole : HostPlan (Result (Unit {0}) SessionEnd)) →
+    lines ≡ line ∷ following → LinesLeft says faults a b lines whole → DoesOnHost says faults b c (Err end) (line_plan line) → DoesOnHost says faults a c (Err end) whole
 unfolding lines_plan
-line-over says faults a b c end lines behind line whole e h w =
-    left-over host says faults a b c _ _ _ end (λ (u : Unit {0}). lines_plan behind) (line_plan line) whole (subst (λ ls. LinesLeft says faults a b ls whole) e h) w
+line-over says faults a b c end lines following line whole e h w =
+    left-over host says faults a b c _ _ _ end (λ (u : Unit {0}). lines_plan following) (line_plan line) whole (subst (λ ls. LinesLeft says faults a b ls whole) e h) w
 
 no-lines : {Host : Type 0} (says : Host → Option HostModel) (faults : Host → ℕ) (a b : Host) (lines : List (List ℕ)) (whole : HostPlan (Result (Unit {0}) SessionEnd)) →
     lines ≡ [] → LinesLeft says faults a b lines whole → DoesOnHost says faults a b (Ok tt) whole

@@ -4,7 +4,7 @@ use Rattle.std.specs.Prelude.{Option, Result}
 use Rattle.mx_host.specs.HostModel.{HostModel, tells}
 use Rattle.mx_word.specs.Results.{map_ok}
 use Rattle.mx_plan.proofs.Plans.{rest_after}
-use Rattle.mx_plan.proofs.KeptHosts.{only-behind, keeps_host-all, keeps_host-then}
+use Rattle.mx_plan.proofs.KeptHosts.{only-after, keeps_host-all, keeps_host-then}
 use Rattle.mx_plan.specs.Clauses.{KeepsHost}
 use Rattle.mx_plan.specs.Plan.{Plan, returns, bind, Acts, IsRest}
 use Rattle.mx_con.specs.Clauses.{DoesPlan, DoesSessionPart}
@@ -28,11 +28,11 @@ there a b e t = subst IsTrue (sym e) t
 -- ---- one part
 
 -- after what leaves the host as it is
-pub part-behind : {Host A B : Type 0} {says : Host → Option HostModel} {faults : Host → ℕ} {a b c : Host} {r : Result A SessionEnd} {q : Result B SessionEnd} {P Q : Type 0} →
+pub part-after : {Host A B : Type 0} {says : Host → Option HostModel} {faults : Host → ℕ} {a b c : Host} {r : Result A SessionEnd} {q : Result B SessionEnd} {P Q : Type 0} →
     KeepsHost (says a) (says b) (faults a) (faults b) → DoesSessionPart says faults b c r P → (q ≡ Err HostFault → r ≡ Err HostFault) → (IsTrue (tells (says a)) → P → Q) → DoesSessionPart says faults a c q Q
-part-behind {says = says} {faults = faults} {a = a} {b = b} {c = c} h k only comes = record {
+part-after {says = says} {faults = faults} {a = a} {b = b} {c = c} h k only comes = record {
   told = λ t. comes t (k.told (there (says a) (says b) h.0 t));
-  cause = only-behind (says a) (says b) (faults a) (faults b) (faults c) (Err HostFault) _ h (λ s e. k.cause s (only e));
+  cause = only-after (says a) (says b) (faults a) (faults b) (faults c) (Err HostFault) _ h (λ s e. k.cause s (only e));
   keeps = keeps_host-then (says a) (says b) (says c) (faults a) (faults b) (faults c) h k.keeps;
 }
 
@@ -79,7 +79,7 @@ next-left {says = says} {faults = faults} {a = a} {b = b} {c = c} h k f = record
 -- or ends the session
 pub over-left : {Host A B : Type 0} {says : Host → Option HostModel} {faults : Host → ℕ} {a b c : Host} {L P Q : Type 0} (end : SessionEnd) →
     IsLeft says faults a b L → DoesSessionPart {A = A} says faults b c (Err end) P → (L → P → Q) → DoesSessionPart {A = B} says faults a c (Err end) Q
-over-left end h k f = part-behind h.keeps k (λ e. cc) (λ t p. f (h.told t) p)
+over-left end h k f = part-after h.keeps k (λ e. cc) (λ t p. f (h.told t) p)
 
 -- an answer is left
 pub answer-left : {Host A : Type 0} {says : Host → Option HostModel} {faults : Host → ℕ} {a b : Host} {r : Result A SessionEnd} {L Q : Type 0} →

@@ -30,7 +30,7 @@ use Rattle.mx_con.specs.declared.end.SessionEnd.{SessionEnd}
 use Rattle.mx_con.specs.declared.end.SessionEnd.TheVariants.{Halted, Stopped, Spent, OutOfMemory}
 use Rattle.mx_con.specs.Clauses.{DoesSessionPart, DoesPlan, DoesOnHost, GoesAsList, ConversesBoth, RestsBoth}
 use Rattle.mx_con.proofs.ListedRuns.{listed-end}
-use Rattle.mx_con.proofs.Parts.{IsLeft, part-behind, part-with, part-over, part-alone, all-left, next-left, over-left, answer-left}
+use Rattle.mx_con.proofs.Parts.{IsLeft, part-after, part-with, part-over, part-alone, all-left, next-left, over-left, answer-left}
 use Rattle.mx_con.proofs.QuietTraces.{EndOutside, run-outside}
 use Rattle.mx_con.proofs.Rests.{bind-comes, then-comes, part-ends, returned}
 use Rattle.mx_con.proofs.SessionBoth.{writes, listed-both, rest-next, rest-over, rest-answer}
@@ -184,7 +184,7 @@ one-run-part {Host} says faults a b c steps n pass f g end s t r e fl h run k la
 
     by : (end ≡ ending.OutOfMemory) ⊎ (end ≢ ending.OutOfMemory) → DoesSessionPart says faults a c r (ConversesBoth ((s, contents (says a)), f) ((t, contents (says c)), g) (Err OutOfMemory) r (one_run_plan steps pass))
     by (inl o) = part-alone (subst (λ (x : Host). KeepsHost (says a) (says x) (faults a) (faults x)) (sym (same o)) h) (λ x. let lost = lacked o in absurd (cc)) made
-    by (inr ne) = part-behind h (k ne) (λ x. x) (λ v x. made v)
+    by (inr ne) = part-after h (k ne) (λ x. x) (λ v x. made v)
 
 -- ---- one step
 

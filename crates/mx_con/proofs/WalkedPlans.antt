@@ -196,15 +196,15 @@ unfolding need Walks bind
 added-walks true got left x n b l = (l, λ e. refl)
 added-walks false got left x n b l = λ u m. (omega arith, (omega (arith, l), λ e. refl))
 
-behind-byte : (left n : ℕ) (b : Bool) (got : List ℕ) (r : Result (Option ℕ) SessionEnd) → Spared (spare_byte left) r n b → Grows left n b (after_byte left got r)
+after-byte : (left n : ℕ) (b : Bool) (got : List ℕ) (r : Result (Option ℕ) SessionEnd) → Spared (spare_byte left) r n b → Grows left n b (after_byte left got r)
 unfolding Walks
-behind-byte left n b got (Ok None) h = last-walks got left n b h.0
-behind-byte left n b got (Ok (Some x)) h = added-walks (x == 10) got left x n b h.0
-behind-byte left n b got (Err end) h = (omega arith, h.1)
+after-byte left n b got (Ok None) h = last-walks got left n b h.0
+after-byte left n b got (Ok (Some x)) h = added-walks (x == 10) got left x n b h.0
+after-byte left n b got (Err end) h = (omega arith, h.1)
 
 grown-walks : (left n : ℕ) (b : Bool) (got : List ℕ) → suc left ≤ n → Grows left n b (grown_plan left got)
 unfolding grown_plan
-grown-walks left n b got l = walks-bind of_a_host (Spared (spare_byte left)) (Spared (spare_grown left)) (after_byte left got) byte_plan n b (byte-walks left n b l) (λ r m c g. behind-byte left m c got r g)
+grown-walks left n b got l = walks-bind of_a_host (Spared (spare_byte left)) (Spared (spare_grown left)) (after_byte left got) byte_plan n b (byte-walks left n b l) (λ r m c g. after-byte left m c got r g)
 
 abbrev spare_line : LineRead → ℕ
 spare_line (Ok (got, left)) = left
@@ -213,18 +213,18 @@ spare_line (Err end) = 0
 abbrev Reads : ℕ → Bool → HostPlan LineRead → Type 0
 Reads n b p = Walks of_a_host (Spared spare_line) n b p
 
-behind-growing : (left : ℕ) → ((got : List ℕ) (n : ℕ) (b : Bool) → left ≤ n → Reads n b (reading_plan left got)) → (n : ℕ) (b : Bool) (r : Growing) → Spared (spare_grown left) r n b → Reads n b (on_ok (after_growing (reading_plan left)) r)
+after-growing : (left : ℕ) → ((got : List ℕ) (n : ℕ) (b : Bool) → left ≤ n → Reads n b (reading_plan left got)) → (n : ℕ) (b : Bool) (r : Growing) → Spared (spare_grown left) r n b → Reads n b (on_ok (after_growing (reading_plan left)) r)
 unfolding Walks
-behind-growing left more n b (Ok (true, got, few)) h = more got n b h.0
-behind-growing left more n b (Ok (false, got, few)) h = (h.0, λ e. refl)
-behind-growing left more n b (Err end) h = (omega arith, h.1)
+after-growing left more n b (Ok (true, got, few)) h = more got n b h.0
+after-growing left more n b (Ok (false, got, few)) h = (h.0, λ e. refl)
+after-growing left more n b (Err end) h = (omega arith, h.1)
 
 reading-walks : (left n : ℕ) (b : Bool) (got : List ℕ) → left ≤ n → Reads n b (reading_plan left got)
 unfolding reading_plan Walks
 reading-walks zero n b got l = (omega arith, λ e. refl)
 reading-walks (suc left) n b got l =
     walks-bind of_a_host (Spared (spare_grown left)) (Spared spare_line) (on_ok (after_growing (reading_plan left))) (grown_plan left got) n b (grown-walks left n b got l)
-    (λ r m c g. behind-growing left (λ h i d j. reading-walks left i d h j) m c r g)
+    (λ r m c g. after-growing left (λ h i d j. reading-walks left i d h j) m c r g)
 
 asking-walks : (left n : ℕ) (b : Bool) → left ≤ n → Reads n b (asking_plan left)
 unfolding asking_plan

@@ -108,12 +108,12 @@ fn add_lines(
 {
     let mut rest = source;
     let mut left = loads;
-    let mut behind = octas;
+    let mut following = octas;
     let mut number = 1u32;
     while !rest.is_empty() {
         let (line, others) = cut_line(rest);
         let (cells, later) = next_load(left);
-        let (tally, more) = next_tally(behind);
+        let (tally, more) = next_tally(following);
         add_line(alloc, lines, number, line, cells, tally)?;
         number = match number.checked_add(1) {
             Some(next) => next,
@@ -121,7 +121,7 @@ fn add_lines(
         };
         rest = others;
         left = later;
-        behind = more;
+        following = more;
     }
     Ok(())
 }
@@ -132,9 +132,9 @@ fn sheet_in(alloc: Global, source: &[u8], report: &[u8]) -> Result<LineSheet, No
 {
     let loads = cells_by_line(alloc, source)?;
     let octas = to_octas(alloc, report)?;
-    let (total, behind) = next_tally(octas.as_slice());
+    let (total, following) = next_tally(octas.as_slice());
     let mut lines = Sequence::new(alloc);
-    add_lines(alloc, &mut lines, source, loads.as_slice(), behind)?;
+    add_lines(alloc, &mut lines, source, loads.as_slice(), following)?;
     Ok(LineSheet { lines, total })
 }
 

@@ -5,7 +5,7 @@ use Rattle.std.specs.Prelude.{Option, Result}
 use Rattle.mx_host.specs.HostModel.{HostModel, Rose}
 use Rattle.mx_host.specs.Keeping.{ComesByFault, Keeps, OnlyByFailure}
 use Rattle.mx_host.proofs.Keeping.{keeps-then, keeps-all}
-use Rattle.mx_plan.proofs.KeptHosts.{only-behind, rose-on, keeps_host-kept}
+use Rattle.mx_plan.proofs.KeptHosts.{only-after, rose-on, keeps_host-kept}
 use Rattle.mx_outcome.specs.declared.outcome.Outcome.{Outcome}
 use Rattle.mx_outcome.specs.declared.outcome.Outcome.TheVariants.{HostFault as Broken, NoFile, OutOfMemory}
 use Rattle.mx_face.specs.Pages.{FaultsBetween, IsOfView}
@@ -38,7 +38,7 @@ faults-said a b k m said r of kept same = faults-told a a b k k m said r (faults
 -- a whole after what keeps
 pub faults-after : (a b c : Option HostModel) (k m n : ℕ) (r : Outcome) → Keeps a b k m → FaultsBetween b c m n Broken NoFile r → FaultsBetween a c k n Broken NoFile r
 faults-after a b c k m n r kept rest = record {
-  host_fault = only-behind a b k m n Broken r (keeps_host-kept a b k m kept) rest.host_fault;
+  host_fault = only-after a b k m n Broken r (keeps_host-kept a b k m kept) rest.host_fault;
   no_file = λ un e. rose-on k m n kept.counting (rest.no_file (λ t. un (subst IsTrue kept.telling t)) e);
   keeps = keeps-then a b c k m n kept rest.keeps;
 }

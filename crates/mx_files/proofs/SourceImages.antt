@@ -16,7 +16,7 @@ use Rattle.mx_asm.specs.TwoPass.{Sight}
 use Rattle.mx_asm.specs.Image.{image}
 use Rattle.mx_asm.specs.Pages.{accepted_in, has_room, outlined, page_fault, page_refusal, RunRefusal, run_refusal, run_refusal_with}
 use Rattle.mx_asm.specs.Refusal.{first_of, end_refusal, last_line, refusal}
-use Rattle.mx_asm.specs.OnePass.{Assembly, Progress, Ended, beginning, line_behind, end_behind}
+use Rattle.mx_asm.specs.OnePass.{Assembly, Progress, Ended, beginning, line_following, end_following}
 use Rattle.mx_asm.specs.Fronts.{GrowsAlike}
 use Rattle.mx_asm.specs.Whole.{Line, HasTaken, assembled_lines, assembled_source, lines_entries, lines_items, lines_taken}
 use Rattle.mx_asm.proofs.InTurn.{none-taken, line-taken, line-grows, taken-ends, taken-grows, refusal-lasts, source-accepted, source-refused}
@@ -43,8 +43,8 @@ loaded-means [] r = sym (ap told (none-left r))
 loaded-means (item ∷ items) (Ok s) = loaded-means items (take_item s item)
 loaded-means (item ∷ items) (Err e) = fault-stays (fault_of e) (item ∷ items)
 
-loaded-behind : (out items : List Item) (s : Loading) → take_items out (Ok nothing) ≡ Ok s → all_loaded (Ok s) items ≡ told (take_items (out ++ items) (Ok nothing))
-loaded-behind out items s e = loaded-means items (Ok s) ∙ ap (λ r. told (take_items items r)) (sym e) ∙ ap told (sym (take-append out items (Ok nothing)))
+loaded-after : (out items : List Item) (s : Loading) → take_items out (Ok nothing) ≡ Ok s → all_loaded (Ok s) items ≡ told (take_items (out ++ items) (Ok nothing))
+loaded-after out items s e = loaded-means items (Ok s) ∙ ap (λ r. told (take_items items r)) (sym e) ∙ ap told (sym (take-append out items (Ok nothing)))
 
 -- ---- lines of bytes
 
@@ -119,31 +119,31 @@ module _ (source : List ℕ) (bytes : AreBytes source) where
   image-of (Ok s) m e = cc
   image-of (Err why) m e = absurd (cc)
 
-  ends : (front : List Line) (a : Assembly) (s : Loading) → HasLoaded front [] a s → ended_with (Ok s) (end_behind [] (Ok a)) ≡ source_meaning source
+  ends : (front : List Line) (a : Assembly) (s : Loading) → HasLoaded front [] a s → ended_with (Ok s) (end_following [] (Ok a)) ≡ source_meaning source
   ends front a s h = by (refusal source) refl
     where
       whole : lines_of source ≡ front
       whole = h.whole ∙ append-nil front
 
-      grows : GrowsAlike (lines_items front) (assembled_lines front).0 [] (end_behind [] (Ok a)).0
+      grows : GrowsAlike (lines_items front) (assembled_lines front).0 [] (end_following [] (Ok a)).0
       grows = taken-grows front [] (Ok a) h.taken
 
-      items : lines_items front ++ (end_behind [] (Ok a)).0 ≡ (assembled_source source).0
+      items : lines_items front ++ (end_following [] (Ok a)).0 ≡ (assembled_source source).0
       items = ap (λ l. lines_items front ++ l) grows.added ∙ sym grows.due ∙ ap (λ ls. (assembled_lines ls).0) (sym whole)
 
-      trie : (end_behind [] (Ok a)).1 ≡ (assembled_source source).1
+      trie : (end_following [] (Ok a)).1 ≡ (assembled_source source).1
       trie = taken-ends front [] (Ok a) h.taken ∙ ap (λ ls. (assembled_lines ls).1) (sym whole)
 
       pages : refused_pages ≡ None
       pages = no-pages front s (ap lines_items whole) h.loaded
 
-      by : (r : Option Refused) → refusal source ≡ r → ended_with (Ok s) (end_behind [] (Ok a)) ≡ source_meaning source
+      by : (r : Option Refused) → refusal source ≡ r → ended_with (Ok s) (end_following [] (Ok a)) ≡ source_meaning source
       by (Some r) e =
-          with-refusal (Ok s) (end_behind [] (Ok a)) r (trie ∙ ap (λ (p : Ended). p.1) (source-refused source r e))
+          with-refusal (Ok s) (end_following [] (Ok a)) r (trie ∙ ap (λ (p : Ended). p.1) (source-refused source r e))
           ∙ refusal-means r pages e
       by None e =
-          with-trie (Ok s) (end_behind [] (Ok a)) _ (trie ∙ ap (λ (p : Ended). p.1) (source-accepted source e))
-          ∙ ap image_loaded (loaded-behind (lines_items front) (end_behind [] (Ok a)).0 s h.loaded)
+          with-trie (Ok s) (end_following [] (Ok a)) _ (trie ∙ ap (λ (p : Ended). p.1) (source-accepted source e))
+          ∙ ap image_loaded (loaded-after (lines_items front) (end_following [] (Ok a)).0 s h.loaded)
           ∙ ap (λ l. image_loaded (told (take_items l (Ok nothing)))) items
           ∙ image-of (take_items (assembled_source source).0 (Ok nothing)) (image (statements_in (source_entries source)))
           (run-means source bytes (λ i. run_refusal_with (pages i) (e i)))
@@ -157,7 +157,7 @@ module _ (source : List ℕ) (bytes : AreBytes source) where
 
   next : (front texts : List Line) (text : Line) → Whole (front ++ text ∷ []) texts → Whole front (text ∷ texts)
   unfolding lines_loaded
-  next front texts text more a s h = step (line_behind [] (Ok a) text) refl
+  next front texts text more a s h = step (line_following [] (Ok a) text) refl
     where
       few : page_fault (accepted_in (lines_entries front)) ≡ None
       few = sym (fault-of front (text ∷ texts) h.whole) ∙ ap result_err h.loaded
@@ -189,12 +189,12 @@ module _ (source : List ℕ) (bytes : AreBytes source) where
           ap (λ n. end_loaded (lines_loaded (n + 1) texts (loading_status (Ok b) (Ok t)))) (sym (length-append front (text ∷ [])))
           ∙ more b t (record { whole = whole; taken = taken; loaded = loaded })
 
-      step : (p : Progress) → line_behind [] (Ok a) text ≡ p → end_loaded (and_lines (lines_loaded (length front + 1 + 1) texts) (progress_loaded (length front + 1) (Ok s) p)) ≡ source_meaning source
+      step : (p : Progress) → line_following [] (Ok a) text ≡ p → end_loaded (and_lines (lines_loaded (length front + 1 + 1) texts) (progress_loaded (length front + 1) (Ok s) p)) ≡ source_meaning source
       step (items, b) e =
           let grows = line-grows front text [] items (Ok a) b (sym e) h.taken in
           let all : lines_items front ++ items ≡ lines_items next_lines = ap (λ l. lines_items front ++ l) grows.added ∙ sym grows.due in
           ap (λ l. end_loaded (and_lines (lines_loaded (length front + 1 + 1) texts) (judged (length front + 1) b l)))
-          (loaded-behind (lines_items front) items s h.loaded ∙ ap (λ l. told (take_items l (Ok nothing))) all)
+          (loaded-after (lines_items front) items s h.loaded ∙ ap (λ l. told (take_items l (Ok nothing))) all)
           ∙ by b (take_items (lines_items next_lines) (Ok nothing)) (line-taken front text [] items (Ok a) b (sym e) h.taken) refl
 
   lines-are : (rest front : List Line) → Whole front rest

@@ -33,8 +33,8 @@ use Rattle.mx_files.proofs.Parts.{works-on, works-then, works-ends, works-done, 
 
 -- ---- lines and outcomes
 
-behind-behind : (xs ys : List (List ℕ)) (t : Typed) → with_lines_first xs (with_lines_first ys t) ≡ with_lines_first (xs ++ ys) t
-behind-behind xs ys t = ap (λ zs. (zs, t.1)) (sym (append_assoc xs ys t.0))
+after-after : (xs ys : List (List ℕ)) (t : Typed) → with_lines_first xs (with_lines_first ys t) ≡ with_lines_first (xs ++ ys) t
+after-after xs ys t = ap (λ zs. (zs, t.1)) (sym (append_assoc xs ys t.0))
 
 -- memory may run out before anything of a listing is written
 abbrev pub Lacks : Typed → Type 0
@@ -48,9 +48,9 @@ fault-lacks : (place fault : ℕ) → Lacks ([], BadObject place fault)
 unfolding typed_plan lines_plan bind need Stops host
 fault-lacks place fault m = inl refl
 
-behind-lacks : (lines : List (List ℕ)) (t : Typed) → Lacks t → Lacks (with_lines_first lines t)
-behind-lacks [] t h = h
-behind-lacks (line ∷ lines) t h = lines-lack line (lines ++ t.0) t.1
+after-lacks : (lines : List (List ℕ)) (t : Typed) → Lacks t → Lacks (with_lines_first lines t)
+after-lacks [] t h = h
+after-lacks (line ∷ lines) t h = lines-lack line (lines ++ t.0) t.1
 
 trie-lacks : (place : ℕ) (trie : List ℕ) (r : Result (List Symbol) StabFault) → Lacks (trie_typed place trie r)
 trie-lacks place trie (Ok symbols) = lines-lack _ _ (Done 0)
@@ -65,7 +65,7 @@ end-lacks (Ok left) = tail-lacks (tail_of left.phase left.at left.rest)
 end-lacks (Err fault) = fault-lacks _ _
 
 pub walk-lacks : (lambda : ℕ) (w : Walk) → Lacks (walk_typed lambda w)
-walk-lacks lambda w = behind-lacks (item_lines lambda w.0) (end_typed w.1) (end-lacks w.1)
+walk-lacks lambda w = after-lacks (item_lines lambda w.0) (end_typed w.1) (end-lacks w.1)
 
 either-lacks : (b : Bool) (t u : Typed) → Lacks t → Lacks u → Lacks (cond b t u)
 either-lacks true t u h k = h
@@ -196,7 +196,7 @@ still-fault lambda m n fault well h = ap (walk_typed lambda) (next-fault m n fau
 
 first-line : (lambda : ℕ) (item : Item) (w : Walk) → walk_typed lambda (item ∷ w.0, w.1) ≡ with_lines_first (shown (item_text lambda item)) (walk_typed (lambda_after lambda item) w)
 unfolding item_lines
-first-line lambda item w = sym (behind-behind (shown (item_text lambda item)) (item_lines (lambda_after lambda item) w.0) (end_typed w.1))
+first-line lambda item w = sym (after-after (shown (item_text lambda item)) (item_lines (lambda_after lambda item) w.0) (end_typed w.1))
 
 pub still-item : (lambda next : ℕ) (m n : ReaderModel) (item : Item) → m.fault ≡ None → (Ok (Some item), n) ≡ next_answer m → next ≡ lambda_after lambda item →
     still_typed lambda m ≡ with_lines_first (shown (item_text lambda item)) (still_typed next n)

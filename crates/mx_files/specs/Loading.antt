@@ -9,7 +9,7 @@ use Rattle.mx_load.specs.Kept.{Kept, image_of}
 use Rattle.mx_load.specs.Status.{after}
 use Rattle.mx_load.specs.declared.fault.LoadFault.{LoadFault}
 use Rattle.mx_asm.specs.Faults.{fault_number}
-use Rattle.mx_asm.specs.OnePass.{Assembly, Progress, Ended, beginning, line_behind, end_behind}
+use Rattle.mx_asm.specs.OnePass.{Assembly, Progress, Ended, beginning, line_following, end_following}
 use Rattle.mx_asm.specs.declared.faults.AsmFault.{AsmFault}
 use Rattle.mx_asm.specs.declared.faults.AsmFault.TheVariants as Asm
 use Rattle.mx_asm.specs.declared.refused.Refused.{Refused}
@@ -52,7 +52,7 @@ abbrev pub progress_loaded : ℕ → Result Loading LoadFault → Progress → R
 progress_loaded line loading (items, assembly) = judged line assembly (all_loaded loading items)
 
 abbrev pub line_loaded : ℕ → LoadingStatus → List ℕ → Result LoadingStatus Refusal
-line_loaded line s text = progress_loaded line s.loading (line_behind [] s.assembly text)
+line_loaded line s text = progress_loaded line s.loading (line_following [] s.assembly text)
 
 abbrev pub and_lines : (LoadingStatus → Result LoadingStatus Refusal) → Result LoadingStatus Refusal → Result LoadingStatus Refusal
 and_lines more (Err refusal) = Err refusal
@@ -74,7 +74,7 @@ ended_with loading (items, Ok trie) = image_loaded (all_loaded loading items)
 
 abbrev pub end_loaded : Result LoadingStatus Refusal → Result Image Refusal
 end_loaded (Err refusal) = Err refusal
-end_loaded (Ok s) = ended_with s.loading (end_behind [] s.assembly)
+end_loaded (Ok s) = ended_with s.loading (end_following [] s.assembly)
 
 abbrev pub first_status : LoadingStatus
 first_status = loading_status (Ok beginning) (Ok nothing)

@@ -3,7 +3,7 @@
 ghost use Rattle.std.specs.Prelude.{◌≡◌, ◌≢◌, Ok, Err, IfOk, OnOk};
 ghost use Rattle.mx_asm.specs.Faults.{no_memory};
 ghost use Rattle.mx_asm.specs.Fitting.{AreFit};
-ghost use Rattle.mx_asm.specs.OnePass.{beginning, line_behind};
+ghost use Rattle.mx_asm.specs.OnePass.{beginning, line_following};
 ghost use Rattle.mx_line.specs.Lines.{lines_of};
 ghost use Rattle.mx_load.specs.Status as loader_spec;
 ghost use Rattle.mx_mmo.specs.Meaning.{nothing};
@@ -53,7 +53,7 @@ fn take_line(
     items: &mut Items,
     text: &[u8],
 ) -> Result<Result<(), Refusal>, NoMemory>
-    ensures taken { OnOk result ((items.new, assembler.new) ≡ line_behind items.old assembler.old text.now) }
+    ensures taken { OnOk result ((items.new, assembler.new) ≡ line_following items.old assembler.old text.now) }
     ensures answer { IfOk result (λ answer. answer ≡ spec.refusal_in assembler.new) }
     ensures fits { AreFit items.old → AreFit items.new }
 {

@@ -122,8 +122,8 @@ pub fn leading_word(text: &[u8]) -> &[u8]
 }
 
 /// What follows the letters and digits at the front of a text, and the blanks after these.
-pub(crate) fn behind_word(text: &[u8]) -> &[u8]
-    ensures { result.now ≡ spec.behind_word text.now }
+pub(crate) fn after_word(text: &[u8]) -> &[u8]
+    ensures { result.now ≡ spec.after_word text.now }
 {
     let rest = &text[word_length(text)..];
     &rest[blank_length(rest)..]
@@ -135,8 +135,8 @@ pub fn from_field(field: Field, text: &[u8]) -> &[u8]
 {
     match field {
         Field::Label => text,
-        Field::Operation => behind_word(text),
-        Field::Operands => behind_word(behind_word(text)),
+        Field::Operation => after_word(text),
+        Field::Operands => after_word(after_word(text)),
     }
 }
 

@@ -4,7 +4,7 @@ ghost use Rattle.std.specs.Prelude.{◌≡◌, drop, length};
 ghost use Rattle.mx_line.specs.Lines.{lines_of};
 ghost use Rattle.mx_marks.specs.Labels as spec;
 
-use crate::fields::{behind_word, leading_word};
+use crate::fields::{after_word, leading_word};
 use crate::under::split_at_most;
 use mx_line::cut_line;
 use mx_ops::{Op, Pseudo, find};
@@ -173,7 +173,7 @@ pub fn find_label_line(name: &[u8], most: u32, source: &[u8]) -> u64
 fn label_operation(name: &[u8], source: &[u8]) -> Option<Op>
     ensures { result ≡ spec.label_operation name.now source.now }
 {
-    find(leading_word(behind_word(first_line(Likeness::Same, name, u32::MAX, source))))
+    find(leading_word(after_word(first_line(Likeness::Same, name, u32::MAX, source))))
 }
 
 /// Whether a name is a label of data.
@@ -214,7 +214,7 @@ fn first_word<'a>(name: &[u8], text: &'a [u8]) -> &'a [u8]
         if is_alike(name, leading_word(rest)) {
             return leading_word(rest);
         }
-        rest = behind_word(rest);
+        rest = after_word(rest);
         left -= 1;
     }
     &[]

@@ -33,8 +33,8 @@ ended-first : (at : ℕ) (bytes : List ℕ) → first_item Ended at bytes ≡ Ok
 ended-first at bytes = grind arith
 
 -- what is left after the items of an object
-abbrev pub left_behind : ℕ → List ℕ → Left
-left_behind at rest = record { phase = Ended; at = at; rest = rest }
+abbrev pub left_after : ℕ → List ℕ → Left
+left_after at rest = record { phase = Ended; at = at; rest = rest }
 
 onto-none : (items : List Item) (left : Left) → onto items ([], Ok left) ≡ (items, Ok left)
 onto-none items left = rw append-nil refl
@@ -45,11 +45,11 @@ stab-last (item ∷ next ∷ items) g values rest = stab-last (next ∷ items) g
 stab-last items g values rest = tt
 
 pub items-read : (items : List Item) (front rest : List ℕ) → Spelled items front → Reaches Start items → SpecsEnd items → EndsLast items rest →
-    items_of Start 0 (front ++ rest) ≡ (items, Ok (left_behind (length front) rest))
+    items_of Start 0 (front ++ rest) ≡ (items, Ok (left_after (length front) rest))
 items-read items front rest sp r d e =
     walk-spelled Start 0 rest sp r.turn d e
     ∙ ap (λ (n : ℕ). onto items (items_of (phase_end Start items) n rest)) (zero-add (length front))
-    ∙ ap (onto items) (rw r.end (items-none Ended (length front) rest (ended-first (length front) rest))) ∙ onto-none items (left_behind (length front) rest)
+    ∙ ap (onto items) (rw r.end (items-none Ended (length front) rest (ended-first (length front) rest))) ∙ onto-none items (left_after (length front) rest)
 
 -- the lopcode that ends an object tells its count
 pub end-told : (count : ℕ) → count < 2 ^ 16 → end_count (wide_lop 12 count) ≡ Some count

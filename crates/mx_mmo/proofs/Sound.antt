@@ -1,6 +1,6 @@
 -- What is read is in the grammar.
 use Rattle.std.proofs.Common.{◌≡◌, ℕ, zero, suc, ◌+◌, ◌-◌, ◌*◌, ◌/◌, ◌%◌, ◌^◌, ◌<◌, ◌≤◌, length, List, [], ◌∷◌, ◌++◌, take, drop, arith, refl, sym, ◌∙◌, ap, subst, Ok, Err, Some, None, Bool, true, false, cond, length-append, append_assoc, add-zero, zero-add, length-take, length-drop, Result, Option, nat_lt, ◌==◌, ◌&&◌, rules}
-use Rattle.mx_mmo.proofs.Words.{AllByRecursion, take-append-drop, wide_lop, AreBytes, Fits, Spelled, Due, IsWithin, first_item, limit, phase_after, tail_of, tail_after, counted_tail, end_count, ComeFirst, phase_end, Left, AreAt, Walk, after_item, walk_on, walk, items_of, SpellsObject, object_of, object_after, with_tail, Item, Tail, Object, MmoFault, TooLong, Phase, Start, Ended, bytes-behind, same-number, nat_tests}
+use Rattle.mx_mmo.proofs.Words.{AllByRecursion, take-append-drop, wide_lop, AreBytes, Fits, Spelled, Due, IsWithin, first_item, limit, phase_after, tail_of, tail_after, counted_tail, end_count, ComeFirst, phase_end, Left, AreAt, Walk, after_item, walk_on, walk, items_of, SpellsObject, object_of, object_after, with_tail, Item, Tail, Object, MmoFault, TooLong, Phase, Start, Ended, bytes-after, same-number, nat_tests}
 use Rattle.mx_mmo.proofs.Ends.{last-cons, specs-cons}
 use Rattle.mx_mmo.proofs.Firsts.{first-within}
 use Rattle.mx_mmo.proofs.Phases.{Reaches, placed-items}
@@ -29,8 +29,8 @@ IsSoundWalk phase at bytes (items, Err fault) = Stopped phase at bytes items fau
 rejoined : (size : ℕ) (bytes front rest : List ℕ) → drop size bytes ≡ front ++ rest → bytes ≡ (take size bytes ++ front) ++ rest
 rejoined size bytes front rest e = sym (take-append-drop size bytes) ∙ ap (λ b. take size bytes ++ b) e ∙ sym (append_assoc (take size bytes) front rest)
 
-placed-behind : (at size n : ℕ) (bytes front : List ℕ) → size ≤ length bytes → n ≡ at + size + length front → n ≡ at + length (take size bytes ++ front)
-placed-behind at size n bytes front l e = omega (arith, length-append (take size bytes) front, length-take size bytes)
+placed-after : (at size n : ℕ) (bytes front : List ℕ) → size ≤ length bytes → n ≡ at + size + length front → n ≡ at + length (take size bytes ++ front)
+placed-after at size n bytes front l e = omega (arith, length-append (take size bytes) front, length-take size bytes)
 
 cons-first : (phase : Phase) (bytes : List ℕ) (item : Item) (size : ℕ) (items : List Item) (front rest : List ℕ) → Found phase bytes item size →
     ComeFirst (phase_after item phase) (drop size bytes) items front rest → ComeFirst phase bytes (item ∷ items) (take size bytes ++ front) rest
@@ -50,7 +50,7 @@ after-sound phase at bytes item size (items, Err fault) f l s = record {
   front = take size bytes ++ s.front;
   rest = s.rest;
   first = cons-first phase bytes item size items s.front s.rest f s.first;
-  found = ap (λ (n : ℕ). first_item (phase_end phase (item ∷ items)) n s.rest) (sym (placed-behind at size (at + size + length s.front) bytes s.front l refl)) ∙ s.found;
+  found = ap (λ (n : ℕ). first_item (phase_end phase (item ∷ items)) n s.rest) (sym (placed-after at size (at + size + length s.front) bytes s.front l refl)) ∙ s.found;
   each = s.each;
 }
 after-sound phase at bytes item size (items, Ok left) f l s = record {
@@ -58,7 +58,7 @@ after-sound phase at bytes item size (items, Ok left) f l s = record {
   first = cons-first phase bytes item size items s.front left.rest f s.first;
   fits = (f.fits, s.fits);
   end = s.end;
-  place = placed-behind at size left.at bytes s.front l s.place;
+  place = placed-after at size left.at bytes s.front l s.place;
 }
 
 none-first : (phase : Phase) (bytes : List ℕ) → ComeFirst phase bytes [] [] bytes
@@ -79,7 +79,7 @@ unfolding walk
 walk-sound zero phase at bytes b = nothing-sound phase at bytes
 walk-sound (suc n) phase at bytes b =
     sound-step (walk n) phase at bytes (first_item phase at bytes) refl b (first-tells phase at bytes b) (first-within phase at bytes)
-    (λ p a size. walk-sound n p a (drop size bytes) (bytes-behind size bytes b))
+    (λ p a size. walk-sound n p a (drop size bytes) (bytes-after size bytes b))
 
 pub items-sound : (bytes : List ℕ) → AreBytes bytes → IsSoundWalk Start 0 bytes (items_of Start 0 bytes)
 unfolding items_of
@@ -119,7 +119,7 @@ counts last count h1 h2 = grind arith
 trie-tail : (at count : ℕ) (rest : List ℕ) → AreBytes rest → length rest % 4 ≡ 0 → Some count ≡ end_count (drop (length rest - 4) rest) → count ≡ length rest / 4 - 1 →
     Ends Ended at rest (record { trie = take (length rest - 4) rest; place = at })
 trie-tail at count rest b m e c =
-    let k = counts (drop (length rest - 4) rest) count (bytes-behind (length rest - 4) rest b) e in
+    let k = counts (drop (length rest - 4) rest) count (bytes-after (length rest - 4) rest b) e in
     record {
       count = count;
       ended = refl;
@@ -132,11 +132,11 @@ trie-tail at count rest b m e c =
 counted-tells : (at : ℕ) (rest : List ℕ) (o : Option ℕ) → AreBytes rest → length rest % 4 ≡ 0 → o ≡ end_count (drop (length rest - 4) rest) → TailTold Ended at rest (counted_tail at rest o)
 counted-tells at rest o h1 h2 h3 = search (rules, refused-tail, cond-tail, trie-tail, same-number)
 
-behind-tells : (phase : Phase) (at : ℕ) (rest : List ℕ) → AreBytes rest → length rest % 4 ≡ 0 → TailTold phase at rest (tail_after phase at rest)
-behind-tells phase at rest h1 h2 = search (rules, counted-tells, refused-tail)
+after-tells : (phase : Phase) (at : ℕ) (rest : List ℕ) → AreBytes rest → length rest % 4 ≡ 0 → TailTold phase at rest (tail_after phase at rest)
+after-tells phase at rest h1 h2 = search (rules, counted-tells, refused-tail)
 
 tail-tells : (phase : Phase) (at : ℕ) (rest : List ℕ) → AreBytes rest → TailTold phase at rest (tail_of phase at rest)
-tail-tells phase at rest b = search (rules, cond-tail, behind-tells, same-number, refused-tail)
+tail-tells phase at rest b = search (rules, cond-tail, after-tells, same-number, refused-tail)
 
 -- an object that is read is one of the grammar
 abbrev IsRead : List ℕ → Result Object MmoFault → Type 0
@@ -169,14 +169,14 @@ left-bytes front rest bytes e b = rest-bytes front rest (subst (λ (x : List ℕ
     rest-bytes [] rest b = b
     rest-bytes (x ∷ front) rest b = rest-bytes front rest b.1
 
-behind-read : (bytes : List ℕ) (w : Walk) → AreBytes bytes → IsSoundWalk Start 0 bytes w → IsRead bytes (object_after w.0 w.1)
-behind-read bytes w h1 h2 = search (rules, with-tail-sound, tail-tells, left-bytes)
+after-read : (bytes : List ℕ) (w : Walk) → AreBytes bytes → IsSoundWalk Start 0 bytes w → IsRead bytes (object_after w.0 w.1)
+after-read bytes w h1 h2 = search (rules, with-tail-sound, tail-tells, left-bytes)
 
 cond-read : (b : Bool) (bytes : List ℕ) (fault : MmoFault) (r : Result Object MmoFault) → IsRead bytes r → IsRead bytes (cond b (Err fault) r)
 cond-read b bytes fault r h = grind arith
 
 is-read : (bytes : List ℕ) → AreBytes bytes → IsRead bytes (object_of bytes)
-is-read bytes b = cond-read (nat_lt limit (length bytes)) bytes (TooLong limit) _ (behind-read bytes (items_of Start 0 bytes) b (items-sound bytes b))
+is-read bytes b = cond-read (nat_lt limit (length bytes)) bytes (TooLong limit) _ (after-read bytes (items_of Start 0 bytes) b (items-sound bytes b))
 
 pub object-sound : (bytes : List ℕ) (object : Object) → AreBytes bytes → object_of bytes ≡ Ok object → SpellsObject bytes object
 object-sound bytes object b e = subst (λ (r : Result Object MmoFault). IsRead bytes r) e (is-read bytes b)

@@ -36,8 +36,8 @@ pub items-fault : (phase : Phase) (at : ℕ) (bytes : List ℕ) (fault : MmoFaul
     items_of phase at bytes ≡ ([], Err fault)
 items-fault phase at bytes fault e = items-step phase at bytes ∙ ap (walk_on items_of phase at bytes) e
 
-extended-behind : (item : Item) (w : Walk) (ys : List ℕ) → extended (after_item item w) ys ≡ after_item item (extended w ys)
-extended-behind item w ys = grind arith
+extended-after : (item : Item) (w : Walk) (ys : List ℕ) → extended (after_item item w) ys ≡ after_item item (extended w ys)
+extended-after item w ys = grind arith
 
 abbrev Extends : Phase → ℕ → List ℕ → List ℕ → Type 0
 Extends phase at xs ys = items_of phase at (xs ++ ys) ≡ extended (items_of phase at xs) ys
@@ -50,7 +50,7 @@ extend-step phase at xs ys (Ok (Some (item, size))) e w g h =
     items-more phase at (xs ++ ys) item size g
     ∙ ap (λ bs. after_item item (items_of (phase_after item phase) (at + size) bs)) (grind (arith, common_steps, w.1))
     ∙ ap (after_item item) (h (phase_after item phase) (at + size) (drop size xs) (shorter size xs w.0 w.1))
-    ∙ sym (extended-behind item (items_of (phase_after item phase) (at + size) (drop size xs)) ys)
+    ∙ sym (extended-after item (items_of (phase_after item phase) (at + size) (drop size xs)) ys)
     ∙ ap (λ v. extended v ys) (sym (items-more phase at xs item size e))
 
 extends-below : (k : ℕ) (phase : Phase) (at : ℕ) (xs ys : List ℕ) → length xs < k → Extends phase at xs ys

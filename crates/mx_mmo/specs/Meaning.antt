@@ -69,14 +69,14 @@ join_octa m a x =
 abbrev pub tetras_before : ℕ → ℕ → ℕ
 tetras_before n a = (a + 2 ^ 64 - 4 * n) % 2 ^ 64
 
-abbrev pub tetras_behind : ℕ → ℕ → ℕ
-tetras_behind n a = (a + 4 * n) % 2 ^ 64
+abbrev pub tetras_following : ℕ → ℕ → ℕ
+tetras_following n a = (a + 4 * n) % 2 ^ 64
 
 -- where a far fix joins its tetra: lambda less four times a distance, which is the tetra, or its low 24 bits less 2^bits
 -- where its first byte is 1
 abbrev pub far_place : ℕ → ℕ → ℕ → ℕ
 far_place a bits t =
-    if nat_le (2 ^ 24) t then tetras_behind (2 ^ bits) (tetras_before (t % 2 ^ 24) a) else tetras_before t a
+    if nat_le (2 ^ 24) t then tetras_following (2 ^ bits) (tetras_before (t % 2 ^ 24) a) else tetras_before t a
 
 -- the image after a change, and all else as it was
 abbrev pub with_image : Loading → Result Image Meaningless → Result Loading Meaningless

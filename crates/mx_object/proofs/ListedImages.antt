@@ -267,16 +267,16 @@ tail-items items (Ok tail) object e =
     ap (λ (o : Object). o.items) same
 tail-items items (Err fault) object e = absurd (cc)
 
-behind-items : (items : List Item) (r : Result Left MmoFault) (object : Object) → object_after items r ≡ Ok object → items ≡ object.items
-behind-items items (Ok left) object e = tail-items items (tail_of left.phase left.at left.rest) object e
-behind-items items (Err fault) object e = absurd (cc)
+after-items : (items : List Item) (r : Result Left MmoFault) (object : Object) → object_after items r ≡ Ok object → items ≡ object.items
+after-items items (Ok left) object e = tail-items items (tail_of left.phase left.at left.rest) object e
+after-items items (Err fault) object e = absurd (cc)
 
 object-items : (bytes : List ℕ) (object : Object) → object_of bytes ≡ Ok object → items_in bytes ≡ object.items
 object-items bytes object e = by (nat_lt limit (length bytes)) e
   where
     by : (b : Bool) → cond b (Err (TooLong limit)) (object_after (items_in bytes) (items_of Start 0 bytes).1) ≡ Ok object → items_in bytes ≡ object.items
     by true e = absurd (cc)
-    by false e = behind-items (items_in bytes) (items_of Start 0 bytes).1 object e
+    by false e = after-items (items_in bytes) (items_of Start 0 bytes).1 object e
 
 -- what the items of an object leave at an address
 record Left-at (a : ℕ) (items : List Item) (m : Image) : Type 0 where

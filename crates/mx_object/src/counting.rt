@@ -134,8 +134,8 @@ fn next_count<'a>(tetra: &ListedTetra, octas: &'a [u64]) -> (TetraCount, &'a [u6
     ensures count { result.0 ≡ spec.count_read tetra.now octas.now }
     ensures others { result.1.now ≡ spec.after_count octas.now }
 {
-    let (tally, behind) = next_tally(octas);
-    let (part, others) = next_tally(behind);
+    let (tally, following) = next_tally(octas);
+    let (part, others) = next_tally(following);
     let part = if is_part_start(tetra) {
         Some(part)
     } else {
@@ -157,10 +157,10 @@ fn counts_in(
     let mut rest = tetras;
     let mut left = octas;
     while let Some((tetra, others)) = rest.split_first() {
-        let (count, behind) = next_count(tetra, left);
+        let (count, following) = next_count(tetra, left);
         counts.push(count)?;
         rest = others;
-        left = behind;
+        left = following;
     }
     Ok(counts)
 }
@@ -188,8 +188,8 @@ fn figures_in(
     ensures total { IfOk result (λ read. read.2 ≡ (spec.sheet_read tetras.now (octas_in report.now)).total) }
 {
     let octas = to_octas(alloc, report)?;
-    let (total, behind) = next_tally(octas.as_slice());
-    let (loaded, others) = next_tally(behind);
+    let (total, following) = next_tally(octas.as_slice());
+    let (loaded, others) = next_tally(following);
     let counts = counts_in(alloc, tetras, others)?;
     Ok((counts, less(total, loaded), total))
 }

@@ -21,5 +21,5 @@ pub rose-on : (k m n : ℕ) → k ≤ m → Rose m n → Rose k n
 rose-on k m n l (inl h) = inl (omega (arith, l, h))
 rose-on k m n l (inr e) = inr e
 
-pub only-behind : {A : Type 0} (old mid : Option HostModel) (a b d : ℕ) (answer result : A) → KeepsHost old mid a b → OnlyByFailure mid answer result b d → OnlyByFailure old answer result a d
-only-behind old mid a b d answer result h only had e = rose-on a b d h.1 (only (h.2 had) e)
+pub only-after : {A : Type 0} (old mid : Option HostModel) (a b d : ℕ) (answer result : A) → KeepsHost old mid a b → OnlyByFailure mid answer result b d → OnlyByFailure old answer result a d
+only-after old mid a b d answer result h only had e = rose-on a b d h.1 (only (h.2 had) e)

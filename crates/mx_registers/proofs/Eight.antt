@@ -4,7 +4,7 @@ use Rattle.std.proofs.lemmas.Bool.Decides.{nat_tests}
 use Rattle.std.proofs.lemmas.List.{append_assoc, append-nil, length-append, length-replicate, length-take-le, take_all, drop_all, drop_more, replicate-append-replicate, set_at}
 use Rattle.std.proofs.Math.ListN.{get_or-append}
 use Rattle.mx_word.specs.Lists.{with_part}
-use Rattle.mx_registers.proofs.Few.{behind}
+use Rattle.mx_registers.proofs.Few.{following}
 use Rattle.mx_registers.proofs.Values.{HasRegisters, registers-has, locals-bounds}
 use Rattle.mx_registers.specs.Bounds.{AreInBounds}
 use Rattle.mx_registers.specs.Parts.{all_values, registers_in, HoldsRegisters}
@@ -50,7 +50,7 @@ registers-written v os n y b f size g =
     let many : length ps ≡ 8 = omega (arith, length-append os (replicate (8 - n) 0), length-replicate {A = ℕ} (8 - n) 0) in
     let to : 0 + length ps ≡ 8 = omega (arith, many) in
     let whole : with_part xs 0 ps ≡ ps ++ drop 8 xs = ap (λ (k : ℕ). ps ++ drop k xs) to in
-    let back : drop 8 xs ≡ replicate (v.first_global - 8) 0 ++ v.globals = behind v 8 f (omega (arith, b.least_global)) in
+    let back : drop 8 xs ≡ replicate (v.first_global - 8) 0 ++ v.globals = following v 8 f (omega (arith, b.least_global)) in
     let sum : (8 - n) + (v.first_global - 8) ≡ suc (v.first_global - (n + 1)) = omega (arith, b.least_global) in
     let joined : replicate {A = ℕ} (8 - n) 0 ++ replicate (v.first_global - 8) 0 ≡ 0 ∷ replicate (v.first_global - (n + 1)) 0 =
     replicate-append-replicate (8 - n) (v.first_global - 8) 0 ∙ ap (λ k. replicate {A = ℕ} k 0) sum in

@@ -48,8 +48,8 @@ first_below v n few f = ⊎_elim (λ e. longer e) (λ e. shorter e) (cases_lt (l
 -- MOVED AT ONCE
 
 -- what is above the locals
-pub behind : (v : Registers) (m : ℕ) → length v.locals ≤ m → m ≤ v.first_global → drop m (all_values v) ≡ replicate (v.first_global - m) 0 ++ v.globals
-behind v m f g =
+pub following : (v : Registers) (m : ℕ) → length v.locals ≤ m → m ≤ v.first_global → drop m (all_values v) ≡ replicate (v.first_global - m) 0 ++ v.globals
+following v m f g =
     let l : ℕ = length v.locals in
     let zs : List ℕ = replicate (v.first_global - l) 0 in
     let split : l + (m - l) ≡ m = omega arith in
@@ -71,7 +71,7 @@ moved v n c few b ec fc fn = ⊎_elim (λ e. all e) (λ e. some e) (cases_lt (le
     all e =
         let none : drop n v.locals ≡ [] = drop_all n v.locals (omega arith) in
         let count : few - c ≡ few = omega arith in
-        rw (none, count) (ap (take few) (behind v n (omega arith) (omega arith)) ∙ zeros-first few (v.first_global - n) v.globals (omega arith))
+        rw (none, count) (ap (take few) (following v n (omega arith) (omega arith)) ∙ zeros-first few (v.first_global - n) v.globals (omega arith))
 
     some : n ≤ length v.locals → take few (drop n (all_values v)) ≡ drop n v.locals ++ replicate (few - c) 0
     some e =
@@ -93,7 +93,7 @@ few-values v n c few zs b ec fc fn ez =
     let low : take few (ps ++ drop few xs) ≡ ps = take_at ps (drop few xs) few size in
     let split : few + (m - few) ≡ m = omega arith in
     let high : drop m (ps ++ drop few xs) ≡ replicate (v.first_global - m) 0 ++ v.globals =
-    ap (λ k. drop k (ps ++ drop few xs)) (sym split) ∙ sym (drop-drop (m - few) few (ps ++ drop few xs)) ∙ ap (drop (m - few)) (drop_at ps (drop few xs) few size) ∙ drop-drop (m - few) few xs ∙ ap (λ k. drop k xs) split ∙ behind v m (omega arith) (omega (arith, b.locals_below_globals)) in
+    ap (λ k. drop k (ps ++ drop few xs)) (sym split) ∙ sym (drop-drop (m - few) few (ps ++ drop few xs)) ∙ ap (drop (m - few)) (drop_at ps (drop few xs) few size) ∙ drop-drop (m - few) few xs ∙ ap (λ k. drop k xs) split ∙ following v m (omega arith) (omega (arith, b.locals_below_globals)) in
     let two : replicate {A = ℕ} (m - few) 0 ++ replicate (v.first_global - m) 0 ≡ replicate (v.first_global - few) 0 = replicate-append-replicate (m - few) (v.first_global - m) 0 ∙ ap (λ k. replicate {A = ℕ} k 0) (omega (arith, b.locals_below_globals)) in
     let joined : replicate {A = ℕ} (few - c) 0 ++ (replicate (m - few) 0 ++ replicate (v.first_global - m) 0) ≡ replicate (v.first_global - c) 0 = ap (λ (ws : List ℕ). replicate (few - c) 0 ++ ws) two ∙ replicate-append-replicate (few - c) (v.first_global - few) 0 ∙ ap (λ k. replicate {A = ℕ} k 0) (omega arith) in
     rw (ez, whole, low, high, count, ← joined) (simp append_assoc)

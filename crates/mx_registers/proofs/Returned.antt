@@ -58,11 +58,11 @@ alone-placed xs main count hole h e =
 parts-placed : (xs ys zs octas rs : List ℕ) → ys ≡ with_part xs (length octas) rs → length octas ≤ length xs → zs ≡ with_part ys 0 octas → zs ≡ (octas ++ rs) ++ drop (length (octas ++ rs)) xs
 parts-placed xs ys zs octas rs ey f ez =
     let k : ℕ = length octas in
-    let behind : drop k ys ≡ rs ++ drop (k + length rs) xs =
+    let following : drop k ys ≡ rs ++ drop (k + length rs) xs =
     ap (drop k) ey ∙ ap (drop k) (append_assoc (take k xs) rs (drop (k + length rs) xs)) ∙ drop_at (take k xs) _ k (length-take-le k xs f) in
     let size : length (octas ++ rs) ≡ k + length rs = length-append octas rs in
     let place : 0 + k ≡ k = omega arith in
-    rw size (ez ∙ ap (λ n. octas ++ drop n ys) place ∙ ap (λ ws. octas ++ ws) behind ∙ sym (append_assoc octas rs (drop (k + length rs) xs)))
+    rw size (ez ∙ ap (λ n. octas ++ drop n ys) place ∙ ap (λ ws. octas ++ ws) following ∙ sym (append_assoc octas rs (drop (k + length rs) xs)))
 
 -- what is below G once octas and results came back
 returned-front : (octas rs : List ℕ) (room : ℕ) → length octas ≤ room → take room (octas ++ rs) ≡ octas ++ take (room - length octas) rs

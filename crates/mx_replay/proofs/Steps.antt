@@ -45,7 +45,7 @@ pub start-refused : (p : Program) (why : Outcome) (m : HostModel) → (Err why, 
 unfolding step_of
 start-refused p why m e = ap (run_from 0) (sym e)
 
--- BEHIND SOME TURNS
+-- AFTER SOME TURNS
 
 -- a step, and this many turns from it
 from-by : (i j : ℕ) (s : State) (m : HostModel) (t : Then (Result State Outcome)) → run_from i t ≡ Ok (ended Spent s m) → run_from (i + j) t ≡ Ok (run j no_flags false s m)

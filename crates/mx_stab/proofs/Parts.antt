@@ -29,8 +29,8 @@ abbrev pub LeavesBehind : ℕ → Option (ℕ × List ℕ) → Type 0
 LeavesBehind n None = Unit {0}
 LeavesBehind n (Some (serial, more)) = length more ≤ n
 
-pub behind-more : (n m : ℕ) (r : Option (ℕ × List ℕ)) → n ≤ m → LeavesBehind n r → LeavesBehind m r
-behind-more n m r h1 h2 = grind arith
+pub after-more : (n m : ℕ) (r : Option (ℕ × List ℕ)) → n ≤ m → LeavesBehind n r → LeavesBehind m r
+after-more n m r h1 h2 = grind arith
 
 pub serial-leaves : (x : ℕ) (bytes : List ℕ) → LeavesBehind (length bytes) (serial_after x bytes)
 serial-leaves x [] = tt
@@ -40,11 +40,11 @@ symbol_with-leaves : (n node : ℕ) (name : List ℕ) (value : Value) (s : Readi
 symbol_with-leaves n node name value s r h = grind arith
 
 symbol-reads : (kind node : ℕ) (name : List ℕ) → Reads (symbol kind node name)
-symbol-reads kind node name s = search (rules, leaves-cond, symbol_with-leaves, behind-more, length-drop, serial-leaves)
+symbol-reads kind node name s = search (rules, leaves-cond, symbol_with-leaves, after-more, length-drop, serial-leaves)
 
 -- a character leaves less
 abbrev LeavesCharacter : ℕ → Result Character StabFault → Type 0
-LeavesCharacter n (Ok c) = length c.behind.rest ≤ n
+LeavesCharacter n (Ok c) = length c.following.rest ≤ n
 LeavesCharacter n (Err fault) = Unit {0}
 
 one_byte-leaves : (at : ℕ) (found : List Symbol) (bytes : List ℕ) → LeavesCharacter (length bytes) (one_byte at found bytes)

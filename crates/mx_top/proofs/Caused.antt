@@ -5,7 +5,7 @@ use Rattle.std.specs.Prelude.{Option, Result}
 use Rattle.mx_host.specs.HostModel.{HostModel, Rose}
 use Rattle.mx_host.specs.Keeping.{Keeps}
 use Rattle.mx_host.proofs.Keeping.{keeps-then, keeps-all}
-use Rattle.mx_plan.proofs.KeptHosts.{only-behind, rose-on, keeps_host-kept}
+use Rattle.mx_plan.proofs.KeptHosts.{only-after, rose-on, keeps_host-kept}
 use Rattle.mx_words.specs.declared.order.Order.{Order}
 use Rattle.mx_words.specs.declared.order.WordsFault.{WordsFault}
 use Rattle.mx_outcome.specs.Kinds.{is_usage}
@@ -37,9 +37,9 @@ pub fails-refused : {H : Type 0} (told : H → Option HostModel) (faults : H →
 fails-refused told faults h r refusal e = fails-nowhere told faults h r (λ x. absurd (cc (e, x)), λ x. absurd (cc (e, x)), ap is_usage e)
 
 -- after a part that keeps what every function does
-pub fails-behind : {H : Type 0} (told : H → Option HostModel) (faults : H → ℕ) (a b c : H) (r : Outcome) → Keeps (told a) (told b) (faults a) (faults b) → FailsOnlyBy told faults b c r → FailsOnlyBy told faults a c r
-fails-behind told faults a b c r kept rest = (
-  only-behind (told a) (told b) (faults a) (faults b) (faults c) HostFault r (keeps_host-kept (told a) (told b) (faults a) (faults b) kept) rest.0,
+pub fails-after : {H : Type 0} (told : H → Option HostModel) (faults : H → ℕ) (a b c : H) (r : Outcome) → Keeps (told a) (told b) (faults a) (faults b) → FailsOnlyBy told faults b c r → FailsOnlyBy told faults a c r
+fails-after told faults a b c r kept rest = (
+  only-after (told a) (told b) (faults a) (faults b) (faults c) HostFault r (keeps_host-kept (told a) (told b) (faults a) (faults b) kept) rest.0,
   λ n e. rose-on (faults a) (faults b) (faults c) kept.counting (rest.1 (λ t. n (subst IsTrue kept.telling t)) e),
   rest.2,
   keeps-then (told a) (told b) (told c) (faults a) (faults b) (faults c) kept rest.3,

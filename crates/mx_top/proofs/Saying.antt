@@ -133,7 +133,7 @@ reports-said outcome (text ∷ texts) m =
     ap (λ (t : Outcome × HostModel). t.0) (end_bind host (λ (r : Result (Unit {0}) HostFault). reports_plan outcome texts) (report_plan text) m) ∙ reports-said outcome texts (end_of host (report_plan text) m).1
 
 pub telling-told : (left new : HostModel) (result said : Outcome) (texts : List (List ℕ)) → Telling left new result said texts → result ≢ OutOfMemory → ends result new ≡ with_reports texts (with_message (ends said left))
-telling-told left new result said texts h ne = by h.message h.behind
+telling-told left new result said texts h ne = by h.message h.following
   where
     by : Tells left h.between h.spoken (message_plan said) → Tells h.between new result (reports_plan h.spoken texts) → ends result new ≡ with_reports texts (with_message (ends said left))
     by x (inr y) = absurd (ne y.0)

@@ -127,7 +127,7 @@ pub record Telling (left new : HostModel) (result said : Outcome) (texts : List 
   pub between : HostModel
   pub spoken : Outcome
   pub message : Tells left between spoken (message_plan said)
-  pub behind : Tells between new result (reports_plan spoken texts)
+  pub following : Tells between new result (reports_plan spoken texts)
 
 abbrev pub TellsAll : Option HostModel → Option HostModel → Outcome → Outcome → List (List ℕ) → Type 0
 TellsAll old new result said texts = IsTrue (tells old) → Telling (contents old) (contents new) result said texts

@@ -1,7 +1,7 @@
 -- The tetras that are shown are those that the items of the lines load.
 use Rattle.std.proofs.Common.{◌≡◌, ℕ, List, [], ◌∷◌, ◌++◌, append-nil, append_assoc, refl, sym, ap, ◌∙◌}
 use Rattle.mx_mmo.specs.declared.items.Item.{Item}
-use Rattle.mx_type.specs.Lambda.{lambda_after, lambda_behind}
+use Rattle.mx_type.specs.Lambda.{lambda_after, lambda_following}
 use Rattle.mx_asm.specs.Whole.{Line, lines_items, lines_taken}
 use Rattle.mx_asm.proofs.InTurn.{taken-at}
 use Rattle.mx_view.specs.declared.cells.Wanted.{Wanted}
@@ -9,12 +9,12 @@ use Rattle.mx_view.specs.Cells.{cell_of, cells_of}
 use Rattle.mx_view.specs.Listing.{added_items, line_cells, cells_after}
 use Rattle.mx_view.proofs.Shown.{grown, added-is}
 
-pub cells-append : (w : Wanted) (lambda : ℕ) (items more : List Item) → cells_of w lambda (items ++ more) ≡ cells_of w lambda items ++ cells_of w (lambda_behind lambda items) more
-unfolding cells_of lambda_behind
+pub cells-append : (w : Wanted) (lambda : ℕ) (items more : List Item) → cells_of w lambda (items ++ more) ≡ cells_of w lambda items ++ cells_of w (lambda_following lambda items) more
+unfolding cells_of lambda_following
 cells-append w lambda [] more = refl
 cells-append w lambda (item ∷ items) more =
     ap (λ x. cell_of w lambda item ++ x) (cells-append w (lambda_after lambda item) items more)
-    ∙ sym (append_assoc (cell_of w lambda item) (cells_of w (lambda_after lambda item) items) (cells_of w (lambda_behind (lambda_after lambda item) items) more))
+    ∙ sym (append_assoc (cell_of w lambda item) (cells_of w (lambda_after lambda item) items) (cells_of w (lambda_following (lambda_after lambda item) items) more))
 
 -- the items of lines are those of the lines before the last one, with what that one adds
 pub items-grow : (before : List Line) (line : Line) → lines_items (before ++ line ∷ []) ≡ lines_items before ++ added_items before line

@@ -1,7 +1,7 @@
 -- The tetras of lines, one line after another.
 use Rattle.std.proofs.Common.{◌≡◌, ℕ, List, [], ◌∷◌, ◌++◌, length, append-nil, append_assoc, refl, sym, ap, ◌∙◌, Ok}
 use Rattle.mx_line.specs.Lines.{lines_of}
-use Rattle.mx_type.specs.Lambda.{lambda_behind, lambda_of}
+use Rattle.mx_type.specs.Lambda.{lambda_following, lambda_of}
 use Rattle.mx_asm.specs.OnePass.{Status, beginning}
 use Rattle.mx_asm.specs.Whole.{HasTaken, Line, lines_items}
 use Rattle.mx_asm.proofs.InTurn.{none-taken, one-more-taken}
@@ -15,7 +15,7 @@ use Rattle.mx_view.proofs.Shown.{cells-are, lambda-is}
 
 pub loads-next : (loads : List (List Cell)) (lambda : ℕ) (a : Status) (source rest : List ℕ) (line : Line) → lines_of source ≡ line ∷ lines_of rest →
     loads ++ loads_in_turn lambda a (lines_of source)
-    ≡ (loads ++ load_at lambda a line ∷ []) ++ loads_in_turn (lambda_behind lambda (items_at a line)) (status_at a line) (lines_of rest)
+    ≡ (loads ++ load_at lambda a line ∷ []) ++ loads_in_turn (lambda_following lambda (items_at a line)) (status_at a line) (lines_of rest)
 unfolding loads_in_turn
 loads-next loads lambda a source rest line e = rw e (sym (append_assoc loads (load_at lambda a line ∷ []) _))
 
@@ -33,7 +33,7 @@ loads-are (line ∷ later) before a h =
     ∙ ap (λ l. line_cells All before line ∷ l) (loads-are later (before ++ line ∷ []) (status_at a line) (one-more-taken before line [] a h))
 
 pub all-loads : (source : List ℕ) → loads_in_turn 0 (Ok beginning) (lines_of source) ≡ loads_of source
-unfolding lines_of lambda_behind
+unfolding lines_of lambda_following
 all-loads source = loads-are (lines_of source) [] (Ok beginning) none-taken
 
 pub ruleset whole = (all-loads)

@@ -45,13 +45,13 @@ open-line m before line none =
     ∙ listed-of m (length before + 1) line (line_cells All before line)
 
 -- lines after others, where none but the last may be refused
-pub once-behind : (m : Meaning) (before later : List Line) (line : Line) → lines_refusal (before ++ later) ≡ None → listed_after m All before (later ++ line ∷ []) ≡ each_line_once m before (later ++ line ∷ [])
+pub once-after : (m : Meaning) (before later : List Line) (line : Line) → lines_refusal (before ++ later) ≡ None → listed_after m All before (later ++ line ∷ []) ≡ each_line_once m before (later ++ line ∷ [])
 unfolding listed_after each_line_once
-once-behind m before [] line none =
+once-after m before [] line none =
     ap (λ lines. lines ++ []) (open-line m before line (ap lines_refusal (sym (append-nil before)) ∙ none))
-once-behind m before (next ∷ later) line none =
+once-after m before (next ∷ later) line none =
     let open_still : lines_refusal ((before ++ next ∷ []) ++ later) ≡ None = ap lines_refusal (append_assoc before (next ∷ []) later) ∙ none in
-    (λ i. open-line m before next (open-front before (next ∷ later) none) i ++ once-behind m (before ++ next ∷ []) later line open_still i)
+    (λ i. open-line m before next (open-front before (next ∷ later) none) i ++ once-after m (before ++ next ∷ []) later line open_still i)
 
 -- nothing follows a refused line
 closed-lines : (m : Meaning) (before later : List Line) (r : Refused) → lines_refusal before ≡ Some r → listed_after m All before later ≡ []
@@ -75,7 +75,7 @@ once-refused m before later line r none refused =
     ∙ lines-append m [] (before ++ line ∷ []) later
     ∙ ap (λ more. listed_after m All [] (before ++ line ∷ []) ++ more) (closed-lines m (before ++ line ∷ []) later r refused)
     ∙ append-nil (listed_after m All [] (before ++ line ∷ []))
-    ∙ once-behind m [] before line none
+    ∙ once-after m [] before line none
 
 -- all lines, where none is refused
 all-once : (m : Meaning) (before later : List Line) → lines_refusal (before ++ later) ≡ None → listed_after m All before later ≡ each_line_once m before later

@@ -2,9 +2,9 @@
 -- that both are the same.
 use Rattle.std.specs.Prelude.{ℕ, ◌+◌, List, [], ◌∷◌, ◌++◌, Result, Ok, Err}
 use Rattle.mx_mmo.specs.declared.items.Item.{Item}
-use Rattle.mx_type.specs.Lambda.{lambda_behind}
+use Rattle.mx_type.specs.Lambda.{lambda_following}
 use Rattle.mx_asm.specs.Whole.{Line}
-use Rattle.mx_asm.specs.OnePass.{Status, beginning, line_behind, end_behind}
+use Rattle.mx_asm.specs.OnePass.{Status, beginning, line_following, end_following}
 use Rattle.mx_asm.specs.declared.refused.Refused.{Refused}
 use Rattle.mx_view.specs.declared.cells.Wanted.{Wanted}
 use Rattle.mx_view.specs.declared.lines.ListedLine.{ListedLine}
@@ -13,10 +13,10 @@ use Rattle.mx_view.specs.Rows.{Meaning, listed}
 
 -- the items that a line gives, and what follows it
 abbrev pub items_at : Status → Line → List Item
-items_at a line = (line_behind [] a line).0
+items_at a line = (line_following [] a line).0
 
 abbrev pub status_at : Status → Line → Status
-status_at a line = (line_behind [] a line).1
+status_at a line = (line_following [] a line).1
 
 -- a line with this number, if it is listed, where lambda is an address before it
 abbrev pub listed_at : Meaning → Wanted → ℕ → ℕ → Status → Line → List ListedLine
@@ -28,7 +28,7 @@ listed_in_turn m wanted number lambda a [] = []
 listed_in_turn m wanted number lambda (Err refused) (line ∷ later) = []
 listed_in_turn m wanted number lambda (Ok a) (line ∷ later) =
     listed_at m wanted number lambda (Ok a) line
-    ++ listed_in_turn m wanted (number + 1) (lambda_behind lambda (items_at (Ok a) line)) (status_at (Ok a) line) later
+    ++ listed_in_turn m wanted (number + 1) (lambda_following lambda (items_at (Ok a) line)) (status_at (Ok a) line) later
 
 -- what follows lines
 unfoldable pub status_after_lines : Status → List Line → Status
@@ -41,4 +41,4 @@ all_listed m wanted lines = listed_in_turn m wanted 1 0 (Ok beginning) lines
 
 -- the trie or the refusal after all lines
 abbrev pub end_of : List Line → Result (List ℕ) Refused
-end_of lines = (end_behind [] (status_after_lines (Ok beginning) lines)).1
+end_of lines = (end_following [] (status_after_lines (Ok beginning) lines)).1

@@ -2,7 +2,7 @@
 use Rattle.std.specs.Prelude.{ℕ, List, [], ◌∷◌, ◌++◌}
 use Rattle.mx_line.specs.Lines.{lines_of}
 use Rattle.mx_asm.specs.Whole.{Line}
-use Rattle.mx_type.specs.Lambda.{lambda_behind}
+use Rattle.mx_type.specs.Lambda.{lambda_following}
 use Rattle.mx_asm.specs.OnePass.{Status}
 use Rattle.mx_view.specs.declared.cells.Cell.{Cell}
 use Rattle.mx_view.specs.declared.cells.Wanted.TheVariants.{All}
@@ -27,4 +27,4 @@ load_at lambda a line = cells_of All lambda (items_at a line)
 unfoldable pub loads_in_turn : ℕ → Status → List Line → List (List Cell)
 loads_in_turn lambda a [] = []
 loads_in_turn lambda a (line ∷ later) =
-    load_at lambda a line ∷ loads_in_turn (lambda_behind lambda (items_at a line)) (status_at a line) later
+    load_at lambda a line ∷ loads_in_turn (lambda_following lambda (items_at a line)) (status_at a line) later

@@ -2,13 +2,13 @@ use Rattle.std.proofs.Common.{◌∙◌, ap}
 use Rattle.mx_core.specs.Kept.{state_of}
 use Rattle.mx_run.specs.FlagMaps.{flags_at}
 use Rattle.mx_plan.proofs.KeptHosts.{keeps_host-kept}
-use Rattle.mx_con.proofs.Parts.{part-behind, part-alone}
+use Rattle.mx_con.proofs.Parts.{part-after, part-alone}
 use Rattle.mx_con.proofs.StepPlans.{stepped-went, stepped-halted, stepped-stopped, stepped-lacked}
 use Rattle.mx_con.proofs.steps.step_once.Goals as goal
 
 pub returns-in-Went-clause-part : goal.returns-in-Went-clause-part
 returns-in-Went-clause-part g c =
-    part-behind (keeps_host-kept _ _ _ _ c.in-Went.ensures.turn.keeps) c.write_trace.ensures (λ e. e)
+    part-after (keeps_host-kept _ _ _ _ c.in-Went.ensures.turn.keeps) c.write_trace.ensures (λ e. e)
     (λ t h. stepped-went c.args.steps c.steps_left.result c.in-Went.trace _ _ _ _ _ _ _ _ _
     c.steps_left.ensures c.if-steps_left-eq0.false (ap flags_at c.in-Went.ensures.flags) (ap state_of c.machine-in-Went.ensures) (c.in-Went.ensures.turn.plan t) h)
 

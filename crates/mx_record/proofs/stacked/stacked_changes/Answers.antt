@@ -3,7 +3,7 @@ use Rattle.mx_core.specs.Kept.{state_of}
 use Rattle.mx_record.specs.Following.{stacked_by}
 use Rattle.mx_record.specs.Pictures.{all_registers, octa_of}
 use Rattle.mx_record.specs.Records.{noted}
-use Rattle.mx_record.proofs.Stacking.{followed-all, followed-first, followed-here, followed-next, zeros-behind}
+use Rattle.mx_record.proofs.Stacking.{followed-all, followed-first, followed-here, followed-next, zeros-following}
 use Rattle.mx_record.proofs.Telling.{tells-all, tells-none, tells-noted}
 use Rattle.mx_record.proofs.stacked.stacked_changes.Goals as goal
 
@@ -21,11 +21,11 @@ loop-i-preserved c =
 pub returns-clause-changes : goal.returns-clause-changes
 returns-clause-changes c =
     tells-all _ (octa_of c.args.stacked.now) (octa_of (all_registers (state_of c.args.machine.now).stack)) c.args.from c.loop-i.i c.loop-i.invariant.0 (λ q l. sym (c.requires.kept q l))
-    (λ q l. zeros-behind (state_of c.args.machine.now).stack (octa_of c.args.stacked.now) c.args.end (c.hidden_count.result + c.from.result) c.loop-i.i q c.requires.zeros
+    (λ q l. zeros-following (state_of c.args.machine.now).stack (octa_of c.args.stacked.now) c.args.end (c.hidden_count.result + c.from.result) c.loop-i.i q c.requires.zeros
     (omega (arith, c.hidden_count.ensures, c.from.ensures, c.l.ensures)) (omega (arith, c.max-i-end.ensures, c.loop-i-test.false)) l)
 
 pub returns-clause-stack : goal.returns-clause-stack
 returns-clause-stack c =
     followed-all (octa_of c.loop-i.stacked) (octa_of c.args.stacked.now) (octa_of (all_registers (state_of c.args.machine.now).stack)) c.loop-i.i c.loop-i.invariant.1
-    (λ q l. zeros-behind (state_of c.args.machine.now).stack (octa_of c.args.stacked.now) c.args.end (c.hidden_count.result + c.from.result) c.loop-i.i q c.requires.zeros
+    (λ q l. zeros-following (state_of c.args.machine.now).stack (octa_of c.args.stacked.now) c.args.end (c.hidden_count.result + c.from.result) c.loop-i.i q c.requires.zeros
     (omega (arith, c.hidden_count.ensures, c.from.ensures, c.l.ensures)) (omega (arith, c.max-i-end.ensures, c.loop-i-test.false)) l)

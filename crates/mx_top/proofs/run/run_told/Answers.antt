@@ -5,7 +5,7 @@ use Rattle.mx_core.specs.Kept.{state_of}
 use Rattle.mx_outcome.specs.declared.outcome.Outcome.TheVariants.{OutOfMemory}
 use Rattle.mx_top.specs.Endings as end
 use Rattle.mx_top.specs.MachineWork as work
-use Rattle.mx_top.proofs.Caused.{fails-behind}
+use Rattle.mx_top.proofs.Caused.{fails-after}
 use Rattle.mx_top.proofs.Dumped.{same-dumped}
 use Rattle.mx_top.proofs.Followed.{to-dumped}
 use Rattle.mx_top.proofs.ListedPlans.{reported-listed}
@@ -31,7 +31,7 @@ returns-clause-part g c =
             (work.dumped_plan c.args.order.now.dump) (λ o s kept. end.dumped_plan c.args.order.now.dump o s) (to-dumped c.args.order.now.dump) c.outcome_of.ensures.value (c.watched_run-end.ensures.run.listed t (λ e. some ne (c.outcome_of.ensures.memory e)) c.requires) (told.causes.3.growing there)
             (same-dumped c.args.order.now.dump c.outcome_of.result after) ((told.plan (some ne) there).ending ne);
       };
-      causes = fails-behind g.H.Host.told g.H.Host.faults _ _ _ _ c.watched_run-end.ensures.run.keeps told.causes;
+      causes = fails-after g.H.Host.told g.H.Host.faults _ _ _ _ c.watched_run-end.ensures.run.keeps told.causes;
     }
 
 pub returns-clause-heard : goal.returns-clause-heard

@@ -8,7 +8,7 @@ use Rattle.mx_words.specs.declared.order.Command.{Command}
 use Rattle.mx_words.specs.declared.order.Order.{Order}
 use Rattle.mx_words.specs.declared.order.Command.TheVariants.{Run, Sim, Asm, Show, Multi}
 use Rattle.mx_words.specs.declared.settings.Settings.{Settings}
-use Rattle.mx_words.proofs.Chosen.{behind-word}
+use Rattle.mx_words.proofs.Chosen.{after-word}
 use Rattle.mx_words.proofs.Places.{word-at, no-word}
 
 one-object : (s : Settings) (p : ℕ) (ws : List Word) → length ws ≡ 1 → object_after s p ws ≡ Ok (asm_order s p)
@@ -55,35 +55,35 @@ module _ {A : Type 0} (f : A → Word) where
   one-followed o p xs lt = sym (some-word o p _ (omega (arith, lt, left xs (p + 1) (omega arith))))
 
   -- the file of a command at a place
-  pub behind-asm : (s : Settings) (p : ℕ) (xs : List A) → p < length xs → object_after s p (drop (p + 1) (map f xs)) ≡ after_options Asm s p (drop p (map f xs))
-  behind-asm s p xs lt = first (drop p (map f xs)) refl
+  pub after-asm : (s : Settings) (p : ℕ) (xs : List A) → p < length xs → object_after s p (drop (p + 1) (map f xs)) ≡ after_options Asm s p (drop p (map f xs))
+  after-asm s p xs lt = first (drop p (map f xs)) refl
     where
       first : (ws : List Word) → drop p (map f xs) ≡ ws → object_after s p (drop (p + 1) (map f xs)) ≡ after_options Asm s p ws
       first [] is = absurd (omega (arith, lt, left xs p (omega arith), ap length is))
-      first (w ∷ ws) is = ap (object_after s p) (behind-word (map f xs) p w ws is)
+      first (w ∷ ws) is = ap (object_after s p) (after-word (map f xs) p w ws is)
 
-  pub behind-multi : (s : Settings) (p : ℕ) (xs : List A) → p < length xs →
+  pub after-multi : (s : Settings) (p : ℕ) (xs : List A) → p < length xs →
       processors_after s p (drop (p + 1) (map f xs)) ≡ after_options Multi s p (drop p (map f xs))
-  behind-multi s p xs lt = first (drop p (map f xs)) refl
+  after-multi s p xs lt = first (drop p (map f xs)) refl
     where
       first : (ws : List Word) → drop p (map f xs) ≡ ws → processors_after s p (drop (p + 1) (map f xs)) ≡ after_options Multi s p ws
       first [] is = absurd (omega (arith, lt, left xs p (omega arith), ap length is))
-      first (w ∷ ws) is = ap (processors_after s p) (behind-word (map f xs) p w ws is)
+      first (w ∷ ws) is = ap (processors_after s p) (after-word (map f xs) p w ws is)
 
-  pub behind-show : (s : Settings) (p : ℕ) (xs : List A) → p < length xs →
+  pub after-show : (s : Settings) (p : ℕ) (xs : List A) → p < length xs →
       none_after (run_order Show s p) p (drop (p + 1) (map f xs)) ≡ after_options Show s p (drop p (map f xs))
-  behind-show s p xs lt = first (drop p (map f xs)) refl
+  after-show s p xs lt = first (drop p (map f xs)) refl
     where
       first : (ws : List Word) → drop p (map f xs) ≡ ws → none_after (run_order Show s p) p (drop (p + 1) (map f xs)) ≡ after_options Show s p ws
       first [] is = absurd (omega (arith, lt, left xs p (omega arith), ap length is))
-      first (w ∷ ws) is = ap (none_after (run_order Show s p) p) (behind-word (map f xs) p w ws is)
+      first (w ∷ ws) is = ap (none_after (run_order Show s p) p) (after-word (map f xs) p w ws is)
 
-  pub behind-run : (c : Command) (s : Settings) (p : ℕ) (xs : List A) → (c ≡ Run) ⊎ (c ≡ Sim) → p < length xs → Ok (run_order c s p) ≡ after_options c s p (drop p (map f xs))
-  behind-run c s p xs is lt = first (drop p (map f xs)) refl is
+  pub after-run : (c : Command) (s : Settings) (p : ℕ) (xs : List A) → (c ≡ Run) ⊎ (c ≡ Sim) → p < length xs → Ok (run_order c s p) ≡ after_options c s p (drop p (map f xs))
+  after-run c s p xs is lt = first (drop p (map f xs)) refl is
     where
       first : (ws : List Word) → drop p (map f xs) ≡ ws → (c ≡ Run) ⊎ (c ≡ Sim) → Ok (run_order c s p) ≡ after_options c s p ws
       first [] none is = absurd (omega (arith, lt, left xs p (omega arith), ap length none))
       first (w ∷ ws) some (inl is) = rw is refl
       first (w ∷ ws) some (inr is) = rw is refl
 
-pub ruleset behinds = (word-at, no-word, object-alone, object-followed, program-alone, program-followed, one-followed, behind-asm, behind-run, behind-show, behind-multi)
+pub ruleset following_words = (word-at, no-word, object-alone, object-followed, program-alone, program-followed, one-followed, after-asm, after-run, after-show, after-multi)
