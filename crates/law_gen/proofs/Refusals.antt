@@ -120,7 +120,7 @@ no-locals (s ∷ later) h = grind (arith, no-locals later h.1)
 
 -- ---- what is referred to is defined
 
--- each reference stands for something
+-- each reference means something
 abbrev pub AreMet : NameTable → List Sight → Type 0
 AreMet final [] = Unit {0}
 AreMet final (s ∷ later) = (unreferenced final later (waits_in (outline s)) ≡ None) × AreMet final later
@@ -132,7 +132,7 @@ all-defined final (s ∷ later) h = ap (λ r. first_of r (first_undefined final 
 
 -- ---- statements one after another
 
--- These statements are fine after what is known, and their references stand for something among the final names.
+-- These statements are fine after what is known, and their references mean something among the final names.
 pub record AreGood (final : NameTable) (k : Known) (statements : List StatementTree) : Type 0 where
   pub fine : AllByRecursion IsFine (sights_from k statements)
   pub met : AreMet final (sights_from k statements)

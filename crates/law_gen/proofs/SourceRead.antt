@@ -36,7 +36,7 @@ labelled line label op_name ops as_label op trees labels by good label_is names 
 
 -- ---- the operations
 
--- what the names of the operations stand for
+-- what the names of the operations mean
 record Named : Type 0 where
   loc-op : operation_of (codes "LOC") ≡ Some (Pseudo Loc)
   setl-op : operation_of (codes "SETL") ≡ Some (Code 0xe3)

@@ -89,7 +89,7 @@ either : {A : Type 0} (Such : A → Type 0) (b : Bool) (x y : A) → Such x → 
 either Such true x y h k = h
 either Such false x y h k = k
 
--- an answer that is other than the want of memory
+-- an answer that is other than that memory ran out
 abbrev OpensSo : Then (Result (Unit {0}) OpenFault) → Type 0
 OpensSo t = is_opened t.0 ≡ true
 

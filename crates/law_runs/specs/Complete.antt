@@ -1,4 +1,4 @@
--- What has to stand for a run of the program to be done: the words, the file that is read, what it means, and how its
+-- What has to hold for a run of the program to be done: the words, the file that is read, what it means, and how its
 -- machine ends.
 use Rattle.std.specs.Prelude.{ℕ, ◌≡◌, ◌*◌, List, [], ◌∷◌, ◌++◌, codes, length, take, true, false, Some, Ok}
 use Rattle.mx_word.specs.declared.symbols.Symbol.{Symbol}

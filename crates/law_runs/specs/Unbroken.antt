@@ -8,7 +8,7 @@ use Rattle.mx_top.specs.Runs.{outcome_of}
 use Rattle.mx_outcome.specs.declared.outcome.Outcome.{Outcome}
 use Rattle.mx_outcome.specs.declared.outcome.Outcome.TheVariants.{OutOfMemory}
 
--- whether an outcome is other than that of no memory, which stands for a break too
+-- whether an outcome is other than that of no memory, which means a break too
 abbrev pub is_outcome_told : Outcome → Bool
 is_outcome_told OutOfMemory = false
 is_outcome_told outcome = true

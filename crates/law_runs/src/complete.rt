@@ -126,7 +126,7 @@ pub fn generated_sources_are_done()
 
 /// Where no call of the reading fails and the slots are as at the start, a file that is there is read,
 /// and nothing but the number of calls is then changed. So where no call that the program makes fails, a
-/// source that is there, and that means an image, is run in the host as it stands, with no call counted
+/// source that is there, and that means an image, is run in the host as it is, with no call counted
 /// and none that fails: the program answers and leaves what the run of the image and the message do, but
 /// for the number of calls and the list of those that fail. Where its machine halts within the steps of
 /// the order, the program is done.
@@ -150,7 +150,7 @@ pub fn sources_that_are_there_are_run()
 {}
 
 /// Where no call that the program makes fails and the slots are as at the start, an object that is there, and that
-/// is loaded, is run in the host as it stands, with no call counted and none that fails: the program answers and
+/// is loaded, is run in the host as it is, with no call counted and none that fails: the program answers and
 /// leaves what the run of the image and the message do, but for the number of calls and the list of those that fail.
 /// Where its machine halts within the steps of the order, the program is done.
 #[tactic(auto, using(crate::proofs::SparedPrograms::spared))]

@@ -1,4 +1,4 @@
-//! Laws of whole runs of the program, over its definitions alone: what has to stand for it to be done, what goes
+//! Laws of whole runs of the program, over its definitions alone: what has to hold for it to be done, what goes
 //! by no ring and by no count of calls, and an object in place of its source.
 #![tactic(auto)]
 

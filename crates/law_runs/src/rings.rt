@@ -57,7 +57,7 @@ pub fn reports_change_nothing_else()
 {}
 
 /// A run of the program, which has no flags, halts, stops, spends its steps or meets something wild; by
-/// its definition it is never out of memory. So the one free answer stands for nothing else.
+/// its definition it is never out of memory. So the one free answer means nothing else.
 #[tactic(auto, using(crate::proofs::UnbrokenRuns::unbroken))]
 pub fn runs_end_by_themselves()
     ensures { (kind : MachineKind) (steps : ℕ) (s : State) (m : HostModel) →
@@ -65,7 +65,7 @@ pub fn runs_end_by_themselves()
 {}
 
 /// By its definition the program is never out of memory, with whatever words, files and failing calls. So
-/// that answer, which is always free, stands for nothing else in what it promises.
+/// that answer, which is always free, means nothing else in what it promises.
 #[tactic(auto, using(crate::proofs::ToldPrograms::unbroken_programs))]
 pub fn programs_end_by_themselves()
     ensures { (kind : MachineKind) (words : List Word) (m : HostModel) → is_answer_told (product kind words m) ≡ true }

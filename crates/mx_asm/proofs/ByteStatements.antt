@@ -55,7 +55,7 @@ pub bytes-cut : (front following : List ℕ) → AreBytes (front ++ following) �
 bytes-cut [] following h = (tt, h)
 bytes-cut (b ∷ front) following h = let rest = bytes-cut front following h.1 in ((h.0, rest.0), rest.1)
 
--- a part of a field without a fault, and what stands around it
+-- a part of a field without a fault, and what is around it
 record Part (front text rest : List ℕ) : Type 0 where
   field : List ℕ
   whole : front ++ (text ++ rest) ≡ field

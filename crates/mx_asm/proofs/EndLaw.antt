@@ -25,7 +25,7 @@ both-none a b h = search rules
 
 -- ---- the references of one statement
 
--- A reference stands for something exactly where its statement's own label or a later one settles it.
+-- A reference means something exactly where its statement's own label or a later one settles it.
 abbrev IsSettledWell : NameTable → Sight → List Sight → Wait → Type 0
 IsSettledWell final s later w = is_some (referent final later w.who) ≡ is_settled s later w.who
 

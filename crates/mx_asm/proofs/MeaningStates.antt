@@ -1,4 +1,4 @@
--- What stands once items were loaded, by the bytes that they placed, and one tetra more.
+-- What there is once items were loaded, by the bytes that they placed, and one tetra more.
 use Rattle.std.proofs.Common.{◌≡◌, ℕ, zero, suc, ◌+◌, ◌*◌, ◌/◌, ◌%◌, ◌^◌, ◌<◌, ◌≤◌, List, [], ◌∷◌, ◌++◌, length, map, true, false, not, cond, arith, refl, sym, ◌∙◌, ap, bit_xor, subst, Result, Ok, Err, append_assoc, ◌==◌, nat_le}
 use Rattle.mx_asm.proofs.Words.{cond_both, xor_of_8, nat_tests, tetra_from_bytes, with_tetra, AreBytes, four-fit, Image, tetras_of, Loading, Meaningless, BadPlace, paged, image_with_tetra, join, next_line, after_load, with_name, take_item, take_items, Item, Load, from_place, placed, placed-append, from-append, octa_in, pages_of, pages_below, common_steps}
 use Rattle.mx_word.specs.Octas.{with_page}
@@ -30,7 +30,7 @@ loading_at n s = record { image = image_at n s.placements s.lines; lambda = s.la
 abbrev pub count_of : ℕ → State → ℕ
 count_of n s = pages_below n (pages_of s.placements)
 
--- what stands, unless there are too many pages
+-- what is loaded, unless there are too many pages
 abbrev pub limited : ℕ → State → Result Loading Meaningless
 limited n s = unless_full (count_of n s) (loading_at n s)
 

@@ -1,4 +1,4 @@
--- A refusal has a fault with a number above 0: by the definitions none is for want of memory.
+-- A refusal has a fault with a number above 0: by the definitions none is that memory runs out.
 use Rattle.std.proofs.Common.{◌≡◌, ◌≢◌, ◌<◌, ℕ, ◌+◌, List, [], ◌∷◌, fold, Option, None, Some, Result, Ok, Err, refl, ap, sym, ◌∙◌, arith, IfErr, rules}
 use Rattle.mx_line.specs.Source.{Item as Listed, items_of}
 use Rattle.mx_asm.specs.Faults.{IsTold, fault_number, no_memory}
@@ -124,7 +124,7 @@ source-numbered source r is =
 
 -- ---- what the calls answer
 
--- a refusal that has a number where it is not want of memory
+-- a refusal that has a number where it is not that memory ran out
 told-by : (line from : ℕ) (fault : AsmFault) → (record { line = line; fault = fault; from_line = from } ≢ no_memory → 0 < fault_number fault) → IsTold (record { line = line; fault = fault; from_line = from })
 told-by line from fault h = search rules
 

@@ -181,7 +181,7 @@ unfoldable pub locals_from : ℕ → List Sight → ℕ
 locals_from l [] = l
 locals_from l (s ∷ later) = locals_from (sight_local l (outline s)) later
 
--- a refusal, or what stands
+-- a refusal, or an assembly
 abbrev pub outcome : List Item → Option Refused → Assembly → Progress
 outcome out (Some refused) a = (out, Err refused)
 outcome out None a = (out, Ok a)

@@ -1,5 +1,5 @@
 -- The items of the object of a source: those of each statement, with zero for each reference and a fix record where its
--- label stands, and then the end. (MMIXware, MMIXAL, "Binary MMO output".)
+-- label is, and then the end. (MMIXware, MMIXAL, "Binary MMO output".)
 use Rattle.std.specs.Prelude.{ℕ, ◌+◌, ◌-◌, ◌*◌, ◌/◌, ◌%◌, ◌^◌, ◌==◌, min, nat_lt, if◌then◌else◌, List, [], ◌∷◌, ◌++◌, length, map, replicate, codes, Option, None, Some, Result, Ok, Err}
 use Rattle.std.specs.Result.{result_unwrap_or}
 use Rattle.mx_word.specs.declared.symbols.Value.{Value}

@@ -49,7 +49,7 @@ pub record Assembly : Type 0 where
 abbrev pub Status : Type 0
 Status = Result Assembly Refused
 
--- whether it stands, and has added the opening
+-- whether nothing is refused, and the opening was added
 abbrev pub is_open : Status → Bool
 is_open (Err refused) = false
 is_open (Ok a) = a.opened
@@ -261,11 +261,11 @@ abbrev pub line_answer : Tried → Result (Unit {0}) Refused
 line_answer (Ok answer) = answer
 line_answer (Err refused) = Err refused
 
--- Unless there was no memory, the items and what stands after a line that was answered so are those of `line_following`.
+-- Unless there was no memory, the items and the status after a line that was answered so are those of `line_following`.
 abbrev pub TakesLine : Result (Unit {0}) Refused → List Item → List Item → Status → Status → List ℕ → Type 0
 TakesLine answer old new before after text = answer ≢ Err no_memory → (new, after) ≡ line_following old before text
 
--- what stands after a line that is line_answer so, as long as a refusal ends the source
+-- the status after a line that is answered so, as long as a refusal ends the source
 abbrev pub status_with : Result (Unit {0}) Refused → Status → Status
 status_with (Ok u) a = a
 status_with (Err refused) a = Err refused
@@ -275,7 +275,7 @@ abbrev pub TriesLine : Tried → List Item → List Item → Status → Status �
 TriesLine result old new before after text =
     TakesLine (line_answer result) old new before (status_with (line_answer result) after) text
 
--- the assembly stands as long as nothing is refused
+-- the assembly, as long as nothing is refused
 abbrev pub status_unless : Assembly → Option Refused → Status
 status_unless a None = Ok a
 status_unless a (Some refused) = Err refused

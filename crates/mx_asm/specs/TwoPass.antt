@@ -1,5 +1,5 @@
 -- The two-pass meaning of the statements of a source. The first pass tells what is known at each statement and what every
--- name stands for at the end. The second places the bytes, with every label known.
+-- name means at the end. The second places the bytes, with every label known.
 -- (MMIXware, MMIXAL: `@`, labels, PREFIX, local labels, GREG and future references.)
 use Rattle.std.specs.Prelude.{ℕ, ◌==◌, Bool, false, List, [], ◌∷◌, ◌++◌, fold, slice_set, Option, None, Some, Ok, Err, if◌then◌else◌}
 use Rattle.mx_word.specs.declared.symbols.Value.{Value}
@@ -97,7 +97,7 @@ unfoldable pub next_local : ℕ → List Sight → Option Value
 next_local d [] = None
 next_local d (s ∷ later) = if is_local d s.statement.label then value_in (outline s) else next_local d later
 
--- what a reference stands for: the value of its name at the end, or of the next label dH on a later statement
+-- what a reference means: the value of its name at the end, or of the next label dH on a later statement
 abbrev pub referent : NameTable → List Sight → Awaited → Option Value
 referent final later (awaited.Name full) = value_of_name final full
 referent final later (awaited.Local d) = next_local d later

@@ -73,14 +73,14 @@ assembled_source source = assembled_lines (lines_of source)
 abbrev pub line_after : Progress → Line → Progress
 line_after progress line = line_following progress.0 progress.1 line
 
--- what stands once these lines were taken, one after another
+-- what there is once these lines were taken, one after another
 abbrev pub lines_taken : List Line → Progress
 lines_taken lines = fold line_after ([], Ok beginning) lines
 
 abbrev pub one_pass : List Line → Ended
 one_pass lines = end_following (lines_taken lines).0 (lines_taken lines).1
 
--- What stands once an assembler has taken these lines, one after another: it is refused as they are.
+-- The status once an assembler has taken these lines, one after another: it is refused as they are.
 pub record HasTaken (lines : List Line) (a : Status) : Type 0 where
   pub taken : a ≡ (lines_taken lines).1
   pub refusal : result_err a ≡ lines_refusal lines

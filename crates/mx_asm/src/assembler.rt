@@ -111,7 +111,7 @@ impl Assembler {
         tried
     }
 
-    /// Ends the source: adds the global registers to any list, where what stands stays, and gives the
+    /// Ends the source: adds the global registers to any list, which keeps what it has, and gives the
     /// symbol trie with the zeros that complete its last tetra. After a refusal every later call answers
     /// it again, and the items that were added are those of all statements, or of those before a faulty
     /// one. From `new` on, items, trie and refusal are those of two passes over all lines, and an object

@@ -32,8 +32,8 @@ const SOURCE_LIMIT: usize = 4_194_304;
 /// The most tetras of a symbol trie.
 const MOST_TETRAS: usize = 65_535;
 
-/// The names with the references that wait, the place `@`, the global registers, where the object
-/// stands, the greatest register that LOCAL named, and how much of the source there was.
+/// The names with the references that wait, the place `@`, the global registers, how far the
+/// object has come, the greatest register that LOCAL named, and how much of the source there was.
 #[derive(Drop)]
 pub(crate) struct Assembly {
     alloc: Global,

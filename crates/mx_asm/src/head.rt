@@ -18,7 +18,7 @@ pub(crate) struct Head {
 }
 
 impl Head {
-    /// The head where the records of references to a value stand; there may be none.
+    /// The head where the records of references to a value are; there may be none.
     pub(crate) fn at_fixes(self, value: Value, waits: &[Wait]) -> Head
         ensures { result ≡ spec.head_at_fixes self value waits.now }
     {

@@ -29,7 +29,7 @@ ghost use Rattle.mx_asm.specs.declared.refused.Refused.{Refused};
 
 /// Once lines were taken one after another, the items that they gave are those of the two passes: of
 /// all statements before the first refusal, each with zero for its references, and with a record
-/// for a reference where its label stands. The refusal is the first one of the two passes. Without
+/// for a reference where its label is. The refusal is the first one of the two passes. Without
 /// one these are all statements of the lines.
 #[tactic(auto, using(crate::proofs::InTurn::front_laws))]
 pub fn lines_give_the_front()
@@ -75,7 +75,7 @@ pub fn sources_are_emitted_or_refused()
         assembled_source source ≡ (front (accepted_in (source_entries source)), Err r) }
 {}
 
-/// By its definition a source is never refused for want of memory: the fault that it, or its lines so far,
+/// By its definition a source is never refused because memory runs out: the fault that it, or its lines so far,
 /// are refused with has a number above 0.
 #[tactic(auto, using(crate::proofs::NumberedRefusals::numbered))]
 pub fn refusals_have_numbers()
@@ -95,8 +95,8 @@ pub fn entries_are_read()
         ((s : StatementTree) × IsRead fields line s) ⊎ ((fault : StmtFault) × IsFault fields fault) }
 {}
 
-/// After the statements of a source the operand `dB` stands for the value of the last label `dH` among
-/// them: that of a statement after which none has this label. Where none of them has it, it stands for
+/// After the statements of a source the operand `dB` means the value of the last label `dH` among
+/// them: that of a statement after which none has this label. Where none of them has it, it means
 /// pure 0.
 pub fn back_labels_are_the_last()
     ensures last { (front between : List StatementTree) (s : StatementTree) (d : ℕ) (value : Value) → d ≤ 9 →

@@ -1,4 +1,4 @@
--- The states before the last steps, the newest first: those that notes stand for, and those that a run keeps.
+-- The states before the last steps, the newest first: those that notes represent, and those that a run keeps.
 use Rattle.std.specs.Prelude.{ℕ, ◌≡◌, suc, List, [], ◌∷◌, take}
 use Rattle.mx_core.specs.State.{State}
 use Rattle.mx_core.specs.Undoing.{StateWas, FitsState, state_undone}
@@ -12,7 +12,7 @@ fault_number NothingKept = 140
 
 -- NOTES
 
--- the states that notes stand for, given the state after the last step: each note is taken back from the state that the
+-- the states that notes represent, given the state after the last step: each note is taken back from the state that the
 -- one before it in the list gives
 unfoldable pub states_before : List StateWas → State → List State
 states_before [] s = []

@@ -46,7 +46,7 @@ unfoldable pub turns_of : ℕ → State → HostModel → List (Turned × State)
 turns_of zero s m = []
 turns_of (suc n) s m = (kind_at s m, s) ∷ turns_after (turns_of n) (turn s m)
 
--- over a host that tells its contents, unless there was no memory, the states that the notes stand for are those that the run
+-- over a host that tells its contents, unless there was no memory, the states that the notes represent are those that the run
 -- of at most n steps keeps
 abbrev pub KeepsRun : Option HostModel → State → State → ℕ → End → List StateWas → List StateWas → Type 0
 KeepsRun old before after n result earlier later =
@@ -74,7 +74,7 @@ pub record FrontKept (n : ℕ) (start now : RunWorld) (earlier kept : List State
   pub turns : run made no_flags false start.0 start.1 ≡ run_end.ended end.Spent reached.0 reached.1
   pub left : LeavesLacking reached now (states_kept (turns_of made start.0 start.1) earlier) kept
 
--- the same holds over a host that tells its contents, of the states that the notes stand for
+-- the same holds over a host that tells its contents, of the states that the notes represent
 abbrev pub KeepsFront : Option HostModel → Option HostModel → State → State → ℕ → End → List StateWas → List StateWas → Type 0
 KeepsFront old new before after n result earlier later =
     IsTrue (tells old) → result ≡ end.OutOfMemory →
@@ -102,7 +102,7 @@ abbrev pub StepsKept : Option HostModel → Option HostModel → State → State
 StepsKept old new before after result = IsTrue (tells old) → ComesStep (before, contents old) (after, contents new) result
 
 -- what holds of it over every host: its answer, from a state over a window; one step at most; what the host keeps at every call;
--- and the notes, which fit the state and stand for what the turn keeps
+-- and the notes, which fit the state and represent what the turn keeps
 pub record TakesKeptStep (old new : Option HostModel) (faults_before faults_after : ℕ) (before after : State) (earlier later : List StateWas) (result : Result (Unit {0}) End) : Type 0 where
   pub told : StepsKept old new before after result
   pub over : HasWindow before

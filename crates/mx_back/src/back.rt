@@ -18,7 +18,7 @@ use std::marker::Model;
 /// How many steps are kept at most.
 const MOST: usize = 1024;
 
-/// The notes of the last steps, at most 1,024 of them, the newest first. With the state of the machine they stand for
+/// The notes of the last steps, at most 1,024 of them, the newest first. With the state of the machine they represent
 /// the states before these steps.
 #[derive(Drop)]
 pub struct Back {

@@ -1,5 +1,5 @@
--- Plans, whatever their calls answer: the bytes of the console's input that they take, and that they answer no want of memory where
--- no call lacked it.
+-- Plans, whatever their calls answer: the bytes of the console's input that they take, and that they do not answer that memory ran out
+-- where no call lacked it.
 use Rattle.std.proofs.Common.{◌≡◌, ℕ, zero, suc, ◌≤◌, ◌+◌, ◌-◌, ◌==◌, List, [], ◌∷◌, ◌++◌, length, Bool, true, false, cond, None, Some, Ok, Err, le_refl, refl, subst, arith}
 use Rattle.std.specs.Prelude.{Option, Result, ◌&&◌}
 use Rattle.std.proofs.lemmas.Bool.{and_parts}
@@ -383,7 +383,7 @@ walks-take Post (calls other k) n b h = λ r. let all : n - 0 ≡ n = omega arit
 pub session-takes : (steps : ℕ) → TakesAtMost most_input (session_plan steps)
 session-takes steps = walks-take EndsTold (session_plan steps) most_input true (session-walks steps)
 
--- where a call answers what it may, and no want of memory
+-- where a call answers what it may, and not that memory ran out
 abbrev pub SessionTold : (o : SessionCall) → SessionSays o → Type 0
 SessionTold o r = MaySay o r × (is_say_told o r ≡ true)
 

@@ -37,8 +37,8 @@ CarriesOutOnRunner old new r s none result plan =
 -- ---- PARTS of a session
 
 -- A part is done, or it ends the session. Over a host that tells its contents this is `Told` of it. Over every host, as long as the
--- slots of the console lead to the streams, it ends the session with a fault of the host only by a call that failed; and what stands
--- of a host stands.
+-- slots of the console lead to the streams, it ends the session with a fault of the host only by a call that failed; and what
+-- is kept of a host is kept.
 pub record DoesSessionPart {Host A : Type 0} (says : Host → Option HostModel) (faults : Host → ℕ) (old new : Host) (result : Result A SessionEnd) (Told : Type 0) : Type 0 where
   pub told : IsTrue (tells (says old)) → Told
   pub cause : OnlyByFailure (says old) (Err HostFault) result (faults old) (faults new)

@@ -145,7 +145,7 @@ fn special_at_start() -> [u64; 32]
     special
 }
 
-/// Over the list that the window at the start stands for, the machine with no memory starts as that list.
+/// Over the list that the window at the start represents, the machine with no memory starts as that list.
 #[tactic(auto, using(crate::proofs::BareStarts::starting))]
 pub fn bare_machines_start_as_lists()
     ensures { (g first second size : ℕ) (globals : List ℕ)

@@ -1,5 +1,5 @@
 //! What holds of the machine over its definitions alone. A machine over a window and the one over the
-//! list that its register stack stands for go the same way: what a program sees does not depend on
+//! list that its register stack represents go the same way: what a program sees does not depend on
 //! what was spilled, as long as nothing looks at rS or at the memory of the register stack.
 
 ghost use Rattle.std.specs.Prelude.{◌≡◌, ◌<◌, ◌≤◌, ◌^◌, ◌||◌, ◌==◌, ℕ, false, Ok};
@@ -35,7 +35,7 @@ pub fn lists_read_the_same()
 {}
 
 /// A step that is not wild, where nothing was touched, has the same answer and the same trace, and
-/// leaves the list that the next state stands for. It is wild for the one where it is for the other. So
+/// leaves the list that the next state represents. It is wild for the one where it is for the other. So
 /// it reads no octa of the stack area that no list has: those from rS on.
 pub fn steps_go_as_lists()
     ensures step { (s : State) (w : Window) → IsMachine s w → IsQuiet s

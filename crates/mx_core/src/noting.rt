@@ -136,7 +136,7 @@ impl Machine {
         }
     }
 
-    /// What an instruction may overwrite, or nothing where memory is lacking.
+    /// What an instruction may overwrite, or nothing where memory runs out.
     #[tactic(auto, using(crate::proofs::Undone::Notes::tells))]
     fn note(&mut self, i: &Instruction) -> Option<Note>
         ensures note { IfSome result (λ n.
@@ -233,7 +233,7 @@ impl Machine {
     }
 }
 
-/// The note of a step, or nothing where memory is lacking.
+/// The note of a step, or nothing where memory runs out.
 #[inline(always)]
 fn into_note(alloc: Global, whole: WholeNote) -> Option<Note>
     ensures { IfSome result (λ n. n ≡ undoing.whole whole) }

@@ -1,4 +1,4 @@
--- A run that is counted from no steps on, over a window and over the list that it stands for.
+-- A run that is counted from no steps on, over a window and over the list that it represents.
 use Rattle.std.proofs.Common.{◌≡◌, ◌≢◌, ℕ, Bool, false, List, [], ◌∷◌, ◌++◌, subst, sym, ap, ◌∙◌, Some, Ok, Err}
 use Rattle.std.specs.Prelude.{Option, Result}
 use Rattle.mx_host.specs.HostModel.{HostModel, contents}

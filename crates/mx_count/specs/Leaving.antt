@@ -12,7 +12,7 @@ use Rattle.mx_files.specs.Sources.{source_meaning}
 use Rattle.mx_files.specs.declared.refusal.Refusal.{Refusal}
 use Rattle.mx_outcome.specs.declared.outcome.Outcome.{Outcome}
 
--- A run of at most n steps from this state left the host so: it came to its end; or it stopped for want of memory, in a step or between
+-- A run of at most n steps from this state left the host so: it came to its end; or it stopped because memory ran out, in a step or between
 -- two of them, and nothing but what was done by then changed.
 pub record RunLeaves (n : ℕ) (s : State) (old new : HostModel) : Type 0 where
   pub end : End

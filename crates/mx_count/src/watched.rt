@@ -82,7 +82,7 @@ fn only_report(watchers: &mut Vec<Box<dyn Watcher>>, end: End, pc: u64) -> Resul
     last_report(&mut watchers[0], end, pc)
 }
 
-/// Whether a run ended for want of memory.
+/// Whether a run ended because memory ran out.
 fn is_lacking(end: End) -> bool
     ensures { result ≡ false → end ≢ End.OutOfMemory }
 {

@@ -117,7 +117,7 @@ impl Loaded {
         self.scene().watch_row(number)
     }
 
-    /// Watches the place that a name stands for.
+    /// Watches the place that a name means.
     fn set_on_data(&mut self, wanted: &Value) -> Result<Bytes, NoMemory> {
         if !is_for_writes(wanted) {
             return self
@@ -147,7 +147,7 @@ impl Loaded {
         }
     }
 
-    /// Sets all that a request wants, in place of what it has set before.
+    /// Sets all that a request asks for, in place of what it has set before.
     pub(crate) fn set_marks(&mut self, mark: Mark, message: &Value) -> Result<Answer, NoMemory> {
         self.drop_marks(mark)?;
         let mut rows = Values::new(self.alloc);

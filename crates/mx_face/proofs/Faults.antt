@@ -23,7 +23,7 @@ rose-later k m n a b (inr e) = by (cases_lt k n)
 pub faults-nowhere : (a : Option HostModel) (k : ℕ) (r : Outcome) → IsOfView r → FaultsBetween a a k k Broken NoFile r
 faults-nowhere a k r of = record { host_fault = λ had e. absurd (of.0 e); no_file = λ n e. absurd (of.1 e); keeps = keeps-all a k }
 
--- an outcome is told: what comes of that is the outcome, or want of memory
+-- an outcome is told: what comes of that is the outcome, or that memory ran out
 pub faults-told : (a b c : Option HostModel) (k m n : ℕ) (said r : Outcome) → FaultsBetween a b k m Broken NoFile said → Keeps b c m n → (r ≢ OutOfMemory → r ≡ said) → FaultsBetween a c k n Broken NoFile r
 faults-told a b c k m n said r was kept same = record {
   host_fault = λ had e. rose-later k m n was.keeps.counting kept.counting (was.host_fault had (sym (same (λ x. absurd (cc (x, e)))) ∙ e));

@@ -1,4 +1,4 @@
--- A source that is loaded line by line comes to what it means: the lines that were taken stand for the statements before the
+-- A source that is loaded line by line comes to what it means: the lines that were taken mean the statements before the
 -- first refusal, and what is loaded of them is what their items mean.
 use Rattle.std.proofs.Common.{◌≡◌, ℕ, ◌+◌, Bool, true, false, not, cond, List, [], ◌∷◌, ◌++◌, length, refl, sym, ap, subst, ◌∙◌, is_some, Option, Some, None, Result, Ok, Err, append_assoc, append-nil, length-append}
 use Rattle.std.specs.List.{AllByRecursion}
@@ -73,7 +73,7 @@ full-only false e h = cc
 -- ---- the lines of a source
 
 module _ (source : List ℕ) (bytes : AreBytes source) where
-  -- what lines before the rest stand for: they were taken, and their items mean something
+  -- what lines before the rest come to: they were taken, and their items mean something
   record HasLoaded (front rest : List Line) (a : Assembly) (s : Loading) : Type 0 where
     whole : lines_of source ≡ front ++ rest
     taken : HasTaken front (Ok a)

@@ -104,7 +104,7 @@ end_after (Ok u) loading = image_loaded loading
 end_after (Err (Refusing refusal)) loading = Err refusal
 end_after (Err NoRoom) loading = Err (refused_at 0 0)
 
--- the refusal in what stands
+-- the refusal in a status
 abbrev pub refusal_in : Result Assembly Refused → Result (Unit {0}) Refusal
 refusal_in (Ok assembly) = Ok tt
 refusal_in (Err refused) = Err (refusal_of refused)

@@ -6,7 +6,7 @@ use Rattle.std.proofs.lemmas.List.{drop_more}
 use Rattle.mx_mmo.specs.Meaning as spec
 use Rattle.mx_load.specs.Status.{image_in}
 
--- what stands after items more
+-- what there is after items more
 abbrev pub after_all : Result Loading LoadFault → List Item → Result Loading LoadFault
 after_all r [] = r
 after_all r (item ∷ items) = after_all (after r item) items

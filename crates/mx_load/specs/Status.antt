@@ -1,4 +1,4 @@
--- What stands after the items that a loader took.
+-- What there is after the items that a loader took.
 use Rattle.std.specs.Prelude.{◌≡◌, ◌≢◌, Option, Some, None, Result, Ok, Err}
 use Rattle.std.specs.Ordering.{nat_cmp}
 use Rattle.std.specs.BTreeSet.{contains}
@@ -11,7 +11,7 @@ use Rattle.mx_load.specs.declared.fault.LoadFault.{LoadFault}
 use Rattle.mx_load.specs.declared.fault.LoadFault.TheVariants.{OutOfMemory}
 use Rattle.mx_load.specs.declared.progress.Progress.{Progress}
 
--- what the parts of a loader stand for
+-- what the parts of a loader mean
 abbrev pub loading_of : Progress → Loading
 loading_of p = record {
   image = image_of p.image;
@@ -21,7 +21,7 @@ loading_of p = record {
   named = contains nat_cmp p.named;
 }
 
--- Unless there was no memory, what stands, or the fault, is what `next` gives for what stood before.
+-- Unless there was no memory, what there is now, or the fault, is what `next` gives for what there was before.
 abbrev pub GoesOn : Result (Unit {0}) LoadFault → Progress → Progress → (Loading → Result Loading Meaningless) → Type 0
 GoesOn result old new next = result ≢ Err OutOfMemory → given result (loading_of new) ≡ told (next (loading_of old))
 
@@ -35,11 +35,11 @@ abbrev pub unless : {A : Type 0} → Option LoadFault → A → Result A LoadFau
 unless None x = Ok x
 unless (Some fault) x = Err fault
 
--- what stands after the items that were taken, or the fault that was answered
+-- what there is after the items that were taken, or the fault that was answered
 unfoldable pub status : Held → Result Loading LoadFault
 status h = unless h.fault (loading_of h.progress)
 
--- what stands after one item more; a fault stays
+-- the status after one item more; a fault stays
 abbrev pub after : Result Loading LoadFault → Item → Result Loading LoadFault
 after (Ok s) item = told (take_item s item)
 after (Err fault) item = Err fault
@@ -49,7 +49,7 @@ abbrev pub answer : Result Loading LoadFault → Result (Unit {0}) LoadFault
 answer (Ok s) = Ok tt
 answer (Err fault) = Err fault
 
--- the image in what stands
+-- the image in a status
 abbrev pub image_in : Result Loading LoadFault → Result Image LoadFault
 image_in (Ok s) = Ok s.image
 image_in (Err fault) = Err fault

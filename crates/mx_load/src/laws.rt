@@ -38,8 +38,8 @@ pub fn objects_are_loaded_as_they_mean()
         (place : ℕ) × MeansNothing bytes place e × (object_loaded bytes ≡ Err (place, number_of (fault_of e))) }
 {}
 
-/// Items are loaded one after another: what stands after a list of items and one more is what this
-/// item makes of what stood after the list, and the image in it at the end is what the items mean.
+/// Items are loaded one after another: what there is after a list of items and one more is what this
+/// item makes of what there was after the list, and the image in it at the end is what the items mean.
 pub fn items_are_loaded_in_turn()
     ensures next { (front : List Item) (item : Item) → told (take_items (front ++ item ∷ []) (Ok nothing)) ≡
         after (told (take_items front (Ok nothing))) item }

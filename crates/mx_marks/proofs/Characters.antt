@@ -1,4 +1,4 @@
--- Under a text that is UTF-8 stand as many bytes as it has characters.
+-- Under a text that is UTF-8 there are as many bytes as it has characters.
 use Rattle.std.proofs.Common.{◌≡◌, ℕ, ◌+◌, ◌-◌, ◌/◌, ◌<◌, ◌≤◌, List, [], ◌∷◌, ◌++◌, length, take, true, false, cond, nat_lt, arith, refl, sym, ap, ◌∙◌}
 unfoldable use Rattle.std.specs.Char.{encode_utf8}
 use Rattle.std.specs.Str.{all_scalars, continuation_len, encode_utf8_all, is_utf8}

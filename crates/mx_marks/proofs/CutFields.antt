@@ -1,4 +1,4 @@
--- A caret stands where the field begins that is cut from the line.
+-- A caret is where the field begins that is cut from the line.
 use Rattle.std.proofs.Common.{◌≡◌, ℕ, ◌+◌, ◌-◌, ◌≤◌, [], ◌∷◌, length, drop, Bool, true, false, cond, arith, refl, sym, subst, Option, None, Some, Result, Ok, Err}
 use Rattle.std.proofs.lemmas.Bool.Decides.{nat_tests}
 use Rattle.std.proofs.lemmas.List.{length-drop}
@@ -18,7 +18,7 @@ use Rattle.mx_marks.specs.declared.fields.Field.TheVariants.{Operands, Operation
 abbrev Found : Type 0
 Found = Result (Option Cut) LineFault
 
--- where the operation and the operands stand, by what is after them
+-- where the operation and the operands are, by what is after them
 record PlacedFields (end : ℕ) (from : Line) (cut : Cut) : Type 0 where
   operation : cut.op.from + length from ≡ end
   operands : cut.operands.from + length (after_word from) ≡ end

@@ -208,7 +208,7 @@ impl Memory {
         }
     }
 
-    /// Stores the low bytes of `x` in place of the part that holds an address, where its page is a low one and stands
+    /// Stores the low bytes of `x` in place of the part that holds an address, where its page is a low one and is
     /// at the place that is remembered for it; else nothing changes. Whether it did. It takes no memory.
     #[inline(always)]
     pub fn store_part_if_near(&mut self, a: u64, part: Part, x: u64) -> bool

@@ -61,7 +61,7 @@ cut-place bytes items left s = omega (arith, sizes bytes items left s, s.place)
 cut-after : (phase : Phase) (at : ℕ) (rest : List ℕ) → (phase ≡ Ended → end_count (drop (length rest - 4) rest) ≡ None) → tail_after phase at rest ≡ Err (Truncated (at + length rest))
 cut-after phase at rest h = grind arith
 
--- the lopcode `end` that stands last
+-- the lopcode `end` that is last
 ends-with : (bytes : List ℕ) (items : List Item) (left : Left) (s : Stood Start 0 bytes items left) (count : ℕ) → AreBytes left.rest → left.phase ≡ Ended →
     end_count (drop (length left.rest - 4) left.rest) ≡ Some count → EndsWith bytes (take (length left.rest - 4) left.rest) count
 ends-with bytes items left s count b p e =

@@ -31,7 +31,7 @@ HasFields Post y z = (y ≡ 0) × (32 ≤ z)
 HasFields _ y z = Unit {0}
 
 -- the tetras that have a fault where an item is due, at a place: the first tetra is not `pre` with Y = 1; a lopcode that is
--- none, or may not stand here; wrong fields; a far fix whose tetra does not begin with 0 or 1; a name that is all zeros
+-- none, or may not be here; wrong fields; a far fix whose tetra does not begin with 0 or 1; a name that is all zeros
 pub data TetraFault : Phase → ℕ → List ℕ → MmoFault → Type 0 where
   no_pre : (at a code y z : ℕ) (more : List ℕ) → ¬ ((a ≡ 0x98) × (code ≡ 9) × (y ≡ 1)) →
       TetraFault Start at (a ∷ code ∷ y ∷ z ∷ more) (NoPre at)

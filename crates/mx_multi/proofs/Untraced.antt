@@ -53,7 +53,7 @@ stopped-makes o s t reason e = record {
   carried = λ tells. stopped-comes s t (contents o) reason (stopped-by s t reason (step s) e);
 }
 
--- ---- want of memory
+-- ---- where memory runs out
 
 pub lacking-makes : (o : Option HostModel) (s t : State) → t ≡ s → IsTrue (step_needs_page s) → MakesTurn o o s t turned.OutOfMemory
 lacking-makes o s t e h = record { step = answer.OutOfMemory; told = refl; carried = λ tells. lacking-comes s t (contents o) e h }

@@ -44,7 +44,7 @@ pub record TurnsAlone (old new : Option HostModel) (earlier later : ℕ) (before
 
 -- BESIDE LIST MACHINES
 
--- one turn beside that of list machines on one memory: where it is wild, what stood on standard output still does; else it
+-- one turn beside that of list machines on one memory: where it is wild, what was on standard output still is; else it
 -- answers and leaves the same, and nothing touched
 abbrev pub TurnGoesAsLists : Bool → ℕ → Joint → HostModel → Turn → Joint → HostModel → Type 0
 TurnGoesAsLists true who j m result after n = IsFront m.output n.output
@@ -58,7 +58,7 @@ TurnsAsLists old new before after who result =
     TurnGoesAsLists (is_wild_turn who (as_list_joint before)) who (as_list_joint before) (contents old) result after (contents new)
 
 -- turns by a schedule beside those of list machines on one memory: they end as those, with the lists that the register stacks
--- then stand for and nothing touched; or, where those meet a wild turn, they begin by writing what those had written
+-- then represent and nothing touched; or, where those meet a wild turn, they begin by writing what those had written
 abbrev pub GoAsLists : Course MultiEnd JointWorld → MultiEnd → Joint → HostModel → Type 0
 GoAsLists (ends end w) result after n = (end ≡ result) × (as_list_joint after ≡ w.0) × (n ≡ w.1) × NoneTouched after.processors
 GoAsLists (meets_wild w) result after n = IsFront w.1.output n.output

@@ -74,7 +74,7 @@ record Stays (out : Type 0) (a : ℕ) (f g : ℕ → ℕ) : Type 0 where
   tetra : out → tetra_of (g a) a ≡ tetra_of (f a) a
   octas : IsByOctas f → IsByOctas g
 
--- where something stands, memory is this
+-- where there is something, memory is this
 abbrev MemoryIs : (ℕ → ℕ) → Result Image Meaningless → Type 0
 MemoryIs f (Ok m) = m.memory ≡ f
 MemoryIs f (Err e) = Unit {0}
@@ -108,7 +108,7 @@ module _ (out : Type 0) (a : ℕ) where
   both-stay : (f g h : ℕ → ℕ) → Stays out a f g → Stays out a g h → Stays out a f h
   both-stay f g h s t = record { tetra = λ o. t.tetra o ∙ s.tetra o; octas = λ is. t.octas (s.octas is) }
 
-  -- where something stands, it left a tetra as it was
+  -- where there is something, it left a tetra as it was
   abbrev StaysIn : (ℕ → ℕ) → Result Image Meaningless → Type 0
   StaysIn f (Ok m) = Stays out a f m.memory
   StaysIn f (Err e) = Unit {0}
@@ -155,7 +155,7 @@ module _ (out : Type 0) (a : ℕ) where
 
   -- ---- one item
 
-  -- where something stands after an item, it left a tetra as it was
+  -- where there is something after an item, it left a tetra as it was
   abbrev KeepsTetra : (ℕ → ℕ) → Result Loading Meaningless → Type 0
   KeepsTetra f (Ok s) = Stays out a f s.image.memory
   KeepsTetra f (Err e) = Unit {0}

@@ -19,7 +19,7 @@ fn add_fault(text: &mut Bytes, number: u16) -> Result<(), NoMemory>
     text.extend(fault_name(number).as_bytes())
 }
 
-/// Adds where a reference that waited stands, if that is what a fault is about.
+/// Adds where a reference that waited is, if that is what a fault is about.
 fn add_from(text: &mut Bytes, from_line: u32) -> Result<(), NoMemory>
     ensures { OnOk result (text.new ≡ text.old ++ spec.from_text from_line) }
 {

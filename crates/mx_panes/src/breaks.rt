@@ -43,7 +43,7 @@ fn stacked_place(register: &[u8], place: &[u8]) -> Option<Place> {
     })
 }
 
-/// The place that an identifier of a watch stands for, or a name of a variable.
+/// The place that an identifier of a watch means, or a name of a variable.
 pub fn watched_place(book: &Book, name: &[u8]) -> Option<Place> {
     match name.iter().position(|b| *b == b'@') {
         Some(i) => stacked_place(&name[..i], &name[i..]),
@@ -51,7 +51,7 @@ pub fn watched_place(book: &Book, name: &[u8]) -> Option<Place> {
     }
 }
 
-/// The place that a name of a variable stands for: what `print` would show, where that is no number.
+/// The place that a name of a variable means: what `print` would show, where that is no number.
 fn named_place(book: &Book, name: &[u8]) -> Option<Place> {
     match resolve_for_display(book, cut_word(name).0)? {
         Thing::Register(k) => Some(Place::Register(k)),

@@ -90,7 +90,7 @@ fn relation_of(signs: &[u8]) -> Option<Relation>
     }
 }
 
-/// The place that a text names, where a symbol with an address of data stands for the octa there.
+/// The place that a text names, where a symbol with an address of data means the octa there.
 fn shown_place(book: &Book, text: &[u8]) -> Option<Place>
     ensures { result ≡ option_and_then place_thing (thing_shown book.now text.now) }
 {

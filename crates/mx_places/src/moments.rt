@@ -38,7 +38,7 @@ pub fn resolve_name_now(book: &Book, machine: &Machine, text: &[u8]) -> Option<T
     }
 }
 
-/// The same, but for a name with an address of data: it stands for the octa there.
+/// The same, but for a name with an address of data: it means the octa there.
 #[tactic(auto, unfolding(crate::specs::Moments::shown_now))]
 pub fn resolve_for_display_now(book: &Book, machine: &Machine, text: &[u8]) -> Option<Thing>
     ensures { result ≡ spec.shown_now book.now (state_of machine.now) text.now }

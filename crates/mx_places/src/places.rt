@@ -9,7 +9,7 @@ use mx_book::{Book, Thing, thing_of_subject};
 use mx_stops::Place;
 use mx_word::Value;
 
-/// The first address of the data segment: a name with a value from there on stands for what is there.
+/// The first address of the data segment: a name with a value from there on means what is there.
 const DATA: u64 = 0x2000_0000_0000_0000;
 
 /// The first address that no memory has.
@@ -108,7 +108,7 @@ fn thing_beside(book: &Book, text: &[u8]) -> Option<Thing>
     }
 }
 
-/// What a symbol stands for, or a sum of one.
+/// What a symbol means, or a sum of one.
 fn thing_by_symbol(book: &Book, text: &[u8]) -> Option<Thing>
     ensures { result ≡ spec.thing_by_symbol book.now text.now }
 {
@@ -139,7 +139,7 @@ fn as_data(thing: Thing) -> Thing
     }
 }
 
-/// The same, but for a name with an address of data: it stands for the octa there.
+/// The same, but for a name with an address of data: it means the octa there.
 #[tactic(auto, unfolding(crate::specs::Named::shown_thing))]
 pub fn resolve_for_display(book: &Book, text: &[u8]) -> Option<Thing>
     ensures { result ≡ spec.shown_thing book.now text.now }

@@ -66,7 +66,7 @@ results-few ls zero f g = refl
 results-few ls (suc zero) f g = grind (arith, nat_tests)
 results-few ls (suc (suc x)) f g = absurd (omega arith)
 
--- after the octas that came back stands the result, or a 0 that is no local
+-- after the octas that came back comes the result, or a 0 that is no local
 last-result : (v : Registers) (os : List ℕ) (n x : ℕ) → AreInBounds v → n < 8 → x ≤ 1 → x ≤ length v.locals → os ++ (if x == 0 then 0 else get_or (all_values v) 0 0) ∷ (replicate (v.first_global - (n + 1)) 0 ++ v.globals) ≡ (os ++ results v.locals x) ++ replicate (v.first_global - (n + x)) 0 ++ v.globals
 last-result v os n zero b g one among =
     let zs : List ℕ = 0 ∷ replicate (v.first_global - (n + 1)) 0 in

@@ -27,7 +27,7 @@ take-front v b = take_at (front v) v.globals v.first_global (length-front v b)
 pub drop-front : (v : Registers) → AreInBounds v → drop v.first_global (all_values v) ≡ v.globals
 drop-front v b = drop_at (front v) v.globals v.first_global (length-front v b)
 
--- the fields hold, and stand for these registers
+-- the fields hold, and mean these registers
 abbrev pub HasRegisters : Inside → Registers → Type 0
 HasRegisters i v = HoldsRegisters i × (registers_in i ≡ v)
 

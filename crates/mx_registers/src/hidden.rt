@@ -1,4 +1,4 @@
-//! The hidden octas: a list of all of them, and the stack area, where the older ones stand too.
+//! The hidden octas: a list of all of them, and the stack area, where the older ones are, too.
 
 ghost use Rattle.std.specs.Prelude.{◌≡◌, ◌≤◌, ◌<◌, ◌+◌, ◌-◌, ◌^◌, ◌++◌, [], ◌∷◌, ℕ, IfOk, OnErr, Err, length, take, drop};
 ghost use Rattle.std.specs.Prelude.{None, IfSome, slice_index, nat_le, ◌&&◌};

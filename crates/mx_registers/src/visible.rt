@@ -290,7 +290,7 @@ impl Visible {
     }
 }
 
-/// As many registers as are copied at once, from the place `n` on, become the first ones, and zeros stand
+/// As many registers as are copied at once, from the place `n` on, become the first ones, and there are zeros
 /// between them and the place `l`.
 #[inline(always)]
 fn move_few(values: &mut [u64], n: usize, l: usize)

@@ -7,7 +7,7 @@ use Rattle.mx_ring.specs.Stack.{Stack, listed, windowed, as_listed, list_of, in_
 use Rattle.mx_ring.specs.Window.{Window}
 use Rattle.mx_ring.specs.declared.saved.Saved.{Saved}
 
--- The list that the window stands for goes through an operation as a list does.
+-- The list that the window represents goes through an operation as a list does.
 abbrev pub GoesAsList : Window → (Stack → Stack) → Type 0
 GoesAsList w operation = as_listed (operation (windowed w)) ≡ operation (list_of w)
 

@@ -1,5 +1,5 @@
-//! What holds of the register stack over its definitions alone. A window and the list that it stands
-//! for go the same way: what a program sees does not depend on what was spilled.
+//! What holds of the register stack over its definitions alone. A window and the list that it
+//! represents go the same way: what a program sees does not depend on what was spilled.
 
 ghost use Rattle.std.specs.Prelude.{◌≡◌, ◌≤◌, ◌<◌, ◌^◌, ℕ, ◌+◌, ◌-◌, true, false, min, List, [], ◌∷◌, ◌++◌, length};
 ghost use Rattle.std.specs.Prelude.{take, drop, replicate};
@@ -17,14 +17,14 @@ ghost use Rattle.mx_ring.specs.Stack.{save_overfills, saved, octas_to, unsave_re
 ghost use Rattle.mx_ring.specs.Window.{Window, as_list};
 ghost use Rattle.mx_ring.specs.declared.saved.Saved.{Saved};
 
-/// A ring and the list that it stands for show the same registers, and hide the same octas.
+/// A ring and the list that it represents show the same registers, and hide the same octas.
 pub fn lists_show_the_same()
     ensures visible { (w : Window) → visible (list_of w) ≡ visible (windowed w) }
     ensures hidden { (w : Window) → hidden_octas (list_of w) ≡ hidden_octas (windowed w) }
 {}
 
 /// A register has the same value, and writes to registers, L and G do the same, for a ring and for
-/// the list that it stands for.
+/// the list that it represents.
 pub fn writes_go_as_lists()
     ensures get { (w : Window) (k : ℕ) → register (list_of w) k ≡ register (windowed w) k }
     ensures set { (w : Window) (k x : ℕ) → IsRing w → GoesAsList w (λ s. with_register s k x) }
@@ -32,7 +32,7 @@ pub fn writes_go_as_lists()
     ensures globals { (w : Window) (g : ℕ) → GoesAsList w (λ s. with_global_start s g) }
 {}
 
-/// PUSH where it is not refused, and POP, do the same for a ring and for the list that it stands for.
+/// PUSH where it is not refused, and POP, do the same for a ring and for the list that it represents.
 pub fn calls_go_as_lists()
     ensures push { (w : Window) (x : ℕ) → IsRing w → push_overfills (windowed w) x ≡ false
         → GoesAsList w (λ s. pushed s x) }
@@ -40,7 +40,7 @@ pub fn calls_go_as_lists()
 {}
 
 /// SAVE where it is not refused, and UNSAVE below the number of spilled octas, do the same for a ring and for the
-/// list that it stands for.
+/// list that it represents.
 pub fn frames_go_as_lists()
     ensures save { (w : Window) (x : ℕ) (specials : Saved) → IsRing w → save_overfills (windowed w) ≡ false
         → GoesAsList w (λ s. saved s x specials) }
@@ -50,7 +50,7 @@ pub fn frames_go_as_lists()
         → unsaved_specials (list_of w) i ≡ unsaved_specials (windowed w) i }
 {}
 
-/// A ring refuses what the list that it stands for refuses; UNSAVE within the stack area below the
+/// A ring refuses what the list that it represents refuses; UNSAVE within the stack area below the
 /// number of spilled octas.
 pub fn refusals_are_those_of_lists()
     ensures set { (w : Window) (k : ℕ) → set_overfills (list_of w) k ≡ set_overfills (windowed w) k }

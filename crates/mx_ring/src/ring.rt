@@ -310,7 +310,7 @@ impl Ring {
     }
 
     /// POP: the registers that were hidden last come back, and X results follow them. The first
-    /// result is the last of them that was given, and stands where the number was. Afterwards L is
+    /// result is the last of them that was given, and is where the number was. Afterwards L is
     /// at most G.
     ///
     /// Errors: `Underflow` exactly where nothing is hidden, or less than the number says; then

@@ -106,7 +106,7 @@ run-is old new earlier later n f pass s u r c b h = record {
   keeps = run-keeps old new earlier later s u r (run_plan n f pass) (λ t. (c t).window) h;
 }
 
--- ---- want of memory, for the loops
+-- ---- where memory runs out, for the loops
 
 pub spares-begun : (n : ℕ) (s : State) → SparesMemory n s → SparesMemory (n - 0) s
 spares-begun n s h = let all : n - 0 ≡ n = omega arith in rw all h

@@ -30,6 +30,6 @@ abbrev pub CarriesOutAccompanied : Option HostModel → Option HostModel → Sta
 CarriesOutAccompanied old new before after n result =
     IsTrue (tells old) → ComesAccompanied n (before, contents old) (after, contents new) result
 
--- what the list machine comes to in at most n steps, with no flags, from the list that a state stands for
+-- what the list machine comes to in at most n steps, with no flags, from the list that a state represents
 abbrev pub list_run : Option HostModel → State → ℕ → Course End RunWorld
 list_run old before n = run_by list_machine n no_flags false (as_list_state before) (contents old)

@@ -49,7 +49,7 @@ EndsFront old new before result f =
 -- BESIDE THE LIST MACHINE
 
 -- how the run of the window machine goes beside that of the list machine: it ends as that, with the list that its last
--- state stands for and nothing touched; or, where that meets something wild, it begins by writing what that had written
+-- state represents and nothing touched; or, where that meets something wild, it begins by writing what that had written
 abbrev pub GoesAsList : Course End RunWorld → End → RunWorld → Type 0
 GoesAsList c r w = GoesAs as_list_world IsUntouched WritesOn c r w
 
@@ -59,11 +59,11 @@ EndsAsList old new before after result f =
     IsTrue (tells old) → result ≢ OutOfMemory → before.touched ≡ false →
     GoesAsList (f (as_list_state before) (contents old)) result (after, contents new)
 
--- an answer with the list that its state stands for
+-- an answer with the list that its state represents
 abbrev pub as_list_answer : {A : Type 0} → Answered A → Answered A
 as_list_answer (a, s, m) = (a, as_list_state s, m)
 
--- the same of one turn, from a state over the list: where it is wild, what stood on standard output still does
+-- the same of one turn, from a state over the list: where it is wild, what was on standard output still is
 abbrev pub TurnGoesAsList : Bool → State → HostModel → Answered TurnAnswer → Type 0
 TurnGoesAsList true s m r = IsFront m.output r.2.output
 TurnGoesAsList false s m r = (as_list_answer r ≡ turn_answer (turn s m)) × (r.1.touched ≡ false)

@@ -1,5 +1,5 @@
 //! What holds of runs over their definitions alone. A machine over a window and the one over the list
-//! that its register stack stands for go the same way, as long as nothing looks at rS or at the
+//! that its register stack represents go the same way, as long as nothing looks at rS or at the
 //! memory of the register stack.
 
 ghost use Rattle.std.specs.Prelude.{◌≡◌, ◌≢◌, ◌+◌, ◌&&◌, ◌==◌, ℕ, suc, Bool, true, false};
@@ -22,7 +22,7 @@ ghost use Rattle.mx_run.specs.WildRuns.{MachineKind, window_machine, ends_wild, 
 ghost use Rattle.mx_run.specs.WildRuns.{turn_is_wild, as_list_turn, state_after};
 
 /// A turn that is not wild, where nothing was touched, comes to the same with the same trace and the
-/// same host model, and leaves the list that the next state stands for, and nothing touched. It is wild
+/// same host model, and leaves the list that the next state represents, and nothing touched. It is wild
 /// for the one where it is for the other.
 #[tactic(auto, using(crate::proofs::ListTurns::turns))]
 pub fn turns_go_as_lists()
@@ -80,7 +80,7 @@ pub fn runs_follow_each_other()
         → run_by kind i f pass s m ≡ meets_wild w → run_by kind (i + j) f pass s m ≡ meets_wild w }
 {}
 
-/// A run is what its plan comes to. Where a plan over turns stops for want of memory, it only added to
+/// A run is what its plan comes to. Where a plan over turns stops because memory runs out, it only added to
 /// standard output, and what is there is a front of what would be there at its end; the slots of
 /// the tool lead where they led.
 #[tactic(auto, using(crate::proofs::HeldRuns::laws, crate::proofs::PlanEnds::ends))]

@@ -123,7 +123,7 @@ fn line_with(
     })
 }
 
-/// The number of the next line; want of memory where there is none, which no source is long enough for.
+/// The number of the next line; out of memory where there is none, which no source is long enough for.
 fn next_number(number: u32) -> Result<u32, NoMemory>
     ensures { IfOk result (λ next. next ≡ number + 1) }
 {

@@ -338,8 +338,8 @@ fn symbols_of(alloc: Global, bytes: &[u8]) -> Result<Symbols, StabFault>
 ///
 /// Errors: the first fault that is met where the bytes are read from the left. A node is refused as
 /// `Wide` at its byte m or at its character, then as `TooLong`, and as `BadSerial` and then as
-/// `Twice` at the end of its serial number; a missing byte is `Truncated` at once, and what stands
-/// after the trie is `Padding` last. `OutOfMemory` is the one free answer.
+/// `Twice` at the end of its serial number; a missing byte is `Truncated` at once, and what follows
+/// the trie is `Padding` last. `OutOfMemory` is the one free answer.
 pub fn read(alloc: Global, bytes: &[u8]) -> Result<Symbols, StabFault>
     ensures answer { result ≢ Err StabFault.OutOfMemory → result ≡ spec.trie_answer bytes.now }
     ensures grammar { IfOk result (λ symbols. IsTrie bytes.now symbols) }

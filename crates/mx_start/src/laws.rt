@@ -35,7 +35,7 @@ pub fn starts_are_machines()
         start image arguments (windowed (window_at_start size)) ≡ Some s → IsOverWindow s }
 {}
 
-/// A program starts over the list that the window at the start stands for; its arguments end below the
+/// A program starts over the list that the window at the start represents; its arguments end below the
 /// stack area.
 pub fn starts_go_as_lists()
     ensures { (image : Image) (arguments : List (List ℕ)) (size : ℕ)

@@ -29,7 +29,7 @@ pub fn targets_join_their_bytes()
         AreAlike (IsFixed t) (encoding no_targets k s) (encoding t k s) }
 {}
 
-/// A label never stands for a register above $255, and a register that is allocated may be.
+/// A label never means a register above $255, and a register that is allocated may be.
 pub fn registers_are_bytes()
     ensures label { (t : Targets) (k : Known) (s : StatementTree) (p : Placed) → IsSound k → encoding t k s ≡ Ok p →
         IfSome p.label HasRegisterNumber }
@@ -37,7 +37,7 @@ pub fn registers_are_bytes()
         IsPossible k.gregs p.effect }
 {}
 
-/// What is known stays sound: no name and no local label stands for a register above $255, and none
+/// What is known stays sound: no name and no local label means a register above $255, and none
 /// below $32 is allocated. It is so before the first statement, after the label of a symbol that was
 /// not defined, after a local label, and after a register that is given.
 pub fn knowledge_stays_sound()
@@ -63,7 +63,7 @@ pub fn awaited_names_are_unknown()
         value_of_name k.names full ≡ None) p.waits }
 {}
 
-/// By its definition a statement is never refused for want of memory: each fault that its fields have, and
+/// By its definition a statement is never refused because memory runs out: each fault that its fields have, and
 /// each that it comes to, has a number above 0.
 #[tactic(auto, using(crate::proofs::NumberedFaults::numbered))]
 pub fn faults_have_numbers()

@@ -138,7 +138,7 @@ fn add_units(
     text.push(b'\n')
 }
 
-/// How many bytes of a text stand from an address on before its end, or before it is too long.
+/// How many bytes a text has from an address on, up to its end, or before it is too long.
 fn text_length(machine: &Machine, from: u64) -> u64 {
     let mut length = 0;
     for i in 0..LONGEST {

@@ -80,7 +80,7 @@ rose-later k m n a b (inr e) = by (cases_lt k n)
     by (inl h) = inl h
     by (inr h) = let same : n ≡ m = omega (arith, a, b, h) in inr (same ∙ e)
 
--- the causes are those of what was done, where the outcome that is told is its, or want of memory
+-- the causes are those of what was done, where the outcome that is told is its own, or that memory ran out
 pub causes-told : {H : Type 0} (told : H → Option HostModel) (faults : H → ℕ) (a b c : H) (spoken result : Outcome) (words : List Word) → (result ≢ OutOfMemory → result ≡ spoken) →
     Keeps (told b) (told c) (faults b) (faults c) → Causes told faults a b spoken words → Causes told faults a c result words
 causes-told told faults a b c spoken result words same kept was = record {

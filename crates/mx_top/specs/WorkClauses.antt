@@ -49,7 +49,7 @@ answer_by kind plan m = answer_of (course (program_goes kind) plan (m, []))
 abbrev pub told_by : MachineKind → ProgramPlan Outcome → HostModel → List Trace
 told_by kind plan m = told_of (course (program_goes kind) plan (m, []))
 
--- So it is over a window of registers; and over the unbounded list that this stands for, up to what is wild.
+-- So it is over a window of registers; and over the unbounded list that this represents, up to what is wild.
 pub record CarriesOutProgramOnBoth (old new : Option HostModel) (result : Outcome) (plan : ProgramPlan Outcome) : Type 0 where
   pub window : CarriesOutProgram old new result plan
   pub list : AnswersAsList old new result (λ m. answer_by list_machine plan m)
@@ -140,7 +140,7 @@ IsTold outcome due said texts =
     ⊎ (((outcome ≢ OutOfMemory) × (due ≢ [])) × ((said ≡ OutOfMemory) × (texts ≡ [])))
 
 -- What the program does, where these reports are due by the traces that watchers are told: the work comes to an outcome and leaves
--- the host and the traces so, or it stops for want of memory; and what it came to is told.
+-- the host and the traces so, or it stops because memory runs out; and what it came to is told.
 pub record Doing (old new : HostModel) (result : Outcome) (work : ProgramPlan Outcome) (due : List Trace → List (List ℕ)) : Type 0 where
   pub left : HostModel
   pub heard : List Trace

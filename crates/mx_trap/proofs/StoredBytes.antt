@@ -1,4 +1,4 @@
--- Where stored bytes stand.
+-- Where stored bytes are.
 use Rattle.std.proofs.Common.{◌≡◌, ℕ, suc, ◌+◌, ◌-◌, ◌<◌, Bool, true, false, cond, List, [], ◌∷◌, length, get_or, Ok, Err, refl, ◌∙◌, arith}
 use Rattle.std.specs.Prelude.{Result, ◌==◌, ◌&&◌, nat_le, nat_lt, not}
 use Rattle.std.proofs.lemmas.Bool.Decides.{nat_tests}

@@ -41,7 +41,7 @@ CarriesOutTrapPart holds says first last old new result plan =
     CarriesOutOnSpace (says old) (says new) (holds first) (holds last) (Err OutOfMemory) result plan
 
 -- A service is done over a host, where `says` is what that tells and `faults` its count of faults. Over one that tells its contents, the plan
--- is carried out; if the trap stops here, then for one page too many; and what stands of a host stands.
+-- is carried out; if the trap stops here, then for one page too many; and what is kept of a host is kept.
 pub record DoesService {Host : Type 0} (says : Host → Option HostModel) (faults : Host → ℕ) (old new : Host) (result : TrapAnswer) (plan : HostPlan TrapAnswer) : Type 0 where
   pub told : CarriesOutOnHost (says old) (says new) OutOfMemory result plan
   pub stops : StopsByPages result

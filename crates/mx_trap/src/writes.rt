@@ -18,7 +18,7 @@ use mx_plan::write;
 pub enum Written {
     /// All were written.
     Whole,
-    /// A piece was not written, and this many bytes stood in the pieces before it.
+    /// A piece was not written, and the pieces before it have this many bytes.
     Short(u64),
     /// The host found no memory.
     OutOfMemory,

@@ -5,7 +5,7 @@ use Rattle.mx_mmo.specs.Meaning.{Loading, Meaningless, after_load, join, join_oc
 use Rattle.mx_mmo.specs.Meaning.Meaningless.{NoFile}
 use Rattle.mx_type.proofs.Words.{Item, Load, Loc, Skip, FixOcta, FixNear, FixFar, File, Line, Spec, Pre, Post, Stab, lambda_after, lambda_following, lambda_of}
 
--- where something stands, lambda is this address
+-- where there is something, lambda is this address
 abbrev LambdaIs : ℕ → Result Loading Meaningless → Type 0
 LambdaIs a (Ok s) = s.lambda ≡ a
 LambdaIs a (Err e) = Unit {0}

@@ -11,7 +11,7 @@ use Rattle.mx_view.specs.declared.lines.ListedLine.{ListedLine}
 use Rattle.mx_view.specs.Rows.{Meaning}
 use Rattle.mx_view.specs.InTurn.{items_at, status_at, listed_at, listed_in_turn, status_after_lines}
 
--- once a line is refused, no later line is listed, and the refusal stands
+-- once a line is refused, no later line is listed, and the refusal stays
 pub listed-after : (m : Meaning) (w : Wanted) (n lambda : ℕ) (a : Status) (lines : List Line) → is_ok a ≡ false → listed_in_turn m w n lambda a lines ≡ []
 unfolding listed_in_turn
 listed-after m w n lambda a [] e = refl

@@ -1,4 +1,4 @@
-//! Lines that the assembler takes, and the end of a source, where only want of memory is an error.
+//! Lines that the assembler takes, and the end of a source, where only memory that runs out is an error.
 
 ghost use Rattle.std.specs.Prelude.{◌≡◌, ◌≢◌, [], IfOk, OnOk};
 ghost use Rattle.std.specs.Result.{is_ok};

@@ -1,4 +1,4 @@
--- The reports of all watchers, in the order in which they stood in the list at the start.
+-- The reports of all watchers, in the order in which they were in the list at the start.
 use Rattle.std.specs.Prelude.{ℕ, ◌==◌, if◌then◌else◌, List, [], ◌∷◌, ◌++◌, Option, None, Some, take, drop, map}
 use Rattle.mx_code.specs.declared.trace.Trace.{Trace}
 use Rattle.mx_watch.specs.Hearing.{heard}

@@ -31,7 +31,7 @@ abbrev pub UnlessWild : {A W : Type 0} → Course A W → Type 0 → Type 0
 UnlessWild (ends a w) P = P
 UnlessWild (meets_wild w) P = Unit {0}
 
--- the traces of the list machine in at most n steps from the list that a state stands for
+-- the traces of the list machine in at most n steps from the list that a state represents
 abbrev pub list_traces : Option HostModel → State → ℕ → List Trace
 list_traces old before n = traces list_machine n (as_list_state before) (contents old)
 

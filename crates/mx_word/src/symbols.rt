@@ -2,7 +2,7 @@
 
 use crate::{Bytes, Sequence};
 
-/// What a symbol or an expression stands for: a pure number, or a register by its number.
+/// What a symbol or an expression means: a pure number, or a register by its number.
 #[derive(Clone, Copy, Debug, PartialEq, Eq)]
 pub enum Value {
     Pure(u64),

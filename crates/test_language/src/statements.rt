@@ -69,7 +69,7 @@ fn placed_after(
     }
 }
 
-/// The tetra that stands alone in these bytes.
+/// The tetra that is alone in these bytes.
 fn tetra(bytes: &[u8]) -> Result<u32, u16> {
     match bytes {
         [a, b, c, d] => Ok(tetra_of([*a, *b, *c, *d])),

@@ -103,7 +103,7 @@ fn push_times(source: &mut String, text: &str, count: u32) -> Result<(), Fail> {
     Ok(())
 }
 
-/// What is before a text, the text and how often it stands, what follows it, and the refusal, if there
+/// What is before a text, the text and how often it is there, what follows it, and the refusal, if there
 /// is one: the line, the number of the fault, and the message.
 type Limit = (
     &'static str,
