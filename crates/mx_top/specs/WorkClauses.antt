@@ -141,7 +141,7 @@ IsTold outcome due said texts =
 
 -- What the program does, where these reports are due by the traces that watchers are told: the work comes to an outcome and leaves
 -- the host and the traces so, or it stops because memory runs out; and what it came to is told.
-pub record Doing (old new : HostModel) (result : Outcome) (work : ProgramPlan Outcome) (due : List Trace → List (List ℕ)) : Type 0 where
+pub record DoneAndTold (old new : HostModel) (result : Outcome) (work : ProgramPlan Outcome) (due : List Trace → List (List ℕ)) : Type 0 where
   pub left : HostModel
   pub heard : List Trace
   pub outcome : Outcome
@@ -151,5 +151,5 @@ pub record Doing (old new : HostModel) (result : Outcome) (work : ProgramPlan Ou
   pub reports : IsTold outcome (due heard) said texts
   pub told : Telling left new result said texts
 
-abbrev pub Does : Option HostModel → Option HostModel → Outcome → ProgramPlan Outcome → (List Trace → List (List ℕ)) → Type 0
-Does old new result work due = IsTrue (tells old) → Doing (contents old) (contents new) result work due
+abbrev pub DoesAndTells : Option HostModel → Option HostModel → Outcome → ProgramPlan Outcome → (List Trace → List (List ℕ)) → Type 0
+DoesAndTells old new result work due = IsTrue (tells old) → DoneAndTold (contents old) (contents new) result work due
