@@ -44,7 +44,7 @@ use Rattle.mx_outcome.specs.declared.outcome.Outcome.TheVariants.{Done}
 use Rattle.mx_top.specs.Endings.{dumped_plan, summed_plan}
 use Rattle.mx_top.specs.MachineWork as work
 use Rattle.mx_top.specs.MachineWork.{machine_plan, generated_work}
-use Rattle.mx_top.specs.Product.{on_host, run_on, run_source, run_text, taking, ordered_plan, work_plan, work_on, at_start, answer_of, product}
+use Rattle.mx_top.specs.Product.{host_in_program, run_on, run_source, run_text, taking, ordered_plan, work_plan, work_on, at_start, answer_of, product}
 use Rattle.mx_top.specs.Runs.{generator_steps}
 use Rattle.mx_top.specs.Telling.{telling, with_message}
 use Rattle.mx_top.specs.WorkClauses.{answer_by, work_by}
@@ -66,7 +66,7 @@ order-is kind words o c m h =
     ∙ ap (λ d. with_message (answer_by kind (ordered_plan words o d) m)) h.command
 
 -- a plan of the host alone
-pub host-answer : (kind : MachineKind) (p : HostPlan Outcome) (m : HostModel) → answer_by kind (on_host p) m ≡ plainly (end_of host p m)
+pub host-answer : (kind : MachineKind) (p : HostPlan Outcome) (m : HostModel) → answer_by kind (host_in_program p) m ≡ plainly (end_of host p m)
 host-answer kind p m = ap answer_of (host-course kind p (m, [])) ∙ plain-so (end_of host p m)
 
 pub source-run : (kind : MachineKind) (words : List Word) (o : Order) (image : Image) (m begun : HostModel) → HasSource words o image m begun →

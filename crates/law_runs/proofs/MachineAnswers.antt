@@ -102,7 +102,7 @@ reported-answer kind o s m =
     run-answers kind o.steps (work.dumped_plan o.dump) (λ outcome t kept. end.dumped_plan o.dump outcome t) (at_start s (m, traces kind o.steps s m)) (run_by kind o.steps no_flags false s m) (to-dumped o.dump)
 
 kept-answer : (kind : MachineKind) (o : Order) (s : State) (m : HostModel) → answer_of (work_by kind (work.kept_plan o) s m) ≡ run_by_last kind o.steps o.last o.dump s m false
-unfolding course bind work.on_host need host
+unfolding course bind work.host_in_work need host
 kept-answer kind o s m =
     run-answers kind o.steps (work.back_plan o) (λ outcome t kept. end.back_plan o.dump outcome (take o.last kept) t) (record (at_start s (m, [])) { kept = kept_by o.steps s m }) (run_by kind o.steps no_flags false s m) (to-back o)
 

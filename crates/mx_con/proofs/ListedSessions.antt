@@ -17,7 +17,7 @@ use Rattle.mx_cmd.specs.declared.command.Command.TheVariants as command
 use Rattle.mx_con.specs.Clauses.{DoesSessionPart, as_list_world, IsUntouched, GoesAsList, ConversesBoth, RestsBoth}
 use Rattle.mx_con.specs.LinePlans.{on_ok, LineRead, asking_plan, without_return}
 use Rattle.mx_con.specs.Session.{session_goes, session}
-use Rattle.mx_con.specs.SessionPlans.{SessionWorld, SessionPlan, Part, conversing, on_host, showing, continued_plan, stepped_plan, command_plan, with_left, line_done, one_line_plan, lines_of_session, most_input, end_of_session, session_plan}
+use Rattle.mx_con.specs.SessionPlans.{SessionWorld, SessionPlan, Part, conversing, host_in_session, showing, continued_plan, stepped_plan, command_plan, with_left, line_done, one_line_plan, lines_of_session, most_input, end_of_session, session_plan}
 use Rattle.mx_con.specs.declared.dialog.Dialog.{Dialog}
 use Rattle.mx_con.specs.declared.end.SessionEnd.{SessionEnd}
 use Rattle.mx_con.specs.declared.end.SessionEnd.TheVariants.{Quit, Limit, OutOfMemory}
@@ -70,8 +70,8 @@ with-left : (left : ℕ) (shown : Option ℕ) (v w : SessionWorld) (r : Result (
 with-left left shown v w (Ok u) p c = then-both (λ (s : Option ℕ). returns (Ok (with_left left s))) p shown v w w (Ok (with_left left shown)) c (done-both (Ok (with_left left shown)) w (λ e. absurd (cc)))
 with-left left shown v w (Err end) p c = over-both (λ (s : Option ℕ). returns (Ok (with_left left s))) p end v w c
 
-asked-both : (left : ℕ) (s : State) (m n : HostModel) (f : FlagsOf) (r : LineRead) → Comes host m n (Err OutOfMemory) r (asking_plan left) → ConversesBoth ((s, m), f) ((s, n), f) (Err OutOfMemory) r (on_host (asking_plan left))
-asked-both left s m n f r c = listed-both (on_host (asking_plan left)) (Err OutOfMemory) r ((s, m), f) ((s, n), f) (listed-host (asking_plan left) s m f) (host-comes (asking_plan left) s m n f (Err OutOfMemory) r c)
+asked-both : (left : ℕ) (s : State) (m n : HostModel) (f : FlagsOf) (r : LineRead) → Comes host m n (Err OutOfMemory) r (asking_plan left) → ConversesBoth ((s, m), f) ((s, n), f) (Err OutOfMemory) r (host_in_session (asking_plan left))
+asked-both left s m n f r c = listed-both (host_in_session (asking_plan left)) (Err OutOfMemory) r ((s, m), f) ((s, n), f) (listed-host (asking_plan left) s m f) (host-comes (asking_plan left) s m n f (Err OutOfMemory) r c)
 
 pub line-carried : (steps left after : ℕ) (shown next : Option ℕ) (text : List ℕ) (line : Option Command) (s : State) (m k : HostModel) (f : FlagsOf) (w : SessionWorld) (r : Result (Unit {0}) SessionEnd) →
     Comes host m k (Err OutOfMemory) (Ok (text, after)) (asking_plan left) → line ≡ command_of (without_return text) →
@@ -79,14 +79,14 @@ pub line-carried : (steps left after : ℕ) (shown next : Option ℕ) (text : Li
     ConversesBoth ((s, m), f) w (Err OutOfMemory) (map_ok (λ u. with_left after next) r) (one_line_plan steps (with_left left shown))
 unfolding one_line_plan
 line-carried steps left after shown next text line s m k f w r h e c =
-    then-both (line_done steps shown) (on_host (asking_plan left)) (text, after) ((s, m), f) ((s, k), f) w (map_ok (λ u. with_left after next) r) (asked-both left s m k f (Ok (text, after)) h)
+    then-both (line_done steps shown) (host_in_session (asking_plan left)) (text, after) ((s, m), f) ((s, k), f) w (map_ok (λ u. with_left after next) r) (asked-both left s m k f (Ok (text, after)) h)
     (with-left after next ((s, k), f) w r (command_plan steps shown (command_of (without_return text)))
     (subst (λ x. ConversesBoth ((s, k), f) w (Err OutOfMemory) (map_ok (λ u. next) r) (command_plan steps shown x)) e c))
 
 pub line-over : (steps left : ℕ) (shown : Option ℕ) (end : SessionEnd) (s : State) (m n : HostModel) (f : FlagsOf) → Comes host m n (Err OutOfMemory) (Err end) (asking_plan left) →
     ConversesBoth ((s, m), f) ((s, n), f) (Err OutOfMemory) (Err end) (one_line_plan steps (with_left left shown))
 unfolding one_line_plan
-line-over steps left shown end s m n f c = over-both (line_done steps shown) (on_host (asking_plan left)) end ((s, m), f) ((s, n), f) (asked-both left s m n f (Err end) c)
+line-over steps left shown end s m n f c = over-both (line_done steps shown) (host_in_session (asking_plan left)) end ((s, m), f) ((s, n), f) (asked-both left s m n f (Err end) c)
 
 -- ---- all lines
 

@@ -15,7 +15,7 @@ use Rattle.mx_run.specs.WildRuns.{list_machine}
 use Rattle.mx_con.specs.Clauses.{as_list_world, IsUntouched, WritesOn, GoesAsList, ConversesBoth, RestsBoth}
 use Rattle.mx_con.specs.LinePlans.{on_ok}
 use Rattle.mx_con.specs.Session.{session_goes}
-use Rattle.mx_con.specs.SessionPlans.{SessionWorld, SessionPlan, Part, conversing, on_host}
+use Rattle.mx_con.specs.SessionPlans.{SessionWorld, SessionPlan, Part, conversing, host_in_session}
 use Rattle.mx_con.specs.declared.end.SessionEnd.{SessionEnd}
 use Rattle.mx_con.specs.declared.end.SessionEnd.TheVariants.{OutOfMemory}
 use Rattle.mx_con.proofs.HeldSessions.{streams-end, part-streams}
@@ -35,9 +35,9 @@ pub listed-returns : {A : Type 0} (a : A) (w : SessionWorld) → IsUntouched w �
 unfolding course end_of
 listed-returns a w u = (refl, (refl, u))
 
-pub listed-host : {A : Type 0} (p : HostPlan A) (s : State) (m : HostModel) (f : FlagsOf) → IsUntouched ((s, m), f) → Listed (on_host p) ((s, m), f)
+pub listed-host : {A : Type 0} (p : HostPlan A) (s : State) (m : HostModel) (f : FlagsOf) → IsUntouched ((s, m), f) → Listed (host_in_session p) ((s, m), f)
 listed-host {A} p s m f u =
-    subst (λ (t : A × SessionWorld). GoesAsList (course (session_goes list_machine) (on_host p) ((as_list_state s, m), f)) t.0 t.1) (sym (end_on_host p s m f))
+    subst (λ (t : A × SessionWorld). GoesAsList (course (session_goes list_machine) (host_in_session p) ((as_list_state s, m), f)) t.0 t.1) (sym (end_on_host p s m f))
     (subst (λ (c : Course A SessionWorld). GoesAsList c (end_of host p m).0 ((s, (end_of host p m).1), f)) (sym (course_on_host list_machine p (as_list_state s) m f)) (refl, (refl, u)))
 
 -- what follows

@@ -25,7 +25,7 @@ use Rattle.mx_con.specs.ConsoleTexts.{break_text}
 use Rattle.mx_show.specs.Texts.{trace_text}
 use Rattle.mx_con.specs.LinePlans.{on_ok, line_plan}
 use Rattle.mx_con.specs.Session.{keeping_flags, session_goes}
-use Rattle.mx_con.specs.SessionPlans.{SessionWorld, Part, conversing, beside_machine, beside_flags, on_host, turn_made, run_made, count_plan, place_plan, trace_plan, traced_plan, after_turn, turn_at, turned_plan, stepped_plan, going, broke_plan, break_plan, after_end, one_run_plan, run_on, runs_plan, continued_plan}
+use Rattle.mx_con.specs.SessionPlans.{SessionWorld, Part, conversing, beside_machine, beside_flags, host_in_session, turn_made, run_made, count_plan, place_plan, trace_plan, traced_plan, after_turn, turn_at, turned_plan, stepped_plan, going, broke_plan, break_plan, after_end, one_run_plan, run_on, runs_plan, continued_plan}
 use Rattle.mx_con.specs.declared.end.SessionEnd.{SessionEnd}
 use Rattle.mx_con.specs.declared.end.SessionEnd.TheVariants.{Halted, Stopped, Spent, OutOfMemory}
 use Rattle.mx_con.specs.Clauses.{DoesSessionPart, DoesPlan, DoesOnHost, GoesAsList, ConversesBoth, RestsBoth}
@@ -38,7 +38,7 @@ use Rattle.mx_con.proofs.SessionCourses.{end_on_host, stops_on_host}
 
 -- ---- over the host alone
 
-pub host-comes : {A : Type 0} (p : HostPlan A) (s : State) (m n : HostModel) (f : FlagsOf) (none r : A) → Comes host m n none r p → Comes conversing ((s, m), f) ((s, n), f) none r (on_host p)
+pub host-comes : {A : Type 0} (p : HostPlan A) (s : State) (m n : HostModel) (f : FlagsOf) (none r : A) → Comes host m n none r p → Comes conversing ((s, m), f) ((s, n), f) none r (host_in_session p)
 host-comes {A} p s m n f none r c = record {
   ending = λ ne. ap (λ (t : A × HostModel). beside_machine ((s, m), f) t) (c.ending ne) ∙ sym (end_on_host p s m f);
   stopping = λ e. stops_on_host p s m n f (c.stopping e);

@@ -35,7 +35,7 @@ use Rattle.mx_begin.proofs.Beginnings.{begin-by, start-end}
 use Rattle.mx_top.specs.MachineWork as work
 use Rattle.mx_top.specs.MachineWork.{WorkPlan, WorkStops, working, work_goes, generated_work}
 use Rattle.mx_top.specs.Product as page
-use Rattle.mx_top.specs.Product.{ProgramPlan, ProgramWorld, program, program_goes, on_host, on_part, taking, run_on, run_file, run_source, run_text, ordered_plan, work_plan, work_on, worked, at_start, MayStop, answer_of}
+use Rattle.mx_top.specs.Product.{ProgramPlan, ProgramWorld, program, program_goes, host_in_program, on_part, taking, run_on, run_file, run_source, run_text, ordered_plan, work_plan, work_on, worked, at_start, MayStop, answer_of}
 use Rattle.mx_top.specs.WorkClauses.{CarriesOutProgramOnBoth, PlanStops, CarriesOutWorkOnBoth, host_of, left_of, work_by, answer_by}
 use Rattle.mx_top.proofs.Told.{wanting}
 use Rattle.mx_top.proofs.WindowCourses.{work-window, program-window}
@@ -49,7 +49,7 @@ ends-alone (meets_wild w) = refl
 
 -- the work that is done on it
 pub run-on : (kind : MachineKind) (ring : ℕ) (args : List Word) (plan : WorkPlan Outcome) (image : Image) (w : ProgramWorld) → course (program_goes kind) (run_on ring args plan image) w ≡ work_on kind plan (started kind ring image args) w
-unfolding course bind on_host need host
+unfolding course bind host_in_program need host
 run-on kind ring args plan image w = ends-alone (work_on kind plan (started kind ring image args) w)
 
 -- over a window: what comes of it
@@ -65,7 +65,7 @@ left-by plan s m = ap (λ c. host-in (worked c)) (work-window plan (at_start s (
 
 -- a machine that starts on an image
 start-stops : (ring : ℕ) (args : List Word) (plan : WorkPlan Outcome) (image : Image) (r : Result State Outcome) (m v : HostModel) → r ≡ started window_machine ring image args → MayStop plan r (m, []) v → Stops program (v, []) (run_on ring args plan image) (m, [])
-unfolding bind on_host need Stops program host end_of
+unfolding bind host_in_program need Stops program host end_of
 start-stops ring args plan image r m v is s = inr (inl (subst (λ (x : Result State Outcome). MayStop plan x (m, []) v) is s))
 
 pub machine-started : (a b : Option HostModel) (r : Outcome) (ring : ℕ) (image : Image) (args : List Word) (plan : WorkPlan Outcome) (s : State) → Ok s ≡ started window_machine ring image args → Ok (as_list_state s) ≡ started list_machine ring image args →
@@ -126,7 +126,7 @@ file-course kind words o form m =
     by (Err outcome, n) = returns-so kind outcome n
 
 taken-stops : (p : ProgramPlan Outcome) (v m : HostModel) → Stops program (v, []) p (m, []) → Stops program (v, []) (taking p) (m, [])
-unfolding bind on_host need Stops program host end_of
+unfolding bind host_in_program need Stops program host end_of
 taken-stops p v m h = inr h
 
 abbrev state-err : Outcome → HostPlan (Result State Outcome)
@@ -153,8 +153,8 @@ begun-stops words o form m n v r is s = record { heard = []; stops = taken (by (
     name : Word
     name = word_at words o.file
 
-    taken : Stops program (v, []) (bind (on_part (run_on o.ring args plan)) (on_host (image_file_plan form name))) (m, []) → Stops program (v, []) (taking (bind (on_part (run_on o.ring args plan)) (on_host (image_file_plan form name)))) (m, [])
-    taken h = taken-stops (bind (on_part (run_on o.ring args plan)) (on_host (image_file_plan form name))) v m h
+    taken : Stops program (v, []) (bind (on_part (run_on o.ring args plan)) (host_in_program (image_file_plan form name))) (m, []) → Stops program (v, []) (taking (bind (on_part (run_on o.ring args plan)) (host_in_program (image_file_plan form name)))) (m, [])
+    taken h = taken-stops (bind (on_part (run_on o.ring args plan)) (host_in_program (image_file_plan form name))) v m h
 
     from : (t : Then (Result Image Outcome)) → (r, n) ≡ end_after host (on_ok (start_plan window_machine o.ring args)) t → Stops program (v, []) (on_part (run_on o.ring args plan) t.0) (t.1, [])
     from (Ok image, k) e =
@@ -162,28 +162,28 @@ begun-stops words o form m n v r is s = record { heard = []; stops = taken (by (
         start-stops o.ring args plan image (started window_machine o.ring image args) k v refl (subst (λ (x : Then (Result State Outcome)). MayStop plan x.0 (x.1, []) v) at s)
     from (Err outcome, k) e = none-stops outcome v k (subst (λ (x : Then (Result State Outcome)). MayStop plan x.0 (x.1, []) v) (e ∙ err-end outcome k) s)
 
-    by : (t : Then (Result Image Outcome)) → end_of host (image_file_plan form name) m ≡ t → Stops program (v, []) (bind (on_part (run_on o.ring args plan)) (on_host (image_file_plan form name))) (m, [])
+    by : (t : Then (Result Image Outcome)) → end_of host (image_file_plan form name) m ≡ t → Stops program (v, []) (bind (on_part (run_on o.ring args plan)) (host_in_program (image_file_plan form name))) (m, [])
     by (x, k) e =
-        stops_after program (on_part (run_on o.ring args plan)) (on_host (image_file_plan form name)) (v, []) (m, [])
+        stops_after program (on_part (run_on o.ring args plan)) (host_in_program (image_file_plan form name)) (v, []) (m, [])
         (subst (StopsAfter program (v, []) (on_part (run_on o.ring args plan))) (part-ended (image_file_plan form name) x m k (sym e))
         (from (x, k) (is ∙ begin-by window_machine words o form m ∙ ap (end_after host (on_ok (start_plan window_machine o.ring args))) e)))
 
 -- where it does not begin
 image-stops : (o : Order) (args : List Word) (plan : WorkPlan Outcome) (r : Result Image Outcome) (v n : HostModel) → Stops host v (on_ok (start_plan window_machine o.ring args) r) n → Stops program (v, []) (on_part (run_on o.ring args plan) r) (n, [])
-unfolding start_plan bind need on_host Stops program host
+unfolding start_plan bind need host_in_program Stops program host
 image-stops o args plan (Ok image) v n (inl e) = inl e
 image-stops o args plan (Ok image) v n (inr h) = absurd h
 image-stops o args plan (Err outcome) v n h = absurd h
 
 parts-stop : {A B : Type 0} (e : A → HostPlan B) (g : A → ProgramPlan Outcome) (p : HostPlan A) (v m : HostModel) → ((a : A) (n : HostModel) → Stops host v (e a) n → Stops program (v, []) (g a) (n, [])) → Stops host v (bind e p) m →
-    Stops program (v, []) (bind g (on_host p)) (m, [])
-unfolding bind on_host Stops program
+    Stops program (v, []) (bind g (host_in_program p)) (m, [])
+unfolding bind host_in_program Stops program
 parts-stop e g (returns a) v m more h = more a m h
 parts-stop e g (calls o k) v m more (inl l) = inl l
 parts-stop e g (calls o k) v m more (inr h) = inr (parts-stop e g (k (host.act o m).0) v (host.act o m).1 more h)
 
 file-stops : (words : List Word) (o : Order) (form : Form) (m v : HostModel) → Stops host v (begin_plan window_machine words o form) m → Stops program (v, []) (run_file words o form) (m, [])
-unfolding begin_plan run_file bind need on_host Stops program host
+unfolding begin_plan run_file bind need host_in_program Stops program host
 file-stops words o form m v (inl e) = inl e
 file-stops words o form m v (inr h) =
     inr (parts-stop (on_ok (start_plan window_machine o.ring (arguments words o))) (on_part (run_on o.ring (arguments words o) (work.machine_plan o))) (image_file_plan form (word_at words o.file)) v m
