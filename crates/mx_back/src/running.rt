@@ -36,8 +36,7 @@ pub fn run_kept<H: Host>(
     requires { AreNotesOf back.old (state_of machine.old) }
     ensures plan { CarriesOutAccompanied (H.told host.old) (H.told host.new) (state_of machine.old) (state_of machine.new)
         n result }
-    ensures run { IsRun (H.told host.old) (H.told host.new) (H.faults host.old) (H.faults host.new) (state_of machine.old)
-        (state_of machine.new) n no_flags false result }
+    ensures run { IsRun H.told H.faults host.old host.new machine.old machine.new n no_flags false result }
     ensures fits { AreNotesOf back.new (state_of machine.new) }
     ensures kept { KeepsRun (H.told host.old) (state_of machine.old) (state_of machine.new) n result back.old back.new }
     ensures front { KeepsFront (H.told host.old) (H.told host.new) (state_of machine.old) (state_of machine.new) n result

@@ -4,7 +4,7 @@ ghost use Rattle.std.specs.Prelude.{◌≡◌};
 ghost use Rattle.mx_plan.specs.Clauses.{KeepsHost};
 ghost use Rattle.mx_core.specs.Kept.{state_of};
 ghost use Rattle.mx_core.specs.Step.{calls, step};
-ghost use Rattle.mx_run.specs.Clauses.{CarriesOutOnMachine};
+ghost use Rattle.mx_run.specs.Clauses.{CarriesOutRun};
 ghost use Rattle.mx_run.specs.RunPlans.{turn_plan};
 ghost use Rattle.mx_run.specs.Runs.{IsLater};
 ghost use Rattle.mx_run.specs.Turns as turns;
@@ -31,8 +31,8 @@ pub(crate) fn trap_kept<H: Host>(
 ) -> TurnAnswer
     requires called { step (state_of machine.old) ≡ calls call.now }
     requires noted { AreNotesOf back.old (state_of machine.old) }
-    ensures told { CarriesOutOnMachine (H.told host.old) (H.told host.new) (state_of machine.old) (state_of machine.new)
-        TurnAnswer.OutOfMemory result turn_plan }
+    ensures told { CarriesOutRun H.told host.old host.new machine.old machine.new TurnAnswer.OutOfMemory result
+        turn_plan }
     ensures fits { AreNotesOf back.new (state_of machine.new) }
     ensures kept { states_before back.new (state_of machine.new)
         ≡ kept_turn (spec.trap_kind result) (state_of machine.old) (states_before back.old (state_of machine.old)) }

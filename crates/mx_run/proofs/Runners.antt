@@ -8,7 +8,7 @@ use Rattle.mx_plan.specs.Clauses.{KeepsHost}
 use Rattle.mx_plan.specs.Held.{KeepsStreams}
 use Rattle.mx_plan.specs.Plan.{Comes}
 use Rattle.mx_core.specs.State.{State}
-use Rattle.mx_run.specs.Clauses.{IsRun, IsTurn}
+use Rattle.mx_run.specs.Clauses.{IsRunBetween, IsTurnBetween}
 use Rattle.mx_run.specs.RunCourses.{CarriesOutOnBothMachines}
 use Rattle.mx_run.specs.RunPlans.{RunPlan, RunWorld, running, turn_plan, run_plan, SparesMemory, SparesAfter, SparesStep}
 use Rattle.mx_run.specs.Runs.{FlagsOf, IsLater, ended, run}
@@ -70,7 +70,7 @@ turn-begun s t m n r c e = subst (λ (p : TurnAnswer × RunWorld). IsFront n.out
 
 -- what holds of a turn by its plan
 pub turn-is : (old new : Option HostModel) (earlier later : ℕ) (s u : State) (r : TurnAnswer) → HasWindow s → (IsTrue (tells old) → Comes running (s, contents old) (u, contents new) answer.OutOfMemory r turn_plan) →
-    IsLater 1 s u → KeepsHost old new earlier later → IsTurn old new earlier later s u r
+    IsLater 1 s u → KeepsHost old new earlier later → IsTurnBetween old new earlier later s u r
 turn-is old new earlier later s u r w c b h = record {
   plan = c;
   told = λ t ne. turn-told s u _ _ r (c t) ne;
@@ -97,7 +97,7 @@ run-begun n f pass s t m k r c e = subst (λ (p : End × RunWorld). IsFront k.ou
 
 -- what holds of a run by its plan over both machines
 pub run-is : (old new : Option HostModel) (earlier later n : ℕ) (f : FlagsOf) (pass : Bool) (s u : State) (r : End) → CarriesOutOnBothMachines old new s u end.OutOfMemory r (run_plan n f pass) →
-    IsLater n s u → KeepsHost old new earlier later → IsRun old new earlier later s u n f pass r
+    IsLater n s u → KeepsHost old new earlier later → IsRunBetween old new earlier later s u n f pass r
 run-is old new earlier later n f pass s u r c b h = record {
   told = λ t ne. run-told n f pass s u _ _ r (c t).window ne;
   front = λ t e. run-begun n f pass s u _ _ r (c t).window e;

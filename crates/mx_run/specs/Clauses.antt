@@ -7,6 +7,7 @@ use Rattle.mx_host.specs.Keeping.{Keeps}
 use Rattle.mx_plan.specs.Clauses.{CarriesOut, KeepsHost}
 use Rattle.mx_plan.specs.Wild.{Course, GoesAs}
 use Rattle.mx_core.specs.Bounds.{as_list_state}
+use Rattle.mx_core.specs.Kept.{Kept, state_of}
 use Rattle.mx_core.specs.State.{State}
 use Rattle.mx_run.specs.RunCourses.{as_list_world, IsUntouched, WritesOn, CarriesOutOnBothMachines}
 use Rattle.mx_run.specs.RunPlans.{RunPlan, RunWorld, running, run_plan, turn_plan, SparesMemory, SparesStep}
@@ -77,7 +78,7 @@ TurnsAsList old new before after result =
 
 -- what holds of a turn: its plan is carried out, so it answers, leaves and writes what the turn does, and beside the list machine
 -- what that does; it is one step at most; and the host keeps what it keeps at every call
-pub record IsTurn (old new : Option HostModel) (earlier later : ℕ) (before after : State) (result : TurnAnswer) : Type 0 where
+pub record IsTurnBetween (old new : Option HostModel) (earlier later : ℕ) (before after : State) (result : TurnAnswer) : Type 0 where
   pub plan : CarriesOutOnMachine old new before after answer.OutOfMemory result turn_plan
   pub told : LeavesMachine old new before after answer.OutOfMemory result (λ s m. turn_answer (turn s m))
   pub front : LeavesFront old new before answer.OutOfMemory result (λ s m. turn_answer (turn s m))
@@ -87,7 +88,7 @@ pub record IsTurn (old new : Option HostModel) (earlier later : ℕ) (before aft
 
 -- what holds of at most n steps with these flags, whatever its plan: it ends as the run does, and beside the list machine as that
 -- does; and it makes at most n steps
-pub record IsRun (old new : Option HostModel) (earlier later : ℕ) (before after : State) (n : ℕ) (f : FlagsOf) (pass : Bool) (result : End) : Type 0 where
+pub record IsRunBetween (old new : Option HostModel) (earlier later : ℕ) (before after : State) (n : ℕ) (f : FlagsOf) (pass : Bool) (result : End) : Type 0 where
   pub told : EndsAs old new before after result (λ s m. run n f pass s m)
   pub front : EndsFront old new before result (λ s m. run n f pass s m)
   pub listed : EndsAsList old new before after result (λ s m. run_by list_machine n f pass s m)
@@ -97,15 +98,38 @@ pub record IsRun (old new : Option HostModel) (earlier later : ℕ) (before afte
 -- ---- on the way
 
 -- a step of a run, or its end
-pub record TakesStep (old new : Option HostModel) (earlier later : ℕ) (before after : State) (result : Result (Unit {0}) End) (plan : RunPlan (Result (Unit {0}) End)) : Type 0 where
+pub record TakesStepBetween (old new : Option HostModel) (earlier later : ℕ) (before after : State) (result : Result (Unit {0}) End) (plan : RunPlan (Result (Unit {0}) End)) : Type 0 where
   pub told : CarriesOutOnMachine old new before after (Err OutOfMemory) result plan
   pub spared : (n : ℕ) → SparesMemory (suc n) before → SparesStep n result after
   pub bound : IsLater 1 before after
   pub keeps : KeepsHost old new earlier later
 
 -- the steps of a run, over both machines
-pub record TakesSteps (old new : Option HostModel) (earlier later : ℕ) (before after : State) (n : ℕ) (f : FlagsOf) (pass : Bool) (result : End) : Type 0 where
+pub record TakesStepsBetween (old new : Option HostModel) (earlier later : ℕ) (before after : State) (n : ℕ) (f : FlagsOf) (pass : Bool) (result : End) : Type 0 where
   pub both : CarriesOutOnBothMachines old new before after OutOfMemory result (run_plan n f pass)
   pub spared : SparesMemory n before → result ≢ OutOfMemory
   pub bound : IsLater n before after
   pub keeps : KeepsHost old new earlier later
+
+-- ---- OF A HOST AND A MACHINE: `told` is what the host tells, `faults` its count of faults; the host and the machine are those
+-- before and after
+
+abbrev pub CarriesOutRun : {H A : Type 0} → (H → Option HostModel) → H → H → Kept → Kept → A → A → RunPlan A → Type 0
+CarriesOutRun told old new before after none result plan =
+    CarriesOutOnMachine (told old) (told new) (state_of before) (state_of after) none result plan
+
+abbrev pub IsTurn : {H : Type 0} → (H → Option HostModel) → (H → ℕ) → H → H → Kept → Kept → TurnAnswer → Type 0
+IsTurn told faults old new before after result =
+    IsTurnBetween (told old) (told new) (faults old) (faults new) (state_of before) (state_of after) result
+
+abbrev pub IsRun : {H : Type 0} → (H → Option HostModel) → (H → ℕ) → H → H → Kept → Kept → ℕ → FlagsOf → Bool → End → Type 0
+IsRun told faults old new before after n f pass result =
+    IsRunBetween (told old) (told new) (faults old) (faults new) (state_of before) (state_of after) n f pass result
+
+abbrev pub TakesStep : {H : Type 0} → (H → Option HostModel) → (H → ℕ) → H → H → Kept → Kept → Result (Unit {0}) End → RunPlan (Result (Unit {0}) End) → Type 0
+TakesStep told faults old new before after result plan =
+    TakesStepBetween (told old) (told new) (faults old) (faults new) (state_of before) (state_of after) result plan
+
+abbrev pub TakesSteps : {H : Type 0} → (H → Option HostModel) → (H → ℕ) → H → H → Kept → Kept → ℕ → FlagsOf → Bool → End → Type 0
+TakesSteps told faults old new before after n f pass result =
+    TakesStepsBetween (told old) (told new) (faults old) (faults new) (state_of before) (state_of after) n f pass result

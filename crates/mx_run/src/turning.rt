@@ -8,7 +8,7 @@ ghost use Rattle.mx_core.specs.MachineSpace.{machine_contents, IsWholeSpace};
 ghost use Rattle.mx_core.specs.Step.{calls, step};
 ghost use Rattle.mx_core.specs.Traps as traps;
 ghost use Rattle.mx_trap.specs.FileTraps.{trap_plan};
-ghost use Rattle.mx_run.specs.Clauses.{CarriesOutOnMachine, IsTurn};
+ghost use Rattle.mx_run.specs.Clauses.{CarriesOutRun, IsTurn};
 ghost use Rattle.mx_run.specs.RunPlans.{turn_plan, SparesAfter, SparesMemory};
 ghost use Rattle.mx_run.specs.Runs.{IsLater};
 ghost use Rattle.mx_run.specs.Turns.{turn_answer};
@@ -29,8 +29,7 @@ use std::alloc::Global;
 /// calls that it made; what was written to standard output is a front of what the turn writes.
 #[inline]
 pub fn turn<H: Host>(alloc: Global, machine: &mut Machine, host: &mut H) -> TurnAnswer
-    ensures turn { IsTurn (H.told host.old) (H.told host.new) (H.faults host.old) (H.faults host.new)
-        (state_of machine.old) (state_of machine.new) result }
+    ensures turn { IsTurn H.told H.faults host.old host.new machine.old machine.new result }
     ensures has_window { HasWindow (state_of machine.old) }
     ensures spared { (n : ℕ) → SparesMemory (suc n) (state_of machine.old) → SparesAfter n result (state_of machine.new) }
 {
@@ -40,8 +39,8 @@ pub fn turn<H: Host>(alloc: Global, machine: &mut Machine, host: &mut H) -> Turn
 /// A turn of the machine over a host.
 #[tactic(auto, using(crate::proofs::TurnAnswers::turns, crate::proofs::TurnAnswers::sparing, crate::proofs::Later::stepping))]
 pub(crate) fn make_turn<H: Host>(alloc: Global, machine: &mut Machine, host: &mut H) -> TurnAnswer
-    ensures told { CarriesOutOnMachine (H.told host.old) (H.told host.new) (state_of machine.old) (state_of machine.new)
-        TurnAnswer.OutOfMemory result turn_plan }
+    ensures told { CarriesOutRun H.told host.old host.new machine.old machine.new TurnAnswer.OutOfMemory result
+        turn_plan }
     ensures has_window { HasWindow (state_of machine.old) }
     ensures spared { (n : ℕ) → SparesMemory (suc n) (state_of machine.old) → SparesAfter n result (state_of machine.new) }
     ensures bound { IsLater 1 (state_of machine.old) (state_of machine.new) }
@@ -68,8 +67,8 @@ pub fn trap_turn<H: Host>(
     call: &TrapCall,
 ) -> TurnAnswer
     requires { step (state_of machine.old) ≡ calls call.now }
-    ensures told { CarriesOutOnMachine (H.told host.old) (H.told host.new) (state_of machine.old) (state_of machine.new)
-        TurnAnswer.OutOfMemory result turn_plan }
+    ensures told { CarriesOutRun H.told host.old host.new machine.old machine.new TurnAnswer.OutOfMemory result
+        turn_plan }
     ensures same { spec.may_change result ≡ false → state_of machine.new ≡ state_of machine.old }
     ensures bound { IsLater 1 (state_of machine.old) (state_of machine.new) }
     ensures keeps { KeepsHost (H.told host.old) (H.told host.new) (H.faults host.old) (H.faults host.new) }

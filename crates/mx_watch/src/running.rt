@@ -38,8 +38,7 @@ pub fn watched_run<H: Host>(
 ) -> End
     ensures plan { CarriesOutAccompanied (H.told host.old) (H.told host.new) (state_of machine.old) (state_of machine.new)
         n result }
-    ensures run { IsRun (H.told host.old) (H.told host.new) (H.faults host.old) (H.faults host.new) (state_of machine.old)
-        (state_of machine.new) n no_flags false result }
+    ensures run { IsRun H.told H.faults host.old host.new machine.old machine.new n no_flags false result }
     ensures spared { watchers.old.items ≡ [] → SparesMemory n (state_of machine.old) → result ≢ End.OutOfMemory }
     ensures stops { StopsHearing (H.told host.old) (H.told host.new) (state_of machine.old) (state_of machine.new) n result
         (starting (map meaning watchers.old.items) kept.old) (map meaning watchers.new.items) kept.new }
@@ -74,8 +73,7 @@ fn listen<H: Host>(
     requires { length places.now.items ≡ length watchers.now.items }
     ensures plan { CarriesOutAccompanied (H.told host.old) (H.told host.new) (state_of machine.old) (state_of machine.new)
         n result }
-    ensures run { IsRun (H.told host.old) (H.told host.new) (H.faults host.old) (H.faults host.new) (state_of machine.old)
-        (state_of machine.new) n no_flags false result }
+    ensures run { IsRun H.told H.faults host.old host.new machine.old machine.new n no_flags false result }
     ensures stops { StopsHearing (H.told host.old) (H.told host.new) (state_of machine.old) (state_of machine.new) n result
         (listening places.old.items (map meaning watchers.old.items) kept.old)
         (map meaning watchers.new.items) kept.new }
