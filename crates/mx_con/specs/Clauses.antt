@@ -30,9 +30,9 @@ abbrev pub world_of : Running → Option HostModel → SessionWorld
 world_of r told = ((state_of r.machine, contents told), flags_at r.flags)
 
 -- a call carries out a plan over a runner and a host: the machine, the host and the flags
-abbrev pub CarriesOutOnRunner : {A : Type 0} → Option HostModel → Option HostModel → Running → Running → A → A → SessionPlan A → Type 0
-CarriesOutOnRunner old new r s none result plan =
-    CarriesOut conversing old (world_of r old) (world_of s new) none result plan
+abbrev pub CarriesOutOnRunner : {Host A : Type 0} → (Host → Option HostModel) → Host → Host → Running → Running → A → A → SessionPlan A → Type 0
+CarriesOutOnRunner says old new r s none result plan =
+    CarriesOut conversing (says old) (world_of r (says old)) (world_of s (says new)) none result plan
 
 -- ---- PARTS of a session
 
@@ -59,10 +59,15 @@ DoesOnRunner says faults old new r s result plan =
     DoesPlan conversing says faults old new (world_of r (says old)) (world_of s (says new)) result plan
 
 -- the reply to a command that makes no step; `shown` and `after` are the address of the octa that was shown last, before and after
-abbrev pub DoesCommand : {Host : Type 0} → (Host → Option HostModel) → (Host → ℕ) → Host → Host → Running → Running → Option ℕ → Option ℕ →
+abbrev pub Obeys : {Host : Type 0} → (Host → Option HostModel) → (Host → ℕ) → Host → Host → Running → Running → Option ℕ → Option ℕ →
     Result (Unit {0}) SessionEnd → Command → Type 0
-DoesCommand says faults old new r s shown after result command =
+Obeys says faults old new r s shown after result command =
     DoesOnRunner says faults old new r s (map_ok (λ u. after) result) (answered_plan shown command)
+
+-- the reply to one that shows no octa
+abbrev pub ObeysSilently : {Host : Type 0} → (Host → Option HostModel) → (Host → ℕ) → Host → Host → Running → Running →
+    Result (Unit {0}) SessionEnd → Command → Type 0
+ObeysSilently says faults old new r s result command = (shown : Option ℕ) → Obeys says faults old new r s shown shown result command
 
 -- the count of steps is as it was, or has grown and is at most this many; the same holds over every host, and out of memory too
 pub record StepsWithin (steps : ℕ) (s t : State) : Type 0 where
@@ -75,11 +80,11 @@ abbrev pub session_output : Course SessionEnd SessionWorld → List ℕ
 session_output c = (wild.world_of c).0.1.output
 
 -- over a host that tells its contents, the end and what it leaves are those of the session f, unless there was no memory
-abbrev pub EndsAsSession : Option HostModel → Option HostModel → Running → Running → SessionEnd →
+abbrev pub EndsAsSession : {Host : Type 0} → (Host → Option HostModel) → Host → Host → Running → Running → SessionEnd →
     (State → FlagsOf → HostModel → Course SessionEnd SessionWorld) → Type 0
-EndsAsSession old new r s result f =
-    IsTrue (tells old) → result ≢ OutOfMemory →
-    ends result (world_of s new) ≡ f (state_of r.machine) (flags_at r.flags) (contents old)
+EndsAsSession says old new r s result f =
+    IsTrue (tells (says old)) → result ≢ OutOfMemory →
+    ends result (world_of s (says new)) ≡ f (state_of r.machine) (flags_at r.flags) (contents (says old))
 
 -- over a host that tells its contents, where there was no memory, what standard output then holds is a front of what the
 -- session f gives it
@@ -118,8 +123,8 @@ DoesOnBoth says faults old new r s result plan =
     DoesSessionPart says faults old new result (ConversesBoth (world_of r (says old)) (world_of s (says new)) (Err OutOfMemory) result plan)
 
 -- the same of a whole session
-abbrev pub EndsAsListSession : Option HostModel → Option HostModel → Running → Running → SessionEnd →
+abbrev pub EndsAsListSession : {Host : Type 0} → (Host → Option HostModel) → Host → Host → Running → Running → SessionEnd →
     (State → FlagsOf → HostModel → Course SessionEnd SessionWorld) → Type 0
-EndsAsListSession old new r s result f =
-    IsTrue (tells old) → result ≢ OutOfMemory → (state_of r.machine).touched ≡ false →
-    GoesAsList (f (as_list_state (state_of r.machine)) (flags_at r.flags) (contents old)) result (world_of s new)
+EndsAsListSession says old new r s result f =
+    IsTrue (tells (says old)) → result ≢ OutOfMemory → (state_of r.machine).touched ≡ false →
+    GoesAsList (f (as_list_state (state_of r.machine)) (flags_at r.flags) (contents (says old))) result (world_of s (says new))

@@ -3,7 +3,7 @@
 ghost use Rattle.std.specs.Prelude.{◌≡◌, ℕ, Option, None, Some};
 ghost use Rattle.mx_core.specs.Kept.{state_of};
 ghost use Rattle.mx_word.specs.Segments.{is_in_stack_segment};
-ghost use Rattle.mx_con.specs.Clauses.{DoesCommand, DoesOnHost};
+ghost use Rattle.mx_con.specs.Clauses.{DoesOnHost, Obeys, ObeysSilently};
 ghost use Rattle.mx_show.specs.Texts.{state_text};
 ghost use Rattle.mx_con.specs.Judgement as judgement;
 ghost use Rattle.mx_con.specs.LinePlans.{line_plan};
@@ -54,7 +54,7 @@ pub(crate) fn show<H: Host>(
     subject: Subject,
     form: Form,
 ) -> Result<(), SessionEnd>
-    ensures part { DoesCommand H.told H.faults host.old host.new runner.old runner.new shown.old shown.new result
+    ensures part { Obeys H.told H.faults host.old host.new runner.old runner.new shown.old shown.new result
         (Command.Show subject form) }
     ensures same_steps { (state_of runner.new.machine).steps ≡ (state_of runner.old.machine).steps }
 {
@@ -120,7 +120,7 @@ pub(crate) fn change_subject<H: Host>(
     subject: Subject,
     value: Option<u64>,
 ) -> Result<(), SessionEnd>
-    ensures part { DoesCommand H.told H.faults host.old host.new runner.old runner.new shown.old shown.new result
+    ensures part { Obeys H.told H.faults host.old host.new runner.old runner.new shown.old shown.new result
         (Command.Change subject value) }
     ensures same_steps { (state_of runner.new.machine).steps ≡ (state_of runner.old.machine).steps }
 {
@@ -145,7 +145,7 @@ fn change_sound<H: Host>(
 ) -> Result<(), SessionEnd>
     requires sound { subjects.IsSound subject }
     requires good { judgement.subject_bad (state_of runner.old.machine) subject ≡ None }
-    ensures part { DoesCommand H.told H.faults host.old host.new runner.old runner.new shown.old shown.new result
+    ensures part { Obeys H.told H.faults host.old host.new runner.old runner.new shown.old shown.new result
         (Command.Change subject (Some value)) }
     ensures same_steps { (state_of runner.new.machine).steps ≡ (state_of runner.old.machine).steps }
 {
@@ -165,7 +165,7 @@ pub(crate) fn show_more<H: Host>(
     n: Option<u64>,
     form: Form,
 ) -> Result<(), SessionEnd>
-    ensures part { DoesCommand H.told H.faults host.old host.new runner.old runner.new shown.old shown.new result
+    ensures part { Obeys H.told H.faults host.old host.new runner.old runner.new shown.old shown.new result
         (Command.ShowMore n form) }
     ensures same_steps { (state_of runner.new.machine).steps ≡ (state_of runner.old.machine).steps }
 {
@@ -189,7 +189,7 @@ fn show_octas<H: Host>(
     form: Form,
 ) -> Result<(), SessionEnd>
     requires { judgement.more_bad shown.old (Some n) ≡ None }
-    ensures part { DoesCommand H.told H.faults host.old host.new runner.old runner.new shown.old shown.new result
+    ensures part { Obeys H.told H.faults host.old host.new runner.old runner.new shown.old shown.new result
         (Command.ShowMore (Some n) form) }
     ensures same_steps { (state_of runner.new.machine).steps ≡ (state_of runner.old.machine).steps }
 {
@@ -210,8 +210,7 @@ pub(crate) fn go_to<H: Host>(
     host: &mut H,
     a: u64,
 ) -> Result<(), SessionEnd>
-    ensures part { (shown : Option ℕ) → DoesCommand H.told H.faults host.old host.new runner.old runner.new
-        shown shown result (Command.GoTo a) }
+    ensures part { ObeysSilently H.told H.faults host.old host.new runner.old runner.new result (Command.GoTo a) }
     ensures same_steps { (state_of runner.new.machine).steps ≡ (state_of runner.old.machine).steps }
 {
     if let Some(bad) = go_to_bad(a) {
@@ -231,8 +230,8 @@ pub(crate) fn set_tetra_breaks<H: Host>(
     breaks: Breaks,
     a: u64,
 ) -> Result<(), SessionEnd>
-    ensures part { (shown : Option ℕ) → DoesCommand H.told H.faults host.old host.new runner.old runner.new
-        shown shown result (Command.Break breaks a) }
+    ensures part { ObeysSilently H.told H.faults host.old host.new runner.old runner.new result
+        (Command.Break breaks a) }
     ensures same_steps { (state_of runner.new.machine).steps ≡ (state_of runner.old.machine).steps }
 {
     if let Some(bad) = flag_bad(a) {
@@ -250,8 +249,7 @@ pub(crate) fn trace_tetra<H: Host>(
     host: &mut H,
     a: u64,
 ) -> Result<(), SessionEnd>
-    ensures part { (shown : Option ℕ) → DoesCommand H.told H.faults host.old host.new runner.old runner.new
-        shown shown result (Command.Trace a) }
+    ensures part { ObeysSilently H.told H.faults host.old host.new runner.old runner.new result (Command.Trace a) }
     ensures same_steps { (state_of runner.new.machine).steps ≡ (state_of runner.old.machine).steps }
 {
     if let Some(bad) = flag_bad(a) {
@@ -269,8 +267,7 @@ pub(crate) fn untrace_tetra<H: Host>(
     host: &mut H,
     a: u64,
 ) -> Result<(), SessionEnd>
-    ensures part { (shown : Option ℕ) → DoesCommand H.told H.faults host.old host.new runner.old runner.new
-        shown shown result (Command.Untrace a) }
+    ensures part { ObeysSilently H.told H.faults host.old host.new runner.old runner.new result (Command.Untrace a) }
     ensures same_steps { (state_of runner.new.machine).steps ≡ (state_of runner.old.machine).steps }
 {
     if let Some(bad) = flag_bad(a) {

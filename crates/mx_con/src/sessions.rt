@@ -40,13 +40,13 @@ const MOST_INPUT: u64 = 1 << 32;
 /// standard output is a front of what the session writes.
 #[tactic(auto, using(crate::proofs::SessionClauses::sessions))]
 pub fn session<H: Host>(alloc: Global, runner: &mut Runner, host: &mut H, steps: u64) -> SessionEnd
-    ensures plan { CarriesOutOnRunner (H.told host.old) (H.told host.new) runner.old runner.new
-        SessionEnd.OutOfMemory result (plans.session_plan steps) }
-    ensures told { EndsAsSession (H.told host.old) (H.told host.new) runner.old runner.new result
+    ensures plan { CarriesOutOnRunner H.told host.old host.new runner.old runner.new SessionEnd.OutOfMemory result
+        (plans.session_plan steps) }
+    ensures told { EndsAsSession H.told host.old host.new runner.old runner.new result
         (λ s f m. spec.session window_machine steps s f m) }
     ensures front { EndsFront (H.told host.old) (H.told host.new) runner.old result
         (λ s f m. spec.session window_machine steps s f m) }
-    ensures listed { EndsAsListSession (H.told host.old) (H.told host.new) runner.old runner.new result
+    ensures listed { EndsAsListSession H.told host.old host.new runner.old runner.new result
         (λ s f m. spec.session list_machine steps s f m) }
     ensures bound { StepsWithin steps (state_of runner.old.machine) (state_of runner.new.machine) }
     ensures cause { OnlyByFailure (H.told host.old) SessionEnd.HostFault result (H.faults host.old) (H.faults host.new) }

@@ -36,11 +36,16 @@ pub record MakesTurn (old new : Option HostModel) (before after : State) (result
 
 -- what holds of such a turn over every host: it is made where the host tells its contents, from a state over a window; it is one
 -- step at most, and the host keeps what it keeps at every call
-pub record TurnsAlone (old new : Option HostModel) (earlier later : ℕ) (before after : State) (result : Turn) : Type 0 where
+pub record TurnsAloneBetween (old new : Option HostModel) (earlier later : ℕ) (before after : State) (result : Turn) : Type 0 where
   pub told : MakesTurn old new before after result
   pub over : HasWindow before
   pub bound : IsLater 1 before after
   pub keeps : Keeps old new earlier later
+
+-- the same of a host: `told` is what it tells, `faults` its count of faults
+abbrev pub TurnsAlone : {H : Type 0} → (H → Option HostModel) → (H → ℕ) → H → H → State → State → Turn → Type 0
+TurnsAlone told faults old new before after result =
+    TurnsAloneBetween (told old) (told new) (faults old) (faults new) before after result
 
 -- BESIDE LIST MACHINES
 
@@ -82,7 +87,7 @@ TurnsTo old new before after who result =
 -- what holds of the turn of a processor over every host: its plan is carried out, so it answers and leaves what it should, beside
 -- list machines too; it is idle exactly where the processor had halted, and a Halt alone marks it; it is one step at most; and
 -- the host keeps what it keeps at every call
-pub record TakesTurn (old new : Option HostModel) (earlier later : ℕ) (before after : Joint) (who : ℕ) (result : Turn) : Type 0 where
+pub record TakesTurnBetween (old new : Option HostModel) (earlier later : ℕ) (before after : Joint) (who : ℕ) (result : Turn) : Type 0 where
   pub plan : CarriesOutOnProcessors old new before after turned.OutOfMemory result (turn_plan who)
   pub told : TurnsTo old new before after who result
   pub listed : TurnsAsLists old new before after who result
@@ -90,6 +95,10 @@ pub record TakesTurn (old new : Option HostModel) (earlier later : ℕ) (before 
   pub marked : after.halted ≡ halted_by before.halted who result
   pub bound : MakesOne who before after
   pub keeps : Keeps old new earlier later
+
+abbrev pub TakesTurn : {H : Type 0} → (H → Option HostModel) → (H → ℕ) → H → H → Joint → Joint → ℕ → Turn → Type 0
+TakesTurn told faults old new before after who result =
+    TakesTurnBetween (told old) (told new) (faults old) (faults new) before after who result
 
 -- COUNTS
 
@@ -111,13 +120,17 @@ pub record MakesAtMost (n : ℕ) (old new : Joint) : Type 0 where
 -- What holds of turns by a schedule over every host, at most n steps of them: their plan is carried out, so they end and leave what
 -- they should, beside list machines too; they end so that all have halted exactly where each that the schedule names then has; at most
 -- n steps are made; and the host keeps what it keeps at every call.
-pub record TakesTurns (schedule : List ℕ) (n : ℕ) (old new : Option HostModel) (earlier later : ℕ) (before after : Joint) (result : MultiEnd) : Type 0 where
+pub record TakesTurnsBetween (schedule : List ℕ) (n : ℕ) (old new : Option HostModel) (earlier later : ℕ) (before after : Joint) (result : MultiEnd) : Type 0 where
   pub plan : CarriesOutOnProcessors old new before after end.OutOfMemory result (turns_plan schedule n schedule)
   pub told : EndAs old new before after result (λ j m. turns window_machine schedule n schedule j m)
   pub listed : EndAsLists old new before after result (λ j m. turns list_machine schedule n schedule j m)
   pub halted : (result ≡ end.AllHalted) ↔ AllHaveHalted after.halted schedule
   pub bound : MakesAtMost n before after
   pub keeps : Keeps old new earlier later
+
+abbrev pub TakesTurns : {H : Type 0} → List ℕ → ℕ → (H → Option HostModel) → (H → ℕ) → H → H → Joint → Joint → MultiEnd → Type 0
+TakesTurns schedule n told faults old new before after result =
+    TakesTurnsBetween schedule n (told old) (told new) (faults old) (faults new) before after result
 
 -- BOTH MACHINES
 

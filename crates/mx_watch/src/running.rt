@@ -36,8 +36,7 @@ pub fn watched_run<H: Host>(
     watchers: &mut Vec<Box<dyn Watcher>>,
     kept: &mut Reports,
 ) -> End
-    ensures plan { CarriesOutAccompanied (H.told host.old) (H.told host.new) (state_of machine.old) (state_of machine.new)
-        n result }
+    ensures plan { CarriesOutAccompanied H.told host.old host.new machine.old machine.new n result }
     ensures run { IsRun H.told H.faults host.old host.new machine.old machine.new n no_flags false result }
     ensures spared { watchers.old.items ≡ [] → SparesMemory n (state_of machine.old) → result ≢ End.OutOfMemory }
     ensures stops { StopsHearing (H.told host.old) (H.told host.new) (state_of machine.old) (state_of machine.new) n result
@@ -71,8 +70,7 @@ fn listen<H: Host>(
     kept: &mut Reports,
 ) -> End
     requires { length places.now.items ≡ length watchers.now.items }
-    ensures plan { CarriesOutAccompanied (H.told host.old) (H.told host.new) (state_of machine.old) (state_of machine.new)
-        n result }
+    ensures plan { CarriesOutAccompanied H.told host.old host.new machine.old machine.new n result }
     ensures run { IsRun H.told H.faults host.old host.new machine.old machine.new n no_flags false result }
     ensures stops { StopsHearing (H.told host.old) (H.told host.new) (state_of machine.old) (state_of machine.new) n result
         (listening places.old.items (map meaning watchers.old.items) kept.old)
