@@ -1,6 +1,6 @@
 //! Commands that make no step.
 
-ghost use Rattle.std.specs.Prelude.{◌≡◌, ℕ, Option, None, Some};
+ghost use Rattle.std.specs.Prelude.{◌≡◌, None, Some};
 ghost use Rattle.mx_core.specs.Kept.{state_of};
 ghost use Rattle.mx_word.specs.Segments.{is_in_stack_segment};
 ghost use Rattle.mx_con.specs.Clauses.{DoesOnHost, Obeys, ObeysSilently};

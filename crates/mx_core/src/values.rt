@@ -1,9 +1,8 @@
 //! What usual instructions give, and where they go. Each is given with its code as a literal.
 
-ghost use Rattle.std.specs.Prelude.{◌≡◌, ◌≢◌, ◌+◌, ◌*◌, ◌%◌, ◌^◌, IfSome, IsTrue, Ok, false};
-ghost use Rattle.mx_core.specs.Way.Calls.{settled};
-ghost use Rattle.mx_core.specs.Deeds.{deed_of, onward, outcome};
-ghost use Rattle.mx_code.specs.Instructions.{far_address, near_address, next_of, operation_in, x_of, z_of};
+ghost use Rattle.std.specs.Prelude.{◌≡◌, ◌≢◌, ◌+◌, ◌*◌, ◌%◌, ◌^◌, IfSome, IsTrue, false};
+ghost use Rattle.mx_core.specs.Way.Calls.{OnlyGoes, OnlySets};
+ghost use Rattle.mx_code.specs.Instructions.{far_address, near_address, next_of, operation_in, z_of};
 ghost use Rattle.mx_code.specs.SpecialRegisters.{rC};
 ghost use Rattle.mx_core.specs.Kept.{state_of};
 ghost use Rattle.mx_core.specs.Way.UsualDeeds.{IsUsual};
@@ -25,8 +24,7 @@ impl Machine {
     #[inline(always)]
     fn computed_value(&self, i: &Instruction) -> Option<u64>
         requires { operation_in i.now ≡ Operation.Compute }
-        ensures { IfSome result (λ x. outcome (state_of self.now) (deed_of Operation.Compute (state_of self.now) i.now)
-            ≡ settled (state_of self.now) (x_of i.now) x (next_of i.now)) }
+        ensures { IfSome result (λ x. OnlySets Operation.Compute i.now x self.now) }
     {
         lone_result(i.code(), self.y_operand(i), self.z_operand(i), self.extra())
     }
@@ -50,8 +48,7 @@ impl Machine {
     #[inline(always)]
     fn negated_value(&self, i: &Instruction) -> Option<u64>
         requires { operation_in i.now ≡ Operation.Negate }
-        ensures { IfSome result (λ x. outcome (state_of self.now) (deed_of Operation.Negate (state_of self.now) i.now)
-            ≡ settled (state_of self.now) (x_of i.now) x (next_of i.now)) }
+        ensures { IfSome result (λ x. OnlySets Operation.Negate i.now x self.now) }
     {
         lone_result(i.code(), u64::from(i.y()), self.z_operand(i), self.extra())
     }
@@ -75,8 +72,7 @@ impl Machine {
     #[inline(always)]
     fn with_wyde_value(&self, i: &Instruction) -> Option<u64>
         requires { operation_in i.now ≡ Operation.Wyde }
-        ensures { IfSome result (λ x. outcome (state_of self.now) (deed_of Operation.Wyde (state_of self.now) i.now)
-            ≡ settled (state_of self.now) (x_of i.now) x (next_of i.now)) }
+        ensures { IfSome result (λ x. OnlySets Operation.Wyde i.now x self.now) }
     {
         match i.given {
             None => Some(wyde(i.code(), self.x_register(i), wyde_value(i))),
@@ -103,8 +99,7 @@ impl Machine {
     #[inline(always)]
     fn chosen_value(&self, i: &Instruction) -> Option<u64>
         requires { operation_in i.now ≡ Operation.ConditionalSet }
-        ensures { IfSome result (λ x. outcome (state_of self.now) (deed_of Operation.ConditionalSet (state_of self.now) i.now)
-            ≡ settled (state_of self.now) (x_of i.now) x (next_of i.now)) }
+        ensures { IfSome result (λ x. OnlySets Operation.ConditionalSet i.now x self.now) }
     {
         if is_condition_met(i, self.y_operand(i)) {
             Some(self.z_operand(i))
@@ -132,8 +127,7 @@ impl Machine {
     #[inline(always)]
     fn zeroed_value(&self, i: &Instruction) -> u64
         requires { operation_in i.now ≡ Operation.ZeroOrSet }
-        ensures { outcome (state_of self.now) (deed_of Operation.ZeroOrSet (state_of self.now) i.now)
-            ≡ settled (state_of self.now) (x_of i.now) result (next_of i.now) }
+        ensures { OnlySets Operation.ZeroOrSet i.now result self.now }
     {
         if is_condition_met(i, self.y_operand(i)) {
             self.z_operand(i)
@@ -157,8 +151,7 @@ impl Machine {
     #[tactic(auto, using(crate::proofs::Results::Loads::load_below))]
     #[inline(always)]
     fn load_operand_if_near(&self, how: Loading, i: &Instruction) -> Option<u64>
-        ensures { IfSome result (λ x. outcome (state_of self.now) (deed_of (Operation.Load how) (state_of self.now) i.now)
-            ≡ settled (state_of self.now) (x_of i.now) x (next_of i.now)) }
+        ensures { IfSome result (λ x. OnlySets (Operation.Load how) i.now x self.now) }
     {
         self.load_if_near(how, self.data_address(i))
     }
@@ -193,8 +186,7 @@ impl Machine {
     #[tactic(auto, using(crate::proofs::Results::Gets::get_alone), unfolding(crate::specs::Kept::state_of))]
     #[inline(always)]
     fn got_value(&self, i: &Instruction) -> Option<u64>
-        ensures value { IfSome result (λ x. outcome (state_of self.now) (deed_of Operation.Get (state_of self.now) i.now)
-            ≡ settled (state_of self.now) (x_of i.now) x (next_of i.now)) }
+        ensures value { IfSome result (λ x. OnlySets Operation.Get i.now x self.now) }
         ensures other { IfSome result (λ _. z_of i.now ≢ rC) }
     {
         if i.y() != 0 || i.z() > 7 {
@@ -222,10 +214,8 @@ impl Machine {
     #[inline(always)]
     fn takes_branch(&self, i: &Instruction) -> bool
         requires { operation_in i.now ≡ Operation.Branch }
-        ensures taken { IsTrue result → outcome (state_of self.now) (deed_of Operation.Branch (state_of self.now) i.now)
-            ≡ Ok (onward (state_of self.now) (near_address i.now)) }
-        ensures passed { result ≡ false → outcome (state_of self.now) (deed_of Operation.Branch (state_of self.now) i.now)
-            ≡ Ok (onward (state_of self.now) (next_of i.now)) }
+        ensures taken { IsTrue result → OnlyGoes Operation.Branch i.now (near_address i.now) self.now }
+        ensures passed { result ≡ false → OnlyGoes Operation.Branch i.now (next_of i.now) self.now }
     {
         is_condition_met(i, self.x_register(i))
     }

@@ -104,6 +104,13 @@ settled_with s k x specials next =
 unfoldable pub settled : State → ℕ → ℕ → ℕ → Result State Reason
 settled s k x next = settled_with s k x [] next
 
+-- an operation does no more than that: $X gets a value, and the machine goes on after the instruction; or it goes on at an address
+abbrev pub OnlySets : Operation → Instruction → ℕ → Kept → Type 0
+OnlySets operation i x old = outcome (state_of old) (deed_of operation (state_of old) i) ≡ settled (state_of old) (x_of i) x (next_of i)
+
+abbrev pub OnlyGoes : Operation → Instruction → ℕ → Kept → Type 0
+OnlyGoes operation i to old = outcome (state_of old) (deed_of operation (state_of old) i) ≡ Ok (onward (state_of old) to)
+
 -- a trip to a handler, once $k and special registers have their values: it is refused where the handler does not begin
 -- with an instruction
 abbrev pub trip_taken : State → Instruction → ℕ → ℕ → List (ℕ × ℕ) → Tripping → Result State Reason
