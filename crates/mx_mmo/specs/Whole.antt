@@ -101,6 +101,10 @@ abbrev pub passed_limit : Result Left MmoFault → Result Object MmoFault
 passed_limit (Err fault) = Err fault
 passed_limit (Ok left) = Err (TooLong limit)
 
+-- what pieces come to that go past the limit: the fault of an item before the one that does, or that there are too many bytes
+abbrev pub passed_pieces : List (List ℕ) → Result Object MmoFault
+passed_pieces pieces = passed_limit (items_of Start 0 (pieces_within 0 pieces)).1
+
 -- the bytes are this object in the grammar, and its trie begins where the items end
 pub record SpellsObject (bytes : List ℕ) (object : Object) : Type 0 where
   pub spelled : IsObject bytes object.items object.tail.trie
