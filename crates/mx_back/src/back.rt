@@ -2,7 +2,7 @@
 
 ghost use Rattle.std.specs.Prelude.{◌≡◌, ◌≢◌, ◌↔◌, ◌≤◌, ◌∷◌, [], false, Err, IfOk, IsTrue, OnErr, OnOk, length};
 ghost use Rattle.mx_back.specs.History as spec;
-ghost use Rattle.mx_back.specs.History.{AreNotesOf, KeepsNotes, states_before};
+ghost use Rattle.mx_back.specs.History.{AreNotesOf, KeepsNotes, kept_after, states_before};
 ghost use Rattle.mx_core.specs.Kept.{state_of};
 ghost use Rattle.mx_core.specs.State.{State};
 ghost use Rattle.mx_core.specs.Step.{step};
@@ -67,7 +67,7 @@ impl Back {
             (result, state_of m.new) ≡ step_answer (state_of m.old) (step (state_of m.old)) }
         ensures memory { result ≡ Step.OutOfMemory → state_of m.new ≡ state_of m.old }
         ensures kept { states_before self.new (state_of m.new)
-            ≡ spec.kept_after result (state_of m.old) (states_before self.old (state_of m.old)) }
+            ≡ kept_after result (state_of m.old) (states_before self.old (state_of m.old)) }
         ensures same { KeepsNotes result self.old self.new }
         ensures fits { AreNotesOf self.new (state_of m.new) }
     {

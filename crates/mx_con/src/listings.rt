@@ -6,8 +6,9 @@ ghost use Rattle.mx_run.specs.FlagMaps.{flags_at};
 ghost use Rattle.mx_con.specs.Clauses.{DoesOnHost};
 ghost use Rattle.mx_con.specs.LinePlans.{line_plan, lines_plan};
 ghost use Rattle.mx_con.specs.ConsoleTexts.{flag_text};
-ghost use Rattle.mx_show.specs.Subjects as subjects;
+ghost use Rattle.mx_show.specs.Subjects.{shown_line};
 ghost use Rattle.mx_con.specs.Replies as spec;
+ghost use Rattle.mx_con.specs.Replies.{flag_lines, tetra_count};
 
 use crate::SessionEnd;
 use crate::host_lines::write_line;
@@ -53,7 +54,7 @@ fn write_octa<H: Host>(
 ) -> Result<(), SessionEnd>
     requires { a < 2 ^ 63 }
     ensures { DoesOnHost H.told H.faults host.old host.new result
-        (line_plan (subjects.shown_line (state_of machine.now) (Subject.Memory a) form)) }
+        (line_plan (shown_line (state_of machine.now) (Subject.Memory a) form)) }
 {
     write_line(
         host,
@@ -68,7 +69,7 @@ pub(crate) fn write_flags<H: Host>(
     host: &mut H,
 ) -> Result<(), SessionEnd>
     ensures { DoesOnHost H.told H.faults host.old host.new result
-        (lines_plan (spec.flag_lines (flags_at runner.now.flags) 0 spec.tetra_count)) }
+        (lines_plan (flag_lines (flags_at runner.now.flags) 0 tetra_count)) }
 {
     let mut tetra: u64 = 0;
     while tetra < 1 << 62 {

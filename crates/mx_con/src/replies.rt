@@ -9,6 +9,7 @@ ghost use Rattle.mx_con.specs.Judgement as judgement;
 ghost use Rattle.mx_con.specs.LinePlans.{line_plan};
 ghost use Rattle.mx_con.specs.Replies as replies;
 ghost use Rattle.mx_show.specs.Subjects as subjects;
+ghost use Rattle.mx_show.specs.Subjects.{shown_line};
 
 use crate::SessionEnd;
 use crate::changes::{change, go_on_at, note_if, set_breaks, set_trace};
@@ -77,7 +78,7 @@ fn show_sound<H: Host>(
 ) -> Result<(), SessionEnd>
     requires { subjects.IsSound subject }
     ensures part { DoesOnHost H.told H.faults host.old host.new result
-        (line_plan (subjects.shown_line (state_of runner.new.machine) subject form)) }
+        (line_plan (shown_line (state_of runner.new.machine) subject form)) }
     ensures noted { state_of runner.new.machine
         ≡ replies.noted_if (subjects.subject_wild subject) (state_of runner.old.machine) }
     ensures flags { runner.new.flags ≡ runner.old.flags }

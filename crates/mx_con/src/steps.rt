@@ -7,6 +7,7 @@ ghost use Rattle.mx_con.specs.ConsoleTexts.{break_text};
 ghost use Rattle.mx_show.specs.Texts.{trace_text};
 ghost use Rattle.mx_con.specs.LinePlans.{line_plan};
 ghost use Rattle.mx_con.specs.SessionPlans as plans;
+ghost use Rattle.mx_con.specs.SessionPlans.{after_end};
 
 use crate::SessionEnd;
 use crate::host_lines::{write_line, write_text};
@@ -118,7 +119,7 @@ fn end_run<H: Host>(
     end: End,
 ) -> Result<bool, SessionEnd>
     ensures part { end ≢ End.OutOfMemory →
-        DoesOnRunner H.told H.faults host.old host.new runner.now runner.now result (plans.after_end end) }
+        DoesOnRunner H.told H.faults host.old host.new runner.now runner.now result (after_end end) }
     ensures lacked { end ≡ End.OutOfMemory → result ≡ Err SessionEnd.OutOfMemory }
     ensures uncalled { end ≡ End.OutOfMemory → host.new ≡ host.old }
 {

@@ -3,7 +3,7 @@
 ghost use Rattle.std.specs.Prelude.{◌≡◌, ◌≤◌, ◌<◌, ◌^◌, ◌==◌, ◌||◌, IfOk, nat_lt, not};
 ghost use Rattle.mx_ring.specs.Stack.{stack_index, unsave_refused};
 ghost use Rattle.mx_core.specs.Way.Calls as spec;
-ghost use Rattle.mx_core.specs.Way.Calls.{Makes, Performs, unless};
+ghost use Rattle.mx_core.specs.Way.Calls.{Makes, Performs, frame_back, unless};
 ghost use Rattle.mx_core.specs.Effects.{specials_back, specials_saved};
 ghost use Rattle.mx_core.specs.Deeds.{with_specials};
 ghost use Rattle.mx_code.specs.Instructions.{x_of, y_of};
@@ -196,7 +196,7 @@ impl Machine {
     /// The frame whose last octa holds an address is brought back.
     fn bring_back(&mut self, a: u64) -> Result<(), Stop>
         ensures { Makes (λ s. unless (unsave_refused s.stack a) reasons.BadFrame
-            (spec.frame_back s (stack_index a))) result self.old self.new }
+            (frame_back s (stack_index a))) result self.old self.new }
     {
         match self.bring_registers_back(a) {
             Ok(saved) => {

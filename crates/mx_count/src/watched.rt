@@ -7,7 +7,7 @@ ghost use Rattle.mx_host.specs.Keeping.{Keeps};
 ghost use Rattle.mx_watch.specs.Watching.{Watching, later};
 ghost use Rattle.mx_count.specs.Leaving.{IsLeft, RunLeaves};
 ghost use Rattle.mx_count.specs.Runs as spec;
-ghost use Rattle.mx_count.specs.Runs.{EndsReported};
+ghost use Rattle.mx_count.specs.Runs.{EndsReported, halting_steps};
 
 use crate::Counts;
 use mx_core::{Machine, Trace};
@@ -63,7 +63,7 @@ fn is_halted(end: End) -> bool
 
 /// The report of a watcher of a run that ended so at an address.
 fn last_report(watcher: &mut Box<dyn Watcher>, end: End, pc: u64) -> Result<Bytes, NoMemory>
-    ensures { IfOk result (λ text. text ≡ (meaning watcher.old).text (spec.halting_steps end pc)) }
+    ensures { IfOk result (λ text. text ≡ (meaning watcher.old).text (halting_steps end pc)) }
 {
     if is_halted(end) {
         tell_halt(watcher, pc)?;
@@ -74,7 +74,7 @@ fn last_report(watcher: &mut Box<dyn Watcher>, end: End, pc: u64) -> Result<Byte
 /// The report of the only watcher of a run that ended so at an address.
 fn only_report(watchers: &mut Vec<Box<dyn Watcher>>, end: End, pc: u64) -> Result<Bytes, NoMemory>
     ensures { (w : Watching) → map meaning watchers.old.items ≡ w ∷ [] →
-        IfOk result (λ text. text ≡ w.text (spec.halting_steps end pc)) }
+        IfOk result (λ text. text ≡ w.text (halting_steps end pc)) }
 {
     if watchers.is_empty() {
         return Err(NoMemory);

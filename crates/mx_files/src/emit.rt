@@ -11,6 +11,7 @@ ghost use Rattle.mx_plan.specs.Clauses.{CarriesOutOnHost};
 ghost use Rattle.mx_files.specs.Failing.{FailsOnlyBy};
 ghost use Rattle.mx_files.specs.Clauses.{AnswersPlan, DoesPart, FailsByPlan, WritesFrontOfPlan};
 ghost use Rattle.mx_files.specs.ObjectPlans as plans;
+ghost use Rattle.mx_files.specs.ObjectPlans.{assemble_plan};
 ghost use Rattle.mx_files.specs.Objects as objects;
 
 use crate::pieces::{close_file, put_text, whole_outcome};
@@ -228,12 +229,12 @@ fn assemble<H: Host>(
 /// stay: the object file is opened before the source is assembled, and written after.
 pub fn assemble_file<H: Host>(alloc: Global, host: &mut H, source: &[u8], object: &[u8]) -> Outcome
     ensures plan { CarriesOutOnHost (H.told host.old) (H.told host.new) Outcome.OutOfMemory result
-        (plans.assemble_plan source.now object.now) }
+        (assemble_plan source.now object.now) }
     ensures cause { FailsByPlan H.told H.faults host.old host.new result
         (plans.assemble_part source.now object.now) }
-    ensures told { AnswersPlan H.told host.old host.new result (plans.assemble_plan source.now object.now) }
+    ensures told { AnswersPlan H.told host.old host.new result (assemble_plan source.now object.now) }
     ensures written { WritesFrontOfPlan H.told host.old host.new result
-        (plans.assemble_plan source.now object.now) }
+        (assemble_plan source.now object.now) }
     ensures causes { FailsOnlyBy H.told H.faults host.old host.new result }
 {
     whole_outcome(assemble(alloc, host, source, object))

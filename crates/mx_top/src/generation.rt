@@ -5,12 +5,13 @@ ghost use Rattle.mx_core.specs.Kept.{state_of};
 ghost use Rattle.mx_start.specs.Start.{pool, pool_octas};
 ghost use Rattle.mx_load.specs.Kept.{image_of};
 ghost use Rattle.mx_ring.specs.Stack.{stack_address};
-ghost use Rattle.law_gen.specs.Generator as generator;
+ghost use Rattle.law_gen.specs.Generator.{generated};
 ghost use Rattle.mx_files.specs.Failing.{FailsOnlyBy};
 ghost use Rattle.mx_top.specs.Causes.{IsOfMachine};
 ghost use Rattle.mx_top.specs.Endings as plans;
 ghost use Rattle.mx_top.specs.MachineWork as work;
 ghost use Rattle.mx_top.specs.Product as page;
+ghost use Rattle.mx_top.specs.Product.{taking};
 ghost use Rattle.mx_top.specs.Runs as spec;
 ghost use Rattle.mx_top.specs.WorkClauses.{DoesNext, DoesProgram, DoesWork};
 ghost use Rattle.mx_plan.specs.Clauses.{CarriesOutOnHost};
@@ -150,7 +151,7 @@ fn run_text<H: Host>(alloc: Global, host: &mut H, order: &Order, text: &[u8]) ->
 pub fn generate<H: Host>(alloc: Global, host: &mut H, order: &Order) -> Outcome
     requires { order.now.number ≤ 10000 }
     ensures { DoesProgram H.told H.faults host.old host.new result
-        (page.taking (page.run_text order.now (generator.generated order.now.number))) }
+        (taking (page.run_text order.now (generated order.now.number))) }
 {
     match generate_source(alloc, order.number) {
         Ok(text) => run_text(alloc, host, order, text.as_slice()),
