@@ -22,7 +22,7 @@ impl Machine {
     /// What MUL to SRU and OR to MXOR give $X, where it is all that they give.
     #[tactic(auto, using(crate::proofs::Results::Events::compute_alone, mx_code::proofs::Tables::computes, mx_code::proofs::Tables::computes_low))]
     #[inline(always)]
-    fn computed_value(&self, i: &Instruction) -> Option<u64>
+    fn compute_value(&self, i: &Instruction) -> Option<u64>
         requires { operation_in i.now ≡ Operation.Compute }
         ensures { IfSome result (λ x. OnlySets Operation.Compute i.now x self.now) }
     {
@@ -35,7 +35,7 @@ impl Machine {
         ensures { IsUsual result (state_of self.now) i.now }
     {
         match i.operation() {
-            Operation::Compute => match self.computed_value(i) {
+            Operation::Compute => match self.compute_value(i) {
                 Some(x) => Usual::Gives(x),
                 None => Usual::Other,
             },
@@ -46,7 +46,7 @@ impl Machine {
     /// What NEG and NEGU give $X, where it is all that they give.
     #[tactic(auto, using(crate::proofs::Results::Events::negate_alone, mx_code::proofs::Tables::negates, mx_code::proofs::Tables::negates_low))]
     #[inline(always)]
-    fn negated_value(&self, i: &Instruction) -> Option<u64>
+    fn negate_value(&self, i: &Instruction) -> Option<u64>
         requires { operation_in i.now ≡ Operation.Negate }
         ensures { IfSome result (λ x. OnlySets Operation.Negate i.now x self.now) }
     {
@@ -59,7 +59,7 @@ impl Machine {
         ensures { IsUsual result (state_of self.now) i.now }
     {
         match i.operation() {
-            Operation::Negate => match self.negated_value(i) {
+            Operation::Negate => match self.negate_value(i) {
                 Some(x) => Usual::Gives(x),
                 None => Usual::Other,
             },
@@ -97,7 +97,7 @@ impl Machine {
     /// What CSN to CSEV give $X.
     #[tactic(auto, using(crate::proofs::Results::Outcomes::conditional_outcome), unfolding(mx_code::specs::Operations::has_condition))]
     #[inline(always)]
-    fn chosen_value(&self, i: &Instruction) -> Option<u64>
+    fn choose_value(&self, i: &Instruction) -> Option<u64>
         requires { operation_in i.now ≡ Operation.ConditionalSet }
         ensures { IfSome result (λ x. OnlySets Operation.ConditionalSet i.now x self.now) }
     {
@@ -114,7 +114,7 @@ impl Machine {
         ensures { IsUsual result (state_of self.now) i.now }
     {
         match i.operation() {
-            Operation::ConditionalSet => match self.chosen_value(i) {
+            Operation::ConditionalSet => match self.choose_value(i) {
                 Some(x) => Usual::Gives(x),
                 None => Usual::Other,
             },
@@ -125,7 +125,7 @@ impl Machine {
     /// What ZSN to ZSEV give $X.
     #[tactic(auto, using(crate::proofs::Results::Outcomes::zero_outcome), unfolding(mx_code::specs::Operations::has_condition))]
     #[inline(always)]
-    fn zeroed_value(&self, i: &Instruction) -> u64
+    fn zero_value(&self, i: &Instruction) -> u64
         requires { operation_in i.now ≡ Operation.ZeroOrSet }
         ensures { OnlySets Operation.ZeroOrSet i.now result self.now }
     {
@@ -138,11 +138,11 @@ impl Machine {
 
     /// The frequent step of ZSN to ZSEV, where the code is one of theirs.
     #[inline(always)]
-    pub(crate) fn zeroed(&self, i: &Instruction) -> Usual
+    pub(crate) fn usual_zero(&self, i: &Instruction) -> Usual
         ensures { IsUsual result (state_of self.now) i.now }
     {
         match i.operation() {
-            Operation::ZeroOrSet => Usual::Gives(self.zeroed_value(i)),
+            Operation::ZeroOrSet => Usual::Gives(self.zero_value(i)),
             _ => Usual::Other,
         }
     }
@@ -185,7 +185,7 @@ impl Machine {
     /// What GET gives $X, of rB to rBB, which have the codes below 8: rH, rJ and rR are the frequent ones.
     #[tactic(auto, using(crate::proofs::Results::Gets::get_alone), unfolding(crate::specs::Kept::state_of))]
     #[inline(always)]
-    fn got_value(&self, i: &Instruction) -> Option<u64>
+    fn get_value(&self, i: &Instruction) -> Option<u64>
         ensures value { IfSome result (λ x. OnlySets Operation.Get i.now x self.now) }
         ensures other { IfSome result (λ _. z_of i.now ≢ rC) }
     {
@@ -201,7 +201,7 @@ impl Machine {
         ensures { IsUsual result (state_of self.now) i.now }
     {
         match i.operation() {
-            Operation::Get => match self.got_value(i) {
+            Operation::Get => match self.get_value(i) {
                 Some(x) => Usual::Gives(x),
                 None => Usual::Other,
             },

@@ -13,7 +13,7 @@ use crate::Counts;
 use mx_core::{Machine, Trace};
 use mx_host::Host;
 use mx_run::End;
-use mx_watch::{Reports, Watcher, watched_run};
+use mx_watch::{Reports, Watcher, run_with_watchers};
 use mx_word::{Bytes, NoMemory};
 use std::alloc::Global;
 
@@ -105,7 +105,7 @@ fn run_told<H: Host>(
 {
     let mut watchers = watchers;
     let mut kept = Reports::new(alloc);
-    let end = watched_run(alloc, machine, host, n, &mut watchers, &mut kept);
+    let end = run_with_watchers(alloc, machine, host, n, &mut watchers, &mut kept);
     if is_lacking(end) {
         return Err(NoMemory);
     }

@@ -144,7 +144,7 @@ pub(crate) fn drop_stop(session: &mut Session, number: u32) -> Result<(), NoMemo
 }
 
 /// What is seen of the places that are watched.
-fn watched_values(session: &Session) -> Result<Sequence<Seen>, NoMemory> {
+fn see_watched_values(session: &Session) -> Result<Sequence<Seen>, NoMemory> {
     let mut values = Sequence::new(session.known.alloc);
     for watch in session.known.stops.watches.as_slice() {
         values.push(see(session.replay.machine(), watch.place))?;
@@ -159,7 +159,7 @@ fn values_before(session: &mut Session) -> Result<Sequence<Seen>, NoMemory>
 {
     let here = session.replay.step_number();
     session.replay.go_to(here.saturating_sub(1))?;
-    let values = watched_values(session)?;
+    let values = see_watched_values(session)?;
     session.replay.go_to(here)?;
     Ok(values)
 }

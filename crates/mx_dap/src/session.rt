@@ -87,7 +87,7 @@ fn answer_about(
         Command::ReadMemory => loaded.scene().read_memory(message),
         Command::Disassemble => loaded.scene().disassemble(message),
         Command::Source => loaded.scene().source(),
-        Command::LoadedSources => loaded.scene().loaded_sources(),
+        Command::LoadedSources => loaded.scene().list_loaded_sources(),
         Command::Evaluate => {
             let evaluated = loaded.evaluate(message)?;
             if evaluated.has_moved {

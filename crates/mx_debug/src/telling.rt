@@ -68,7 +68,7 @@ pub(crate) fn add_reasons(out: &mut Bytes, replay: &Replay, known: &Known) -> Re
 }
 
 /// What is seen of the places that are watched.
-pub(crate) fn watched_values(
+pub(crate) fn see_watched_values(
     alloc: Global,
     machine: &Machine,
     watches: &[Watch],

@@ -6,7 +6,7 @@ ghost use Rattle.std.specs.Str.{str_eq_ignore_ascii_case};
 ghost use Rattle.mx_hover.specs.Completions as spec;
 ghost use Rattle.mx_references.specs.Outline.{is_symbol_label};
 
-use crate::words::{directives, instructions, predefined_words};
+use crate::words::{directives, instructions, list_predefined_words};
 use mx_json::{add_between, add_string};
 use mx_marks::line_text;
 use mx_occurrences::{Named, Occurrence, occurrences};
@@ -136,7 +136,7 @@ fn add_predefined(alloc: Global, values: &mut Values, word: &[u8]) -> Result<(),
     ensures { OnOk result (values.new
         ≡ values.old ++ flat_map (spec.item_if word.now (codes "21")) spec.predefined) }
 {
-    add_names(alloc, values, word, b"21", predefined_words())
+    add_names(alloc, values, word, b"21", list_predefined_words())
 }
 
 /// Whether a name is the label of a symbol.

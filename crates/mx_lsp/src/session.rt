@@ -12,7 +12,7 @@ use crate::message::{
     Method, id_of, last_change, method_of, number_at, text_at, uri_of, wants_label,
 };
 use mx_changes::{Change, formatting_of, rename};
-use mx_diagnostics::{published, withdrawn};
+use mx_diagnostics::{publish_faults, withdrawn};
 use mx_hover::{completion, hover, signature};
 use mx_references::{definition, highlights, name_range, outline, references};
 use mx_wire::{Refused, refusal_of, result_of};
@@ -61,7 +61,7 @@ fn place_of_message(message: &Value, source: &[u8]) -> Place {
 }
 
 /// The answer to a change that may be refused.
-fn changed_answer(alloc: Global, id: &[u8], change: &Change) -> Result<Bytes, NoMemory> {
+fn answer_change(alloc: Global, id: &[u8], change: &Change) -> Result<Bytes, NoMemory> {
     match change {
         Change::Done(result) => result_of(alloc, id, result.as_slice()),
         Change::Refused(why) => refusal_of(alloc, id, Refused::Failed, why.as_bytes()),
@@ -106,11 +106,11 @@ fn answer_in(
             let place = place_of_message(message, source);
             let name = text_at(message, "/params/newName");
             let change = rename(alloc, uri_of(message), place.line, place.from, name, source)?;
-            changed_answer(alloc, id, &change)
+            answer_change(alloc, id, &change)
         }
         Method::Formatting => {
             let change = formatting_of(alloc, source)?;
-            changed_answer(alloc, id, &change)
+            answer_change(alloc, id, &change)
         }
         _ => {
             let result = result_in(alloc, method, message, source)?;
@@ -171,7 +171,7 @@ fn take_text(
     ensures told { OnOk result (out.new ≡ out.old ++ notices.notice uri.now (diagnostics_of text.now) ∷ []) }
     ensures open { OnOk result (session.new ≡ spec.with_text session.old uri.now text.now) }
 {
-    let told = published(alloc, uri, text)?;
+    let told = publish_faults(alloc, uri, text)?;
     let documents = mem::replace(&mut session.documents, Documents::new(alloc));
     session.documents = with_text(alloc, documents, uri, text)?;
     out.push(told)

@@ -115,7 +115,7 @@ fn blank_length(text: &[u8]) -> usize
 
 /// The letters and digits at the front of a text.
 #[tactic(auto, using(crate::proofs::Words::words))]
-pub fn leading_word(text: &[u8]) -> &[u8]
+pub fn cut_leading_word(text: &[u8]) -> &[u8]
     ensures { result.now ≡ bytes.run bytes.is_name_byte text.now }
 {
     text.split_at(word_length(text)).0
@@ -159,7 +159,8 @@ pub fn unknown_place(line: &[u8]) -> Option<usize>
 {
     let mut place = 0;
     while let Ok(Some(cut)) = next_statement(line, place) {
-        let operation = leading_word(from_field(Field::Operation, split_at_most(line, place).1));
+        let operation =
+            cut_leading_word(from_field(Field::Operation, split_at_most(line, place).1));
         if find(operation).is_none() {
             return Some(place);
         }

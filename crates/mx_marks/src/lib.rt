@@ -13,7 +13,7 @@ mod tokens;
 mod under;
 
 pub use fields::{
-    Field, find_end_of_cuts, find_only_statement, first_operand, from_field, leading_word,
+    Field, cut_leading_word, find_end_of_cuts, find_only_statement, first_operand, from_field,
     line_field, operands_at, skip_past_comma, statement_field, unknown_place,
 };
 pub use labels::{

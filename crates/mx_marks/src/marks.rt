@@ -5,7 +5,7 @@ ghost use Rattle.mx_marks.specs.Marks as spec;
 ghost use Rattle.mx_marks.specs.Syntax as syntax;
 ghost use Rattle.mx_marks.specs.declared.tokens.Wanted.TheVariants.{Above, Unknown};
 
-use crate::fields::{Field, from_field, leading_word, operands_at};
+use crate::fields::{Field, cut_leading_word, from_field, operands_at};
 use crate::rooms::{Room, limit_of, room_of};
 use crate::syntax::scan;
 use crate::tokens::{Wanted, from_part, marked_length, number_part};
@@ -27,7 +27,7 @@ pub struct Mark {
 pub fn operation_at(line: &[u8], place: usize) -> &[u8]
     ensures { result.now ≡ spec.operation_at line.now place }
 {
-    leading_word(from_field(Field::Operation, split_at_most(line, place).1))
+    cut_leading_word(from_field(Field::Operation, split_at_most(line, place).1))
 }
 
 /// The room for a number in the operands of the statement at a place.
@@ -136,7 +136,7 @@ fn word_mark(line: &[u8], rest: &[u8]) -> Mark
 {
     Mark {
         from: line.len().saturating_sub(rest.len()),
-        length: leading_word(rest).len(),
+        length: cut_leading_word(rest).len(),
         is_part: true,
     }
 }

@@ -161,7 +161,7 @@ impl Memory {
         ensures value { k < 1024 → result ≡ tetra_at self.now (self.now.code_start + 4 * k) }
         ensures end { k ≡ 1024 → result ≡ 0 }
     {
-        self.pages[place].numbered_tetra(k as usize)
+        self.pages[place].read_numbered_tetra(k as usize)
     }
 
     /// The first address of the page that is kept.

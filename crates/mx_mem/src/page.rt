@@ -122,7 +122,7 @@ impl Page {
 
     /// The tetra with a number below 1,024; 0 for the number 1,024.
     #[inline(always)]
-    pub fn numbered_tetra(&self, k: usize) -> u32
+    pub fn read_numbered_tetra(&self, k: usize) -> u32
         requires { k ≤ 1024 }
         ensures value { k < 1024 → result ≡ tetra_of (slice_index_or self.now.1 (4 * k / 8 % 512) 0) (4 * k) }
         ensures end { k ≡ 1024 → result ≡ 0 }

@@ -44,7 +44,7 @@ fn stacked_place(register: &[u8], place: &[u8]) -> Option<Place> {
 }
 
 /// The place that an identifier of a watch means, or a name of a variable.
-pub fn watched_place(book: &Book, name: &[u8]) -> Option<Place> {
+pub fn find_watched_place(book: &Book, name: &[u8]) -> Option<Place> {
     match name.iter().position(|b| *b == b'@') {
         Some(i) => stacked_place(&name[..i], &name[i..]),
         None => named_place(book, name),
@@ -125,7 +125,7 @@ impl Scene<'_> {
     pub fn data_info(&self, message: &Value) -> Result<Answer, NoMemory> {
         let name = text_at(message, "/arguments/name").unwrap_or(b"");
         let mut text = Bytes::new(self.alloc);
-        match watched_place(self.book, name) {
+        match find_watched_place(self.book, name) {
             None => text.extend(b"{\"dataId\":null,\"description\":\"this can't be watched\"}")?,
             Some(place) => self.add_data_info(&mut text, followed(self.machine, place))?,
         }

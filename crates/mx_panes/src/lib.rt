@@ -12,7 +12,7 @@ mod values;
 mod variables;
 
 pub use asking::result_body;
-pub use breaks::{line_wanted, offset_wanted, watched_place};
+pub use breaks::{find_watched_place, line_wanted, offset_wanted};
 pub use frames::{depth_around, locals_reference};
 pub use scene::Scene;
 pub use values::{add_reference, parse_reference};

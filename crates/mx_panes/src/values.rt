@@ -69,7 +69,7 @@ fn hexadecimal(alloc: Global, digits: &[u8]) -> Result<Option<u64>, NoMemory> {
 }
 
 /// The address that a text names as `print` would.
-fn named_address(book: &Book, text: &[u8]) -> Option<u64> {
+fn find_named_address(book: &Book, text: &[u8]) -> Option<u64> {
     match resolve_name(book, text)? {
         Thing::Octa(a) | Thing::Number(a) => Some(a),
         Thing::Register(_) | Thing::Special(_) => None,
@@ -81,6 +81,6 @@ pub fn parse_reference(alloc: Global, book: &Book, text: &[u8]) -> Result<Option
     match text {
         [b'0', b'x', digits @ ..] => hexadecimal(alloc, digits),
         [b'#', ..] => Ok(parse_address(text)),
-        _ => Ok(named_address(book, text)),
+        _ => Ok(find_named_address(book, text)),
     }
 }

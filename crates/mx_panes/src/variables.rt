@@ -114,7 +114,7 @@ impl Scene<'_> {
     }
 
     /// The row of a frame that is not the innermost one.
-    fn hidden_row(&self, frame: usize, address: u64) -> Result<Bytes, NoMemory> {
+    fn make_hidden_row(&self, frame: usize, address: u64) -> Result<Bytes, NoMemory> {
         let mut name = Bytes::new(self.alloc);
         add_decimal(&mut name, frame as u64)?;
         name.extend(b"  ")?;
@@ -131,11 +131,11 @@ impl Scene<'_> {
     }
 
     /// The rows of the frames but the innermost one.
-    pub fn hidden_rows(&self, frames: &[Frame]) -> Result<Values, NoMemory> {
+    pub fn make_hidden_rows(&self, frames: &[Frame]) -> Result<Values, NoMemory> {
         let mut rows = Values::new(self.alloc);
         for frame in 1..frames.len().saturating_add(1) {
             if let Some(address) = frame_address(frames, self.machine.pc(), frame) {
-                rows.push(self.hidden_row(frame, address)?)?;
+                rows.push(self.make_hidden_row(frame, address)?)?;
             }
         }
         Ok(rows)

@@ -207,7 +207,7 @@ fn line_target(book: &Book, line: u64) -> Option<Target>
 }
 
 /// The instruction that a text names by an address or a label.
-fn named_target(book: &Book, text: &[u8]) -> Option<Target>
+fn find_named_target(book: &Book, text: &[u8]) -> Option<Target>
     ensures { result ≡ spec.by_number None book.now text.now }
 {
     Some(target_at(address_named(book, text)?))
@@ -220,7 +220,7 @@ pub fn parse_target(book: &Book, text: &[u8]) -> Option<Target>
 {
     match parse_number(text) {
         Some(line) => line_target(book, line),
-        None => named_target(book, text),
+        None => find_named_target(book, text),
     }
 }
 

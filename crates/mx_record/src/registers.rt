@@ -13,7 +13,7 @@ use mx_word::{NoMemory, Sequence};
 use std::alloc::Global;
 
 /// What is shown of the special register with a code.
-pub(crate) fn shown_special(machine: &Machine, code: u8) -> u64
+pub(crate) fn show_special(machine: &Machine, code: u8) -> u64
     requires { code < 32 }
     ensures { result ≡ special_shown (state_of machine.now) code }
 {
@@ -21,7 +21,7 @@ pub(crate) fn shown_special(machine: &Machine, code: u8) -> u64
 }
 
 /// What is shown of the global register with a number.
-pub(crate) fn shown_global(machine: &Machine, k: u8) -> u64
+pub(crate) fn show_global(machine: &Machine, k: u8) -> u64
     ensures { result ≡ spec.global_shown (state_of machine.now) k }
 {
     if k < machine.g() {
@@ -48,8 +48,8 @@ pub(crate) fn special_changes(
         note(
             &mut changes,
             u64::from(code),
-            shown_special(old, code),
-            shown_special(new, code),
+            show_special(old, code),
+            show_special(new, code),
         )?;
     }
     Ok(changes)
@@ -73,8 +73,8 @@ pub(crate) fn global_changes(
         note(
             &mut changes,
             u64::from(k),
-            shown_global(old, k as u8),
-            shown_global(new, k as u8),
+            show_global(old, k as u8),
+            show_global(new, k as u8),
         )?;
     }
     Ok(changes)

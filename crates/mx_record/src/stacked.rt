@@ -102,7 +102,7 @@ fn hidden_by(before: u64, after: u64, old: u64, i: u64) -> u64
 
 /// What a register of the stack has, by what it had where this many were hidden.
 #[tactic(auto, using(crate::proofs::Stacking::seeing))]
-fn stacked_octa(machine: &Machine, before: u64, old: u64, i: u64) -> u64
+fn read_stacked_octa(machine: &Machine, before: u64, old: u64, i: u64) -> u64
     ensures { result ≡ spec.stacked_by before old (state_of machine.now).stack i }
 {
     machines_keep_the_invariant(machine);
@@ -123,7 +123,7 @@ fn stacked_octa(machine: &Machine, before: u64, old: u64, i: u64) -> u64
 /// What changed of the registers of the stack; they are followed to those of the machine. This many were hidden before, so
 /// many were hidden or local, and those in front of a place stayed the same.
 #[tactic(auto, using(crate::proofs::Stacking::seeing))]
-pub(crate) fn stacked_changes(
+pub(crate) fn find_stacked_changes(
     alloc: Global,
     stacked: &mut Stacked,
     machine: &Machine,
@@ -144,7 +144,7 @@ pub(crate) fn stacked_changes(
     let after = hidden_count(machine) + u64::from(machine.l());
     for i in from..end.max(after) {
         let old = stacked.get(i as usize);
-        let new = stacked_octa(machine, before, old, i);
+        let new = read_stacked_octa(machine, before, old, i);
         note(&mut changes, i, old, new)?;
         stacked.set(i as usize, new)?;
     }

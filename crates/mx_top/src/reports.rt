@@ -20,7 +20,7 @@ use std::alloc::Global;
 /// The reports that the words ask for: of the watchers that are left of this many, and those that are kept.
 ///
 /// Errors: out of memory, where the words ask for some.
-fn asked_reports(
+fn collect_asked_reports(
     alloc: Global,
     words: &[String],
     count: usize,
@@ -69,7 +69,7 @@ pub fn reports_after(
     if count == 0 {
         return Ok(Texts::new(alloc));
     }
-    asked_reports(alloc, words, count, watchers, kept)
+    collect_asked_reports(alloc, words, count, watchers, kept)
 }
 
 /// Writes bytes to the tool's standard error.

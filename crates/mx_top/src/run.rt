@@ -14,7 +14,7 @@ use mx_core::Machine;
 use mx_host::Host;
 use mx_outcome::Outcome;
 use mx_run::{End, Runner};
-use mx_watch::{Reports, Watcher, watched_run};
+use mx_watch::{Reports, Watcher, run_with_watchers};
 use mx_words::Order;
 use std::alloc::Global;
 
@@ -64,7 +64,7 @@ fn run_told<H: Host>(
         (map meaning watchers.new.items) kept.old kept.new (work.reported_plan order.now) }
 {
     let mut machine = machine;
-    let end = watched_run(alloc, &mut machine, host, order.steps, watchers, kept);
+    let end = run_with_watchers(alloc, &mut machine, host, order.steps, watchers, kept);
     tell_end(
         alloc,
         host,

@@ -28,7 +28,7 @@ use std::alloc::Global;
 /// it, they are as the run leaves them then, and the watchers were told all steps before it; where a watcher or a report
 /// lacked it, the steps up to there were made, and the watchers were told them, the last step only the first ones. One
 /// whose report lacked memory is left. With no watchers it takes no more memory than the run.
-pub fn watched_run<H: Host>(
+pub fn run_with_watchers<H: Host>(
     alloc: Global,
     machine: &mut Machine,
     host: &mut H,

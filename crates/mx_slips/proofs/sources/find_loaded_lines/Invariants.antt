@@ -1,7 +1,7 @@
 use Rattle.std.proofs.Common.{◌≡◌, ◌++◌, length}
 use Rattle.mx_line.specs.Lines.{lines_of}
 use Rattle.mx_slips.specs.Sources.{numbered_from}
-use Rattle.mx_slips.proofs.sources.loaded_lines.Given as goal
+use Rattle.mx_slips.proofs.sources.find_loaded_lines.Given as goal
 
 abbrev pub invariant-loop-rest : goal.invariant-loop-rest
 invariant-loop-rest l =

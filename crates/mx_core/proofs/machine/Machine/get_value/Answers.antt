@@ -3,7 +3,7 @@ use Rattle.mx_core.specs.Way.Calls.{settled}
 use Rattle.mx_code.specs.Instructions.{x_of, y_of, z_of, next_of}
 use Rattle.mx_core.specs.Kept.{state_of}
 use Rattle.mx_core.proofs.Results.Gets.{get_alone}
-use Rattle.mx_core.proofs.machine.Machine.got_value.Goals as goal
+use Rattle.mx_core.proofs.machine.Machine.get_value.Goals as goal
 
 pub returns-clause-value : goal.returns-clause-value
 unfolding state_of

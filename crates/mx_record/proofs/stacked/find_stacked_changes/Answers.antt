@@ -5,7 +5,7 @@ use Rattle.mx_record.specs.Pictures.{all_registers, octa_of}
 use Rattle.mx_record.specs.Records.{noted}
 use Rattle.mx_record.proofs.Stacking.{followed-all, followed-first, followed-here, followed-next, zeros-following}
 use Rattle.mx_record.proofs.Telling.{tells-all, tells-none, tells-noted}
-use Rattle.mx_record.proofs.stacked.stacked_changes.Goals as goal
+use Rattle.mx_record.proofs.stacked.find_stacked_changes.Goals as goal
 
 pub loop-i-init : goal.loop-i-init
 loop-i-init c = (tells-none _ _ _ c.args.from c.new-changes.ensures, followed-first (octa_of c.args.stacked.now) (octa_of (all_registers (state_of c.args.machine.now).stack)) c.args.from c.requires.kept)
@@ -13,9 +13,9 @@ loop-i-init c = (tells-none _ _ _ c.args.from c.new-changes.ensures, followed-fi
 pub loop-i-preserved : goal.loop-i-preserved
 loop-i-preserved c =
     let here = c.get-old.ensures ∙ followed-here (octa_of c.loop-i.stacked) (octa_of c.args.stacked.now) (octa_of (all_registers (state_of c.args.machine.now).stack)) c.loop-i.i c.loop-i.invariant.1 in
-    let new = c.stacked_octa-new.ensures ∙ ap (λ x. stacked_by c.args.before x (state_of c.args.machine.now).stack c.loop-i.i) here ∙ sym (c.requires.found c.loop-i.i) in (
-      tells-noted _ _ (octa_of c.args.stacked.now) (octa_of (all_registers (state_of c.args.machine.now).stack)) c.args.from c.loop-i.i c.loop-i.invariant.0 c.loop-i.auto.i (c.in_ok-note.ensures ∙ ap (λ x. noted c.loop-i.changes c.loop-i.i x c.stacked_octa-new.result) here ∙ ap (λ x. noted c.loop-i.changes c.loop-i.i (octa_of c.args.stacked.now c.loop-i.i) x) new),
-      followed-next (octa_of c.loop-i.stacked) _ (octa_of c.args.stacked.now) (octa_of (all_registers (state_of c.args.machine.now).stack)) c.loop-i.i c.stacked_octa-new.result c.loop-i.invariant.1 c.in_ok-set.ensures new,
+    let new = c.read_stacked_octa-new.ensures ∙ ap (λ x. stacked_by c.args.before x (state_of c.args.machine.now).stack c.loop-i.i) here ∙ sym (c.requires.found c.loop-i.i) in (
+      tells-noted _ _ (octa_of c.args.stacked.now) (octa_of (all_registers (state_of c.args.machine.now).stack)) c.args.from c.loop-i.i c.loop-i.invariant.0 c.loop-i.auto.i (c.in_ok-note.ensures ∙ ap (λ x. noted c.loop-i.changes c.loop-i.i x c.read_stacked_octa-new.result) here ∙ ap (λ x. noted c.loop-i.changes c.loop-i.i (octa_of c.args.stacked.now c.loop-i.i) x) new),
+      followed-next (octa_of c.loop-i.stacked) _ (octa_of c.args.stacked.now) (octa_of (all_registers (state_of c.args.machine.now).stack)) c.loop-i.i c.read_stacked_octa-new.result c.loop-i.invariant.1 c.in_ok-set.ensures new,
     )
 
 pub returns-clause-changes : goal.returns-clause-changes

@@ -2,7 +2,7 @@ use Rattle.std.proofs.Common.{ap, ◌∙◌}
 use Rattle.std.specs.Prelude.{ℤ, ◌*ℤ◌}
 use Rattle.mx_alu.proofs.Products.{product-in, product-is, value-small}
 use Rattle.mx_word.specs.Words.{signed_value}
-use Rattle.mx_alu.proofs.arithmetic.signed_product.Goals as goal
+use Rattle.mx_alu.proofs.arithmetic.multiply_signed.Goals as goal
 
 pub overflow_mul-result : goal.overflow_mul-result
 overflow_mul-result c =

@@ -1,6 +1,6 @@
 use Rattle.std.proofs.Common.{Some, refl}
 use Rattle.mx_replay.proofs.Keeping.{rest-popped, step-popped, step-pushed}
-use Rattle.mx_replay.proofs.kept.thinned.Goals as goal
+use Rattle.mx_replay.proofs.kept.thin_visits.Goals as goal
 
 pub loop-visit-preserved-then-is_left : goal.loop-visit-preserved-then-is_left
 loop-visit-preserved-then-is_left c = λ p a.

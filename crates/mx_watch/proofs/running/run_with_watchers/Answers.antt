@@ -7,7 +7,7 @@ use Rattle.mx_run.proofs.Later.{none-later}
 use Rattle.mx_watch.proofs.Heard.{place_count}
 use Rattle.mx_watch.proofs.Lacked.{lacked-alone, lacked-first, lacked-placed}
 use Rattle.mx_watch.proofs.Watched.{hears-placed, hears-nobody, either-way, unless-by}
-use Rattle.mx_watch.proofs.running.watched_run.Goals as goal
+use Rattle.mx_watch.proofs.running.run_with_watchers.Goals as goal
 
 -- ---- without watchers
 
