@@ -74,7 +74,7 @@ fn take_cut(
 
 /// What a line is line_answer that is refused at a place: nothing of it was taken where the fault is an
 /// early one of its first statement.
-fn refused_at(at: usize, refused: Refused) -> Result<Result<(), Refused>, Refused>
+fn refuse_at(at: usize, refused: Refused) -> Result<Result<(), Refused>, Refused>
     ensures answer { spec.line_answer result ≡ Err refused }
     ensures first { IfOk result (λ answer. (at ≡ 0) × (is_early refused.fault ≡ true)) }
 {
@@ -104,10 +104,10 @@ pub(crate) fn take_statements(
     'statements: loop {
         match next_statement(text, at) {
             Ok(None) => return Ok(Ok(())),
-            Err(fault) => return refused_at(at, Refused::at(line, AsmFault::Line(fault))),
+            Err(fault) => return refuse_at(at, Refused::at(line, AsmFault::Line(fault))),
             Ok(Some(cut)) => {
                 if let Err(refused) = take_cut(alloc, assembly, out, text, &cut, line) {
-                    return refused_at(at, refused);
+                    return refuse_at(at, refused);
                 }
                 at = cut.next;
             }

@@ -376,7 +376,7 @@ impl Machine {
         requires code { code ≡ code_of (instruction index word) }
         ensures { IsUsual result (state_of self.now) (instruction (address_in self.now index) word) }
     {
-        self.passed(&Instruction::with_code(self.locate(index), code, word))
+        self.usual_pass(&Instruction::with_code(self.locate(index), code, word))
     }
 
     /// The frequent step of GET, where the code is its own.

@@ -240,7 +240,7 @@ impl Machine {
     /// The frequent step of SWYM, where the code is its own.
     #[tactic(auto, using(crate::proofs::Results::Others::nothing_outcome))]
     #[inline(always)]
-    pub(crate) fn passed(&self, i: &Instruction) -> Usual
+    pub(crate) fn usual_pass(&self, i: &Instruction) -> Usual
         ensures { IsUsual result (state_of self.now) i.now }
     {
         match i.operation() {

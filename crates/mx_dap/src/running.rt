@@ -42,7 +42,7 @@ impl Loaded {
     }
 
     /// What is to be done where the run goes on to a stop.
-    fn going_on(&self, depth: Option<u64>) -> Work {
+    fn keep_going(&self, depth: Option<u64>) -> Work {
         Work::GoOn(depth, self.pause_step())
     }
 
@@ -51,10 +51,10 @@ impl Loaded {
         let depth = self.debugged.replay.depth();
         match command {
             _ if self.has_ended() => Work::Finish,
-            Command::Next => self.going_on(Some(depth)),
-            Command::StepOut if depth != 0 => self.going_on(Some(depth.saturating_sub(1))),
+            Command::Next => self.keep_going(Some(depth)),
+            Command::StepOut if depth != 0 => self.keep_going(Some(depth.saturating_sub(1))),
             Command::StepIn => Work::GoTo(self.step_number().saturating_add(1)),
-            _ => self.going_on(None),
+            _ => self.keep_going(None),
         }
     }
 
@@ -83,7 +83,7 @@ impl Loaded {
         }
         let met = find_met(&mut self.debugged)?;
         if met.as_slice().is_empty() {
-            return Ok(Some(self.going_on(None)));
+            return Ok(Some(self.keep_going(None)));
         }
         self.tell_stop(out, Reason::Entry)?;
         Ok(None)

@@ -50,12 +50,12 @@ fn is_move(command: Command) -> bool {
 }
 
 /// A body, or none, where a request has nothing more to say.
-fn done(alloc: Global, body: &[u8]) -> Result<Answer, NoMemory> {
+fn answer_done(alloc: Global, body: &[u8]) -> Result<Answer, NoMemory> {
     Ok(Answer::Done(Bytes::copy(alloc, body)?))
 }
 
 /// A refusal.
-fn refused(alloc: Global, why: &[u8]) -> Result<Answer, NoMemory> {
+fn refuse_request(alloc: Global, why: &[u8]) -> Result<Answer, NoMemory> {
     Ok(Answer::Refused(Bytes::copy(alloc, why)?))
 }
 
@@ -95,7 +95,7 @@ fn answer_about(
             }
             Ok(evaluated.answer)
         }
-        _ => refused(loaded.alloc, b"there is no such request"),
+        _ => refuse_request(loaded.alloc, b"there is no such request"),
     }
 }
 
@@ -109,14 +109,14 @@ fn answer_launched(
     match command {
         Command::ConfigurationDone => {
             *work = Some(Work::Begin);
-            done(loaded.alloc, b"")
+            answer_done(loaded.alloc, b"")
         }
-        Command::Pause => done(loaded.alloc, b""),
+        Command::Pause => answer_done(loaded.alloc, b""),
         _ if !is_move(command) => answer_about(loaded, work, command, message),
-        _ if loaded.is_done => refused(loaded.alloc, b"the run is done"),
+        _ if loaded.is_done => refuse_request(loaded.alloc, b"the run is done"),
         _ => {
             *work = Some(loaded.work_for(command, message));
-            done(loaded.alloc, b"{\"allThreadsContinued\":true}")
+            answer_done(loaded.alloc, b"{\"allThreadsContinued\":true}")
         }
     }
 }
@@ -127,9 +127,9 @@ fn answer_always(alloc: Global, command: Command, message: &Value) -> Result<Ans
         return Ok(Answer::Refused(why));
     }
     match command {
-        Command::Initialize => done(alloc, offers()),
-        Command::Threads => done(alloc, b"{\"threads\":[{\"id\":1,\"name\":\"mmix\"}]}"),
-        _ => done(alloc, b""),
+        Command::Initialize => answer_done(alloc, offers()),
+        Command::Threads => answer_done(alloc, b"{\"threads\":[{\"id\":1,\"name\":\"mmix\"}]}"),
+        _ => answer_done(alloc, b""),
     }
 }
 
@@ -158,7 +158,7 @@ impl Session {
     /// The answer to a request that needs a program.
     fn answer_loaded(&mut self, command: Command, message: &Value) -> Result<Answer, NoMemory> {
         match &mut self.loaded {
-            None => refused(self.alloc, b"no program is launched"),
+            None => refuse_request(self.alloc, b"no program is launched"),
             Some(loaded) => match find_lack(self.alloc, command, message)? {
                 Some(why) => Ok(Answer::Refused(why)),
                 None => answer_launched(loaded, &mut self.work, command, message),
@@ -169,7 +169,9 @@ impl Session {
     /// The answer to a request.
     fn answer_to(&mut self, command: Command, message: &Value) -> Result<Answer, NoMemory> {
         match command {
-            Command::Other | Command::Launch => refused(self.alloc, b"there is no such request"),
+            Command::Other | Command::Launch => {
+                refuse_request(self.alloc, b"there is no such request")
+            }
             Command::Initialize
             | Command::Threads
             | Command::SetExceptionBreakpoints

@@ -8,7 +8,7 @@ ghost use Rattle.mx_marks.specs.declared.tokens.Wanted.TheVariants.{Above, Unkno
 use crate::fields::{Field, cut_leading_word, from_field, operands_at};
 use crate::rooms::{Room, limit_of, room_of};
 use crate::syntax::scan;
-use crate::tokens::{Wanted, from_part, marked_length, number_part};
+use crate::tokens::{Wanted, from_part, measure_marked, number_part};
 use crate::under::split_at_most;
 use mx_ops::find;
 use mx_word::NoMemory;
@@ -125,7 +125,7 @@ fn operands_mark(from: usize, operands: &[u8], part: &[u8]) -> Mark
     }
     Mark {
         from: from + operands.len().saturating_sub(part.len()),
-        length: marked_length(part),
+        length: measure_marked(part),
         is_part: true,
     }
 }

@@ -105,7 +105,7 @@ fn primary_length(text: &[u8]) -> usize
 }
 
 /// How many bytes are taken where a primary is wanted.
-fn wanting_length(text: &[u8]) -> usize
+fn measure_wanting(text: &[u8]) -> usize
     ensures { result ≡ spec.wanting_length text.now }
 {
     match text {
@@ -142,7 +142,7 @@ fn step_length(wants: bool, text: &[u8]) -> usize
     ensures { result ≡ spec.step_length wants text.now }
 {
     if wants {
-        wanting_length(text)
+        measure_wanting(text)
     } else {
         after_length(text)
     }

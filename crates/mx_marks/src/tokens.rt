@@ -259,7 +259,7 @@ pub(crate) fn number_part(operands: &[u8]) -> &[u8]
 
 /// How long the part is that a text begins with, a minus with its number included.
 #[tactic(auto, using(crate::proofs::TokenTurns::lengths))]
-pub(crate) fn marked_length(text: &[u8]) -> usize
+pub(crate) fn measure_marked(text: &[u8]) -> usize
     ensures { result ≡ spec.marked_length text.now }
 {
     let [b, rest @ ..] = text else {

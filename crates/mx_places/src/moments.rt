@@ -10,7 +10,7 @@ use mx_book::{Book, Thing};
 use mx_core::Machine;
 
 /// What a register has.
-fn held(machine: &Machine, thing: Option<Thing>) -> Option<u64>
+fn read_held(machine: &Machine, thing: Option<Thing>) -> Option<u64>
     ensures { result ≡ spec.held (state_of machine.now) thing }
 {
     match thing {
@@ -24,7 +24,7 @@ fn register_sum(book: &Book, machine: &Machine, text: &[u8]) -> Option<u64>
     ensures { result ≡ spec.register_sum book.now (state_of machine.now) text.now }
 {
     let (base, rest) = cut_sum(text);
-    add_numbers(held(machine, resolve_name(book, base)), parse_offset(rest))
+    add_numbers(read_held(machine, resolve_name(book, base)), parse_offset(rest))
 }
 
 /// What a text names in a machine.

@@ -48,7 +48,7 @@ fn symbol_sum(book: &Book, text: &[u8]) -> Option<u64>
 }
 
 /// The value of a symbol, or a sum of one.
-fn named_number(book: &Book, text: &[u8]) -> Option<u64>
+fn find_named_number(book: &Book, text: &[u8]) -> Option<u64>
     ensures { result ≡ spec.named_number book.now text.now }
 {
     match symbol_address(book, text) {
@@ -63,7 +63,7 @@ fn address_named(book: &Book, text: &[u8]) -> Option<u64>
 {
     match parse_address(text) {
         Some(a) => Some(a),
-        None => named_number(book, text),
+        None => find_named_number(book, text),
     }
 }
 
@@ -231,6 +231,6 @@ pub fn parse_value(book: &Book, text: &[u8]) -> Option<u64>
 {
     match parse_octa(text) {
         Some(n) => Some(n),
-        None => named_number(book, text),
+        None => find_named_number(book, text),
     }
 }

@@ -17,7 +17,7 @@ pub(crate) const OCTAS: u64 = 1 << 60;
 
 /// What is shown of the octa with a number.
 #[tactic(auto, using(crate::proofs::Beyond::octa_showing))]
-pub(crate) fn shown_octa(machine: &Machine, n: u64) -> u64
+pub(crate) fn show_octa(machine: &Machine, n: u64) -> u64
     ensures { result ≡ octa_shown (state_of machine.now) n }
 {
     if n >= OCTAS || is_in_stack_area(8 * n) {
@@ -37,7 +37,7 @@ fn note_octa(
     ensures { OnOk result (changes.new
         ≡ noted changes.old n (octa_shown (state_of old.now) n) (octa_shown (state_of new.now) n)) }
 {
-    note(changes, n, shown_octa(old, n), shown_octa(new, n))
+    note(changes, n, show_octa(old, n), show_octa(new, n))
 }
 
 /// Notes each octa that was not 0.
@@ -71,7 +71,7 @@ fn note_new(changes: &mut Sequence<Change>, old: &Machine, new: &Machine) -> Res
     while n < OCTAS {
         match new.next_nonzero(8 * n) {
             Some((at, _)) => {
-                if shown_octa(old, at / 8) == 0 {
+                if show_octa(old, at / 8) == 0 {
                     note_octa(changes, old, new, at / 8)?;
                 }
                 n = at / 8 + 1;

@@ -82,14 +82,14 @@ pub(crate) fn hidden_count(machine: &Machine) -> u64
 
 /// How many of them are spilled.
 #[tactic(auto, unfolding(mx_core::specs::State::special_register))]
-fn spilled_count(machine: &Machine) -> u64
+fn count_spilled(machine: &Machine) -> u64
     ensures { result ≡ stacks.spilled_count (state_of machine.now).stack }
 {
     (machine.special(RS) - STACK_SEGMENT) / 8
 }
 
 /// What a hidden register has that is not spilled.
-fn hidden_by(before: u64, after: u64, old: u64, i: u64) -> u64
+fn read_hidden_by(before: u64, after: u64, old: u64, i: u64) -> u64
     requires { i < after }
     ensures { result ≡ spec.hidden_by before after old i }
 {
@@ -108,10 +108,10 @@ fn read_stacked_octa(machine: &Machine, before: u64, old: u64, i: u64) -> u64
     machines_keep_the_invariant(machine);
     let hidden = hidden_count(machine);
     if i < hidden {
-        if i < spilled_count(machine) {
+        if i < count_spilled(machine) {
             machine.octa(STACK_SEGMENT + 8 * i)
         } else {
-            hidden_by(before, hidden, old, i)
+            read_hidden_by(before, hidden, old, i)
         }
     } else if i - hidden < u64::from(machine.l()) {
         machine.register((i - hidden) as u8)

@@ -9,7 +9,7 @@ ghost use Rattle.mx_record.specs.Pictures.{no_picture, octa_of, picture};
 ghost use Rattle.mx_record.specs.Records.{Leads};
 
 use crate::changes::{Change, Record, note};
-use crate::octas::{OCTAS, shown_octa};
+use crate::octas::{OCTAS, show_octa};
 use crate::registers::{show_global, show_special};
 use crate::stacked::{Stacked, find_stacked_changes};
 use mx_core::{Machine, machines_keep_the_invariant};
@@ -62,7 +62,7 @@ fn octa_values(alloc: Global, machine: &Machine) -> Result<Sequence<Change>, NoM
     while n < OCTAS {
         match machine.next_nonzero(8 * n) {
             Some((at, _)) => {
-                note(&mut changes, at / 8, 0, shown_octa(machine, at / 8))?;
+                note(&mut changes, at / 8, 0, show_octa(machine, at / 8))?;
                 n = at / 8 + 1;
             }
             None => return Ok(changes),

@@ -21,13 +21,13 @@ statements-preserved c = (
 )
 
 pub returns-in-Err-clause-taken : goal.returns-in-Err-clause-taken
-returns-in-Err-clause-taken c = rw c.refused_at-in-Err.ensures.answer (λ memory.
+returns-in-Err-clause-taken c = rw c.refuse_at-in-Err.ensures.answer (λ memory.
     ap (λ r. (c.statements.out, Err r)) c.at.ensures
     ∙ sym (taken-fault c.args.line c.args.text.now c.statements.at c.statements.out c.statements.assembly c.in-Err.fault c.in-Err.ensures.list)
     ∙ c.statements.invariant.1)
 
 pub returns-in-Err-take_cut-clause-taken : goal.returns-in-Err-take_cut-clause-taken
-returns-in-Err-take_cut-clause-taken c = rw c.refused_at.ensures.answer (λ memory.
+returns-in-Err-take_cut-clause-taken c = rw c.refuse_at.ensures.answer (λ memory.
     sym (taken-failed c.args.line c.args.text.now c.statements.at c.statements.out c.take_cut.new.out c.statements.assembly c.in-Ok-Some.cut c.in-Err-take_cut.refused c.in-Ok-Some.field-0 (cc) c.in-Ok-Some.ensures.list
     (c.in-Err-take_cut.ensures.taken (λ same. memory (cc))))
     ∙ c.statements.invariant.1)

@@ -2,7 +2,7 @@ use Rattle.std.proofs.Common.{◌≡◌, ◌++◌, length}
 use Rattle.std.specs.List.{flat_map}
 use Rattle.mx_line.specs.Lines.{lines_of}
 use Rattle.mx_changes.specs.Layouts.{edits_from, laid_text, with_newline}
-use Rattle.mx_changes.proofs.formatting.laid_out.Given as goal
+use Rattle.mx_changes.proofs.formatting.lay_out.Given as goal
 
 -- the lines that are left are left to lay out
 abbrev pub invariant-loop-rest : goal.invariant-loop-rest

@@ -1,7 +1,7 @@
 use Rattle.std.proofs.Common.{◌≡◌, ◌++◌, length}
 use Rattle.mx_line.specs.Lines.{lines_of}
 use Rattle.mx_changes.specs.Changes.{changed_lines}
-use Rattle.mx_changes.proofs.renaming.changed.Given as goal
+use Rattle.mx_changes.proofs.renaming.change_names.Given as goal
 
 abbrev pub invariant-loop-rest : goal.invariant-loop-rest
 invariant-loop-rest l =
