@@ -10,6 +10,7 @@ ghost use Rattle.mx_con.specs.Clauses.{DoesOnBoth, DoesOnHost, StepsWithin};
 ghost use Rattle.mx_con.specs.LinePlans.{asking_plan};
 ghost use Rattle.mx_con.specs.Session as spec;
 ghost use Rattle.mx_con.specs.SessionPlans as plans;
+ghost use Rattle.mx_con.specs.SessionPlans.{session_plan};
 
 use crate::SessionEnd;
 use crate::dialog::Dialog;
@@ -41,7 +42,7 @@ const MOST_INPUT: u64 = 1 << 32;
 #[tactic(auto, using(crate::proofs::SessionClauses::sessions))]
 pub fn session<H: Host>(alloc: Global, runner: &mut Runner, host: &mut H, steps: u64) -> SessionEnd
     ensures plan { CarriesOutOnRunner H.told host.old host.new runner.old runner.new SessionEnd.OutOfMemory result
-        (plans.session_plan steps) }
+        (session_plan steps) }
     ensures told { EndsAsSession H.told host.old host.new runner.old runner.new result
         (λ s f m. spec.session window_machine steps s f m) }
     ensures front { EndsFront (H.told host.old) (H.told host.new) runner.old result
