@@ -84,7 +84,7 @@ fn round_up(a: u64) -> u64
     (a + 3) / 4 * 4
 }
 
-/// The number that tells a line, or 0 where the line has no such number.
+/// The number that names a line, or 0 where the line has no such number.
 fn short_line(line: u32) -> u16
     ensures { result ≡ spec.told_line line }
 {

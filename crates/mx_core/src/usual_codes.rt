@@ -1,4 +1,4 @@
-//! What usual instructions do, told by their codes.
+//! What usual instructions do, known by their codes.
 
 ghost use Rattle.std.specs.Prelude.{◌≡◌};
 ghost use Rattle.mx_code.specs.Instructions.{code_of, instruction};
@@ -11,7 +11,7 @@ use crate::usual::Usual;
 use mx_code::Instruction;
 
 impl Machine {
-    /// What the instruction of a tetra does, told by its number on the page that is kept. In each case the code is a literal, so that what is done at it is settled
+    /// What the instruction of a tetra does, known by its number on the page that is kept. In each case the code is a literal, so that what is done at it is settled
     /// when the program is compiled. Cut into several functions, it would no longer become one table of jumps.
     #[inline(always)]
     pub(crate) fn usual_at(&self, index: u64, word: u32) -> Usual

@@ -220,7 +220,7 @@ fn read_numbered(tetras: &[u32; TETRAS], k: usize) -> u32
     tetras[k]
 }
 
-/// Tells that each item of a slice of tetras is below 2^32. It does nothing.
+/// States that each item of a slice of tetras is below 2^32. It does nothing.
 #[inline(always)]
 fn know_tetras(tetras: &[u32])
     ensures { (i : ℕ) → slice_index tetras.now i < 2 ^ 32 }

@@ -1,4 +1,4 @@
-//! What a run of the program comes to: outcomes, their statuses, and the line that tells each.
+//! What a run of the program comes to: outcomes, their statuses, and the line that prints each.
 #![tactic(auto)]
 
 mod messages;

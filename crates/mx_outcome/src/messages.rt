@@ -1,4 +1,4 @@
-//! The line that tells an outcome.
+//! The line that prints an outcome.
 
 ghost use Rattle.std.specs.Prelude.{IsTrue, ◌≡◌, ◌≢◌, ◌≤◌, ◌++◌, ◌<◌, OnOk, IfOk, OnErr, [], codes, decimal};
 ghost use Rattle.mx_outcome.specs.Messages as spec;

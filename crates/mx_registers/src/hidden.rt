@@ -121,7 +121,7 @@ impl Hidden {
         self.stack.octa(i)
     }
 
-    /// Tells that each octa of the stack area is below 2^64. It does nothing.
+    /// States that each octa of the stack area is below 2^64. It does nothing.
     #[inline(always)]
     pub fn know_stack(&self)
         ensures { (i : ℕ) → slice_index self.now.stack i < 2 ^ 64 }
@@ -129,7 +129,7 @@ impl Hidden {
         self.stack.know_octas();
     }
 
-    /// Tells that each hidden octa and each octa of the stack area is below 2^64. It does nothing.
+    /// States that each hidden octa and each octa of the stack area is below 2^64. It does nothing.
     #[tactic(auto, using(crate::proofs::OctaLists::parts))]
     #[inline(always)]
     pub fn know_octas(&self)

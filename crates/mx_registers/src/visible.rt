@@ -71,7 +71,7 @@ impl Visible {
         self.first_global
     }
 
-    /// Tells that what each register has is below 2^64. It does nothing.
+    /// States that what each register has is below 2^64. It does nothing.
     #[tactic(auto, using(crate::proofs::OctaLists::parts))]
     #[inline(always)]
     pub fn know_octas(&self)

@@ -46,7 +46,7 @@ pub fn faults_are_the_table()
         IfSome (place_of fault) (λ at. at ≤ length bytes) }
 {}
 
-/// A trie tells one list of symbols.
+/// A trie gives one list of symbols.
 pub fn a_trie_tells_one_list()
     ensures { (bytes : List ℕ) (symbols others : List Symbol) → IsTrie bytes symbols → IsTrie bytes others →
         symbols ≡ others }
@@ -64,7 +64,7 @@ pub fn names_of_a_trie_are_distinct()
         AreDistinct symbols × AllByRecursion IsNamed symbols }
 {}
 
-/// No fewer bytes tell a value of any kind, and no fewer digits a serial number, than those that are
+/// No fewer bytes give a value of any kind, and no fewer digits a serial number, than those that are
 /// written.
 pub fn fewest_bytes_are_written()
     ensures values { (kind : ℕ) (value : values.Value) (bytes : List ℕ) → SpellsValue kind value bytes →

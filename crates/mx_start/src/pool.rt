@@ -61,7 +61,7 @@ fn append_addresses(octas: &mut Octas, at: u64, texts: &[Bytes]) -> Result<(), N
     Ok(())
 }
 
-/// Adds the octas of bytes; one to seven bytes at the end of them tell none.
+/// Adds the octas of bytes; one to seven bytes at the end of them give none.
 fn append_octas(octas: &mut Octas, bytes: &[u8]) -> Result<(), NoMemory>
     ensures { OnOk result (octas.new ≡ octas.old ++ octas_of bytes.now) }
 {

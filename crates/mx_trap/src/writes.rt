@@ -13,7 +13,7 @@ use mx_host::{Host, HostFault};
 use mx_mem::Space;
 use mx_plan::write;
 
-/// What came of the writing of bytes.
+/// What came of bytes that were to be written.
 #[derive(Clone, Copy)]
 pub enum Written {
     /// All were written.

@@ -9,7 +9,7 @@ pub enum Value {
     Reg(u8),
 }
 
-/// A complete name with its value and its serial number, which tells the order of definition.
+/// A complete name with its value and its serial number, which says in which order they were defined.
 #[derive(Drop)]
 pub struct Symbol {
     pub name: Bytes,

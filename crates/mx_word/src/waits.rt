@@ -45,5 +45,5 @@ pub struct Wait {
     pub kind: WaitKind,
 }
 
-/// A list of waiting references, in the order of their making.
+/// A list of waiting references, in the order in which they were made.
 pub type Waits = Sequence<Wait>;
