@@ -4,7 +4,7 @@ ghost use Rattle.std.specs.Prelude.{◌≡◌, ◌≤◌};
 ghost use Rattle.mx_plan.specs.Calls.{open_plan};
 ghost use Rattle.mx_plan.specs.Plan.{bind};
 ghost use Rattle.mx_trap.specs.Clauses.{DoesService};
-ghost use Rattle.mx_trap.specs.Requests.{AreInBounds, bytes_from};
+ghost use Rattle.mx_trap.specs.Requests.{AreInBounds, bytes_held};
 ghost use Rattle.mx_trap.specs.FileTraps as spec;
 
 use crate::answer::TrapAnswer;
@@ -32,7 +32,7 @@ pub fn fopen<M: Space, H: Host>(
     requires slot { slot ≤ 255 }
     requires bounds { AreInBounds at size }
     ensures { DoesService H.told H.faults host.old host.new result
-        (spec.fopen slot (bytes_from (M.contents memory.now).bytes at size) mode) }
+        (spec.fopen slot (bytes_held M.contents memory.now at size) mode) }
 {
     let Some(mode) = mode_of(mode) else {
         return TrapAnswer::Value(MINUS_ONE);

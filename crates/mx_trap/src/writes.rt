@@ -4,7 +4,7 @@ ghost use Rattle.std.specs.Prelude.{◌≡◌, ◌≢◌, ◌≤◌, ◌<◌, �
 ghost use Rattle.mx_plan.specs.Clauses.{CarriesOutOnHost, KeepsHost};
 ghost use Rattle.mx_trap.specs.Clauses.{DoesService};
 ghost use Rattle.mx_trap.specs.Moves as spec;
-ghost use Rattle.mx_trap.specs.Requests.{bytes_from, AreInBounds};
+ghost use Rattle.mx_trap.specs.Requests.{bytes_held, AreInBounds};
 
 use crate::answer::TrapAnswer;
 use crate::files::MINUS_ONE;
@@ -36,7 +36,7 @@ pub fn fwrite<M: Space, H: Host>(
     requires slot { slot ≤ 255 }
     requires bounds { AreInBounds at size }
     ensures { DoesService H.told H.faults host.old host.new result
-        (spec.fwrite slot (bytes_from (M.contents memory.now).bytes at size)) }
+        (spec.fwrite slot (bytes_held M.contents memory.now at size)) }
 {
     match write_pieces(memory, host, slot, at, size) {
         Written::Whole => TrapAnswer::Value(0),
@@ -57,7 +57,7 @@ pub fn fputs<M: Space, H: Host>(
     requires slot { slot ≤ 255 }
     requires bounds { AreInBounds at size }
     ensures { DoesService H.told H.faults host.old host.new result
-        (spec.fputs slot (bytes_from (M.contents memory.now).bytes at size)) }
+        (spec.fputs slot (bytes_held M.contents memory.now at size)) }
 {
     match write_pieces(memory, host, slot, at, size) {
         Written::Whole => TrapAnswer::Value(size),
@@ -78,7 +78,7 @@ fn write_pieces<M: Space, H: Host>(
     requires slot { slot ≤ 255 }
     requires bounds { AreInBounds at size }
     ensures told { CarriesOutOnHost (H.told host.old) (H.told host.new) Written.OutOfMemory result
-        (spec.written slot (bytes_from (M.contents memory.now).bytes at size)) }
+        (spec.written slot (bytes_held M.contents memory.now at size)) }
     ensures keeps { KeepsHost (H.told host.old) (H.told host.new) (H.faults host.old) (H.faults host.new) }
 {
     let mut buffer = [0u8; 4096];
@@ -113,7 +113,7 @@ fn write_piece<M: Space, H: Host>(
     requires slot { slot ≤ 255 }
     requires bounds { AreInBounds at (length buffer.old) }
     ensures told { CarriesOutOnHost (H.told host.old) (H.told host.new) Written.OutOfMemory result
-        (spec.write_piece slot (bytes_from (M.contents memory.now).bytes at (length buffer.old)) moved) }
+        (spec.write_piece slot (bytes_held M.contents memory.now at (length buffer.old)) moved) }
     ensures length { length buffer.new ≡ length buffer.old }
     ensures keeps { KeepsHost (H.told host.old) (H.told host.new) (H.faults host.old) (H.faults host.new) }
 {
