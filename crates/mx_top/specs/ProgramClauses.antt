@@ -27,10 +27,11 @@ pub record ProducesWatched (old new : Option HostModel) (result : Outcome) (word
   pub written : slot_at (contents old) 260 ≡ to_errors → WritesFrontOf old new result (λ m. product window_machine words m)
 
 -- They are also the product's over an unbounded list of registers, up to what is wild: there standard output begins with what was
--- written before. `told` is what a host tells; it is the one before and after.
-abbrev pub AnswersOverList : {H : Type 0} → (H → Option HostModel) → H → H → Outcome → List Word → Type 0
-AnswersOverList told old new result words = AnswersAsList (told old) (told new) result (λ m. product list_machine words m)
+-- written before.
+abbrev pub AnswersOverList : Option HostModel → Option HostModel → Outcome → List Word → Type 0
+AnswersOverList old new result words = AnswersAsList old new result (λ m. product list_machine words m)
 
+-- the same with these watchers, of a host: `told` is what it tells
 abbrev pub AnswersOverListWatched : {H : Type 0} → (H → Option HostModel) → H → H → Outcome → List Word → List Watching → Type 0
 AnswersOverListWatched told old new result words watchers =
     AnswersAsList (told old) (told new) result (λ m. watched_product list_machine words watchers m)

@@ -189,7 +189,7 @@ pub fn mmixware_watched<H: Host>(
 /// changed (`plan` of `Produces`), but for the message; standard output has been given a front of what `product` gives.
 pub fn mmixware<H: Host>(alloc: Global, words: &[String], host: &mut H) -> Outcome
     ensures product { Produces (H.told host.old) (H.told host.new) result (map string_bytes words.now) }
-    ensures headline { AnswersOverList H.told host.old host.new result (map string_bytes words.now) }
+    ensures headline { AnswersOverList (H.told host.old) (H.told host.new) result (map string_bytes words.now) }
     ensures causes { Causes H.told H.faults host.old host.new result (map string_bytes words.now) }
 {
     let mut nobody = Vec::new(alloc);
