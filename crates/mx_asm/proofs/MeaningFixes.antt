@@ -48,13 +48,13 @@ octa-joined n a x ps lines big m l fits have few =
 -- ---- a relative address
 
 -- how far a target lies from its place: forward by this many tetras, or backward
-record IsAhead (place value reach word : ℕ) : Type 0 where
+record IsForward (place value reach word : ℕ) : Type 0 where
   ahead : place + 4 * word ≡ value
   near : word < reach
 
-record IsBehind (place value reach word : ℕ) : Type 0 where
+record IsBackward (place value reach word : ℕ) : Type 0 where
   back : ℕ
-  behind : value + 4 * back ≡ place
+  reached : value + 4 * back ≡ place
   some : 0 < back
   near : back ≤ reach
   word_is : word ≡ 2 ^ 24 + (reach - back)
@@ -63,7 +63,7 @@ record IsFix (place value bits reach : ℕ) (item : Item) : Type 0 where
   word : ℕ
   added : future_word 0 reach place (Some value) ≡ word
   item_is : item ≡ word_fix bits word
-  from : IsAhead place value reach word ⊎ IsBehind place value reach word
+  from : IsForward place value reach word ⊎ IsBackward place value reach word
 
 same-item : (x y : Item) → ◌≡◌ {A = Result Item AsmFault} (Ok x) (Ok y) → x ≡ y
 same-item x y h = cc
@@ -75,8 +75,8 @@ relative-is place value bits reach item h = grind (arith, nat_tests)
 before-is : (place value word : ℕ) → place + 4 * word ≡ value → place < 2 ^ 63 → tetras_before word value ≡ place
 before-is place value word h l = omega (arith, h, l)
 
-behind-place : (place value reach back : ℕ) → value + 4 * back ≡ place → 0 < back → back ≤ reach → reach ≤ 2 ^ 24 → place < 2 ^ 63 → tetras_following reach (tetras_before (reach - back) value) ≡ place
-behind-place place value reach back h some near small l = omega (arith, h, some, near, small, l)
+backward-place : (place value reach back : ℕ) → value + 4 * back ≡ place → 0 < back → back ≤ reach → reach ≤ 2 ^ 24 → place < 2 ^ 63 → tetras_following reach (tetras_before (reach - back) value) ≡ place
+backward-place place value reach back h some near small l = omega (arith, h, some, near, small, l)
 
 low-bits : (reach back word : ℕ) → word ≡ 2 ^ 24 + (reach - back) → 0 < back → reach ≤ 2 ^ 24 → word % 2 ^ 24 ≡ reach - back
 low-bits reach back word h some small = omega (arith, h, some, small)
@@ -90,8 +90,8 @@ module _ (n : ℕ) (big : 2 ^ 51 ≤ n) (s : State) (have : HaveBytes (placed s.
   at-place place word from e m l fits = grind (arith, word-joined, with-unless)
 
   word-fixed : (place bits reach word : ℕ) → reach ≡ 2 ^ bits → reach ≤ 2 ^ 24 → place % 4 ≡ 0 → place + 4 ≤ 0x6000_0000_0000_0000 →
-      IsAhead place s.lambda reach word ⊎ IsBehind place s.lambda reach word → take_item (loading_at n s) (word_fix bits word) ≡ limited n (with_placed place (tetra_to_bytes word))
-  word-fixed place bits reach word power small m l h = grind (arith, before-is, at-place, low-bits, behind-place)
+      IsForward place s.lambda reach word ⊎ IsBackward place s.lambda reach word → take_item (loading_at n s) (word_fix bits word) ≡ limited n (with_placed place (tetra_to_bytes word))
+  word-fixed place bits reach word power small m l h = grind (arith, before-is, at-place, low-bits, backward-place)
 
   relative-fixed : (place bits reach : ℕ) (item : Item) → reach ≡ 2 ^ bits → reach ≤ 2 ^ 24 → place % 4 ≡ 0 → place + 4 ≤ 0x6000_0000_0000_0000 → relative_fix bits (relative_word 0 reach place s.lambda) ≡ Ok item →
       take_item (loading_at n s) item ≡ limited n (with_placed place (tetra_to_bytes (future_word 0 reach place (Some s.lambda))))
