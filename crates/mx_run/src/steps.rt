@@ -1,9 +1,8 @@
 //! A step of a run.
 
-ghost use Rattle.std.specs.Prelude.{◌≡◌, ◌≢◌, ◌/◌, ◌&&◌, not, [], IsTrue, true};
+ghost use Rattle.std.specs.Prelude.{◌≡◌, ◌/◌, ◌&&◌, not, [], IsTrue, true};
 ghost use Rattle.mx_core.specs.Kept.{state_of};
-ghost use Rattle.mx_core.specs.Step.{step};
-ghost use Rattle.mx_core.specs.Way.Stepping.{advanced, step_needs_page};
+ghost use Rattle.mx_core.specs.Way.Stepping.{HasAdvanced, step_needs_page};
 ghost use Rattle.mx_run.specs.Clauses.{TakesStep};
 ghost use Rattle.mx_run.specs.FlagMaps.{flags_at};
 ghost use Rattle.mx_run.specs.RunPlans.{ended_turn, step_plan};
@@ -78,8 +77,7 @@ pub fn step_over<H: Host>(
     last: Advance,
 ) -> Result<(), End>
     requires free { flags.now ≡ [] }
-    requires came { last ≢ Advance.OutOfMemory →
-        (last, state_of machine.old) ≡ advanced (state_of machine.old) (step (state_of machine.old)) }
+    requires came { HasAdvanced last machine.old machine.old }
     requires there { last ≡ Advance.OutOfMemory → IsTrue (step_needs_page (state_of machine.old)) }
     ensures step { TakesStep H.told H.faults host.old host.new machine.old machine.new result
         (step_plan (flags_at flags.now) true) }
