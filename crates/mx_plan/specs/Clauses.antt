@@ -8,7 +8,7 @@ use Rattle.mx_host.specs.declared.faults.HostFault.{HostFault}
 use Rattle.mx_host.specs.declared.faults.HostFault.TheVariants.{OutOfMemory}
 use Rattle.mx_host.specs.Keeping.{HasStreams}
 use Rattle.mx_plan.specs.Plan.{Plan, Acts, Comes}
-use Rattle.mx_plan.specs.Calls.{host, HostPlan, both, BothPlan}
+use Rattle.mx_plan.specs.Calls.{host, HostPlan, space, SpacePlan, both, BothPlan}
 
 -- whether the host tells its contents is as before, its count of faults did not fall, and where the slots of the tool's
 -- standard input and output led to these streams, they still do
@@ -33,3 +33,7 @@ CarriesOutCall told old new result plan = CarriesOutOnHost (told old) (told new)
 abbrev pub CarriesOutOnSpace : {A Rest : Type 0} → Option HostModel → Option HostModel → Contents Rest → Contents Rest → A → A → BothPlan A → Type 0
 CarriesOutOnSpace old new first last none result plan =
     CarriesOut both old (first, contents old) (last, contents new) none result plan
+
+-- what comes of a plan over a space alone: `holds` is what it holds
+abbrev pub ComesOnSpace : {M A Rest : Type 0} → (M → Contents Rest) → M → M → A → A → SpacePlan A → Type 0
+ComesOnSpace holds old new none result plan = Comes space (holds old) (holds new) none result plan

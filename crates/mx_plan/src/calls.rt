@@ -3,10 +3,9 @@
 ghost use Rattle.std.specs.Prelude.{◌≡◌, ◌≤◌, ◌^◌, Ok, Err, IfOk, length, take};
 ghost use Rattle.mx_host.specs.HostModel.{Rose};
 ghost use Rattle.mx_host.specs.Keeping.{ComesByFault, OnlyByFailure, bytes_read};
-ghost use Rattle.mx_plan.specs.Calls.{close_plan, open_plan, put_plan, read_plan, seek_plan, space, tell_plan};
+ghost use Rattle.mx_plan.specs.Calls.{close_plan, open_plan, put_plan, read_plan, seek_plan, tell_plan};
 ghost use Rattle.mx_plan.specs.Calls.{write_plan};
-ghost use Rattle.mx_plan.specs.Clauses.{CarriesOutCall, CarriesOutOnHost, KeepsHost};
-ghost use Rattle.mx_plan.specs.Plan.{Comes};
+ghost use Rattle.mx_plan.specs.Clauses.{CarriesOutCall, CarriesOutOnHost, ComesOnSpace, KeepsHost};
 ghost use Rattle.mx_word.specs.Results.{map_ok};
 
 use mx_host::{Host, HostFault, Mode, OpenFault};
@@ -106,8 +105,7 @@ pub fn tell<H: Host>(host: &mut H, slot: u16) -> Result<u64, HostFault>
 /// changed.
 #[tactic(auto, unfolding(crate::specs::Calls::put_plan, crate::specs::Calls::space, crate::specs::Plan::end_of, crate::specs::Plan::Stops))]
 pub fn put<M: Space>(memory: &mut M, a: u64, b: u8) -> Result<(), SpaceFault>
-    ensures told { Comes space (M.contents memory.old) (M.contents memory.new) (Err SpaceFault.OutOfMemory) result
-        (put_plan a b) }
+    ensures told { ComesOnSpace M.contents memory.old memory.new (Err SpaceFault.OutOfMemory) result (put_plan a b) }
     ensures negative { result ≡ Err SpaceFault.Negative → 2 ^ 63 ≤ a }
     ensures rest { (M.contents memory.new).rest ≡ (M.contents memory.old).rest }
 {

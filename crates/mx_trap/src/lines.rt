@@ -1,9 +1,7 @@
 //! Reading a line of a slot into a space: Fgets.
 
 ghost use Rattle.std.specs.Prelude.{◌≡◌, ◌≢◌, ◌≤◌, ◌<◌, ◌+◌, ◌^◌, length, Ok, Err, IfErr};
-ghost use Rattle.mx_plan.specs.Calls.{space};
-ghost use Rattle.mx_plan.specs.Clauses.{KeepsHost};
-ghost use Rattle.mx_plan.specs.Plan.{Comes};
+ghost use Rattle.mx_plan.specs.Clauses.{ComesOnSpace, KeepsHost};
 ghost use Rattle.mx_trap.specs.Clauses.{CarriesOutTrap, CarriesOutTrapPart, StopsByPages};
 ghost use Rattle.mx_trap.specs.Moves as spec;
 ghost use Rattle.mx_trap.specs.Requests.{AreInBounds};
@@ -74,7 +72,7 @@ fn line_byte<M: Space, H: Host>(
 #[tactic(auto, using(mx_plan::proofs::Plans::plans), unfolding(crate::specs::Moves::byte_put))]
 fn put_byte<M: Space>(memory: &mut M, at: u64, b: u8) -> Result<bool, TrapAnswer>
     requires { at < 2 ^ 63 }
-    ensures told { Comes space (M.contents memory.old) (M.contents memory.new) (Err TrapAnswer.OutOfMemory) result
+    ensures told { ComesOnSpace M.contents memory.old memory.new (Err TrapAnswer.OutOfMemory) result
         (spec.byte_put at b) }
     ensures stops { IfErr result StopsByPages }
     ensures rest { (M.contents memory.new).rest ≡ (M.contents memory.old).rest }
@@ -87,7 +85,7 @@ fn put_byte<M: Space>(memory: &mut M, at: u64, b: u8) -> Result<bool, TrapAnswer
 #[tactic(auto, using(mx_plan::proofs::Plans::plans), unfolding(crate::specs::Moves::line_end))]
 fn end_line<M: Space>(memory: &mut M, at: u64, count: u64) -> TrapAnswer
     requires { at + count < 2 ^ 63 }
-    ensures told { Comes space (M.contents memory.old) (M.contents memory.new) TrapAnswer.OutOfMemory result
+    ensures told { ComesOnSpace M.contents memory.old memory.new TrapAnswer.OutOfMemory result
         (spec.line_end at count) }
     ensures stops { StopsByPages result }
     ensures rest { (M.contents memory.new).rest ≡ (M.contents memory.old).rest }
