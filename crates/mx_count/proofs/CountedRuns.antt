@@ -29,7 +29,7 @@ use Rattle.mx_view.specs.Loads.{loads_of}
 use Rattle.mx_count.specs.Counting.{counting_as, kept_tally}
 use Rattle.mx_count.specs.Reports.{report_of, report_text}
 use Rattle.mx_files.specs.Answers.{GoesAs}
-use Rattle.mx_count.specs.Runs.{CountAnswer, CountsBoth, CountsByKind, EndsAsReported, EndsReportedBetween, AnswerForms, counted_to, halting_after, halting_steps, image_counted, counted_run_from, mapped, meaning_counted, outcome_of, reporting, source_counted, start_counted, steps_counted}
+use Rattle.mx_count.specs.Runs.{CountAnswer, CountsBoth, CountsByKind, EndsAsReported, EndsReported, AnswerForms, counted_to, halting_after, halting_steps, image_counted, counted_run_from, mapped, meaning_counted, outcome_of, reporting, source_counted, start_counted, steps_counted}
 use Rattle.mx_count.specs.Tallies.{added, tally_in}
 use Rattle.mx_count.specs.declared.count.Counted.{Counted}
 use Rattle.mx_count.specs.declared.counts.Form.{Form}
@@ -75,7 +75,7 @@ window-counted steps report s after old new end outcome text is e told =
     λ i. ends (record { outcome = (is ∙ ap (λ (x : Ended). outcome_of steps x.end) e) i; sheet = Some (told i) }) (ap (λ (x : Ended). x.host) e i)
 
 pub machine-told : (steps : ℕ) (w : Watching) (old new : Option HostModel) (s after : State) (end : End) (outcome : Outcome) (text : List ℕ) → s.touched ≡ false → outcome ≡ outcome_of steps end →
-    EndsReportedBetween old new s after steps w (Ok (end, text)) →
+    EndsReported old new s after steps w (Ok (end, text)) →
     CountsBoth old new outcome (record { outcome = outcome; sheet = Some text }) (λ m. counted_run_from window_machine steps (reporting w.text) s m)
     (λ m. counted_run_from list_machine steps (reporting w.text) (as_list_state s) m)
 machine-told steps w old new s after end outcome text untouched is told = (

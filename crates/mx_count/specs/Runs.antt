@@ -7,7 +7,6 @@ use Rattle.mx_host.specs.HostModel.{HostModel, tells, contents}
 use Rattle.mx_mmo.specs.Image.{Image}
 use Rattle.mx_plan.specs.Wild.{Course, ends, meets_wild}
 use Rattle.mx_ring.specs.Stack.{stack_address}
-use Rattle.mx_core.specs.Kept.{Kept, state_of}
 use Rattle.mx_core.specs.State.{State}
 use Rattle.mx_code.specs.declared.trace.Trace.{Trace}
 use Rattle.mx_start.specs.Start.{pool, pool_octas}
@@ -182,13 +181,9 @@ EndsAsReported w h (meets_wild v) end new text = IsFront v.1.output new.output
 
 -- over a host that tells its contents, a run of at most n steps ends so, and a watcher has this report on its steps; and, from a state
 -- where nothing was touched, the same holds of the list machine
-abbrev pub EndsReportedBetween : Option HostModel → Option HostModel → State → State → ℕ → Watching → Result (End × List ℕ) NoMemory → Type 0
-EndsReportedBetween old new before after n w (Err e) = Unit {0}
-EndsReportedBetween old new before after n w (Ok (end, text)) =
+abbrev pub EndsReported : Option HostModel → Option HostModel → State → State → ℕ → Watching → Result (End × List ℕ) NoMemory → Type 0
+EndsReported old new before after n w (Err e) = Unit {0}
+EndsReported old new before after n w (Ok (end, text)) =
     IsTrue (tells old) → (ended end after (contents new) ≡ run n no_flags false before (contents old))
     × (text ≡ w.text (steps_counted window_machine n before (contents old)))
     × (before.touched ≡ false → EndsAsReported w (list_traces old before n) (list_run old before n) end (contents new) text)
-
--- the same of a host and a machine: `told` is what the host tells
-abbrev pub EndsReported : {H : Type 0} → (H → Option HostModel) → H → H → Kept → Kept → ℕ → Watching → Result (End × List ℕ) NoMemory → Type 0
-EndsReported told old new before after n w result = EndsReportedBetween (told old) (told new) (state_of before) (state_of after) n w result

@@ -99,7 +99,7 @@ fn run_told<H: Host>(
     watchers: Vec<Box<dyn Watcher>>,
 ) -> Result<(End, Bytes), NoMemory>
     ensures told { (w : Watching) → map meaning watchers.items ≡ w ∷ [] → ((h : List Step) → w.full h ≡ false) →
-        EndsReported H.told host.old host.new machine.old machine.new n w result }
+        EndsReported (H.told host.old) (H.told host.new) (state_of machine.old) (state_of machine.new) n w result }
     ensures left { IsLeft (H.told host.old) (H.told host.new) (λ m k. RunLeaves n (state_of machine.old) m k) }
     ensures keeps { Keeps (H.told host.old) (H.told host.new) (H.faults host.old) (H.faults host.new) }
 {
@@ -127,7 +127,7 @@ pub(crate) fn run_counted<H: Host>(
     n: u64,
     counts: Counts,
 ) -> Result<(End, Bytes), NoMemory>
-    ensures told { EndsReported H.told host.old host.new machine.old machine.new n
+    ensures told { EndsReported (H.told host.old) (H.told host.new) (state_of machine.old) (state_of machine.new) n
         (⟦<Counts as Watcher>⟧.meaning counts) result }
     ensures left { IsLeft (H.told host.old) (H.told host.new) (λ m k. RunLeaves n (state_of machine.old) m k) }
     ensures keeps { Keeps (H.told host.old) (H.told host.new) (H.faults host.old) (H.faults host.new) }
