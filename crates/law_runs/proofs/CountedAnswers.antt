@@ -34,7 +34,7 @@ use Rattle.mx_begin.specs.declared.images.Form.TheVariants.{Object, Source}
 use Rattle.mx_top.specs.Endings.{dumped_plan}
 use Rattle.mx_top.specs.MachineWork.{machine_plan}
 use Rattle.mx_top.specs.Product.{ordered_plan, work_plan, work_on, answer_of, told_of, product, product_traces}
-use Rattle.mx_top.specs.Runs as top
+use Rattle.mx_begin.specs.Ends.{outcome_of}
 use Rattle.mx_top.specs.Telling.{with_message}
 use Rattle.mx_top.specs.WorkClauses.{answer_by as answer_by_kind, told_by, work_by}
 use Rattle.mx_top.proofs.Spoken.{traces-of}
@@ -57,7 +57,7 @@ use Rattle.law_runs.proofs.ReadRuns.{image_ran, file_ran, file-read, image-cours
 -- ---- a run
 
 -- the outcome of an end is the same for both
-outcome-same : (steps : ℕ) (end : End) → top.outcome_of steps end ≡ outcome_of steps end
+outcome-same : (steps : ℕ) (end : End) → outcome_of steps end ≡ outcome_of steps end
 outcome-same steps (ending.Halted status) = refl
 outcome-same steps (ending.Stopped pc reason) = refl
 outcome-same steps (ending.Broke kind at traced) = refl

@@ -7,7 +7,7 @@ ghost use Rattle.mx_load.specs.Kept.{image_of};
 ghost use Rattle.mx_ring.specs.Stack.{stack_address};
 ghost use Rattle.law_gen.specs.Generator as generator;
 ghost use Rattle.mx_files.specs.Failing.{FailsOnlyBy};
-ghost use Rattle.mx_top.specs.Causes.{IsOfMachine};
+ghost use Rattle.mx_begin.specs.Ends.{IsOfMachine};
 ghost use Rattle.mx_top.specs.Endings as plans;
 ghost use Rattle.mx_top.specs.MachineWork as work;
 ghost use Rattle.mx_top.specs.Product as page;
@@ -16,8 +16,7 @@ ghost use Rattle.mx_top.specs.WorkClauses.{Follows, Performs, PerformsWork};
 ghost use Rattle.mx_plan.specs.Clauses.{CarriesOut};
 
 use crate::generator::{format_summary, generate_source};
-use crate::run::outcome_of;
-use mx_begin::start_machine;
+use mx_begin::{outcome_of, start_machine};
 use mx_core::Machine;
 use mx_files::{SourceFault, load_source, write_line};
 use mx_host::Host;

@@ -19,7 +19,7 @@ pub use laws::{
 };
 pub use profile::Profile;
 pub use reporting::{Texts, collect_reports};
-pub use running::watched_run;
+pub use running::{trace_step, watched_run};
 pub use telling::{Report, Reports};
 pub use watcher::{Watcher, Wish};
 pub use watching::watch;
