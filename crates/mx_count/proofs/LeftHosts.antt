@@ -21,10 +21,8 @@ pub run-left : (n : ℕ) (s t : State) (m k : HostModel) (end : End) → ComesAc
 run-left n s t m k end c = record { end = end; after = t; run = c }
 
 -- no step is made
-pub left-still : (n : ℕ) (s : State) (m : HostModel) → RunLeaves n s m m
+left-still : (n : ℕ) (s : State) (m : HostModel) → RunLeaves n s m m
 left-still n s m = record { end = OutOfMemory; after = s; run = lacking-so n 0 (s, m) (s, m) (omega arith) (none-made s m) }
-
-pub ruleset still = (left-still)
 
 -- ---- what begins it
 
