@@ -4,10 +4,10 @@ ghost use Rattle.std.specs.Prelude.{◌≡◌, ◌≤◌, ◌^◌, ◌++◌, ℕ
 ghost use Rattle.mx_plan.specs.Wild.{ends};
 ghost use Rattle.mx_files.specs.Source.{file_bytes, object_pieces, source_pieces};
 ghost use Rattle.mx_core.specs.State.{State};
-ghost use Rattle.mx_count.specs.Runs.{by_lines, halting_after, in_form, outcome_of, ran};
+ghost use Rattle.mx_begin.specs.Ends.{outcome_of};
+ghost use Rattle.mx_count.specs.Runs.{by_lines, by_text, halting_after, ran};
 ghost use Rattle.mx_count.specs.Sheets.{sheet_of};
 ghost use Rattle.mx_count.specs.declared.count.Counted.{Counted};
-ghost use Rattle.mx_count.specs.declared.counts.Form.TheVariants.{Text};
 ghost use Rattle.mx_count.specs.declared.lines.CountedLines.{CountedLines};
 ghost use Rattle.mx_object.specs.declared.counted.CountedObject.{CountedObject};
 ghost use Rattle.mx_host.specs.HostModel.{HostModel};
@@ -27,7 +27,7 @@ ghost use Rattle.law_runs.specs.Counted.{RunsPlainly, StartsWith, answer_by, obj
 pub fn counts_run_as_the_program()
     ensures text { (kind : MachineKind) (words : List Word) (o : Order) (m : HostModel) → RunsPlainly words o Run →
         product kind words m ≡
-        with_message (answer_by (λ (c : Counted). c.outcome) (source_file kind words o (in_form Text) m)) }
+        with_message (answer_by (λ (c : Counted). c.outcome) (source_file kind words o by_text m)) }
     ensures data { (kind : MachineKind) (words : List Word) (o : Order) (m : HostModel) → RunsPlainly words o Run →
         product kind words m ≡
         with_message (answer_by (λ (c : CountedLines). c.outcome) (source_file kind words o by_lines m)) }
@@ -42,7 +42,7 @@ pub fn counts_go_by_the_traces_of_their_runs()
     ensures { (kind : MachineKind) (words : List Word) (o : Order) (source : List ℕ) (s : State) (m begun : HostModel)
         (e : Ended) → RunsPlainly words o Run → o.report ≡ true → StartsWith kind words o source s m begun →
         ran kind o.steps s begun ≡ run_ended e →
-        source_file kind words o (in_form Text) m ≡ ends (record {
+        source_file kind words o by_text m ≡ ends (record {
           outcome = outcome_of o.steps e.end;
           sheet = Some (sheet_of source (product_traces kind words m ++ halting_after e));
         }) e.host }
