@@ -107,22 +107,25 @@ module _ {L B : Type 0} (after : L → List Trace → B) where
 
 -- ---- watchers
 
+abbrev watched_after : Listening → List Trace → Listening
+watched_after l ts = watched ts l
+
 pub went-by-list : (n i : ℕ) (whole : Course End RunWorld) (s t : State) (m k : HostModel) (trace : Trace) (l next goal : Listening) → i < n → HasWindow s → turn s m ≡ went_on t k trace → next ≡ told trace l →
     Beside whole (run_by list_machine (n - i) no_flags false (as_list_state s) m) s → OrWild whole (watched (traces list_machine (n - i) (as_list_state s) m) l ≡ goal) →
     OrWild whole (watched (traces list_machine (n - (i + 1)) (as_list_state t) k) next ≡ goal)
 unfolding watched
 went-by-list n i whole s t m k trace l next goal inside h went is b w =
-    went-with-list (λ (x : Listening) ts. watched ts x) n i whole s t m k trace l next goal inside h went (λ ts. ap (watched ts) is) b w
+    went-with-list watched_after n i whole s t m k trace l next goal inside h went (λ ts. ap (watched ts) is) b w
 
 pub ended-by-list : (n i : ℕ) (whole : Course End RunWorld) (s t : State) (m k : HostModel) (end : End) (l goal : Listening) → i < n → HasWindow s → end ≢ OutOfMemory →
     Comes running (s, m) (t, k) (Err OutOfMemory) (Err end) (step_plan no_flags false) →
     Beside whole (run_by list_machine (n - i) no_flags false (as_list_state s) m) s → OrWild whole (watched (traces list_machine (n - i) (as_list_state s) m) l ≡ goal) → OrWild whole (l ≡ goal)
 unfolding watched
-ended-by-list n i whole s t m k end l goal inside h ne c b w = ended-with-list (λ (x : Listening) ts. watched ts x) n i whole s t m k end l goal inside h ne c b w
+ended-by-list n i whole s t m k end l goal inside h ne c b w = ended-with-list watched_after n i whole s t m k end l goal inside h ne c b w
 
 pub spent-by-list : (n i : ℕ) (whole : Course End RunWorld) (s : State) (m : HostModel) (l goal : Listening) → n ≤ i → OrWild whole (watched (traces list_machine (n - i) s m) l ≡ goal) → OrWild whole (l ≡ goal)
 unfolding watched
-spent-by-list n i whole s m l goal end w = spent-with-list (λ (x : Listening) ts. watched ts x) n i whole s m l goal end w
+spent-by-list n i whole s m l goal end w = spent-with-list watched_after n i whole s m l goal end w
 
 pub begun-by-list : (n : ℕ) (whole : Course End RunWorld) (s : State) (m : HostModel) (l : Listening) → OrWild whole (watched (traces list_machine (n - 0) s m) l ≡ watched (traces list_machine n s m) l)
-begun-by-list n whole s m l = begun-with-list (λ (x : Listening) ts. watched ts x) n whole s m l
+begun-by-list n whole s m l = begun-with-list watched_after n whole s m l

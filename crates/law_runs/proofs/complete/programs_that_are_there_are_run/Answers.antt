@@ -1,4 +1,3 @@
-use Rattle.law_runs.specs.Programs.{FoundProgram, Halting, found_run}
 use Rattle.law_runs.proofs.CompletedFiles.{file-left}
 use Rattle.law_runs.proofs.SparedPrograms.{program-spared, halted-plain, halted-dumped}
 use Rattle.law_runs.proofs.complete.programs_that_are_there_are_run.Goals as goal
@@ -7,14 +6,14 @@ pub returns-clause-read : goal.returns-clause-read
 returns-clause-read c = λ most name m h. file-left most name m h.place h.none h.slots h.found
 
 pub returns-clause-run : goal.returns-clause-run
-returns-clause-run c = λ (p : FoundProgram). program-spared p.kind p.words p.order p.form p.image p.host p.there p.none
+returns-clause-run c = λ p. program-spared p.kind p.words p.order p.form p.image p.host p.there p.none
 
 pub returns-clause-plain : goal.returns-clause-plain
-returns-clause-plain c = λ (p : FoundProgram) (r : Halting (found_run p)) d.
+returns-clause-plain c = λ p r d.
     halted-plain p.kind p.words p.order p.image r.status r.ended p.host r.after
     (program-spared p.kind p.words p.order p.form p.image p.host p.there p.none) r.halts d
 
 pub returns-clause-dumped : goal.returns-clause-dumped
-returns-clause-dumped c = λ (p : FoundProgram) (r : Halting (found_run p)) d.
+returns-clause-dumped c = λ p r d.
     halted-dumped p.kind p.words p.order p.image r.status r.ended p.host r.after p.there.there.slots
     (program-spared p.kind p.words p.order p.form p.image p.host p.there p.none) r.halts d
