@@ -27,9 +27,9 @@ use Rattle.mx_begin.specs.Begun.{most_pieces, started}
 use Rattle.mx_begin.specs.declared.images.Form.{Form}
 use Rattle.mx_begin.specs.declared.images.Form.TheVariants.{Source, Object}
 use Rattle.mx_dump.specs.Dump.{dump_lines}
-use Rattle.law_gen.specs.Generator.{generated, summary}
-use Rattle.law_gen.specs.Program.{generated_image}
-use Rattle.law_gen.proofs.Meaning.{not-refused-run, statements-of}
+use Rattle.mx_gen.specs.Generator.{generated, summary}
+use Rattle.mx_gen.specs.Program.{generated_image}
+use Rattle.mx_gen.proofs.Meaning.{not-refused-run, statements-of}
 use Rattle.mx_words.proofs.OrderedBlocks.{order-few}
 use Rattle.mx_files.specs.Writing.{lines_put}
 use Rattle.mx_files.specs.Objects.{source_object}

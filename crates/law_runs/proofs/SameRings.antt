@@ -22,7 +22,7 @@ use Rattle.mx_words.specs.Values.{blocks_value, is_number, is_option, ring_value
 use Rattle.mx_words.specs.declared.order.Command.{Command}
 use Rattle.mx_words.specs.declared.order.Command.TheVariants.{Run, Asm, Sim, Gen, Show, Multi}
 use Rattle.mx_words.specs.declared.order.Order.{Order}
-use Rattle.law_gen.specs.Generator.{generated}
+use Rattle.mx_gen.specs.Generator.{generated}
 use Rattle.mx_files.specs.FilePlans.{Part, on_ok}
 use Rattle.mx_files.specs.ObjectPlans.{assemble_plan, list_plan}
 use Rattle.mx_files.specs.Schedules.{schedule_plan}

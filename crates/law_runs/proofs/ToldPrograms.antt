@@ -44,7 +44,7 @@ use Rattle.mx_words.specs.declared.order.Command.TheVariants.{Run, Asm, Sim, Gen
 use Rattle.mx_words.specs.declared.order.Order.{Order}
 use Rattle.mx_words.specs.declared.order.WordsFault.{WordsFault}
 use Rattle.mx_begin.specs.Arguments.{Word, word_at, arguments}
-use Rattle.law_gen.specs.Generator.{generated}
+use Rattle.mx_gen.specs.Generator.{generated}
 use Rattle.mx_files.specs.Typed.{Typed, trie_typed, tail_typed, end_typed, typed}
 use Rattle.mx_outcome.specs.Messages.{message_of}
 use Rattle.mx_files.specs.Objects.{Assembled, source_object}

@@ -18,8 +18,8 @@ use Rattle.mx_words.specs.declared.order.Command.{Command}
 use Rattle.mx_words.specs.declared.order.Command.TheVariants.{Run, Asm, Sim, Gen}
 use Rattle.mx_words.specs.declared.order.Order.{Order}
 use Rattle.mx_begin.specs.Arguments.{Word, word_at, arguments}
-use Rattle.law_gen.specs.Generator.{generated, summary}
-use Rattle.law_gen.specs.Program.{generated_image}
+use Rattle.mx_gen.specs.Generator.{generated, summary}
+use Rattle.mx_gen.specs.Program.{generated_image}
 use Rattle.mx_files.specs.Answers.{Answer}
 use Rattle.mx_files.specs.Objects.{source_object}
 use Rattle.mx_files.specs.Writing.{put_text}

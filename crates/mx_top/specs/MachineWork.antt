@@ -22,7 +22,7 @@ use Rattle.mx_words.specs.declared.order.Order.{Order}
 use Rattle.mx_outcome.specs.Kinds.{leaves_machine}
 use Rattle.mx_outcome.specs.declared.outcome.Outcome.{Outcome}
 use Rattle.mx_outcome.specs.declared.outcome.Outcome.TheVariants.{Done}
-use Rattle.law_gen.specs.Generator.{summary}
+use Rattle.mx_gen.specs.Generator.{summary}
 use Rattle.mx_files.specs.FilePlans.{lines_plan}
 use Rattle.mx_dump.specs.Dump.{Line, dump_lines}
 use Rattle.mx_top.specs.Telling.{telling}
