@@ -151,8 +151,6 @@ pub answers-object : (kind : MachineKind) (words : List Word) (o : Order) (m : H
 unfolding ordered_plan
 answers-object kind words o m h = order-run kind words o Sim m h ∙ ap with_message (file-read kind words o Object m ∙ object-same kind words o (file_bytes object_pieces (word_at words o.file) m) h)
 
-pub ruleset answers = (answers-text, answers-data, answers-object)
-
 -- ---- the sheet
 
 module _ (kind : MachineKind) (words : List Word) (o : Order) (source : List ℕ) (s : State) (m begun : HostModel) (starts : StartsWith kind words o source s m begun) where

@@ -230,5 +230,3 @@ gen-row m = rings-generated (codes "1") (codes "512") 1 512 refl m refl
 
 pub gen-agrees : (blocks ring : Word) (n size : ℕ) (m : HostModel) → blocks_value blocks ≡ Ok n → ring_value ring ≡ Ok size → product list_machine (gen_words blocks) m ≡ product list_machine (gen_ring_words ring blocks) m
 gen-agrees blocks ring n size m counts is = rings-generated blocks ring n size counts m is
-
-pub ruleset rings = (rings-agree, rings-watched, reports-alone)

@@ -6,3 +6,4 @@ pub mod Unbroken
 pub mod WholeItems
 pub mod Counted
 pub mod Programs
+pub mod ShownObjects

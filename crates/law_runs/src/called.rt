@@ -1,23 +1,15 @@
 //! What a call of the program answers where no call of the host that it makes fails.
 
-ghost use Rattle.std.specs.Prelude.{◌≡◌, ◌%◌, ◌^◌, None, false, ℕ};
-ghost use Rattle.mx_host.specs.HostModel.{HostModel};
+ghost use Rattle.std.specs.Prelude.{◌≡◌, ◌%◌, ◌^◌, None};
 ghost use Rattle.mx_asm.specs.Refusal.{refusal};
-ghost use Rattle.mx_core.specs.State.{State};
 ghost use Rattle.mx_ring.specs.Stack.{register};
-ghost use Rattle.mx_plan.specs.Wild.{ends};
-ghost use Rattle.mx_run.specs.Runs.{no_flags};
-ghost use Rattle.mx_run.specs.WildRuns.{MachineKind, run_by};
-ghost use Rattle.mx_run.specs.declared.end.End.TheVariants.{Halted};
-ghost use Rattle.law_runs.specs.Programs.{CalledAssembler, CalledGenerator, CalledProgram, Halting, Playing, called_run};
+ghost use Rattle.law_runs.specs.Programs.{CalledAssembler, CalledGenerator, CalledProgram, HaltedRun, Halting};
+ghost use Rattle.law_runs.specs.Programs.{Playing, called_run};
 ghost use Rattle.mx_outcome.specs.declared.outcome.Outcome.TheVariants.{Done};
 
 /// A program that halts does so with the low byte of its register $255.
-#[tactic(auto, using(crate::proofs::LowBytes::lowered))]
 pub fn statuses_are_low_bytes()
-    ensures { (kind : MachineKind) (steps status : ℕ) (s ended : State) (m after : HostModel) →
-        run_by kind steps no_flags false s m ≡ ends (Halted status) (ended, after) →
-        status ≡ register ended.stack 255 % 2 ^ 8 }
+    ensures { (r : HaltedRun) → r.status ≡ register r.ended.stack 255 % 2 ^ 8 }
 {}
 
 /// Let the program be called over a host that tells, whose slots are as at the start, and let no call of

@@ -14,15 +14,13 @@ ghost use Rattle.mx_gen.specs.Generator.{generated};
 ghost use Rattle.mx_gen.specs.Program.{generated_image};
 ghost use Rattle.mx_plan.specs.Counts.{unscheduled, without_count};
 ghost use Rattle.law_runs.specs.Complete.{with_output};
-ghost use Rattle.law_runs.specs.Programs.{Dumps, FoundProgram, FoundSource, GeneratedRun, Halting, IsReadable, Playing};
-ghost use Rattle.law_runs.specs.Programs.{ReadProgram, SparedRun, StartsConsole, WrittenSource, console_answer};
-ghost use Rattle.law_runs.specs.Programs.{dumped_host, found_answer, found_run, read_answer, run_answer, said};
-ghost use Rattle.law_runs.specs.Programs.{source_answer, with_object_of, written_answer};
-ghost use Rattle.law_runs.specs.Detour.{answer_unscheduled};
+ghost use Rattle.law_runs.specs.Programs.{Dumps, FoundProgram, FoundSource, GeneratedRun, Halting, Playing};
+ghost use Rattle.law_runs.specs.Programs.{ReadProgram, ReadableFile, SparedRun, StartsConsole, WrittenSource};
+ghost use Rattle.law_runs.specs.Programs.{assembled_answer, console_answer, dumped_answer, found_answer, found_run};
+ghost use Rattle.law_runs.specs.Programs.{generated_answer, halted_answer, read_answer, refused_answer, run_answer};
+ghost use Rattle.law_runs.specs.Programs.{said, source_answer, spared_answer, with_object_of, written_answer};
 ghost use Rattle.mx_files.specs.Writing.{lines_put};
 ghost use Rattle.mx_files.specs.Objects.{source_object};
-ghost use Rattle.mx_files.specs.Assembling.{assembled_outcome, refused_with};
-ghost use Rattle.mx_top.specs.Product.{product};
 ghost use Rattle.mx_top.specs.Telling.{with_message};
 ghost use Rattle.mx_files.specs.Source.{file_bytes};
 ghost use Rattle.mx_files.specs.Sources.{source_meaning};
@@ -36,8 +34,8 @@ ghost use Rattle.mx_files.specs.declared.refusal.Refusal.{Refusal};
 pub fn programs_that_halt_are_done()
     ensures plain { (p : ReadProgram) (r : Halting p.run) → p.run.order.dump ≡ false →
         read_answer p ≡ ends (Done r.status) r.after }
-    ensures dumped { (p : ReadProgram) (r : Halting p.run) (last : HostModel) → Dumps p.run r last →
-        read_answer p ≡ ends (Done r.status) last }
+    ensures dumped { (p : ReadProgram) (r : Halting p.run) (n : HostModel) → Dumps p.run r n →
+        read_answer p ≡ ends (Done r.status) n }
 {}
 
 /// With the console, where the machine starts, the program answers what the session comes to, and leaves
@@ -64,7 +62,7 @@ pub fn sources_that_mean_are_assembled()
         written_answer w ≡ ends (Done 0) w.after }
     ensures done { (w : WrittenSource) → (source_object w.text).1 ≡ Ok tt → written_answer w ≡ ends (Done 0) w.after }
     ensures refused { (w : WrittenSource) (r : Refusal) → (source_object w.text).1 ≡ Err r →
-        written_answer w ≡ with_message (ends (refused_with r) w.after) }
+        written_answer w ≡ refused_answer w r }
 {}
 
 /// A source that is generated means the image of its program. It is done where the machine of this image
@@ -74,10 +72,9 @@ pub fn sources_that_mean_are_assembled()
 #[tactic(auto, using(crate::proofs::Completed::completed))]
 pub fn generated_sources_are_done()
     ensures means { (n : ℕ) → n ≤ 10000 → source_meaning (generated n) ≡ Ok (generated_image n) }
-    ensures written { (g : GeneratedRun) (after : HostModel) → lines_put (g.line ∷ []) g.left ≡ (true, after) →
-        product g.kind g.words g.old ≡ ends (Done 0) after }
-    ensures spared { (g : SparedRun) → answer_unscheduled (product g.kind g.words g.host)
-        ≡ ends (Done 0) (unscheduled (with_output g.left g.line)) }
+    ensures written { (g : GeneratedRun) (n : HostModel) → lines_put (g.line ∷ []) g.left ≡ (true, n) →
+        generated_answer g ≡ ends (Done 0) n }
+    ensures spared { (g : SparedRun) → spared_answer g ≡ ends (Done 0) (unscheduled (with_output g.left g.line)) }
 {}
 
 /// Where no call of the reading fails and the slots are as at the start, a file that is there is read,
@@ -87,13 +84,12 @@ pub fn generated_sources_are_done()
 /// for the number of calls and the list of those that fail. Where its machine halts within the steps of
 /// the order, the program is done.
 pub fn programs_that_are_there_are_run()
-    ensures read { (most : ℕ) (name : List ℕ) (m : HostModel) → IsReadable most name m →
-        without_count (file_bytes most name m).1 ≡ without_count m }
+    ensures read { (f : ReadableFile) → without_count (file_bytes f.most f.name f.host).1 ≡ without_count f.host }
     ensures run { (p : FoundProgram) → found_answer p ≡ said (run_answer (found_run p)) }
     ensures plain { (p : FoundProgram) (r : Halting (found_run p)) → p.order.dump ≡ false →
-        found_answer p ≡ ends (Done r.status) (unscheduled r.after) }
+        found_answer p ≡ halted_answer (found_run p) r }
     ensures dumped { (p : FoundProgram) (r : Halting (found_run p)) → p.order.dump ≡ true →
-        found_answer p ≡ ends (Done r.status) (dumped_host (found_run p) r) }
+        found_answer p ≡ dumped_answer (found_run p) r }
 {}
 
 /// With the console, where no call that the program makes fails, a source or an object that is there
@@ -111,6 +107,5 @@ pub fn consoles_of_what_is_there_answer_as_sessions()
 pub fn sources_that_are_there_are_assembled()
     ensures done { (p : FoundSource) → refusal p.text ≡ None →
         source_answer p ≡ ends (Done 0) (unscheduled (with_object_of p p.host)) }
-    ensures told { (p : FoundSource) → source_answer p
-        ≡ said (ends (assembled_outcome (source_object p.text).1) (with_object_of p (unscheduled p.host))) }
+    ensures told { (p : FoundSource) → source_answer p ≡ said (assembled_answer p (unscheduled p.host)) }
 {}

@@ -3,7 +3,7 @@ use Rattle.law_runs.proofs.SparedPrograms.{program-spared, halted-plain, halted-
 use Rattle.law_runs.proofs.complete.programs_that_are_there_are_run.Goals as goal
 
 pub returns-clause-read : goal.returns-clause-read
-returns-clause-read c = λ most name m h. file-left most name m h.place h.none h.slots h.found
+returns-clause-read c = λ f. file-left f.most f.name f.host f.place f.none f.slots f.found
 
 pub returns-clause-run : goal.returns-clause-run
 returns-clause-run c = λ p. program-spared p.kind p.words p.order p.form p.image p.host p.there p.none
