@@ -50,8 +50,8 @@ abbrev pub SameRings : OrderPair → Type 0
 SameRings r = r.one.ring ≡ r.other.ring
 
 -- what the program does over the list machine, with watchers
-abbrev pub list_watched : List Word → List Watching → HostModel → Answer
-list_watched words watchers m = watched_product list_machine words watchers m
+abbrev pub watching : List Word → List Watching → HostModel → Answer
+watching words watchers m = watched_product list_machine words watchers m
 
 -- the words of `gen`, without `--ring` and with it
 abbrev pub gen_words : Word → List Word

@@ -29,7 +29,7 @@ ghost use Rattle.law_runs.specs.WholeItems.{AreWholeItems};
 pub fn what_is_written_for_an_object_is_its_listing()
     ensures listing { (o : ReadObject) → IsWhole o.bytes × ListsObject o.bytes o.object }
     ensures only { (bytes : List ℕ) → AreBytes bytes → IsWhole bytes →
-        (object : Object) × (object_of bytes ≡ Ok object) × ListsObject bytes object }
+        (o : Object) × (object_of bytes ≡ Ok o) × ListsObject bytes o }
     ensures once { (a b : ListedObject) → text_for a.bytes ≡ text_for b.bytes → HaveSame a b }
     ensures reading { (bytes : List ℕ) (fault : MmoFault) → object_of bytes ≡ Err fault →
         (typed bytes).1 ≡ unread fault }

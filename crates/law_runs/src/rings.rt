@@ -18,7 +18,7 @@ ghost use Rattle.mx_top.specs.Reports.{due_reports, watched_product};
 ghost use Rattle.mx_top.specs.Telling.{reports_plan};
 ghost use Rattle.law_runs.specs.Called.{IsCalled, IsWatched};
 ghost use Rattle.law_runs.specs.Detour.{host_of};
-ghost use Rattle.law_runs.specs.Rings.{OrderPair, SameReports, SameRings, gen_ring_words, gen_words, list_watched};
+ghost use Rattle.law_runs.specs.Rings.{OrderPair, SameReports, SameRings, gen_ring_words, gen_words, watching};
 ghost use Rattle.law_runs.specs.Unbroken.{is_answer_told, is_run_told};
 
 /// Orders that differ in the size of the ring alone come to the same over the list machine. So, by the
@@ -29,7 +29,7 @@ pub fn two_rings_agree()
     ensures alone { (r : OrderPair) (m : HostModel) →
         product list_machine r.words m ≡ product list_machine r.others m }
     ensures watched { (r : OrderPair) (ws : List Watching) (m : HostModel) → SameReports r →
-        list_watched r.words ws m ≡ list_watched r.others ws m }
+        watching r.words ws m ≡ watching r.others ws m }
     ensures generated { (blocks ring : Word) (n size : ℕ) (m : HostModel) → blocks_value blocks ≡ Ok n →
         ring_value ring ≡ Ok size → product list_machine (gen_words blocks) m ≡
         product list_machine (gen_ring_words ring blocks) m }

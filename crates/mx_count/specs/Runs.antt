@@ -27,6 +27,7 @@ use Rattle.mx_outcome.specs.declared.outcome.Outcome.{Outcome}
 use Rattle.mx_outcome.specs.declared.outcome.Outcome.TheVariants.{OutOfMemory}
 use Rattle.mx_count.specs.Counting.{counts_in, counts_with}
 use Rattle.mx_count.specs.Sheets.{Counts, sheet_of, sheet_text, source_sheet, tallies_in}
+use Rattle.mx_count.specs.Tallies.{tally_in}
 use Rattle.mx_count.specs.declared.count.Counted.{Counted}
 use Rattle.mx_count.specs.declared.counts.Entry.{Entry}
 use Rattle.mx_count.specs.declared.lines.CountedLines.{CountedLines}
@@ -63,6 +64,10 @@ halting_in (meets_wild w) = []
 -- those of a run of at most n steps of the machine of a kind: its traces, and after them the step that halts
 abbrev pub steps_counted : MachineKind → ℕ → State → HostModel → List Trace
 steps_counted kind n s m = traces kind n s m ++ halting_in (ran kind n s m)
+
+-- how many they are
+abbrev pub step_count : ℕ → State → HostModel → ℕ
+step_count n s m = (tally_in (λ a. true) (steps_counted window_machine n s m)).times
 
 -- ---- what is counted
 

@@ -1,13 +1,13 @@
 -- The sheet of a run: each line of the source with what is counted of the steps at the tetras that it loads, then the sum of all
 -- steps. The form of the rows is this program's own.
-use Rattle.std.specs.Prelude.{ℕ, ◌+◌, ◌-◌, ◌==◌, ◌||◌, Bool, true, false, if◌then◌else◌, List, [], ◌∷◌, ◌++◌, length, take, drop, Option, None, Some, codes, decimal}
+use Rattle.std.specs.Prelude.{ℕ, ◌≡◌, ◌+◌, ◌-◌, ◌==◌, ◌||◌, Bool, true, false, if◌then◌else◌, List, [], ◌∷◌, ◌++◌, length, take, drop, Option, None, Some, codes, decimal}
 use Rattle.std.specs.List.{flat_map}
 use Rattle.mx_code.specs.declared.trace.Trace.{Trace}
 use Rattle.mx_line.specs.Lines.{lines_of}
 use Rattle.mx_view.specs.Loads.{loads_of}
 use Rattle.mx_view.specs.Rows.{numbered}
 use Rattle.mx_view.specs.declared.cells.Cell.{Cell}
-use Rattle.mx_count.specs.Tallies.{tally_in}
+use Rattle.mx_count.specs.Tallies.{added, tally_in}
 use Rattle.mx_count.specs.declared.lines.CountedLine.{CountedLine}
 use Rattle.mx_count.specs.declared.lines.LineSheet.{LineSheet}
 use Rattle.mx_count.specs.declared.tally.Tally.{Tally}
@@ -24,6 +24,10 @@ tallies_in h = λ test. tally_in test h
 unfoldable pub is_among : List Cell → ℕ → Bool
 is_among [] a = false
 is_among (c ∷ cells) a = c.address == a || is_among cells a
+
+-- the tally of these tetras is that of the first, and that of the others
+abbrev pub AddsTally : Cell → List Cell → List Trace → Type 0
+AddsTally c cells h = tally_in (is_among (c ∷ cells)) h ≡ added (tally_in (λ a. a == c.address) h) (tally_in (is_among cells) h)
 
 -- ---- as data
 

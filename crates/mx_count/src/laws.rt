@@ -1,6 +1,6 @@
 //! What counts come to, in words of the traces alone.
 
-ghost use Rattle.std.specs.Prelude.{◌≡◌, ◌+◌, ◌%◌, ◌^◌, ◌==◌, ◌&&◌, [], ◌∷◌, ℕ, Bool, List, codes, false, true, length, take};
+ghost use Rattle.std.specs.Prelude.{◌≡◌, ◌+◌, ◌%◌, ◌^◌, ◌&&◌, [], ℕ, Bool, List, codes, false, length, take};
 ghost use Rattle.std.specs.List.{filter, sum_by};
 ghost use Rattle.mx_core.specs.State.{State};
 ghost use Rattle.mx_run.specs.Runs.{no_flags, run};
@@ -8,10 +8,9 @@ ghost use Rattle.mx_code.specs.declared.trace.Trace.{Trace};
 ghost use Rattle.mx_host.specs.HostModel.{HostModel};
 ghost use Rattle.mx_view.specs.declared.cells.Cell.{Cell};
 ghost use Rattle.mx_costs.specs.Costs.{mems, oops};
-ghost use Rattle.mx_run.specs.WildRuns.{window_machine};
-ghost use Rattle.mx_count.specs.Runs.{steps_counted};
-ghost use Rattle.mx_count.specs.Sheets.{column, is_among};
-ghost use Rattle.mx_count.specs.Tallies.{added, code_in, goes_away, nothing, tally_in};
+ghost use Rattle.mx_count.specs.Runs.{step_count};
+ghost use Rattle.mx_count.specs.Sheets.{AddsTally, column, is_among};
+ghost use Rattle.mx_count.specs.Tallies.{code_in, goes_away, nothing, tally_in};
 
 /// The tally of addresses has the number of the traces there, how many of them have another next address than the one
 /// after it, and the sums of their υ and μ.
@@ -33,7 +32,7 @@ pub fn tallies_count_traces()
 pub fn lines_are_sums_over_their_tetras()
     ensures none { (h : List Trace) → tally_in (is_among []) h ≡ nothing }
     ensures more { (c : Cell) (cells : List Cell) (h : List Trace) → is_among cells c.address ≡ false →
-        tally_in (is_among (c ∷ cells)) h ≡ added (tally_in (λ a. a == c.address) h) (tally_in (is_among cells) h) }
+        AddsTally c cells h }
 {}
 
 /// A column begins with a blank, so the numbers of a row are apart, however many digits they have.
@@ -45,6 +44,6 @@ pub fn columns_stand_apart()
 /// grows by the number in the tally of all steps.
 #[tactic(auto, using(crate::proofs::CountedSteps::counting))]
 pub fn all_steps_are_counted()
-    ensures { (n : ℕ) (s : State) (m : HostModel) → (run n no_flags false s m).state.steps % 2 ^ 64
-        ≡ (s.steps + (tally_in (λ a. true) (steps_counted window_machine n s m)).times) % 2 ^ 64 }
+    ensures { (n : ℕ) (s : State) (m : HostModel) →
+        (run n no_flags false s m).state.steps % 2 ^ 64 ≡ (s.steps + step_count n s m) % 2 ^ 64 }
 {}
