@@ -1,6 +1,6 @@
 //! Laws of whole runs of the program where no call that is made fails.
 
-ghost use Rattle.std.specs.Prelude.{◌≡◌, List, None, Ok, Some, ℕ};
+ghost use Rattle.std.specs.Prelude.{◌≡◌, List, Ok, ℕ};
 ghost use Rattle.mx_host.specs.HostModel.{HostModel};
 ghost use Rattle.mx_mmo.specs.Image.{Image};
 ghost use Rattle.mx_load.specs.Objects.{object_loaded};
