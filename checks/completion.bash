@@ -23,7 +23,7 @@ offers() {
   fi
 }
 
-offers '--help|--version|asm|gen|multi|run|sim|type' mmixware ''
+offers '--help|--version|asm|gen|help|multi|run|sim|type' mmixware ''
 offers run mmixware r
 offers 'a.mms|b c.mms|programs' mmixware run ''
 offers 'b c.mms' mmixware run b
@@ -51,30 +51,32 @@ offers '' mmixware other ''
 
 offers '--help|--version|check|count|dap|debug|explain|help|list|lsp|page|where' mmixview ''
 offers 'check|count' mmixview c
-offers 'a.mms|b c.mms|programs' mmixview list ''
+offers 'a.mms|b c.mms|d.mmo|programs' mmixview list ''
 offers '' mmixview list a.mms ''
 offers a.mms mmixview check a
+offers 'a.mms|b c.mms|programs' mmixview check ''
 offers --json mmixview list -
 offers '--gnu|--json|--no-warnings' mmixview check -
 offers --no-warnings mmixview check --gnu --n
 offers a.mms mmixview list --json a
 offers --json mmixview where ''
-offers 'a.mms|b c.mms|programs' mmixview where '#100' ''
-offers 'a.mms|b c.mms|programs' mmixview where --json '#100' ''
+offers 'a.mms|b c.mms|d.mmo|programs' mmixview where '#100' ''
+offers 'a.mms|b c.mms|d.mmo|programs' mmixview where --json '#100' ''
 offers '--json|--ring|--steps' mmixview count -
 offers '--ring|--steps' mmixview count --json -
 offers '--ring|--steps' mmixview count --json --steps 9 -
 offers '1024|16384' mmixview count --ring 1
 offers '' mmixview count --steps ''
 offers a.mms mmixview count --ring 256 --steps 9 a
+offers d.mmo mmixview count d
 offers 'a.mms|b c.mms|d.mmo|notes|programs' mmixview count a.mms ''
 offers '--command|--file|--input|--ring|--steps' mmixview debug -
-offers 'a.mms|b c.mms|programs' mmixview debug ''
+offers 'a.mms|b c.mms|d.mmo|programs' mmixview debug ''
 offers notes mmixview debug --input n
 offers '--ring' mmixview debug --file notes --file d.mmo --r
 offers 'a.mms|b c.mms|d.mmo|notes|programs' mmixview debug --steps 9 a.mms ''
 offers '--file|--input|--json|--ring|--steps' mmixview page -
-offers 'a.mms|b c.mms|programs' mmixview page --json ''
+offers 'a.mms|b c.mms|d.mmo|programs' mmixview page --json ''
 offers notes mmixview page --input n
 offers 'a.mms|b c.mms|d.mmo|notes|programs' mmixview page a.mms ''
 offers 'check|count|dap|debug|explain|list|lsp|page|where' mmixview help ''

@@ -312,6 +312,33 @@ for option in $(repo/grade --help | grep -o -e '--[a-z]*'); do
   done
 done
 
+# the manual pages and the completion have each command and option of the programs, and README has each command
+commands_of() {
+  case $1 in
+    mmixware) sed -n 's/^ *\(usage: \)\{0,1\}mmixware \([a-z][a-z]*\) .*/\2/p' "$here/crates/mmixware/src/help.rt" ;;
+    mmixview) sed -n 's/^ *name: "\([a-z]*\)",$/\1/p' "$here/crates/mx_menu/src/table.rt" ;;
+  esac
+}
+
+options_of() {
+  case $1 in
+    mmixware) grep -o -e '--[a-z][a-z]*' "$here/crates/mmixware/src/help.rt" ;;
+    mmixview) sed -n 's/.*Form::[FV][a-z]*("\([a-z-]*\)").*/--\1/p' "$here/crates/mx_menu/src/table.rt" ;;
+  esac | sort -u
+}
+
+for tool in mmixware mmixview; do
+  [ -n "$(commands_of "$tool")" ] && [ -n "$(options_of "$tool")" ] || wrong "the commands or options of $tool are not found"
+  for word in $(commands_of "$tool") $(options_of "$tool"); do
+    for file in "docs/$tool.1" "completion/$tool.bash" "completion/_$tool"; do
+      sed 's/\\-/-/g' "$here/$file" | grep -q -e "\(^\|[^a-z-]\)$word\($\|[^a-z-]\)" || wrong "$file has no $word"
+    done
+  done
+  for word in $(commands_of "$tool"); do
+    grep -q "^| .*\`$tool ${word}[ \`]" "$here/README.md" || wrong "README.md has no $tool $word in its table"
+  done
+done
+
 # the manual page has each word of the debugger, and so has the list for completion, with what `info` shows
 words=$(sed -n 's/^ *name: "\(.*\)",$/\1/p' "$here/crates/mx_ask/src/table.rt")
 [ "$(printf '%s\n' $words breaks output registers ring symbols)" = "$(cat "$here/completion/debug.words")" ] ||

@@ -30,24 +30,24 @@ _mmixview() {
   given=$(_mmixview_given)
   case $COMP_CWORD/$command/$given/$before in
     1/*) words='list check where count debug page explain lsp dap help --help --version' ;;
-    */list/0/*) words='--json' files=.mms ;;
+    */list/0/*) words='--json' files=.mm[so] ;;
     */check/0/*) words='--json --gnu --no-warnings' files=.mms ;;
     */where/0/*) words='--json' ;;
-    */where/1/*) files=.mms ;;
-    2/count/*) words='--json --ring --steps' files=.mms ;;
+    */where/1/*) files=.mm[so] ;;
+    2/count/*) words='--json --ring --steps' files=.mm[so] ;;
     */count/0/--ring) words='256 512 1024 2048 4096 8192 16384 32768 65536' ;;
     */count/0/--steps) ;;
-    */count/0/*) words='--ring --steps' files=.mms ;;
+    */count/0/*) words='--ring --steps' files=.mm[so] ;;
     */count/*) files='' ;;
     */debug/0/--ring) words='256 512 1024 2048 4096 8192 16384 32768 65536' ;;
     */debug/0/--steps) ;;
     */debug/0/--command | */debug/0/--input | */debug/0/--file) files='' ;;
-    */debug/0/*) words='--command --input --file --ring --steps' files=.mms ;;
+    */debug/0/*) words='--command --input --file --ring --steps' files=.mm[so] ;;
     */debug/*) files='' ;;
     */page/0/--ring) words='256 512 1024 2048 4096 8192 16384 32768 65536' ;;
     */page/0/--steps) ;;
     */page/0/--input | */page/0/--file) files='' ;;
-    */page/0/*) words='--json --input --file --ring --steps' files=.mms ;;
+    */page/0/*) words='--json --input --file --ring --steps' files=.mm[so] ;;
     */page/*) files='' ;;
     2/help/*) words='list check where count debug page explain lsp dap' ;;
   esac

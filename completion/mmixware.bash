@@ -29,7 +29,7 @@ _mmixware() {
   local given words='' files=none
   given=$(_mmixware_given)
   case $COMP_CWORD/$command/$given/$before in
-    1/*) words='run sim asm gen type multi --help --version' ;;
+    1/*) words='run sim asm gen type multi help --help --version' ;;
     */run/0/--ring | */sim/0/--ring | */gen/0/--ring | */multi/0/--ring) words='256 512 1024 2048 4096 8192 16384 32768 65536' ;;
     */run/0/--steps | */sim/0/--steps | */multi/0/--steps | */run/0/--last | */sim/0/--last) ;;
     */run/0/*) words='--ring --steps -i --dump --report --last' files=.mms ;;

@@ -88,9 +88,14 @@ instead_text fault line place = other_text fault (operation_at line place) (oper
 
 -- ---- a number that is taken for an address
 
-unfoldable pub address_of_number : Line → Line
-address_of_number operands =
-    codes " " ++ after_comma operands ++ codes " is an address here: SET " ++ operands ++ codes " makes a number."
+unfoldable pub address_front : Line → Line
+address_front number = codes " " ++ number ++ codes " is an address here"
+
+unfoldable pub set_makes : Line → Line
+set_makes operands = codes ": SET " ++ operands ++ codes " makes a number."
+
+abbrev pub address_of_number : Line → Line
+address_of_number operands = address_front (after_comma operands) ++ set_makes operands
 
 -- a load: 76 is L
 abbrev pub is_load : Line → Bool

@@ -213,9 +213,12 @@ pub(crate) fn add_reach(
 fn add_go(text: &mut Bytes, operands: &[u8]) -> Result<(), NoMemory>
     ensures { OnOk result (text.new ≡ text.old ++ spec.go_text operands.now) }
 {
-    text.extend(b" GO $0,")?;
-    text.extend(operands)?;
-    text.extend(b" goes to the address in a register.")
+    add_between(
+        text,
+        b" GO $0,",
+        operands,
+        b" goes to the address in a register.",
+    )
 }
 
 /// Adds a store of a number.
@@ -223,9 +226,7 @@ fn add_go(text: &mut Bytes, operands: &[u8]) -> Result<(), NoMemory>
 fn add_stco(text: &mut Bytes, operands: &[u8]) -> Result<(), NoMemory>
     ensures { OnOk result (text.new ≡ text.old ++ spec.stco_text operands.now) }
 {
-    text.extend(b" STCO ")?;
-    text.extend(operands)?;
-    text.extend(b" stores a number up to 255.")
+    add_between(text, b" STCO ", operands, b" stores a number up to 255.")
 }
 
 /// Adds which other operation takes these operands, if one is known.
@@ -264,16 +265,28 @@ pub(crate) fn add_instead(
     )
 }
 
+/// Adds that a number is taken for an address.
+#[tactic(auto, unfolding(crate::specs::Additions::address_front))]
+fn add_address_front(text: &mut Bytes, number: &[u8]) -> Result<(), NoMemory>
+    ensures { OnOk result (text.new ≡ text.old ++ spec.address_front number.now) }
+{
+    add_between(text, b" ", number, b" is an address here")
+}
+
+/// Adds how SET makes a number.
+#[tactic(auto, unfolding(crate::specs::Additions::set_makes))]
+fn add_set_makes(text: &mut Bytes, operands: &[u8]) -> Result<(), NoMemory>
+    ensures { OnOk result (text.new ≡ text.old ++ spec.set_makes operands.now) }
+{
+    add_between(text, b": SET ", operands, b" makes a number.")
+}
+
 /// Adds what makes a number that is taken for an address.
-#[tactic(auto, unfolding(crate::specs::Additions::address_of_number))]
 fn add_address_of_number(text: &mut Bytes, operands: &[u8]) -> Result<(), NoMemory>
     ensures { OnOk result (text.new ≡ text.old ++ spec.address_of_number operands.now) }
 {
-    text.extend(b" ")?;
-    text.extend(skip_past_comma(operands))?;
-    text.extend(b" is an address here: SET ")?;
-    text.extend(operands)?;
-    text.extend(b" makes a number.")
+    add_address_front(text, skip_past_comma(operands))?;
+    add_set_makes(text, operands)
 }
 
 /// Whether an operation is a load.

@@ -2,6 +2,7 @@
 
 ghost use Rattle.std.specs.Prelude.{◌≡◌, ◌++◌, IfOk, OnOk};
 ghost use Rattle.std.specs.List.{flat_map};
+ghost use Rattle.mx_outcome.specs.Messages.{numbered_fault};
 ghost use Rattle.mx_view.specs.Listing.{refusal_in};
 ghost use Rattle.mx_view.specs.Refusals as spec;
 
@@ -33,15 +34,22 @@ fn add_line(
     add_marks(text, line.as_slice(), caret, length)
 }
 
-/// Adds a name that is meant perhaps.
+/// Adds the front of a question.
 #[tactic(auto, unfolding(crate::specs::Refusals::question))]
+fn add_question(text: &mut Bytes) -> Result<(), NoMemory>
+    ensures { OnOk result (text.new ≡ text.old ++ spec.question) }
+{
+    text.extend(b"    Did you mean `")
+}
+
+/// Adds a name that is meant perhaps.
 fn add_meant(text: &mut Bytes, name: &[u8]) -> Result<(), NoMemory>
     ensures { OnOk result (text.new ≡ text.old ++ spec.meant_text name.now) }
 {
     if name.is_empty() {
         return Ok(());
     }
-    text.extend(b"    Did you mean `")?;
+    add_question(text)?;
     text.extend(name)?;
     text.extend(b"`?\n")
 }
@@ -71,6 +79,15 @@ fn add_label(text: &mut Bytes, refused: Refusal) -> Result<(), NoMemory>
     add_decimal(text, u64::from(refused.line))
 }
 
+/// Adds the number and the name of a fault.
+fn add_fault(text: &mut Bytes, number: u16) -> Result<(), NoMemory>
+    ensures { OnOk result (text.new ≡ text.old ++ numbered_fault number) }
+{
+    add_decimal(text, u64::from(number))?;
+    text.extend(b" ")?;
+    text.extend(fault_name(number).as_bytes())
+}
+
 /// Adds the number of the line at fault, and the number and the name of the fault.
 #[tactic(auto, unfolding(crate::specs::Refusals::heading_text))]
 fn add_heading(text: &mut Bytes, fault: &ToldFault) -> Result<(), NoMemory>
@@ -79,9 +96,7 @@ fn add_heading(text: &mut Bytes, fault: &ToldFault) -> Result<(), NoMemory>
     text.extend(b"line ")?;
     add_decimal(text, u64::from(fault.at_line))?;
     text.extend(b": ")?;
-    add_decimal(text, u64::from(fault.refused.fault))?;
-    text.extend(b" ")?;
-    text.extend(fault_name(fault.refused.fault).as_bytes())?;
+    add_fault(text, fault.refused.fault)?;
     add_label(text, fault.refused)?;
     text.extend(b"\n")
 }
