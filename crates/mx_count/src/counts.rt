@@ -1,6 +1,7 @@
 //! What is counted at each address.
 
-ghost use Rattle.std.specs.Prelude.{◌≡◌, ◌<◌, ◌++◌, ◌∷◌, [], ℕ, Bool, IfOk, IfSome, IsTrue, OnOk, OnErr, length, slice_set, if◌then◌else◌};
+ghost use Rattle.std.specs.Prelude.{◌≡◌, ◌<◌, ◌++◌, ◌∷◌, [], ℕ, Bool, length, slice_set, if◌then◌else◌};
+ghost use Rattle.std.specs.Prelude.{IfOk, IfSome, IsTrue, OnErr, OnOk};
 ghost use Rattle.mx_count.specs.Counting.{IsAt, kept_tally};
 ghost use Rattle.mx_count.specs.Tallies as tallies;
 
