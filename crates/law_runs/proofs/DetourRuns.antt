@@ -57,6 +57,7 @@ use Rattle.mx_files.specs.Assembling.{assembled_outcome}
 use Rattle.mx_files.proofs.FileEnds.{assembled-later}
 use Rattle.mx_top.specs.MachineWork.{Work, WorkCall, of_host, stepping, reporting, keeping, sitting as sitting_call, work_goes, machine_plan, back_plan}
 use Rattle.mx_top.specs.Product.{ordered_plan, work_plan, work_on, worked, at_start, answer_of, product}
+use Rattle.mx_begin.specs.Ends.{outcome_of}
 use Rattle.mx_top.specs.Runs as runs
 use Rattle.mx_top.specs.Telling.{message_plan, with_message}
 use Rattle.mx_top.specs.WorkClauses.{answer_by}
@@ -281,7 +282,7 @@ IsUnrefused (ends outcome m) = is_refusal outcome ≡ false
 IsUnrefused (meets_wild m) = Unit {0}
 
 -- no run does, and no session
-run-unrefused : (steps : ℕ) (e : End) → is_refusal (runs.outcome_of steps e) ≡ false
+run-unrefused : (steps : ℕ) (e : End) → is_refusal (outcome_of steps e) ≡ false
 run-unrefused steps (ending.Halted status) = refl
 run-unrefused steps (ending.Stopped pc reason) = refl
 run-unrefused steps (ending.Broke kind at traced) = refl
@@ -305,7 +306,7 @@ Unrefused outcome = is_refusal outcome ≡ false
 abbrev Any : (o : HostCall) → HostSays o → Type 0
 Any o r = Unit {0}
 
-ends-unrefused : (n : ℕ) (c : Course End RunWorld) → Answers (λ e. Unrefused (runs.outcome_of n e)) c
+ends-unrefused : (n : ℕ) (c : Course End RunWorld) → Answers (λ e. Unrefused (outcome_of n e)) c
 ends-unrefused n (ends e w) = run-unrefused n e
 ends-unrefused n (meets_wild w) = tt
 

@@ -19,7 +19,8 @@ use Rattle.mx_outcome.specs.declared.outcome.Outcome.{Outcome}
 use Rattle.mx_outcome.specs.declared.outcome.Outcome.TheVariants.{Done, HostFault}
 use Rattle.mx_dump.specs.Dump.{Line}
 use Rattle.mx_top.specs.MachineWork.{Work, WorkCall, of_host, stepping, reporting, keeping, sitting, going_back, dumping, summing, WorkSays, WorkPlan, host_in_work, ran, sat, calling, dumped_plan, then_dumped, back_plan, sitting_plan, kept_plan, reported_plan, stepped_plan, machine_plan, summed_plan, generated_work}
-use Rattle.mx_top.specs.Runs.{generator_steps, outcome_of, session_outcome, is_done, takes_back}
+use Rattle.mx_begin.specs.Ends.{outcome_of}
+use Rattle.mx_top.specs.Runs.{generator_steps, session_outcome, is_done, takes_back}
 use Rattle.mx_top.specs.Telling.{telling, written_with}
 
 -- of what calls of the host may answer something is known

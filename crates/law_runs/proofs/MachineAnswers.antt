@@ -34,7 +34,8 @@ use Rattle.mx_top.specs.Endings as end
 use Rattle.mx_top.specs.MachineWork as work
 use Rattle.mx_top.specs.MachineWork.{Work, WorkPlan, work_goes, calling, keeping}
 use Rattle.mx_top.specs.Product.{at_start, worked, answer_of, told_of}
-use Rattle.mx_top.specs.Runs.{outcome_of, session_outcome}
+use Rattle.mx_begin.specs.Ends.{outcome_of}
+use Rattle.mx_top.specs.Runs.{session_outcome}
 use Rattle.mx_top.specs.Telling.{telling, written_with}
 use Rattle.mx_top.specs.WorkClauses.{work_by}
 use Rattle.mx_top.proofs.Followed.{ComesTo, beside, to-dumped, to-back}

@@ -22,7 +22,7 @@ use Rattle.mx_words.specs.Values.{blocks_value, is_number, is_option, ring_value
 use Rattle.mx_words.specs.declared.order.Command.{Command}
 use Rattle.mx_words.specs.declared.order.Command.TheVariants.{Run, Asm, Sim, Gen, Show, Multi}
 use Rattle.mx_words.specs.declared.order.Order.{Order}
-use Rattle.law_gen.specs.Generator.{generated}
+use Rattle.mx_gen.specs.Generator.{generated}
 use Rattle.mx_files.specs.FilePlans.{Part, on_ok}
 use Rattle.mx_files.specs.ObjectPlans.{assemble_plan, list_plan}
 use Rattle.mx_files.specs.Schedules.{schedule_plan}
@@ -230,5 +230,3 @@ gen-row m = rings-generated (codes "1") (codes "512") 1 512 refl m refl
 
 pub gen-agrees : (blocks ring : Word) (n size : ℕ) (m : HostModel) → blocks_value blocks ≡ Ok n → ring_value ring ≡ Ok size → product list_machine (gen_words blocks) m ≡ product list_machine (gen_ring_words ring blocks) m
 gen-agrees blocks ring n size m counts is = rings-generated blocks ring n size counts m is
-
-pub ruleset rings = (rings-agree, rings-watched, reports-alone)

@@ -44,7 +44,7 @@ use Rattle.mx_words.specs.declared.order.Command.TheVariants.{Run, Asm, Sim, Gen
 use Rattle.mx_words.specs.declared.order.Order.{Order}
 use Rattle.mx_words.specs.declared.order.WordsFault.{WordsFault}
 use Rattle.mx_begin.specs.Arguments.{Word, word_at, arguments}
-use Rattle.law_gen.specs.Generator.{generated}
+use Rattle.mx_gen.specs.Generator.{generated}
 use Rattle.mx_files.specs.Typed.{Typed, trie_typed, tail_typed, end_typed, typed}
 use Rattle.mx_outcome.specs.Messages.{message_of}
 use Rattle.mx_files.specs.Objects.{Assembled, source_object}
@@ -55,7 +55,7 @@ use Rattle.mx_top.specs.MachineWork.{Work, WorkCall, of_host, stepping, reportin
 use Rattle.mx_top.specs.Processors.{multi_outcome}
 use Rattle.mx_top.specs.Product as page
 use Rattle.mx_top.specs.Product.{ProgramCall, on_machine, taking_turns, ProgramSays, ProgramWorld, ProgramPlan, program_goes, at_start, joint_at_start, worked, work_on, turned, on_part, run_on, run_file, run_source, run_text, turns_from, turns_on, object_file, ordered_plan, work_plan, product_plan, product_course, answer_of, product}
-use Rattle.mx_top.specs.Runs as runs
+use Rattle.mx_begin.specs.Ends.{outcome_of}
 use Rattle.mx_top.specs.Runs.{session_outcome}
 use Rattle.mx_top.specs.Telling.{telling, message_if, message_plan}
 use Rattle.mx_begin.specs.BeginPlans.{image_plan, image_file_plan}
@@ -295,7 +295,7 @@ end-told steps sitting_end.Limit h = refl
 end-told steps sitting_end.HostFault h = refl
 end-told steps sitting_end.OutOfMemory h = absurd (cc)
 
-run-told : (n : ℕ) (c : Course End RunWorld) → EndsSo Told c → Answers (λ e. OutcomeTold (runs.outcome_of n e)) c
+run-told : (n : ℕ) (c : Course End RunWorld) → EndsSo Told c → Answers (λ e. OutcomeTold (outcome_of n e)) c
 run-told n (ends e w) h = h n
 run-told n (meets_wild w) h = tt
 
@@ -303,7 +303,7 @@ session-told : (n : ℕ) (c : Course SessionEnd SessionWorld) → sessions.is_to
 session-told n (ends e w) h = end-told n e h
 session-told n (meets_wild w) h = tt
 
-runs-told : (kind : MachineKind) (n : ℕ) (w : Work) → Answers (λ e. OutcomeTold (runs.outcome_of n e)) (run_by kind n no_flags false w.machine w.host)
+runs-told : (kind : MachineKind) (n : ℕ) (w : Work) → Answers (λ e. OutcomeTold (outcome_of n e)) (run_by kind n no_flags false w.machine w.host)
 runs-told kind n w = run-told n (run_by kind n no_flags false w.machine w.host) (run-course-told kind n w.machine w.host)
 
 work-told : (kind : MachineKind) (o : WorkCall) (w : Work) → Answers (WorkMay May OutcomeTold o) (work_goes kind o w)

@@ -58,6 +58,9 @@ reads coming (b ∷ bs) = joined (settled (with_byte coming b)) (reads (settled 
 abbrev pub nothing : Coming
 nothing = Head []
 
+abbrev pub read_all : List ℕ → Read
+read_all stream = reads nothing stream
+
 abbrev pub frames_of : List ℕ → List Frame
 frames_of stream = (reads nothing stream).frames
 

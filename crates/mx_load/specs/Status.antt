@@ -1,9 +1,9 @@
 -- What there is after the items that a loader took.
-use Rattle.std.specs.Prelude.{◌≡◌, ◌≢◌, Option, Some, None, Result, Ok, Err}
+use Rattle.std.specs.Prelude.{◌≡◌, ◌≢◌, List, Option, Some, None, Result, Ok, Err}
 use Rattle.std.specs.Ordering.{nat_cmp}
 use Rattle.std.specs.BTreeSet.{contains}
 use Rattle.mx_mmo.specs.Image.{Image}
-use Rattle.mx_mmo.specs.Meaning.{Loading, Meaningless, take_item}
+use Rattle.mx_mmo.specs.Meaning.{Loading, Meaningless, nothing, take_item, take_items}
 use Rattle.mx_mmo.specs.declared.items.Item.{Item}
 use Rattle.mx_load.specs.Faults.{given, told}
 use Rattle.mx_load.specs.Kept.{image_of}
@@ -53,3 +53,7 @@ answer (Err fault) = Err fault
 abbrev pub image_in : Result Loading LoadFault → Result Image LoadFault
 image_in (Ok s) = Ok s.image
 image_in (Err fault) = Err fault
+
+-- what items are loaded as
+abbrev pub items_loaded : List Item → Result Loading LoadFault
+items_loaded items = told (take_items items (Ok nothing))

@@ -33,10 +33,10 @@ pub fn reading_is_the_grammar()
 
 /// The first fault of an object's bytes is the one that the table of faults has for them.
 pub fn faults_are_the_table()
-    ensures found { (bytes : List ℕ) (fault : MmoFault) → AreBytes bytes → length bytes ≤ limit →
-        object_fault bytes ≡ Some fault → FaultOf bytes fault }
-    ensures only { (bytes : List ℕ) (fault : MmoFault) → AreBytes bytes → length bytes ≤ limit →
-        FaultOf bytes fault → object_fault bytes ≡ Some fault }
+    ensures found { (bytes : List ℕ) (f : MmoFault) → AreBytes bytes → length bytes ≤ limit →
+        object_fault bytes ≡ Some f → FaultOf bytes f }
+    ensures only { (bytes : List ℕ) (f : MmoFault) → AreBytes bytes → length bytes ≤ limit →
+        FaultOf bytes f → object_fault bytes ≡ Some f }
 {}
 
 /// An item begins where the items before it end.
@@ -48,8 +48,8 @@ pub fn items_are_at_their_places()
 /// The items of bytes are the first one and those of the bytes after it; and where more bytes come,
 /// the items before stay, and the walk goes on with what was left.
 pub fn items_come_in_turn()
-    ensures first { (phase : Phase) (at : ℕ) (bytes : List ℕ) →
-        items_of phase at bytes ≡ walk_on items_of phase at bytes (first_item phase at bytes) }
-    ensures more { (phase : Phase) (at : ℕ) (front more : List ℕ) →
-        items_of phase at (front ++ more) ≡ extended (items_of phase at front) more }
+    ensures first { (p : Phase) (at : ℕ) (bytes : List ℕ) →
+        items_of p at bytes ≡ walk_on items_of p at bytes (first_item p at bytes) }
+    ensures more { (p : Phase) (at : ℕ) (front more : List ℕ) →
+        items_of p at (front ++ more) ≡ extended (items_of p at front) more }
 {}

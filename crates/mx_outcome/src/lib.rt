@@ -5,6 +5,6 @@ mod messages;
 mod names;
 mod outcome;
 
-pub use messages::message;
+pub use messages::{add_fault, message};
 pub use names::{fault_name, usage_name};
 pub use outcome::Outcome;

@@ -11,7 +11,7 @@ use mx_words::WordsFault;
 use std::alloc::Global;
 
 /// Adds the number and the name of a fault.
-fn add_fault(text: &mut Bytes, number: u16) -> Result<(), NoMemory>
+pub fn add_fault(text: &mut Bytes, number: u16) -> Result<(), NoMemory>
     ensures { OnOk result (text.new ≡ text.old ++ spec.numbered_fault number) }
 {
     add_decimal(text, u64::from(number))?;

@@ -19,7 +19,8 @@ use Rattle.mx_files.proofs.FileClauses.{end-words, part-keeps}
 use Rattle.mx_files.proofs.Serving.{only-lines}
 use Rattle.mx_begin.specs.Arguments.{Word}
 use Rattle.mx_files.specs.Failing.{FailsOnlyBy}
-use Rattle.mx_top.specs.Causes.{Causes, IsOfMachine}
+use Rattle.mx_begin.specs.Ends.{IsOfMachine}
+use Rattle.mx_top.specs.Causes.{Causes}
 
 -- no call, and an outcome that tells no fault of the host
 pub fails-nowhere : {H : Type 0} (told : H → Option HostModel) (faults : H → ℕ) (h : H) (r : Outcome) → IsOfMachine r → FailsOnlyBy told faults h h r

@@ -19,7 +19,7 @@ use Rattle.mx_outcome.specs.declared.outcome.Outcome.{Outcome}
 use Rattle.mx_top.specs.Endings as end
 use Rattle.mx_top.specs.MachineWork as work
 use Rattle.mx_top.specs.MachineWork.{WorkPlan}
-use Rattle.mx_top.specs.Runs.{outcome_of}
+use Rattle.mx_begin.specs.Ends.{outcome_of}
 use Rattle.mx_top.specs.WorkClauses.{DoesWork, HearsWork, work_by}
 use Rattle.mx_top.proofs.Followed.{to-dumped, to-back}
 use Rattle.mx_top.proofs.Heard.{quiet-work}

@@ -14,7 +14,7 @@ use Rattle.mx_outcome.specs.Kinds.{leaves_machine}
 use Rattle.mx_outcome.specs.declared.outcome.Outcome.{Outcome}
 use Rattle.mx_outcome.specs.declared.outcome.Outcome.TheVariants.{Done, OutOfMemory}
 use Rattle.mx_files.specs.FilePlans.{lines_plan}
-use Rattle.law_gen.specs.Generator.{summary}
+use Rattle.mx_gen.specs.Generator.{summary}
 use Rattle.mx_dump.specs.Dump.{Line, dump_lines}
 use Rattle.mx_top.specs.Endings as end
 use Rattle.mx_top.specs.MachineWork as work

@@ -25,7 +25,8 @@ use Rattle.mx_outcome.specs.declared.outcome.Outcome.{Outcome}
 use Rattle.mx_outcome.specs.declared.outcome.Outcome.TheVariants.{OutOfMemory}
 use Rattle.mx_top.specs.MachineWork.{Work, WorkCall, WorkSays, WorkPlan, working, work_goes, host_in_work, calling, stepping, reporting, keeping, sitting as seated, after_run, after_session}
 use Rattle.mx_top.specs.Product.{at_start, worked, answer_of, told_of}
-use Rattle.mx_top.specs.Runs.{outcome_of, session_outcome}
+use Rattle.mx_begin.specs.Ends.{outcome_of}
+use Rattle.mx_top.specs.Runs.{session_outcome}
 use Rattle.mx_top.specs.WorkClauses.{CarriesOutWorkOnBoth, WorkComes, left_of, work_by}
 use Rattle.mx_top.proofs.Followed.{ComesTo, work-comes}
 use Rattle.mx_top.proofs.PlainEnds.{ended-well}

@@ -22,11 +22,12 @@ use Rattle.mx_words.specs.declared.order.Order.{Order}
 use Rattle.mx_outcome.specs.Kinds.{leaves_machine}
 use Rattle.mx_outcome.specs.declared.outcome.Outcome.{Outcome}
 use Rattle.mx_outcome.specs.declared.outcome.Outcome.TheVariants.{Done}
-use Rattle.law_gen.specs.Generator.{summary}
+use Rattle.mx_gen.specs.Generator.{summary}
 use Rattle.mx_files.specs.FilePlans.{lines_plan}
 use Rattle.mx_dump.specs.Dump.{Line, dump_lines}
 use Rattle.mx_top.specs.Telling.{telling}
-use Rattle.mx_top.specs.Runs.{generator_steps, outcome_of, session_outcome, is_done, takes_back, state_lines, reached}
+use Rattle.mx_begin.specs.Ends.{outcome_of}
+use Rattle.mx_top.specs.Runs.{generator_steps, session_outcome, is_done, takes_back, state_lines, reached}
 
 -- ---- the world and its calls
 

@@ -3,7 +3,7 @@
 ghost use Rattle.std.specs.Prelude.{◌≡◌, ◌≢◌, false};
 ghost use Rattle.mx_core.specs.Kept.{state_of};
 ghost use Rattle.mx_top.specs.Runs as spec;
-ghost use Rattle.mx_top.specs.Causes.{IsOfMachine};
+ghost use Rattle.mx_begin.specs.Ends.{IsOfMachine};
 ghost use Rattle.mx_top.specs.MachineWork as work;
 ghost use Rattle.mx_top.specs.WorkClauses.{DoesWork};
 

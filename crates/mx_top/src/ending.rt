@@ -3,7 +3,7 @@
 ghost use Rattle.std.specs.Prelude.{◌≡◌, ◌&&◌};
 ghost use Rattle.mx_core.specs.Kept.{state_of};
 ghost use Rattle.mx_outcome.specs.Kinds.{leaves_machine};
-ghost use Rattle.mx_top.specs.Causes.{IsOfMachine};
+ghost use Rattle.mx_begin.specs.Ends.{IsOfMachine};
 ghost use Rattle.mx_top.specs.Endings as plans;
 ghost use Rattle.mx_top.specs.WorkClauses.{DoesNext};
 

@@ -5,15 +5,15 @@ ghost use Rattle.mx_back.specs.History.{AreNotesOf, states_before};
 ghost use Rattle.mx_core.specs.Kept.{state_of};
 ghost use Rattle.mx_files.specs.Clauses.{DoesPart};
 ghost use Rattle.mx_files.specs.FilePlans.{lines_plan};
-ghost use Rattle.mx_top.specs.Causes.{IsOfMachine};
+ghost use Rattle.mx_begin.specs.Ends.{IsOfMachine};
 ghost use Rattle.mx_top.specs.Endings as plans;
 ghost use Rattle.mx_top.specs.MachineWork as work;
 ghost use Rattle.mx_top.specs.Runs as spec;
 ghost use Rattle.mx_top.specs.WorkClauses.{DoesNext, DoesWork};
 
 use crate::ending::tell_end;
-use crate::run::outcome_of;
 use mx_back::{Back, BackFault, run_kept};
+use mx_begin::outcome_of;
 use mx_core::Machine;
 use mx_files::write_line;
 use mx_host::Host;

@@ -8,7 +8,7 @@ ghost use Rattle.mx_multi.specs.Joint.{NoneTouched, joint_of, processor_count};
 ghost use Rattle.mx_multi.specs.Schedules.{AreNames};
 ghost use Rattle.mx_files.specs.Schedules.{AreEight};
 ghost use Rattle.mx_top.specs.Processors as spec;
-ghost use Rattle.mx_top.specs.Causes.{IsOfMachine};
+ghost use Rattle.mx_begin.specs.Ends.{IsOfMachine};
 ghost use Rattle.mx_top.specs.Product as page;
 ghost use Rattle.mx_top.specs.Telling as tells;
 ghost use Rattle.mx_top.specs.WorkClauses.{DoesNext, DoesProgram};

@@ -19,7 +19,7 @@ pub use laws::{
 };
 pub use profile::Profile;
 pub use reporting::{Texts, collect_reports};
-pub use running::run_with_watchers;
+pub use running::{run_with_watchers, trace_step};
 pub use telling::{Report, Reports};
 pub use watcher::{Watcher, Wish};
 pub use watching::watch;

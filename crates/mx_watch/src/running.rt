@@ -83,7 +83,7 @@ fn listen<H: Host>(
         (map meaning watchers.new.items) kept.new }
 {
     for _made in 0..n {
-        match next_trace(alloc, machine, host) {
+        match trace_step(alloc, machine, host) {
             Ok(trace) => match tell_all(watchers, places, kept, &trace) {
                 Ok(()) => {}
                 Err(_) => return End::OutOfMemory,
@@ -94,9 +94,13 @@ fn listen<H: Host>(
     End::Spent
 }
 
-/// A step of a run without flags: its trace, or the end of the run.
+/// Makes a step of a run without flags. Answers its trace, or the end of the run.
 #[tactic(auto, using(mx_run::proofs::FreeRuns::turned))]
-fn next_trace<H: Host>(alloc: Global, machine: &mut Machine, host: &mut H) -> Result<Trace, End>
+pub fn trace_step<H: Host>(
+    alloc: Global,
+    machine: &mut Machine,
+    host: &mut H,
+) -> Result<Trace, End>
     ensures told { StepsTo (H.told host.old) (H.told host.new) (state_of machine.old) (state_of machine.new) result }
     ensures has_window { HasWindow (state_of machine.old) }
     ensures bound { IsLater 1 (state_of machine.old) (state_of machine.new) }
