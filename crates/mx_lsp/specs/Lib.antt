@@ -1,3 +1,6 @@
 pub mod Documents
+pub mod Edits
 pub mod Lines
+pub mod Messages
+pub mod Requests
 pub mod Sessions

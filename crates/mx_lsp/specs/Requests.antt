@@ -1,0 +1,126 @@
+-- What requests are answered: each answer is a function of the mark of the request, of what it asks for and of the text that is open.
+-- (Language Server Protocol, "Base Protocol", "Server lifecycle" and "Language Features".)
+use Rattle.std.specs.Prelude.{◌≡◌, ℕ, Bool, true, false, List, ◌++◌, Option, None, Some, codes, ◌⊎◌}
+use Rattle.mx_changes.specs.Changes.{Renames}
+use Rattle.mx_changes.specs.Layouts.{Formats}
+use Rattle.mx_changes.specs.declared.renaming.Change.{Change}
+use Rattle.mx_changes.specs.declared.renaming.Change.TheVariants.{Done, Refused as RefusedChange}
+use Rattle.mx_frames.specs.Columns.{place_of}
+use Rattle.mx_hover.specs.Completions.{completion}
+use Rattle.mx_hover.specs.Hovers.{hover}
+use Rattle.mx_hover.specs.Signatures.{signature}
+use Rattle.mx_line.specs.Lines.{lines_of}
+use Rattle.mx_marks.specs.Mending.{line_text}
+use Rattle.mx_references.specs.Outline.{outline}
+use Rattle.mx_references.specs.Uses.{definition, highlights, name_range, references}
+use Rattle.mx_wire.specs.Replies.{answer_front, refusal_body, result_body}
+use Rattle.mx_wire.specs.declared.replies.Refused.TheVariants.{Failed, NoMemory, NoMethod, NoRequest}
+use Rattle.serde_json.specs.Data.{Data}
+use Rattle.mx_lsp.specs.Documents.{text_of}
+use Rattle.mx_lsp.specs.Lines.{number_of}
+use Rattle.mx_lsp.specs.Messages.{IsTextOf, number_at, text_at, uri_of, wants_label}
+use Rattle.mx_lsp.specs.declared.message.Method.{Method}
+use Rattle.mx_lsp.specs.declared.message.Method.TheVariants.{Initialize, Shutdown, Exit, DidOpen, DidChange, DidClose, Hover, Definition, References, Highlight, PrepareRename, Rename, Symbols, Completion, Signature, Formatting, Other}
+use Rattle.mx_lsp.specs.declared.session.Session.{Session}
+
+-- ---- the place of a request
+
+abbrev pub line_in : Data → ℕ
+line_in message = number_of (number_at (codes "/params/position/line") message)
+
+abbrev pub from_in : Data → List ℕ → ℕ
+from_in message source =
+    place_of (line_text (line_in message) (lines_of source)) (number_at (codes "/params/position/character") message)
+
+-- ---- requests about a text
+
+-- the result of one that changes nothing
+abbrev pub result_at : Method → List ℕ → ℕ → ℕ → Bool → List ℕ → List ℕ
+result_at Hover uri line from has_labels source = hover line from source
+result_at Definition uri line from has_labels source = definition uri line from source
+result_at References uri line from has_labels source = references uri line from has_labels source
+result_at Highlight uri line from has_labels source = highlights line from source
+result_at PrepareRename uri line from has_labels source = name_range line from source
+result_at Symbols uri line from has_labels source = outline source
+result_at Completion uri line from has_labels source = completion line from source
+result_at Signature uri line from has_labels source = signature line from source
+result_at method uri line from has_labels source = codes "null"
+
+abbrev pub result_in : Method → Data → List ℕ → List ℕ
+result_in method message source = result_at method (uri_of message) (line_in message) (from_in message source) (wants_label message) source
+
+-- the answer by a change, which is done or refused
+abbrev pub IsChangeAnswer : List ℕ → Change → List ℕ → Type 0
+IsChangeAnswer id (Done result) body = body ≡ result_body id result
+IsChangeAnswer id (RefusedChange why) body = body ≡ refusal_body id Failed why.now
+
+-- a name is changed, where the program stays as it is
+pub record IsRenameAnswer (id uri : List ℕ) (line from : ℕ) (name source body : List ℕ) : Type 0 where
+  pub change : Change
+  pub renames : Renames uri line from name source change
+  pub answer : IsChangeAnswer id change body
+
+-- the layout of a text is changed, where the program stays as it is
+pub record IsLayoutAnswer (id source body : List ℕ) : Type 0 where
+  pub change : Change
+  pub formats : Formats source change
+  pub answer : IsChangeAnswer id change body
+
+abbrev pub IsTextAnswer : List ℕ → Method → Data → List ℕ → List ℕ → Type 0
+IsTextAnswer id Rename message source body =
+    IsRenameAnswer id (uri_of message) (line_in message) (from_in message source) (text_at (codes "/params/newName") message) source body
+IsTextAnswer id Formatting message source body = IsLayoutAnswer id source body
+IsTextAnswer id method message source body = body ≡ result_body id (result_in method message source)
+
+abbrev pub IsAnswerIf : List ℕ → Method → Data → Option (List ℕ) → List ℕ → Type 0
+IsAnswerIf id method message None body = body ≡ refusal_body id Failed (codes "this text is not open")
+IsAnswerIf id method message (Some source) body = IsTextAnswer id method message source body
+
+-- ---- all requests
+
+-- what the server offers: changes of a text come by ranges
+unfoldable pub offers : List ℕ
+offers =
+    codes "{\"capabilities\":{\"textDocumentSync\":{\"openClose\":true,\"change\":2},\"hoverProvider\":true,"
+    ++ codes "\"definitionProvider\":true,\"referencesProvider\":true,\"documentHighlightProvider\":true,"
+    ++ codes "\"renameProvider\":{\"prepareProvider\":true},\"documentSymbolProvider\":true,\"completionProvider\":{},"
+    ++ codes "\"signatureHelpProvider\":{\"triggerCharacters\":[\" \",\",\"]},\"documentFormattingProvider\":true},"
+    ++ codes "\"serverInfo\":{\"name\":\"mmixview\"}}"
+
+abbrev pub no_request : List ℕ → List ℕ
+no_request id = refusal_body id NoMethod (codes "there is no such request")
+
+-- before shutdown
+abbrev pub IsOpenAnswer : Session → List ℕ → Method → Data → List ℕ → Type 0
+IsOpenAnswer s id Initialize message body = body ≡ result_body id offers
+IsOpenAnswer s id Shutdown message body = body ≡ result_body id (codes "null")
+IsOpenAnswer s id Exit message body = body ≡ no_request id
+IsOpenAnswer s id DidOpen message body = body ≡ no_request id
+IsOpenAnswer s id DidChange message body = body ≡ no_request id
+IsOpenAnswer s id DidClose message body = body ≡ no_request id
+IsOpenAnswer s id Other message body = body ≡ no_request id
+IsOpenAnswer s id method message body = IsAnswerIf id method message (text_of s.documents (uri_of message)) body
+
+-- before shutdown, or after it
+abbrev pub IsAnswerAt : Bool → Session → List ℕ → Method → Data → List ℕ → Type 0
+IsAnswerAt true s id method message body = body ≡ refusal_body id NoRequest (codes "the session is shut down")
+IsAnswerAt false s id method message body = IsOpenAnswer s id method message body
+
+-- an answer with the text of a mark; or that there was no memory
+abbrev pub IsAnswerOf : Session → List ℕ → Method → Data → List ℕ → Type 0
+IsAnswerOf s id method message body =
+    IsAnswerAt s.is_shut s id method message body ⊎ (body ≡ refusal_body id NoMemory (codes "out of memory"))
+
+-- the answer to a request carries its mark
+pub record IsAnswer (s : Session) (id : Data) (method : Method) (message : Data) (body : List ℕ) : Type 0 where
+  pub text : List ℕ
+  pub mark : IsTextOf id text
+  pub answer : IsAnswerOf s text method message body
+
+-- a body begins as an answer with the text of a mark
+abbrev pub Carries : Data → List ℕ → Type 0
+Carries id body = (text : List ℕ) × IsTextOf id text × ((rest : List ℕ) × (body ≡ answer_front text ++ rest))
+
+abbrev pub after_request : Session → Method → Session
+after_request s Shutdown = record s { is_shut = true }
+after_request s method = s

@@ -1,0 +1,246 @@
+//! Requests, and what they are answered.
+
+ghost use Rattle.std.specs.Prelude.{◌≡◌, IfOk, option_copied};
+ghost use Rattle.serde_json.specs.View.{view};
+ghost use Rattle.mx_wire.specs.Replies.{result_body};
+ghost use Rattle.mx_lsp.specs.Requests as spec;
+
+use crate::documents::text_of;
+use crate::lines::{Place, place_at};
+use crate::message::{Method, id_text, number_at, text_at, uri_of, wants_label};
+use crate::session::Session;
+use mx_changes::{Change, formatting_of, rename};
+use mx_hover::{completion, hover, signature};
+use mx_references::{definition, highlights, name_range, outline, references};
+use mx_wire::{Refused, refusal_of, result_of};
+use mx_word::{Bytes, NoMemory};
+use serde_json::Value;
+use std::alloc::Global;
+
+/// What the server offers: changes of a text come by ranges, and columns are units of UTF-16.
+#[tactic(auto, unfolding(crate::specs::Requests::offers))]
+fn offers() -> &'static [u8]
+    ensures { result.now ≡ spec.offers }
+{
+    b"{\"capabilities\":{\"textDocumentSync\":{\"openClose\":true,\"change\":2},\"hoverProvider\":true,\"definitionProvider\":true,\"referencesProvider\":true,\"documentHighlightProvider\":true,\"renameProvider\":{\"prepareProvider\":true},\"documentSymbolProvider\":true,\"completionProvider\":{},\"signatureHelpProvider\":{\"triggerCharacters\":[\" \",\",\"]},\"documentFormattingProvider\":true},\"serverInfo\":{\"name\":\"mmixview\"}}"
+}
+
+/// The place that a message is about.
+fn place_of_message(message: &Value, source: &[u8]) -> Place
+    ensures line { result.line ≡ spec.line_in (view message.now) }
+    ensures from { result.from ≡ spec.from_in (view message.now) source.now }
+{
+    let line = number_at(message, "/params/position/line");
+    place_at(
+        source,
+        line,
+        number_at(message, "/params/position/character"),
+    )
+}
+
+/// The result of a request about a place of a text, or about the whole, that changes nothing.
+fn result_at(
+    alloc: Global,
+    method: Method,
+    uri: &[u8],
+    place: Place,
+    has_labels: bool,
+    source: &[u8],
+) -> Result<Bytes, NoMemory>
+    ensures { IfOk result (λ text. text
+        ≡ spec.result_at method uri.now place.line place.from has_labels source.now) }
+{
+    match method {
+        Method::Hover => hover(alloc, place.line, place.from, source),
+        Method::Definition => definition(alloc, uri, place.line, place.from, source),
+        Method::References => references(alloc, uri, place.line, place.from, has_labels, source),
+        Method::Highlight => highlights(alloc, place.line, place.from, source),
+        Method::PrepareRename => name_range(alloc, place.line, place.from, source),
+        Method::Symbols => outline(alloc, source),
+        Method::Completion => completion(alloc, place.line, place.from, source),
+        Method::Signature => signature(alloc, place.line, place.from, source),
+        _ => Bytes::copy(alloc, b"null"),
+    }
+}
+
+/// The answer to a request about a text that changes nothing.
+fn answer_result(
+    alloc: Global,
+    id: &[u8],
+    method: Method,
+    message: &Value,
+    source: &[u8],
+) -> Result<Bytes, NoMemory>
+    ensures { IfOk result (λ body. body
+        ≡ result_body id.now (spec.result_in method (view message.now) source.now)) }
+{
+    let place = place_of_message(message, source);
+    let has_labels = wants_label(message);
+    let result = result_at(alloc, method, uri_of(message), place, has_labels, source)?;
+    result_of(alloc, id, result.as_slice())
+}
+
+/// The answer by a change that may be refused.
+fn answer_change(alloc: Global, id: &[u8], change: &Change) -> Result<Bytes, NoMemory>
+    ensures { IfOk result (λ body. spec.IsChangeAnswer id.now change.now body) }
+{
+    match change {
+        Change::Done(result) => result_of(alloc, id, result.as_slice()),
+        Change::Refused(why) => refusal_of(alloc, id, Refused::Failed, why.as_bytes()),
+    }
+}
+
+/// The answer to a request that changes a name.
+fn answer_rename(
+    alloc: Global,
+    id: &[u8],
+    uri: &[u8],
+    place: Place,
+    name: &[u8],
+    source: &[u8],
+) -> Result<Bytes, NoMemory>
+    ensures { IfOk result (λ body.
+        spec.IsRenameAnswer id.now uri.now place.line place.from name.now source.now body) }
+{
+    let change = rename(alloc, uri, place.line, place.from, name, source)?;
+    answer_change(alloc, id, &change)
+}
+
+/// The answer to a request that changes the layout of a text.
+fn answer_layout(alloc: Global, id: &[u8], source: &[u8]) -> Result<Bytes, NoMemory>
+    ensures { IfOk result (λ body. spec.IsLayoutAnswer id.now source.now body) }
+{
+    let change = formatting_of(alloc, source)?;
+    answer_change(alloc, id, &change)
+}
+
+/// The answer to a request about a text.
+fn answer_text(
+    alloc: Global,
+    id: &[u8],
+    method: Method,
+    message: &Value,
+    source: &[u8],
+) -> Result<Bytes, NoMemory>
+    ensures { IfOk result (λ body.
+        spec.IsTextAnswer id.now method (view message.now) source.now body) }
+{
+    match method {
+        Method::Rename => {
+            let place = place_of_message(message, source);
+            let name = text_at(message, "/params/newName");
+            answer_rename(alloc, id, uri_of(message), place, name, source)
+        }
+        Method::Formatting => answer_layout(alloc, id, source),
+        _ => answer_result(alloc, id, method, message, source),
+    }
+}
+
+/// The answer to a request about a text, if it is open.
+fn answer_if(
+    alloc: Global,
+    id: &[u8],
+    method: Method,
+    message: &Value,
+    text: Option<&[u8]>,
+) -> Result<Bytes, NoMemory>
+    ensures { IfOk result (λ body.
+        spec.IsAnswerIf id.now method (view message.now) (option_copied text.entry) body) }
+{
+    match text {
+        None => refusal_of(alloc, id, Refused::Failed, b"this text is not open"),
+        Some(source) => answer_text(alloc, id, method, message, source),
+    }
+}
+
+/// The answer to what is no request.
+fn refuse_method(alloc: Global, id: &[u8]) -> Result<Bytes, NoMemory>
+    ensures { IfOk result (λ body. body ≡ spec.no_request id.now) }
+{
+    refusal_of(alloc, id, Refused::NoMethod, b"there is no such request")
+}
+
+/// The answer to a request before shutdown.
+fn answer_open(
+    alloc: Global,
+    session: &Session,
+    id: &[u8],
+    method: Method,
+    message: &Value,
+) -> Result<Bytes, NoMemory>
+    ensures { IfOk result (λ body.
+        spec.IsOpenAnswer session.now id.now method (view message.now) body) }
+{
+    match method {
+        Method::Initialize => result_of(alloc, id, offers()),
+        Method::Shutdown => result_of(alloc, id, b"null"),
+        Method::Exit => refuse_method(alloc, id),
+        Method::DidOpen => refuse_method(alloc, id),
+        Method::DidChange => refuse_method(alloc, id),
+        Method::DidClose => refuse_method(alloc, id),
+        Method::Other => refuse_method(alloc, id),
+        _ => {
+            let text = text_of(session.documents.as_slice(), uri_of(message));
+            answer_if(alloc, id, method, message, text)
+        }
+    }
+}
+
+/// The answer to a request.
+fn answer_any(
+    alloc: Global,
+    session: &Session,
+    id: &[u8],
+    method: Method,
+    message: &Value,
+) -> Result<Bytes, NoMemory>
+    ensures { IfOk result (λ body.
+        spec.IsAnswerAt session.now.is_shut session.now id.now method (view message.now) body) }
+{
+    if session.is_shut {
+        return refusal_of(alloc, id, Refused::NoRequest, b"the session is shut down");
+    }
+    answer_open(alloc, session, id, method, message)
+}
+
+/// The answer to a request with the text of its mark; where there was no memory, that.
+fn answer_marked(
+    alloc: Global,
+    session: &Session,
+    id: &[u8],
+    method: Method,
+    message: &Value,
+) -> Result<Bytes, NoMemory>
+    ensures { IfOk result (λ body.
+        spec.IsAnswerOf session.now id.now method (view message.now) body) }
+{
+    match answer_any(alloc, session, id, method, message) {
+        Ok(body) => Ok(body),
+        Err(NoMemory) => refusal_of(alloc, id, Refused::NoMemory, b"out of memory"),
+    }
+}
+
+/// The answer to a request, which carries its mark.
+pub(crate) fn answer_request(
+    alloc: Global,
+    session: &Session,
+    id: &Value,
+    method: Method,
+    message: &Value,
+) -> Result<Bytes, NoMemory>
+    ensures { IfOk result (λ body.
+        spec.IsAnswer session.now (view id.now) method (view message.now) body) }
+{
+    let text = id_text(alloc, id)?;
+    answer_marked(alloc, session, text.as_slice(), method, message)
+}
+
+/// Takes note of shutdown.
+pub(crate) fn pass_request(session: &mut Session, method: Method)
+    ensures { session.new ≡ spec.after_request session.old method }
+{
+    match method {
+        Method::Shutdown => session.is_shut = true,
+        _ => {}
+    }
+}
