@@ -1,3 +1,5 @@
 pub mod Carried
 pub mod EditTurns
+pub mod Once
+pub mod Stages
 pub mod Taken

@@ -1,6 +1,6 @@
 -- What requests are answered: each answer is a function of the mark of the request, of what it asks for and of the text that is open.
 -- (Language Server Protocol, "Base Protocol", "Server lifecycle" and "Language Features".)
-use Rattle.std.specs.Prelude.{◌≡◌, ℕ, Bool, true, false, List, ◌++◌, Option, None, Some, codes, ◌⊎◌}
+use Rattle.std.specs.Prelude.{◌≡◌, ℕ, Bool, List, ◌++◌, Option, None, Some, codes, ◌⊎◌}
 use Rattle.mx_changes.specs.Changes.{Renames}
 use Rattle.mx_changes.specs.Layouts.{Formats}
 use Rattle.mx_changes.specs.declared.renaming.Change.{Change}
@@ -14,7 +14,8 @@ use Rattle.mx_marks.specs.Mending.{line_text}
 use Rattle.mx_references.specs.Outline.{outline}
 use Rattle.mx_references.specs.Uses.{definition, highlights, name_range, references}
 use Rattle.mx_wire.specs.Replies.{answer_front, refusal_body, result_body}
-use Rattle.mx_wire.specs.declared.replies.Refused.TheVariants.{Failed, NoMemory, NoMethod, NoRequest}
+use Rattle.mx_wire.specs.declared.replies.Refused.{Refused}
+use Rattle.mx_wire.specs.declared.replies.Refused.TheVariants.{Failed, NoMemory, NoMethod, NoRequest, TooEarly}
 use Rattle.serde_json.specs.Data.{Data}
 use Rattle.mx_lsp.specs.Documents.{text_of}
 use Rattle.mx_lsp.specs.Lines.{number_of}
@@ -22,6 +23,9 @@ use Rattle.mx_lsp.specs.Messages.{IsTextOf, number_at, text_at, uri_of, wants_la
 use Rattle.mx_lsp.specs.declared.message.Method.{Method}
 use Rattle.mx_lsp.specs.declared.message.Method.TheVariants.{Initialize, Shutdown, Exit, DidOpen, DidChange, DidClose, Hover, Definition, References, Highlight, PrepareRename, Rename, Symbols, Completion, Signature, Formatting, Other}
 use Rattle.mx_lsp.specs.declared.session.Session.{Session}
+use Rattle.mx_lsp.specs.declared.session.Stage.{Stage}
+use Rattle.mx_lsp.specs.declared.session.Stage.TheVariants.{Waiting, Serving, Shut}
+use Rattle.mx_word.specs.Lists.{IsFront}
 
 -- ---- the place of a request
 
@@ -90,26 +94,32 @@ offers =
 abbrev pub no_request : List ℕ → List ℕ
 no_request id = refusal_body id NoMethod (codes "there is no such request")
 
--- before shutdown
-abbrev pub IsOpenAnswer : Session → List ℕ → Method → Data → List ℕ → Type 0
-IsOpenAnswer s id Initialize message body = body ≡ result_body id offers
-IsOpenAnswer s id Shutdown message body = body ≡ result_body id (codes "null")
-IsOpenAnswer s id Exit message body = body ≡ no_request id
-IsOpenAnswer s id DidOpen message body = body ≡ no_request id
-IsOpenAnswer s id DidChange message body = body ≡ no_request id
-IsOpenAnswer s id DidClose message body = body ≡ no_request id
-IsOpenAnswer s id Other message body = body ≡ no_request id
-IsOpenAnswer s id method message body = IsAnswerIf id method message (text_of s.documents (uri_of message)) body
+-- before `initialize`
+abbrev pub waiting_answer : List ℕ → Method → List ℕ
+waiting_answer id Initialize = result_body id offers
+waiting_answer id method = refusal_body id TooEarly (codes "initialize has not come")
 
--- before shutdown, or after it
-abbrev pub IsAnswerAt : Bool → Session → List ℕ → Method → Data → List ℕ → Type 0
-IsAnswerAt true s id method message body = body ≡ refusal_body id NoRequest (codes "the session is shut down")
-IsAnswerAt false s id method message body = IsOpenAnswer s id method message body
+-- after `initialize` and before `shutdown`
+abbrev pub IsServingAnswer : Session → List ℕ → Method → Data → List ℕ → Type 0
+IsServingAnswer s id Initialize message body = body ≡ refusal_body id NoRequest (codes "initialize has come before")
+IsServingAnswer s id Shutdown message body = body ≡ result_body id (codes "null")
+IsServingAnswer s id Exit message body = body ≡ no_request id
+IsServingAnswer s id DidOpen message body = body ≡ no_request id
+IsServingAnswer s id DidChange message body = body ≡ no_request id
+IsServingAnswer s id DidClose message body = body ≡ no_request id
+IsServingAnswer s id Other message body = body ≡ no_request id
+IsServingAnswer s id method message body = IsAnswerIf id method message (text_of s.documents (uri_of message)) body
+
+-- a request is carried out from `initialize` on, up to `shutdown`; before and after it is refused
+abbrev pub IsAnswerAt : Stage → Session → List ℕ → Method → Data → List ℕ → Type 0
+IsAnswerAt Waiting s id method message body = body ≡ waiting_answer id method
+IsAnswerAt Serving s id method message body = IsServingAnswer s id method message body
+IsAnswerAt Shut s id method message body = body ≡ refusal_body id NoRequest (codes "the session is shut down")
 
 -- an answer with the text of a mark; or that there was no memory
 abbrev pub IsAnswerOf : Session → List ℕ → Method → Data → List ℕ → Type 0
 IsAnswerOf s id method message body =
-    IsAnswerAt s.is_shut s id method message body ⊎ (body ≡ refusal_body id NoMemory (codes "out of memory"))
+    IsAnswerAt s.stage s id method message body ⊎ (body ≡ refusal_body id NoMemory (codes "out of memory"))
 
 -- the answer to a request carries its mark
 pub record IsAnswer (s : Session) (id : Data) (method : Method) (message : Data) (body : List ℕ) : Type 0 where
@@ -119,8 +129,32 @@ pub record IsAnswer (s : Session) (id : Data) (method : Method) (message : Data)
 
 -- a body begins as an answer with the text of a mark
 abbrev pub Carries : Data → List ℕ → Type 0
-Carries id body = (text : List ℕ) × IsTextOf id text × ((rest : List ℕ) × (body ≡ answer_front text ++ rest))
+Carries id body = (text : List ℕ) × IsTextOf id text × IsFront (answer_front text) body
+
+-- a body refuses a request, and says why
+abbrev pub Refuses : List ℕ → Refused → List ℕ → Type 0
+Refuses text refused body = (why : List ℕ) × (body ≡ refusal_body text refused why)
+
+-- the request with a mark is refused so; or there was no memory
+pub record IsRefusedAs (refused : Refused) (id : Data) (body : List ℕ) : Type 0 where
+  pub text : List ℕ
+  pub mark : IsTextOf id text
+  pub refusal : Refuses text refused body ⊎ Refuses text NoMemory body
+
+-- ---- stages
+
+abbrev pub stage_from_waiting : Method → Stage
+stage_from_waiting Initialize = Serving
+stage_from_waiting method = Waiting
+
+abbrev pub stage_from_serving : Method → Stage
+stage_from_serving Shutdown = Shut
+stage_from_serving method = Serving
+
+abbrev pub stage_after : Stage → Method → Stage
+stage_after Waiting method = stage_from_waiting method
+stage_after Serving method = stage_from_serving method
+stage_after Shut method = Shut
 
 abbrev pub after_request : Session → Method → Session
-after_request s Shutdown = record s { is_shut = true }
-after_request s method = s
+after_request s method = record s { stage = stage_after s.stage method }

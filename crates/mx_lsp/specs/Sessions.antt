@@ -1,7 +1,7 @@
--- A session: the texts that are open, each as its changes have made it, and whether it was shut down. Each request is answered once, and
+-- A session: the texts that are open, each as its changes have made it, and how far it has come. Each request is answered once, and
 -- a notification is not answered; what is sent after a change are the faults of the text as it then is. (Language Server Protocol, "Base
 -- Protocol", "Server lifecycle" and "Text Document Synchronization".)
-use Rattle.std.specs.Prelude.{◌≡◌, ℕ, Bool, List, [], ◌∷◌, ◌++◌, Option, None, Some, codes, if◌then◌else◌}
+use Rattle.std.specs.Prelude.{◌≡◌, ℕ, List, [], ◌∷◌, ◌++◌, Option, None, Some, codes, if◌then◌else◌}
 use Rattle.std.specs.Str.{is_utf8}
 use Rattle.mx_diagnostics.specs.Diagnostics.{diagnostics_of}
 use Rattle.mx_diagnostics.specs.Published.{notice}
@@ -15,6 +15,8 @@ use Rattle.mx_lsp.specs.Requests.{IsAnswer, after_request}
 use Rattle.mx_lsp.specs.declared.message.Method.{Method}
 use Rattle.mx_lsp.specs.declared.message.Method.TheVariants.{Exit, DidOpen, DidChange, DidClose}
 use Rattle.mx_lsp.specs.declared.session.Session.{Session}
+use Rattle.mx_lsp.specs.declared.session.Stage.{Stage}
+use Rattle.mx_lsp.specs.declared.session.Stage.TheVariants.{Waiting, Serving, Shut}
 use Rattle.mx_lsp.specs.declared.session.Flow.{Flow}
 use Rattle.mx_lsp.specs.declared.session.Flow.TheVariants.{Going, Ended}
 
@@ -48,11 +50,11 @@ abbrev pub notices_if : List ℕ → Option (List ℕ) → List (List ℕ)
 notices_if uri None = []
 notices_if uri (Some text) = notice uri (diagnostics_of text) ∷ []
 
-abbrev pub after_notice : Session → Method → Data → Session
-after_notice s DidOpen message = with_text s (uri_of message) (opened_text message)
-after_notice s DidChange message = with_text_if s (uri_of message) (changed_text s message)
-after_notice s DidClose message = without s (uri_of message)
-after_notice s method message = s
+abbrev pub after_told : Session → Method → Data → Session
+after_told s DidOpen message = with_text s (uri_of message) (opened_text message)
+after_told s DidChange message = with_text_if s (uri_of message) (changed_text s message)
+after_told s DidClose message = without s (uri_of message)
+after_told s method message = s
 
 -- what is sent: the faults of a text that has come or has changed, and none of one that is closed
 abbrev pub notices_of : Session → Method → Data → List (List ℕ)
@@ -61,11 +63,25 @@ notices_of s DidChange message = notices_if (uri_of message) (changed_text s mes
 notices_of s DidClose message = notice (uri_of message) [] ∷ []
 notices_of s method message = []
 
-abbrev pub status_of : Bool → ℕ
-status_of is_shut = if is_shut then 0 else 1
+-- what is told of a text is taken from `initialize` on, up to `shutdown`
+abbrev pub after_told_at : Stage → Session → Method → Data → Session
+after_told_at Waiting s method message = s
+after_told_at Serving s method message = after_told s method message
+after_told_at Shut s method message = s
+
+abbrev pub notices_at : Stage → Session → Method → Data → List (List ℕ)
+notices_at Waiting s method message = []
+notices_at Serving s method message = notices_of s method message
+notices_at Shut s method message = []
+
+-- `exit` ends a session at any stage: well after `shutdown`
+abbrev pub status_of : Stage → ℕ
+status_of Waiting = 1
+status_of Serving = 1
+status_of Shut = 0
 
 abbrev pub flow_after : Session → Method → Flow
-flow_after s Exit = Ended (status_of s.is_shut)
+flow_after s Exit = Ended (status_of s.stage)
 flow_after s method = Going
 
 -- ---- messages
@@ -77,15 +93,15 @@ pub record IsPassed (s t : Session) (before after : List (List ℕ)) (flow : Flo
   pub goes_on : flow ≡ Going
 
 pub record IsNoticed (s : Session) (method : Method) (message : Data) (t : Session) (before after : List (List ℕ)) (flow : Flow) : Type 0 where
-  pub session : t ≡ after_notice s method message
-  pub sent : after ≡ before ++ notices_of s method message
+  pub session : t ≡ after_told_at s.stage s method message
+  pub sent : after ≡ before ++ notices_at s.stage s method message
   pub goes_on : flow ≡ flow_after s method
 
 pub record IsAnswered (s : Session) (method : Method) (id message : Data) (t : Session) (before after : List (List ℕ)) (flow : Flow) : Type 0 where
   pub session : t ≡ after_request s method
   pub body : List ℕ
-  pub sent : after ≡ before ++ body ∷ []
   pub answer : IsAnswer s id method message body
+  pub sent : after ≡ before ++ body ∷ []
   pub goes_on : flow ≡ Going
 
 -- a notification, or a request

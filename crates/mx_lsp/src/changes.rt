@@ -4,7 +4,7 @@ ghost use Rattle.std.specs.Prelude.{◌≡◌, option_map, IfOk};
 ghost use Rattle.serde_json.specs.View.{items_view, view};
 ghost use Rattle.mx_lsp.specs.Messages as spec;
 
-use crate::edits::{offset_of, spliced};
+use crate::edits::{offset_of, splice};
 use crate::message::{number_at, text_of};
 use mx_word::{Bytes, NoMemory};
 use serde_json::Value;
@@ -54,25 +54,25 @@ fn end_in(text: &[u8], range: &Value) -> usize
 }
 
 /// What a change makes of a text.
-fn changed(alloc: Global, text: &[u8], change: &Value) -> Result<Bytes, NoMemory>
+fn make_change(alloc: Global, text: &[u8], change: &Value) -> Result<Bytes, NoMemory>
     ensures { IfOk result (λ whole. whole ≡ spec.changed text.now (view change.now)) }
 {
     let new = new_text(change);
     match range_in(change) {
         None => Bytes::copy(alloc, new),
-        Some(range) => spliced(alloc, text, start_in(text, range), end_in(text, range), new),
+        Some(range) => splice(alloc, text, start_in(text, range), end_in(text, range), new),
     }
 }
 
 /// What changes make of a text, one after another.
 #[tactic(auto, unfolding(crate::specs::Messages::changed_by))]
-fn changed_by(alloc: Global, text: &[u8], changes: &[Value]) -> Result<Bytes, NoMemory>
+fn make_changes(alloc: Global, text: &[u8], changes: &[Value]) -> Result<Bytes, NoMemory>
     ensures { IfOk result (λ whole. whole ≡ spec.changed_by text.now (items_view changes.now)) }
 {
     let mut whole = Bytes::copy(alloc, text)?;
     let mut rest = changes;
     while let [change, more @ ..] = rest {
-        whole = changed(alloc, whole.as_slice(), change)?;
+        whole = make_change(alloc, whole.as_slice(), change)?;
         rest = more;
     }
     Ok(whole)
@@ -80,12 +80,12 @@ fn changed_by(alloc: Global, text: &[u8], changes: &[Value]) -> Result<Bytes, No
 
 /// What the changes of a value make of a text, if it has some.
 #[tactic(auto, unfolding(crate::specs::Messages::changed_by))]
-fn changed_in(alloc: Global, text: &[u8], changes: &Value) -> Result<Bytes, NoMemory>
+fn make_changes_in(alloc: Global, text: &[u8], changes: &Value) -> Result<Bytes, NoMemory>
     ensures { IfOk result (λ whole. whole ≡ spec.changed_by text.now (spec.items_of (view changes.now))) }
 {
     match changes.as_array() {
         None => Bytes::copy(alloc, text),
-        Some(changes) => changed_by(alloc, text, changes.as_slice()),
+        Some(changes) => make_changes(alloc, text, changes.as_slice()),
     }
 }
 
@@ -96,6 +96,6 @@ pub(crate) fn text_after(alloc: Global, text: &[u8], message: &Value) -> Result<
 {
     match message.pointer("/params/contentChanges") {
         None => Bytes::copy(alloc, text),
-        Some(changes) => changed_in(alloc, text, changes),
+        Some(changes) => make_changes_in(alloc, text, changes),
     }
 }

@@ -107,7 +107,7 @@ fn end_after(from: usize, to: usize) -> usize
 }
 
 /// A text with other bytes in place of those from one place up to another.
-pub(crate) fn spliced(
+pub(crate) fn splice(
     alloc: Global,
     text: &[u8],
     from: usize,

@@ -13,6 +13,9 @@ mod session;
 
 pub use documents::{Document, Documents};
 pub use laws::{
-    an_answer_carries_the_mark_of_its_request, the_text_of_a_name_is_the_last_that_came,
+    a_notice_answers_no_request, an_answer_carries_the_mark_of_its_request,
+    answers_come_in_the_order_of_requests, each_request_gets_one_answer_and_a_notification_none,
+    requests_after_shutdown_are_refused, requests_before_initialize_are_refused,
+    the_text_of_a_name_is_the_last_that_came,
 };
-pub use session::{Flow, Session, answer, new_session, no_header};
+pub use session::{Flow, Session, Stage, answer, new_session, no_header};

@@ -10,7 +10,7 @@ ghost use Rattle.mx_lsp.specs.declared.message.Method.TheVariants.{DidChange};
 use crate::changes::text_after;
 use crate::documents::{Documents, text_of, with_text, without};
 use crate::message::{Method, text_at, uri_of};
-use crate::session::{Bodies, Flow, Session};
+use crate::session::{Bodies, Flow, Session, Stage};
 use mx_diagnostics::{published, withdrawn};
 use mx_word::{Bytes, NoMemory};
 use serde_json::Value;
@@ -51,7 +51,7 @@ fn close_text(
 }
 
 /// What a message makes of a text, if the text is open.
-fn changed_text(
+fn text_by_change(
     alloc: Global,
     session: &Session,
     message: &Value,
@@ -73,9 +73,9 @@ fn change_text(
 ) -> Result<(), NoMemory>
     ensures told { OnOk result (out.new
         ≡ out.old ++ spec.notices_of session.old DidChange (view message.now)) }
-    ensures open { OnOk result (session.new ≡ spec.after_notice session.old DidChange (view message.now)) }
+    ensures open { OnOk result (session.new ≡ spec.after_told session.old DidChange (view message.now)) }
 {
-    match changed_text(alloc, session, message)? {
+    match text_by_change(alloc, session, message)? {
         None => Ok(()),
         Some(text) => take_text(alloc, session, uri_of(message), text.as_slice(), out),
     }
@@ -90,7 +90,7 @@ fn take_told(
     out: &mut Bodies,
 ) -> Result<(), NoMemory>
     ensures told { OnOk result (out.new ≡ out.old ++ spec.notices_of session.old method (view message.now)) }
-    ensures session { OnOk result (session.new ≡ spec.after_notice session.old method (view message.now)) }
+    ensures session { OnOk result (session.new ≡ spec.after_told session.old method (view message.now)) }
 {
     match method {
         Method::DidOpen => {
@@ -103,11 +103,36 @@ fn take_told(
     }
 }
 
-/// The status of a session that ends.
-fn status_of(is_shut: bool) -> u8
-    ensures { result ≡ spec.status_of is_shut }
+/// Takes what a message tells of a text, at a stage of the session: nothing before `initialize` and after `shutdown`.
+fn take_told_at(
+    alloc: Global,
+    stage: Stage,
+    session: &mut Session,
+    method: Method,
+    message: &Value,
+    out: &mut Bodies,
+) -> Result<(), NoMemory>
+    ensures told { OnOk result (out.new
+        ≡ out.old ++ spec.notices_at stage session.old method (view message.now)) }
+    ensures session { OnOk result (session.new
+        ≡ spec.after_told_at stage session.old method (view message.now)) }
 {
-    if is_shut { 0 } else { 1 }
+    match stage {
+        Stage::Waiting => Ok(()),
+        Stage::Serving => take_told(alloc, session, method, message, out),
+        Stage::Shut => Ok(()),
+    }
+}
+
+/// The status of a session that ends: 0 after `shutdown`, or else 1.
+fn status_of(stage: Stage) -> u8
+    ensures { result ≡ spec.status_of stage }
+{
+    match stage {
+        Stage::Waiting => 1,
+        Stage::Serving => 1,
+        Stage::Shut => 0,
+    }
 }
 
 /// Whether a session goes on after a notification.
@@ -115,7 +140,7 @@ fn flow_after(session: &Session, method: Method) -> Flow
     ensures { result ≡ spec.flow_after session.now method }
 {
     match method {
-        Method::Exit => Flow::Ended(status_of(session.is_shut)),
+        Method::Exit => Flow::Ended(status_of(session.stage)),
         _ => Flow::Going,
     }
 }
@@ -132,6 +157,6 @@ pub(crate) fn take_notice(
         spec.IsNoticed session.old method (view message.now) session.new out.old out.new flow) }
 {
     let flow = flow_after(session, method);
-    take_told(alloc, session, method, message, out)?;
+    take_told_at(alloc, session.stage, session, method, message, out)?;
     Ok(flow)
 }

@@ -8,7 +8,7 @@ ghost use Rattle.mx_lsp.specs.Requests as spec;
 use crate::documents::text_of;
 use crate::lines::{Place, place_at};
 use crate::message::{Method, id_text, number_at, text_at, uri_of, wants_label};
-use crate::session::Session;
+use crate::session::{Session, Stage};
 use mx_changes::{Change, formatting_of, rename};
 use mx_hover::{completion, hover, signature};
 use mx_references::{definition, highlights, name_range, outline, references};
@@ -160,8 +160,18 @@ fn refuse_method(alloc: Global, id: &[u8]) -> Result<Bytes, NoMemory>
     refusal_of(alloc, id, Refused::NoMethod, b"there is no such request")
 }
 
-/// The answer to a request before shutdown.
-fn answer_open(
+/// The answer to a request that comes before `initialize` has come.
+fn answer_waiting(alloc: Global, id: &[u8], method: Method) -> Result<Bytes, NoMemory>
+    ensures { IfOk result (λ body. body ≡ spec.waiting_answer id.now method) }
+{
+    match method {
+        Method::Initialize => result_of(alloc, id, offers()),
+        _ => refusal_of(alloc, id, Refused::TooEarly, b"initialize has not come"),
+    }
+}
+
+/// The answer to a request after `initialize` and before `shutdown`.
+fn answer_serving(
     alloc: Global,
     session: &Session,
     id: &[u8],
@@ -169,10 +179,12 @@ fn answer_open(
     message: &Value,
 ) -> Result<Bytes, NoMemory>
     ensures { IfOk result (λ body.
-        spec.IsOpenAnswer session.now id.now method (view message.now) body) }
+        spec.IsServingAnswer session.now id.now method (view message.now) body) }
 {
     match method {
-        Method::Initialize => result_of(alloc, id, offers()),
+        Method::Initialize => {
+            refusal_of(alloc, id, Refused::NoRequest, b"initialize has come before")
+        }
         Method::Shutdown => result_of(alloc, id, b"null"),
         Method::Exit => refuse_method(alloc, id),
         Method::DidOpen => refuse_method(alloc, id),
@@ -186,21 +198,23 @@ fn answer_open(
     }
 }
 
-/// The answer to a request.
-fn answer_any(
+/// The answer to a request at a stage of the session.
+fn answer_at(
     alloc: Global,
+    stage: Stage,
     session: &Session,
     id: &[u8],
     method: Method,
     message: &Value,
 ) -> Result<Bytes, NoMemory>
     ensures { IfOk result (λ body.
-        spec.IsAnswerAt session.now.is_shut session.now id.now method (view message.now) body) }
+        spec.IsAnswerAt stage session.now id.now method (view message.now) body) }
 {
-    if session.is_shut {
-        return refusal_of(alloc, id, Refused::NoRequest, b"the session is shut down");
+    match stage {
+        Stage::Waiting => answer_waiting(alloc, id, method),
+        Stage::Serving => answer_serving(alloc, session, id, method, message),
+        Stage::Shut => refusal_of(alloc, id, Refused::NoRequest, b"the session is shut down"),
     }
-    answer_open(alloc, session, id, method, message)
 }
 
 /// The answer to a request with the text of its mark; where there was no memory, that.
@@ -214,7 +228,7 @@ fn answer_marked(
     ensures { IfOk result (λ body.
         spec.IsAnswerOf session.now id.now method (view message.now) body) }
 {
-    match answer_any(alloc, session, id, method, message) {
+    match answer_at(alloc, session.stage, session, id, method, message) {
         Ok(body) => Ok(body),
         Err(NoMemory) => refusal_of(alloc, id, Refused::NoMemory, b"out of memory"),
     }
@@ -235,12 +249,40 @@ pub(crate) fn answer_request(
     answer_marked(alloc, session, text.as_slice(), method, message)
 }
 
-/// Takes note of shutdown.
+/// How far a session comes by a request while it waits.
+fn stage_from_waiting(method: Method) -> Stage
+    ensures { result ≡ spec.stage_from_waiting method }
+{
+    match method {
+        Method::Initialize => Stage::Serving,
+        _ => Stage::Waiting,
+    }
+}
+
+/// How far a session comes by a request that it serves.
+fn stage_from_serving(method: Method) -> Stage
+    ensures { result ≡ spec.stage_from_serving method }
+{
+    match method {
+        Method::Shutdown => Stage::Shut,
+        _ => Stage::Serving,
+    }
+}
+
+/// How far a session comes by a request.
+fn stage_after(stage: Stage, method: Method) -> Stage
+    ensures { result ≡ spec.stage_after stage method }
+{
+    match stage {
+        Stage::Waiting => stage_from_waiting(method),
+        Stage::Serving => stage_from_serving(method),
+        Stage::Shut => Stage::Shut,
+    }
+}
+
+/// Takes note of `initialize` and of `shutdown`.
 pub(crate) fn pass_request(session: &mut Session, method: Method)
     ensures { session.new ≡ spec.after_request session.old method }
 {
-    match method {
-        Method::Shutdown => session.is_shut = true,
-        _ => {}
-    }
+    session.stage = stage_after(session.stage, method);
 }

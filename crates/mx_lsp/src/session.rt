@@ -1,6 +1,6 @@
 //! A session: the messages that come, and the answers to them.
 
-ghost use Rattle.std.specs.Prelude.{◌≡◌, [], false, IfOk};
+ghost use Rattle.std.specs.Prelude.{◌≡◌, [], IfOk};
 ghost use Rattle.serde_json.specs.Read.{read};
 ghost use Rattle.serde_json.specs.View.{view};
 ghost use Rattle.mx_lsp.specs.Sessions as spec;
@@ -17,11 +17,22 @@ use std::alloc::Global;
 /// The bodies of messages.
 pub type Bodies = Sequence<Bytes>;
 
-/// The texts that are open, and whether the end was asked for.
+/// How far a session has come. (Language Server Protocol, "Server lifecycle".)
+#[derive(Clone, Copy)]
+pub enum Stage {
+    /// `initialize` has not come.
+    Waiting,
+    /// Requests are carried out.
+    Serving,
+    /// `shutdown` has come.
+    Shut,
+}
+
+/// The texts that are open, and how far the session has come.
 #[derive(Drop)]
 pub struct Session {
     pub documents: Documents,
-    pub is_shut: bool,
+    pub stage: Stage,
 }
 
 /// Whether a session goes on, or ends with a status.
@@ -34,11 +45,11 @@ pub enum Flow {
 /// A session before its first message.
 pub fn new_session(alloc: Global) -> Session
     ensures documents { result.documents ≡ [] }
-    ensures shut { result.is_shut ≡ false }
+    ensures stage { result.stage ≡ Stage.Waiting }
 {
     Session {
         documents: Documents::new(alloc),
-        is_shut: false,
+        stage: Stage::Waiting,
     }
 }
 

@@ -1,7 +1,7 @@
 use Rattle.std.proofs.Common.{◌≡◌, length}
 use Rattle.serde_json.specs.View.{items_view}
 use Rattle.mx_lsp.specs.Messages.{changed_by}
-use Rattle.mx_lsp.proofs.changes.changed_by.Given as goal
+use Rattle.mx_lsp.proofs.changes.make_changes.Given as goal
 
 -- the changes that are left are left to make
 abbrev pub invariant-loop-rest : goal.invariant-loop-rest
