@@ -109,6 +109,20 @@ def try_changes(server):
     server.change(URI, PROGRAM_TEXT)
 
 
+def try_stages():
+    """Before `initialize` and after `shutdown` requests are refused, and no text is taken; `exit` ends at any time."""
+    hover, begin, shut, leave = (wire.message("textDocument/hover", {}, "h"), wire.message("initialize", {}, 1), wire.message("shutdown", None, 2), wire.message("exit", None))
+    text = wire.message("textDocument/didOpen", {"textDocument": {"uri": URI, "languageId": "mmixal", "version": 1, "text": ""}})
+    for what, stream, codes, status in (
+        ("an exit at once", leave, [], 1),
+        ("before initialize", text + hover + shut + leave, [-32002, -32002], 1),
+        ("a second initialize", begin + begin + leave, [None, -32600], 1),
+        ("after shutdown", begin + shut + text + hover + shut + begin + leave, [None, None, -32600, -32600, -32600], 0),
+    ):
+        out, ended = wire.session(PROGRAM, stream)
+        want(what, [b.get("error", {}).get("code") for b in wire.bodies(out)[0]] == codes and ended == status, (out, ended))
+
+
 def reached(line, column):
     """The front of a line up to a column in units of UTF-16, and not within a character."""
     front = ""
@@ -183,9 +197,7 @@ def main():
     want("places beyond a line", "error" not in server.at("hover", URI, 3, 1000) and "error" not in server.at("hover", URI, 1000, 0))
     want("no such request", server.ask("workspace/none", {})["error"]["code"] == -32601)
     want("the end", server.end() == 0)
-    stream = wire.message("initialize", {}, 1) + wire.message("shutdown", None, 2) + wire.message("textDocument/hover", {}, 3)
-    out, status = wire.session(PROGRAM, stream + wire.message("exit", None))
-    want("after shutdown", [b.get("error", {}).get("code") for b in wire.bodies(out)[0]] == [None, None, -32600] and status == 0, out)
+    try_stages()
     for bad in (b"Content-Type: x\r\n\r\n{}", b"Content-Length: 67108865\r\n\r\n", wire.frame(b"{"), b"x" * 5000):
         out, status = wire.session(PROGRAM, bad)
         want("no message", wire.bodies(out)[0][0]["error"]["code"] == -32700 and status == 1, out)
