@@ -22,9 +22,10 @@ IsFronted text body = IsFront (answer_front text) body
 
 by-result : (text value body : List ℕ) → body ≡ result_body text value → IsFronted text body
 unfolding result_body
-by-result text value body e =
-    (codes ",\"result\":" ++ value ++ codes "}",
-    e ∙ ap (λ more. more ++ codes "}") (append_assoc (answer_front text) (codes ",\"result\":") value) ∙ append_assoc (answer_front text) (codes ",\"result\":" ++ value) (codes "}"))
+by-result text value body e = (
+  codes ",\"result\":" ++ value ++ codes "}",
+  e ∙ ap (λ more. more ++ codes "}") (append_assoc (answer_front text) (codes ",\"result\":") value) ∙ append_assoc (answer_front text) (codes ",\"result\":" ++ value) (codes "}"),
+)
 
 by-refusal : (text : List ℕ) (refused : Refused) (message body : List ℕ) → body ≡ refusal_body text refused message → IsFronted text body
 by-refusal text refused message body e = (refusal refused message, e)

@@ -1,6 +1,6 @@
 -- A text that is changed by ranges. On the wire a line ends with a newline, with a carriage return, or with both. (Language Server
 -- Protocol, "Text Documents" and "DidChangeTextDocument Notification".)
-use Rattle.std.specs.Prelude.{ℕ, zero, suc, ◌+◌, ◌-◌, ◌==◌, ◌&&◌, not, nat_lt, Bool, List, [], ◌∷◌, ◌++◌, length, take, drop, if◌then◌else◌}
+use Rattle.std.specs.Prelude.{ℕ, zero, suc, ◌+◌, ◌-◌, ◌==◌, ◌&&◌, not, nat_lt, Bool, List, [], ◌∷◌, ◌++◌, length, take, drop, min, if◌then◌else◌}
 use Rattle.mx_frames.specs.Columns.{place_of}
 use Rattle.mx_line.specs.Bytes.{run}
 
@@ -30,9 +30,9 @@ lines_after (suc n) text = lines_after n (later_lines text)
 
 -- ---- places
 
--- of a text, from a line on: how many bytes are before a column of this line
+-- of a text, from a line on: how many bytes are before a column of this line, which are all at most
 abbrev pub offset_in : List ℕ → List ℕ → ℕ → ℕ
-offset_in text rest column = (length text - length rest) + place_of (first_line rest) column
+offset_in text rest column = min ((length text - length rest) + place_of (first_line rest) column) (length text)
 
 -- how many bytes are before a column of a line, both counted from 0
 abbrev pub offset_of : List ℕ → ℕ → ℕ → ℕ

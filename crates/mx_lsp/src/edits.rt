@@ -90,13 +90,16 @@ fn lines_after(text: &[u8], count: u64) -> &[u8]
     rest
 }
 
-/// How many bytes of a text are before a column of a line, both counted from 0; the end of the line where the column is beyond it.
+/// How many bytes of a text are before a column of a line, both counted from 0; where the column is beyond the line, before its end.
 pub(crate) fn offset_of(text: &[u8], line: u64, column: u64) -> usize
     ensures { result ≡ spec.offset_of text.now line column }
 {
     let rest = lines_after(text, line);
     let place = place_of(first_line(rest), column as usize);
-    text.len().saturating_sub(rest.len()).saturating_add(place)
+    text.len()
+        .saturating_sub(rest.len())
+        .saturating_add(place)
+        .min(text.len())
 }
 
 /// Where a range ends that begins at a place, and not before it.
