@@ -1,53 +1,44 @@
 -- Answers carry the marks of their requests.
-use Rattle.std.proofs.Common.{◌≡◌, ℕ, List, ◌++◌, Option, None, Some, codes, inl, inr, ap, ◌∙◌, append_assoc}
+use Rattle.std.proofs.Common.{◌≡◌, ℕ, List, Option, None, Some, codes, inl, inr}
 use Rattle.mx_changes.specs.declared.renaming.Change.{Change}
 use Rattle.mx_changes.specs.declared.renaming.Change.TheVariants.{Done, Refused as RefusedChange}
-use Rattle.mx_word.specs.Lists.{IsFront}
-use Rattle.mx_wire.specs.Replies.{answer_front, refusal, refusal_body, result_body}
+use Rattle.mx_wire.specs.Replies.{refusal_body, result_body}
 use Rattle.mx_wire.specs.declared.replies.Refused.{Refused}
 use Rattle.mx_wire.specs.declared.replies.Refused.TheVariants.{Failed, NoMemory, NoMethod, NoRequest, TooEarly}
 use Rattle.serde_json.specs.Data.{Data}
 use Rattle.mx_lsp.specs.Documents.{text_of}
 use Rattle.mx_lsp.specs.Messages.{uri_of}
-use Rattle.mx_lsp.specs.Requests.{Carries, IsAnswer, IsAnswerAt, IsAnswerIf, IsAnswerOf, IsChangeAnswer, IsServingAnswer, IsTextAnswer, offers, result_in, waiting_answer}
+use Rattle.mx_lsp.specs.Requests.{IsAnswer, IsAnswerAt, IsAnswerIf, IsAnswerOf, IsChangeAnswer, IsReplyTo, IsServingAnswer, IsTextAnswer, Replies, offers, result_in, waiting_answer}
 use Rattle.mx_lsp.specs.declared.message.Method.{Method}
 use Rattle.mx_lsp.specs.declared.message.Method.TheVariants.{Initialize, Shutdown, Exit, DidOpen, DidChange, DidClose, Rename, Formatting, Other}
 use Rattle.mx_lsp.specs.declared.session.Session.{Session}
 use Rattle.mx_lsp.specs.declared.session.Stage.{Stage}
 use Rattle.mx_lsp.specs.declared.session.Stage.TheVariants.{Waiting, Serving, Shut}
 
--- a body begins as an answer with this text of a mark
-abbrev IsFronted : List ℕ → List ℕ → Type 0
-IsFronted text body = IsFront (answer_front text) body
+by-result : (text value body : List ℕ) → body ≡ result_body text value → Replies text body
+by-result text value body e = inl (value, e)
 
-by-result : (text value body : List ℕ) → body ≡ result_body text value → IsFronted text body
-unfolding result_body
-by-result text value body e = (
-  codes ",\"result\":" ++ value ++ codes "}",
-  e ∙ ap (λ more. more ++ codes "}") (append_assoc (answer_front text) (codes ",\"result\":") value) ∙ append_assoc (answer_front text) (codes ",\"result\":" ++ value) (codes "}"),
-)
+by-refusal : (text : List ℕ) (refused : Refused) (why body : List ℕ) → body ≡ refusal_body text refused why → Replies text body
+by-refusal text refused why body e = inr (record { refused = refused; why = why; is = e })
 
-by-refusal : (text : List ℕ) (refused : Refused) (message body : List ℕ) → body ≡ refusal_body text refused message → IsFronted text body
-by-refusal text refused message body e = (refusal refused message, e)
-
-by-change : (text : List ℕ) (change : Change) (body : List ℕ) → IsChangeAnswer text change body → IsFronted text body
+by-change : (text : List ℕ) (change : Change) (body : List ℕ) → IsChangeAnswer text change body → Replies text body
 by-change text (Done result) body e = by-result text result body e
 by-change text (RefusedChange why) body e = by-refusal text Failed why.now body e
 
-by-text : (text : List ℕ) (method : Method) (message : Data) (source body : List ℕ) → IsTextAnswer text method message source body → IsFronted text body
+by-text : (text : List ℕ) (method : Method) (message : Data) (source body : List ℕ) → IsTextAnswer text method message source body → Replies text body
 by-text text Rename message source body a = by-change text a.change body a.answer
 by-text text Formatting message source body a = by-change text a.change body a.answer
 by-text text method message source body e = by-result text (result_in method message source) body e
 
-by-source : (text : List ℕ) (method : Method) (message : Data) (source : Option (List ℕ)) (body : List ℕ) → IsAnswerIf text method message source body → IsFronted text body
+by-source : (text : List ℕ) (method : Method) (message : Data) (source : Option (List ℕ)) (body : List ℕ) → IsAnswerIf text method message source body → Replies text body
 by-source text method message None body e = by-refusal text Failed (codes "this text is not open") body e
 by-source text method message (Some source) body a = by-text text method message source body a
 
-by-waiting : (text : List ℕ) (method : Method) (body : List ℕ) → body ≡ waiting_answer text method → IsFronted text body
+by-waiting : (text : List ℕ) (method : Method) (body : List ℕ) → body ≡ waiting_answer text method → Replies text body
 by-waiting text Initialize body e = by-result text offers body e
 by-waiting text method body e = by-refusal text TooEarly (codes "initialize has not come") body e
 
-by-serving : (s : Session) (text : List ℕ) (method : Method) (message : Data) (body : List ℕ) → IsServingAnswer s text method message body → IsFronted text body
+by-serving : (s : Session) (text : List ℕ) (method : Method) (message : Data) (body : List ℕ) → IsServingAnswer s text method message body → Replies text body
 by-serving s text Initialize message body e = by-refusal text NoRequest (codes "initialize has come before") body e
 by-serving s text Shutdown message body e = by-result text (codes "null") body e
 by-serving s text Exit message body e = by-refusal text NoMethod (codes "there is no such request") body e
@@ -57,15 +48,14 @@ by-serving s text DidClose message body e = by-refusal text NoMethod (codes "the
 by-serving s text Other message body e = by-refusal text NoMethod (codes "there is no such request") body e
 by-serving s text method message body a = by-source text method message (text_of s.documents (uri_of message)) body a
 
-by-stage : (stage : Stage) (s : Session) (text : List ℕ) (method : Method) (message : Data) (body : List ℕ) →
-    IsAnswerAt stage s text method message body → IsFronted text body
+by-stage : (stage : Stage) (s : Session) (text : List ℕ) (method : Method) (message : Data) (body : List ℕ) → IsAnswerAt stage s text method message body → Replies text body
 by-stage Waiting s text method message body e = by-waiting text method body e
 by-stage Serving s text method message body a = by-serving s text method message body a
 by-stage Shut s text method message body e = by-refusal text NoRequest (codes "the session is shut down") body e
 
-by-memory : (s : Session) (text : List ℕ) (method : Method) (message : Data) (body : List ℕ) → IsAnswerOf s text method message body → IsFronted text body
+by-memory : (s : Session) (text : List ℕ) (method : Method) (message : Data) (body : List ℕ) → IsAnswerOf s text method message body → Replies text body
 by-memory s text method message body (inl a) = by-stage s.stage s text method message body a
 by-memory s text method message body (inr e) = by-refusal text NoMemory (codes "out of memory") body e
 
-pub mark-carried : (s : Session) (id : Data) (method : Method) (message : Data) (body : List ℕ) → IsAnswer s id method message body → Carries id body
-mark-carried s id method message body a = (a.text, a.mark, by-memory s a.text method message body a.answer)
+pub mark-carried : (s : Session) (id : Data) (method : Method) (message : Data) (body : List ℕ) → IsAnswer s id method message body → IsReplyTo id body
+mark-carried s id method message body a = record { text = a.text; mark = a.mark; reply = by-memory s a.text method message body a.answer }

@@ -1,19 +1,20 @@
 -- Of each request one answer is sent, and of a notification none.
-use Rattle.std.proofs.Common.{◌≡◌, ℕ, List, [], ◌∷◌, ◌++◌, Option, None, Some, codes, refl, ap, sym, ◌∙◌, subst, arith, get_or, append_assoc, append-nil}
+use Rattle.std.proofs.Common.{◌≡◌, ℕ, List, [], ◌∷◌, ◌++◌, Option, None, Some, codes, inl, inr, refl, ap, sym, ◌∙◌, subst, arith, get_or, append_assoc, append-nil}
 use Rattle.std.specs.List.{flat_map}
 use Rattle.mx_diagnostics.specs.Diagnostics.{diagnostics_of}
 use Rattle.mx_diagnostics.specs.Published.{diagnostic_json, list_name, method as published_method, notice}
 use Rattle.mx_diagnostics.specs.declared.diagnostic.Diagnostic.{Diagnostic}
 use Rattle.mx_json.specs.Json.{array, string}
 use Rattle.mx_word.specs.Lists.{IsFront}
-use Rattle.mx_wire.specs.Replies.{answer_front, notice_front, notice_open, params_name, refusal, refusal_body}
+use Rattle.mx_wire.specs.Replies.{answer_front, notice_front, notice_open, params_name, refusal_body, result_body}
+use Rattle.mx_wire.specs.declared.replies.Refused.{Refused}
 use Rattle.mx_wire.specs.declared.replies.Refused.TheVariants.{NoJson}
 use Rattle.serde_json.specs.Data.{Data, null}
 use Rattle.mx_lsp.specs.Messages.{id_of, method_of, uri_of}
 use Rattle.mx_lsp.specs.Once.{AreAnswered, IsNotice, Sends, Takes, mark_with, marks_in, marks_of}
 use Rattle.mx_lsp.specs.Once.AreAnswered.{nothing, answered, noticed}
 use Rattle.mx_lsp.specs.Once.Takes.{at_end, one_more}
-use Rattle.mx_lsp.specs.Requests.{Carries}
+use Rattle.mx_lsp.specs.Requests.{IsReplyTo, Replies}
 use Rattle.mx_lsp.specs.Sessions.{IsBodyTaken, IsMarkTaken, IsTakenAs, IsTakenIf, changed_text, message_in, notices_at, notices_if, notices_of, opened_text}
 use Rattle.mx_lsp.specs.declared.message.Method.{Method}
 use Rattle.mx_lsp.specs.declared.message.Method.TheVariants.{DidOpen, DidChange, DidClose}
@@ -63,9 +64,20 @@ stage-noticed Shut s method message = nothing
 bytes-differ : 105 ≡ 109 → ⊥
 bytes-differ e = omega (arith, e)
 
-pub notice-no-answer : (id : Data) (body : List ℕ) → Carries id body → IsNotice body → ⊥
+no-result : (text value rest : List ℕ) → result_body text value ≡ notice_open ++ rest → ⊥
+unfolding answer_front notice_open result_body
+no-result text value rest e = bytes-differ (ap (λ bytes. get_or bytes 18 0) e)
+
+no-refusal : (text why rest : List ℕ) (refused : Refused) → refusal_body text refused why ≡ notice_open ++ rest → ⊥
 unfolding answer_front notice_open
-notice-no-answer id body c n = bytes-differ (ap (λ bytes. get_or bytes 18 0) (sym c.2.1 ∙ n.1))
+no-refusal text why rest refused e = bytes-differ (ap (λ bytes. get_or bytes 18 0) e)
+
+no-reply : (text body rest : List ℕ) → Replies text body → body ≡ notice_open ++ rest → ⊥
+no-reply text body rest (inl h) n = no-result text h.0 rest (sym h.1 ∙ n)
+no-reply text body rest (inr h) n = no-refusal text h.why rest h.refused (sym h.is ∙ n)
+
+pub notice-no-answer : (id : Data) (body : List ℕ) → IsReplyTo id body → IsNotice body → ⊥
+notice-no-answer id body r n = no-reply r.text body n.0 r.reply n.1
 
 -- ---- one body
 
@@ -80,8 +92,8 @@ method-sends : (s : Session) (method : Option Method) (message : Data) (t : Sess
 method-sends s None message t before after flow h = record { sent = []; added = h.sent ∙ sym (append-nil before); answers = nothing }
 method-sends s (Some method) message t before after flow h = mark-sends s method (id_of message) message t before after flow h
 
-refusal-carried : Carries null (refusal_body (codes "null") NoJson (codes "this is no JSON"))
-refusal-carried = (codes "null", (λ e. refl), (refusal NoJson (codes "this is no JSON"), refl))
+refusal-carried : IsReplyTo null (refusal_body (codes "null") NoJson (codes "this is no JSON"))
+refusal-carried = record { text = codes "null"; mark = λ e. refl; reply = inr (record { refused = NoJson; why = codes "this is no JSON"; is = refl }) }
 
 message-sends : (s : Session) (message : Option Data) (t : Session) (before after : List (List ℕ)) (flow : Flow) →
     IsTakenIf s message t before after flow → Sends (marks_in message) before after

@@ -5,7 +5,7 @@ use Rattle.mx_word.specs.Lists.{IsFront}
 use Rattle.mx_wire.specs.Replies.{notice_open}
 use Rattle.serde_json.specs.Data.{Data, null}
 use Rattle.mx_lsp.specs.Messages.{id_of, method_of}
-use Rattle.mx_lsp.specs.Requests.{Carries}
+use Rattle.mx_lsp.specs.Requests.{IsReplyTo}
 use Rattle.mx_lsp.specs.Sessions.{IsBodyTaken, message_in}
 use Rattle.mx_lsp.specs.declared.message.Method.{Method}
 use Rattle.mx_lsp.specs.declared.session.Session.{Session}
@@ -36,7 +36,7 @@ IsNotice body = IsFront notice_open body
 -- Of these marks each has one answer among these bodies, in the same order; the other bodies are notices.
 pub data AreAnswered : List Data → List (List ℕ) → Type 0 where
   nothing : AreAnswered [] []
-  answered : (id : Data) (ids : List Data) (body : List ℕ) (bodies : List (List ℕ)) → Carries id body → AreAnswered ids bodies → AreAnswered (id ∷ ids) (body ∷ bodies)
+  answered : (id : Data) (ids : List Data) (body : List ℕ) (bodies : List (List ℕ)) → IsReplyTo id body → AreAnswered ids bodies → AreAnswered (id ∷ ids) (body ∷ bodies)
   noticed : (ids : List Data) (body : List ℕ) (bodies : List (List ℕ)) → IsNotice body → AreAnswered ids bodies → AreAnswered ids (body ∷ bodies)
 
 -- what is sent answers these marks

@@ -13,7 +13,7 @@ use Rattle.mx_line.specs.Lines.{lines_of}
 use Rattle.mx_marks.specs.Mending.{line_text}
 use Rattle.mx_references.specs.Outline.{outline}
 use Rattle.mx_references.specs.Uses.{definition, highlights, name_range, references}
-use Rattle.mx_wire.specs.Replies.{answer_front, refusal_body, result_body}
+use Rattle.mx_wire.specs.Replies.{refusal_body, result_body}
 use Rattle.mx_wire.specs.declared.replies.Refused.{Refused}
 use Rattle.mx_wire.specs.declared.replies.Refused.TheVariants.{Failed, NoMemory, NoMethod, NoRequest, TooEarly}
 use Rattle.serde_json.specs.Data.{Data}
@@ -25,7 +25,6 @@ use Rattle.mx_lsp.specs.declared.message.Method.TheVariants.{Initialize, Shutdow
 use Rattle.mx_lsp.specs.declared.session.Session.{Session}
 use Rattle.mx_lsp.specs.declared.session.Stage.{Stage}
 use Rattle.mx_lsp.specs.declared.session.Stage.TheVariants.{Waiting, Serving, Shut}
-use Rattle.mx_word.specs.Lists.{IsFront}
 
 -- ---- the place of a request
 
@@ -127,11 +126,27 @@ pub record IsAnswer (s : Session) (id : Data) (method : Method) (message : Data)
   pub mark : IsTextOf id text
   pub answer : IsAnswerOf s text method message body
 
--- a body begins as an answer with the text of a mark
-abbrev pub Carries : Data → List ℕ → Type 0
-Carries id body = (text : List ℕ) × IsTextOf id text × IsFront (answer_front text) body
+-- ---- replies
 
--- a body refuses a request, and says why
+-- a body replies with a result, or with an error, to the request whose mark has this text
+abbrev pub HasResult : List ℕ → List ℕ → Type 0
+HasResult text body = (value : List ℕ) × (body ≡ result_body text value)
+
+pub record HasError (text body : List ℕ) : Type 0 where
+  pub refused : Refused
+  pub why : List ℕ
+  pub is : body ≡ refusal_body text refused why
+
+abbrev pub Replies : List ℕ → List ℕ → Type 0
+Replies text body = HasResult text body ⊎ HasError text body
+
+-- a body is the reply to the request with a mark
+pub record IsReplyTo (id : Data) (body : List ℕ) : Type 0 where
+  pub text : List ℕ
+  pub mark : IsTextOf id text
+  pub reply : Replies text body
+
+-- a body is an error of this sort, with some words
 abbrev pub Refuses : List ℕ → Refused → List ℕ → Type 0
 Refuses text refused body = (why : List ℕ) × (body ≡ refusal_body text refused why)
 

@@ -4,7 +4,7 @@ ghost use Rattle.std.specs.Prelude.{◌≡◌, ◌≢◌, ℕ, List, Some};
 ghost use Rattle.std.specs.List.{flat_map};
 ghost use Rattle.mx_lsp.specs.Documents as spec;
 ghost use Rattle.mx_lsp.specs.Once.{AreAnswered, IsNotice, Sends, Takes, marks_of};
-ghost use Rattle.mx_lsp.specs.Requests.{Carries, IsAnswer, IsRefusedAs};
+ghost use Rattle.mx_lsp.specs.Requests.{IsAnswer, IsRefusedAs, IsReplyTo};
 ghost use Rattle.mx_lsp.specs.Sessions.{IsBodyTaken};
 ghost use Rattle.mx_lsp.specs.declared.documents.Document.{Document};
 ghost use Rattle.mx_lsp.specs.declared.message.Method.{Method};
@@ -37,13 +37,13 @@ pub fn answers_come_in_the_order_of_requests()
 
 /// A notice is no answer.
 pub fn a_notice_answers_no_request()
-    ensures { (id : Data) (body : List ℕ) → Carries id body → IsNotice body → ⊥ }
+    ensures { (id : Data) (body : List ℕ) → IsReplyTo id body → IsNotice body → ⊥ }
 {}
 
-/// The answer to a request, whatever it is, begins with the mark of the request.
+/// The answer to a request, whatever it is, is a result or an error with the mark of the request.
 pub fn an_answer_carries_the_mark_of_its_request()
     ensures { (s : Session) (id : Data) (method : Method) (message : Data) (body : List ℕ) →
-        IsAnswer s id method message body → Carries id body }
+        IsAnswer s id method message body → IsReplyTo id body }
 {}
 
 /// Before `initialize` each other request is refused, with the number that the protocol has for it.
