@@ -9,6 +9,7 @@ use Rattle.serde_json.specs.Data.{Data}
 use Rattle.mx_lsp.specs.Documents.{text_of}
 use Rattle.mx_lsp.specs.Messages.{uri_of}
 use Rattle.mx_lsp.specs.Requests.{IsAnswer, IsAnswerAt, IsAnswerIf, IsAnswerOf, IsChangeAnswer, IsReplyTo, IsServingAnswer, IsTextAnswer, Replies, offers, result_in, waiting_answer}
+use Rattle.mx_lsp.specs.Requests.IsAnswerOf.{given, lacking}
 use Rattle.mx_lsp.specs.declared.message.Method.{Method}
 use Rattle.mx_lsp.specs.declared.message.Method.TheVariants.{Initialize, Shutdown, Exit, DidOpen, DidChange, DidClose, Rename, Formatting, Other}
 use Rattle.mx_lsp.specs.declared.session.Session.{Session}
@@ -54,8 +55,8 @@ by-stage Serving s text method message body a = by-serving s text method message
 by-stage Shut s text method message body e = by-refusal text NoRequest (codes "the session is shut down") body e
 
 by-memory : (s : Session) (text : List ℕ) (method : Method) (message : Data) (body : List ℕ) → IsAnswerOf s text method message body → Replies text body
-by-memory s text method message body (inl a) = by-stage s.stage s text method message body a
-by-memory s text method message body (inr e) = by-refusal text NoMemory (codes "out of memory") body e
+by-memory s text method message body (given a) = by-stage s.stage s text method message body a
+by-memory s text method message body (lacking e) = by-refusal text NoMemory (codes "out of memory") body e
 
 pub mark-carried : (s : Session) (id : Data) (method : Method) (message : Data) (body : List ℕ) → IsAnswer s id method message body → IsReplyTo id body
 mark-carried s id method message body a = record { text = a.text; mark = a.mark; reply = by-memory s a.text method message body a.answer }

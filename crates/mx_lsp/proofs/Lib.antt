@@ -1,3 +1,4 @@
+pub mod Answering
 pub mod Carried
 pub mod EditTurns
 pub mod Once

@@ -10,12 +10,12 @@ use Rattle.mx_wire.specs.Replies.{answer_front, notice_front, notice_open, param
 use Rattle.mx_wire.specs.declared.replies.Refused.{Refused}
 use Rattle.mx_wire.specs.declared.replies.Refused.TheVariants.{NoJson}
 use Rattle.serde_json.specs.Data.{Data, null}
-use Rattle.mx_lsp.specs.Messages.{id_of, method_of, uri_of}
+use Rattle.mx_lsp.specs.Messages.{id_of, message_in, method_of, uri_of}
 use Rattle.mx_lsp.specs.Once.{AreAnswered, IsNotice, Sends, Takes, mark_with, marks_in, marks_of}
 use Rattle.mx_lsp.specs.Once.AreAnswered.{nothing, answered, noticed}
 use Rattle.mx_lsp.specs.Once.Takes.{at_end, one_more}
 use Rattle.mx_lsp.specs.Requests.{IsReplyTo, Replies}
-use Rattle.mx_lsp.specs.Sessions.{IsBodyTaken, IsMarkTaken, IsTakenAs, IsTakenIf, changed_text, message_in, notices_at, notices_if, notices_of, opened_text}
+use Rattle.mx_lsp.specs.Sessions.{IsBodyTaken, IsMarkTaken, IsTakenAs, IsTakenIf, changed_text, notices_at, notices_if, notices_of, opened_text}
 use Rattle.mx_lsp.specs.declared.message.Method.{Method}
 use Rattle.mx_lsp.specs.declared.message.Method.TheVariants.{DidOpen, DidChange, DidClose}
 use Rattle.mx_lsp.specs.declared.session.Session.{Session}
@@ -93,7 +93,7 @@ method-sends s None message t before after flow h = record { sent = []; added = 
 method-sends s (Some method) message t before after flow h = mark-sends s method (id_of message) message t before after flow h
 
 refusal-carried : IsReplyTo null (refusal_body (codes "null") NoJson (codes "this is no JSON"))
-refusal-carried = record { text = codes "null"; mark = λ e. refl; reply = inr (record { refused = NoJson; why = codes "this is no JSON"; is = refl }) }
+refusal-carried = record { text = codes "null"; mark = record { is = λ e. refl }; reply = inr (record { refused = NoJson; why = codes "this is no JSON"; is = refl }) }
 
 message-sends : (s : Session) (message : Option Data) (t : Session) (before after : List (List ℕ)) (flow : Flow) →
     IsTakenIf s message t before after flow → Sends (marks_in message) before after

@@ -1,12 +1,17 @@
 -- Messages that come, as JSON: what they ask for or tell, and their parts. (JSON-RPC 2.0; Language Server Protocol, "Base Protocol".)
 use Rattle.std.specs.Prelude.{◌≡◌, ℕ, Bool, true, false, List, [], Option, None, Some, is_some, option_map, option_and_then, unwrap_or, codes, if◌then◌else◌}
-use Rattle.std.specs.Str.{bytes_eq}
+use Rattle.std.specs.Str.{bytes_eq, is_utf8}
 use Rattle.serde_json.specs.Data.{Data, Items, no_items, item}
 use Rattle.serde_json.specs.Find.{as_array, as_bool, as_number, as_object, as_str, as_u64, get, pointer}
+use Rattle.serde_json.specs.Read.{read}
 use Rattle.serde_json.specs.Written.{compact_text, has_float}
 use Rattle.mx_lsp.specs.Edits.{offset_of, spliced}
 use Rattle.mx_lsp.specs.declared.message.Method.{Method}
 use Rattle.mx_lsp.specs.declared.message.Method.TheVariants.{Initialize, Shutdown, Exit, DidOpen, DidChange, DidClose, Hover, Definition, References, Highlight, PrepareRename, Rename, Symbols, Completion, Signature, Formatting, Other}
+
+-- the message that a body has
+abbrev pub message_in : List ℕ → Option Data
+message_in body = if is_utf8 body then read body else None
 
 -- ---- methods
 
@@ -54,8 +59,8 @@ abbrev pub id_of : Data → Option Data
 id_of message = get (codes "id") message
 
 -- the text of a mark, which is a string or a whole number
-abbrev pub IsTextOf : Data → List ℕ → Type 0
-IsTextOf id text = has_float id ≡ false → text ≡ compact_text id
+pub record IsTextOf (id : Data) (text : List ℕ) : Type 0 where
+  pub is : has_float id ≡ false → text ≡ compact_text id
 
 -- ---- parts, by their paths
 

@@ -4,9 +4,9 @@ use Rattle.std.specs.Prelude.{◌≡◌, ℕ, List, [], ◌∷◌, ◌++◌, Opt
 use Rattle.mx_word.specs.Lists.{IsFront}
 use Rattle.mx_wire.specs.Replies.{notice_open}
 use Rattle.serde_json.specs.Data.{Data, null}
-use Rattle.mx_lsp.specs.Messages.{id_of, method_of}
+use Rattle.mx_lsp.specs.Messages.{id_of, message_in, method_of}
 use Rattle.mx_lsp.specs.Requests.{IsReplyTo}
-use Rattle.mx_lsp.specs.Sessions.{IsBodyTaken, message_in}
+use Rattle.mx_lsp.specs.Sessions.{IsBodyTaken}
 use Rattle.mx_lsp.specs.declared.message.Method.{Method}
 use Rattle.mx_lsp.specs.declared.session.Session.{Session}
 use Rattle.mx_lsp.specs.declared.session.Flow.{Flow}

@@ -116,9 +116,9 @@ IsAnswerAt Serving s id method message body = IsServingAnswer s id method messag
 IsAnswerAt Shut s id method message body = body ≡ refusal_body id NoRequest (codes "the session is shut down")
 
 -- an answer with the text of a mark; or that there was no memory
-abbrev pub IsAnswerOf : Session → List ℕ → Method → Data → List ℕ → Type 0
-IsAnswerOf s id method message body =
-    IsAnswerAt s.stage s id method message body ⊎ (body ≡ refusal_body id NoMemory (codes "out of memory"))
+pub data IsAnswerOf (s : Session) (id : List ℕ) (method : Method) (message : Data) (body : List ℕ) : Type 0 where
+  given : IsAnswerAt s.stage s id method message body → IsAnswerOf s id method message body
+  lacking : body ≡ refusal_body id NoMemory (codes "out of memory") → IsAnswerOf s id method message body
 
 -- the answer to a request carries its mark
 pub record IsAnswer (s : Session) (id : Data) (method : Method) (message : Data) (body : List ℕ) : Type 0 where

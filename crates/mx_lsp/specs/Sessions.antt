@@ -1,16 +1,14 @@
 -- A session: the texts that are open, each as its changes have made it, and how far it has come. Each request is answered once, and
 -- a notification is not answered; what is sent after a change are the faults of the text as it then is. (Language Server Protocol, "Base
 -- Protocol", "Server lifecycle" and "Text Document Synchronization".)
-use Rattle.std.specs.Prelude.{◌≡◌, ℕ, List, [], ◌∷◌, ◌++◌, Option, None, Some, codes, if◌then◌else◌}
-use Rattle.std.specs.Str.{is_utf8}
+use Rattle.std.specs.Prelude.{◌≡◌, ℕ, List, [], ◌∷◌, ◌++◌, Option, None, Some, codes}
 use Rattle.mx_diagnostics.specs.Diagnostics.{diagnostics_of}
 use Rattle.mx_diagnostics.specs.Published.{notice}
 use Rattle.mx_wire.specs.Replies.{refusal_body}
 use Rattle.mx_wire.specs.declared.replies.Refused.TheVariants.{NoJson}
 use Rattle.serde_json.specs.Data.{Data}
-use Rattle.serde_json.specs.Read.{read}
 use Rattle.mx_lsp.specs.Documents as documents
-use Rattle.mx_lsp.specs.Messages.{id_of, method_of, text_after, text_at, uri_of}
+use Rattle.mx_lsp.specs.Messages.{id_of, message_in, method_of, text_after, text_at, uri_of}
 use Rattle.mx_lsp.specs.Requests.{IsAnswer, after_request}
 use Rattle.mx_lsp.specs.declared.message.Method.{Method}
 use Rattle.mx_lsp.specs.declared.message.Method.TheVariants.{Exit, DidOpen, DidChange, DidClose}
@@ -125,10 +123,6 @@ pub record IsRefused (s t : Session) (before after : List (List ℕ)) (flow : Fl
   pub session : t ≡ s
   pub sent : after ≡ before ++ refusal_body (codes "null") NoJson (codes "this is no JSON") ∷ []
   pub ends : flow ≡ Ended 1
-
--- the message that a body has
-abbrev pub message_in : List ℕ → Option Data
-message_in body = if is_utf8 body then read body else None
 
 abbrev pub IsTakenIf : Session → Option Data → Session → List (List ℕ) → List (List ℕ) → Flow → Type 0
 IsTakenIf s None t before after flow = IsRefused s t before after flow

@@ -2,6 +2,7 @@
 
 ghost use Rattle.std.specs.Prelude.{◌≡◌, option_map, IfOk};
 ghost use Rattle.serde_json.specs.Find.{pointer};
+ghost use Rattle.serde_json.specs.Read.{read};
 ghost use Rattle.serde_json.specs.View.{view};
 ghost use Rattle.mx_lsp.specs.Messages as spec;
 
@@ -121,13 +122,41 @@ pub(crate) fn id_of(message: &Value) -> Option<&Value>
 }
 
 /// The text of the mark of a request.
+#[tactic(auto, using(crate::proofs::Answering::marking))]
 pub(crate) fn id_text(alloc: Global, id: &Value) -> Result<Bytes, NoMemory>
     ensures { IfOk result (λ text. spec.IsTextOf (view id.now) text) }
 {
-    match id.to_string(alloc) {
-        Ok(text) => Bytes::copy(alloc, text.as_bytes()),
-        Err(_) => Err(NoMemory),
+    let text = id.to_string(alloc)?;
+    let copy = Bytes::copy(alloc, text.as_bytes())?;
+    Ok(copy)
+}
+
+/// The value that a text writes in JSON, if it is JSON.
+fn read_text(alloc: Global, text: &str) -> Result<Option<Value>, NoMemory>
+    ensures { IfOk result (λ message. option_map view message ≡ read text.now) }
+{
+    match Value::from_str(alloc, text) {
+        Ok(message) => Ok(Some(message)),
+        Err(e) => {
+            if e.is_memory() {
+                Err(NoMemory)
+            } else {
+                Ok(None)
+            }
+        }
     }
+}
+
+/// The message that a body has, if it has one.
+#[tactic(auto, using(crate::proofs::Answering::reading))]
+pub(crate) fn read_message(alloc: Global, body: &[u8]) -> Result<Option<Value>, NoMemory>
+    ensures { IfOk result (λ message. option_map view message ≡ spec.message_in body.now) }
+{
+    let Ok(text) = str::from_utf8(body) else {
+        return Ok(None);
+    };
+    let message = read_text(alloc, text)?;
+    Ok(message)
 }
 
 /// The bytes of a text; none where a value is no text.

@@ -103,7 +103,8 @@ fn answer_rename(
         spec.IsRenameAnswer id.now uri.now place.line place.from name.now source.now body) }
 {
     let change = rename(alloc, uri, place.line, place.from, name, source)?;
-    answer_change(alloc, id, &change)
+    let body = answer_change(alloc, id, &change)?;
+    Ok(body)
 }
 
 /// The answer to a request that changes the layout of a text.
@@ -111,7 +112,8 @@ fn answer_layout(alloc: Global, id: &[u8], source: &[u8]) -> Result<Bytes, NoMem
     ensures { IfOk result (λ body. spec.IsLayoutAnswer id.now source.now body) }
 {
     let change = formatting_of(alloc, source)?;
-    answer_change(alloc, id, &change)
+    let body = answer_change(alloc, id, &change)?;
+    Ok(body)
 }
 
 /// The answer to a request about a text.
@@ -218,6 +220,7 @@ fn answer_at(
 }
 
 /// The answer to a request with the text of its mark; where there was no memory, that.
+#[tactic(auto, using(crate::proofs::Answering::answering))]
 fn answer_marked(
     alloc: Global,
     session: &Session,
@@ -230,11 +233,15 @@ fn answer_marked(
 {
     match answer_at(alloc, session.stage, session, id, method, message) {
         Ok(body) => Ok(body),
-        Err(NoMemory) => refusal_of(alloc, id, Refused::NoMemory, b"out of memory"),
+        Err(NoMemory) => {
+            let body = refusal_of(alloc, id, Refused::NoMemory, b"out of memory")?;
+            Ok(body)
+        }
     }
 }
 
 /// The answer to a request, which carries its mark.
+#[tactic(auto, using(crate::proofs::Answering::answering))]
 pub(crate) fn answer_request(
     alloc: Global,
     session: &Session,
@@ -246,7 +253,8 @@ pub(crate) fn answer_request(
         spec.IsAnswer session.now (view id.now) method (view message.now) body) }
 {
     let text = id_text(alloc, id)?;
-    answer_marked(alloc, session, text.as_slice(), method, message)
+    let body = answer_marked(alloc, session, text.as_slice(), method, message)?;
+    Ok(body)
 }
 
 /// How far a session comes by a request while it waits.

@@ -1,12 +1,11 @@
 //! A session: the messages that come, and the answers to them.
 
 ghost use Rattle.std.specs.Prelude.{◌≡◌, [], IfOk};
-ghost use Rattle.serde_json.specs.Read.{read};
 ghost use Rattle.serde_json.specs.View.{view};
 ghost use Rattle.mx_lsp.specs.Sessions as spec;
 
 use crate::documents::Documents;
-use crate::message::{Method, id_of, method_of};
+use crate::message::{Method, id_of, method_of, read_message};
 use crate::notifications::take_notice;
 use crate::requests::{answer_request, pass_request};
 use mx_wire::{Refused, refusal_of};
@@ -112,28 +111,6 @@ fn refuse(alloc: Global, session: &Session, out: &mut Bodies) -> Result<Flow, No
     Ok(Flow::Ended(1))
 }
 
-/// Answers the text of a message.
-fn answer_text(
-    alloc: Global,
-    session: &mut Session,
-    text: &str,
-    out: &mut Bodies,
-) -> Result<Flow, NoMemory>
-    ensures { IfOk result (λ flow.
-        spec.IsTakenIf session.old (read text.now) session.new out.old out.new flow) }
-{
-    match Value::from_str(alloc, text) {
-        Ok(message) => take_message(alloc, session, &message, out),
-        Err(e) => {
-            if e.is_memory() {
-                Err(NoMemory)
-            } else {
-                refuse(alloc, session, out)
-            }
-        }
-    }
-}
-
 /// Answers a message: adds the bodies of the answers, and says whether the session goes on.
 pub fn answer(
     alloc: Global,
@@ -144,9 +121,9 @@ pub fn answer(
     ensures { IfOk result (λ flow.
         spec.IsBodyTaken session.old body.now session.new out.old out.new flow) }
 {
-    match str::from_utf8(body) {
-        Ok(text) => answer_text(alloc, session, text, out),
-        Err(_) => refuse(alloc, session, out),
+    match read_message(alloc, body)? {
+        None => refuse(alloc, session, out),
+        Some(message) => take_message(alloc, session, &message, out),
     }
 }
 
