@@ -11,7 +11,9 @@ use Rattle.mx_lsp.specs.Messages.{uri_of}
 use Rattle.mx_lsp.specs.Requests.{IsAnswer, IsAnswerAt, IsAnswerIf, IsAnswerOf, IsChangeAnswer, IsReplyTo, IsServingAnswer, IsTextAnswer, Replies, offers, result_in, waiting_answer}
 use Rattle.mx_lsp.specs.Requests.IsAnswerOf.{given, lacking}
 use Rattle.mx_lsp.specs.declared.message.Method.{Method}
-use Rattle.mx_lsp.specs.declared.message.Method.TheVariants.{Initialize, Shutdown, Exit, DidOpen, DidChange, DidClose, Rename, Formatting, Other}
+use Rattle.mx_lsp.specs.declared.message.Method.TheVariants.{Initialize, Shutdown, Exit, Tells, Asks, Other}
+use Rattle.mx_lsp.specs.declared.message.Query.{Query}
+use Rattle.mx_lsp.specs.declared.message.Query.TheVariants.{Shows, Rename, Formatting}
 use Rattle.mx_lsp.specs.declared.session.Session.{Session}
 use Rattle.mx_lsp.specs.declared.session.Stage.{Stage}
 use Rattle.mx_lsp.specs.declared.session.Stage.TheVariants.{Waiting, Serving, Shut}
@@ -26,14 +28,14 @@ by-change : (text : List ℕ) (change : Change) (body : List ℕ) → IsChangeAn
 by-change text (Done result) body e = by-result text result body e
 by-change text (RefusedChange why) body e = by-refusal text Failed why.now body e
 
-by-text : (text : List ℕ) (method : Method) (message : Data) (source body : List ℕ) → IsTextAnswer text method message source body → Replies text body
+by-text : (text : List ℕ) (query : Query) (message : Data) (source body : List ℕ) → IsTextAnswer text query message source body → Replies text body
+by-text text (Shows what) message source body e = by-result text (result_in what message source) body e
 by-text text Rename message source body a = by-change text a.change body a.answer
 by-text text Formatting message source body a = by-change text a.change body a.answer
-by-text text method message source body e = by-result text (result_in method message source) body e
 
-by-source : (text : List ℕ) (method : Method) (message : Data) (source : Option (List ℕ)) (body : List ℕ) → IsAnswerIf text method message source body → Replies text body
-by-source text method message None body e = by-refusal text Failed (codes "this text is not open") body e
-by-source text method message (Some source) body a = by-text text method message source body a
+by-source : (text : List ℕ) (query : Query) (message : Data) (source : Option (List ℕ)) (body : List ℕ) → IsAnswerIf text query message source body → Replies text body
+by-source text query message None body e = by-refusal text Failed (codes "this text is not open") body e
+by-source text query message (Some source) body a = by-text text query message source body a
 
 by-waiting : (text : List ℕ) (method : Method) (body : List ℕ) → body ≡ waiting_answer text method → Replies text body
 by-waiting text Initialize body e = by-result text offers body e
@@ -43,11 +45,9 @@ by-serving : (s : Session) (text : List ℕ) (method : Method) (message : Data) 
 by-serving s text Initialize message body e = by-refusal text NoRequest (codes "initialize has come before") body e
 by-serving s text Shutdown message body e = by-result text (codes "null") body e
 by-serving s text Exit message body e = by-refusal text NoMethod (codes "there is no such request") body e
-by-serving s text DidOpen message body e = by-refusal text NoMethod (codes "there is no such request") body e
-by-serving s text DidChange message body e = by-refusal text NoMethod (codes "there is no such request") body e
-by-serving s text DidClose message body e = by-refusal text NoMethod (codes "there is no such request") body e
+by-serving s text (Tells notice) message body e = by-refusal text NoMethod (codes "there is no such request") body e
+by-serving s text (Asks query) message body a = by-source text query message (text_of s.documents (uri_of message)) body a
 by-serving s text Other message body e = by-refusal text NoMethod (codes "there is no such request") body e
-by-serving s text method message body a = by-source text method message (text_of s.documents (uri_of message)) body a
 
 by-stage : (stage : Stage) (s : Session) (text : List ℕ) (method : Method) (message : Data) (body : List ℕ) → IsAnswerAt stage s text method message body → Replies text body
 by-stage Waiting s text method message body e = by-waiting text method body e

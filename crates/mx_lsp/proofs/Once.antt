@@ -15,9 +15,11 @@ use Rattle.mx_lsp.specs.Once.{AreAnswered, IsNotice, Sends, Takes, mark_with, ma
 use Rattle.mx_lsp.specs.Once.AreAnswered.{nothing, answered, noticed}
 use Rattle.mx_lsp.specs.Once.Takes.{at_end, one_more}
 use Rattle.mx_lsp.specs.Requests.{IsReplyTo, Replies}
-use Rattle.mx_lsp.specs.Sessions.{IsBodyTaken, IsMarkTaken, IsTakenAs, IsTakenIf, changed_text, notices_at, notices_if, notices_of, opened_text}
+use Rattle.mx_lsp.specs.Sessions.{IsBodyTaken, IsMarkTaken, IsTakenAs, IsTakenIf, changed_text, notices_at, notices_by, notices_if, notices_of, opened_text}
 use Rattle.mx_lsp.specs.declared.message.Method.{Method}
-use Rattle.mx_lsp.specs.declared.message.Method.TheVariants.{DidOpen, DidChange, DidClose}
+use Rattle.mx_lsp.specs.declared.message.Method.TheVariants.{Tells}
+use Rattle.mx_lsp.specs.declared.message.Notice.{Notice}
+use Rattle.mx_lsp.specs.declared.message.Notice.TheVariants.{DidOpen, DidChange, DidClose}
 use Rattle.mx_lsp.specs.declared.session.Session.{Session}
 use Rattle.mx_lsp.specs.declared.session.Flow.{Flow}
 use Rattle.mx_lsp.specs.declared.session.Stage.{Stage}
@@ -49,16 +51,19 @@ change-noticed : (uri : List ℕ) (text : Option (List ℕ)) → AreAnswered [] 
 change-noticed uri None = nothing
 change-noticed uri (Some text) = one-notice uri (diagnostics_of text)
 
-told-noticed : (s : Session) (method : Method) (message : Data) → AreAnswered [] (notices_of s method message)
+told-noticed : (s : Session) (told : Notice) (message : Data) → AreAnswered [] (notices_of s told message)
 told-noticed s DidOpen message = one-notice (uri_of message) (diagnostics_of (opened_text message))
 told-noticed s DidChange message = change-noticed (uri_of message) (changed_text s message)
 told-noticed s DidClose message = one-notice (uri_of message) []
-told-noticed s method message = nothing
 
-stage-noticed : (stage : Stage) (s : Session) (method : Method) (message : Data) → AreAnswered [] (notices_at stage s method message)
-stage-noticed Waiting s method message = nothing
-stage-noticed Serving s method message = told-noticed s method message
-stage-noticed Shut s method message = nothing
+stage-noticed : (stage : Stage) (s : Session) (told : Notice) (message : Data) → AreAnswered [] (notices_at stage s told message)
+stage-noticed Waiting s told message = nothing
+stage-noticed Serving s told message = told-noticed s told message
+stage-noticed Shut s told message = nothing
+
+method-noticed : (s : Session) (method : Method) (message : Data) → AreAnswered [] (notices_by s method message)
+method-noticed s (Tells told) message = stage-noticed s.stage s told message
+method-noticed s method message = nothing
 
 -- the names of the second members differ
 bytes-differ : 105 ≡ 109 → ⊥
@@ -83,7 +88,7 @@ notice-no-answer id body r n = no-reply r.text body n.0 r.reply n.1
 
 mark-sends : (s : Session) (method : Method) (id : Option Data) (message : Data) (t : Session) (before after : List (List ℕ)) (flow : Flow) →
     IsMarkTaken s method id message t before after flow → Sends (mark_with (Some method) id) before after
-mark-sends s method None message t before after flow h = record { sent = notices_at s.stage s method message; added = h.sent; answers = stage-noticed s.stage s method message }
+mark-sends s method None message t before after flow h = record { sent = notices_by s method message; added = h.sent; answers = method-noticed s method message }
 mark-sends s method (Some id) message t before after flow h =
     record { sent = h.body ∷ []; added = h.sent; answers = answered id [] h.body [] (mark-carried s id method message h.body h.answer) nothing }
 

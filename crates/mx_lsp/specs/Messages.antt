@@ -7,7 +7,11 @@ use Rattle.serde_json.specs.Read.{read}
 use Rattle.serde_json.specs.Written.{compact_text, has_float}
 use Rattle.mx_lsp.specs.Edits.{offset_of, spliced}
 use Rattle.mx_lsp.specs.declared.message.Method.{Method}
-use Rattle.mx_lsp.specs.declared.message.Method.TheVariants.{Initialize, Shutdown, Exit, DidOpen, DidChange, DidClose, Hover, Definition, References, Highlight, PrepareRename, Rename, Symbols, Completion, Signature, Formatting, Other}
+use Rattle.mx_lsp.specs.declared.message.Method.TheVariants.{Initialize, Shutdown, Exit, Tells, Asks, Other}
+use Rattle.mx_lsp.specs.declared.message.Notice.TheVariants.{DidOpen, DidChange, DidClose}
+use Rattle.mx_lsp.specs.declared.message.Query.TheVariants.{Shows, Rename, Formatting}
+use Rattle.mx_lsp.specs.declared.message.Showing.{Showing}
+use Rattle.mx_lsp.specs.declared.message.Showing.TheVariants.{Hover, Definition, References, Highlight, PrepareRename, Symbols, Completion, Signature}
 
 -- the message that a body has
 abbrev pub message_in : List ℕ → Option Data
@@ -15,22 +19,25 @@ message_in body = if is_utf8 body then read body else None
 
 -- ---- methods
 
+abbrev pub shows : Showing → Method
+shows what = Asks (Shows what)
+
 unfoldable pub name_named : List ℕ → Method
 name_named name =
-    if bytes_eq name (codes "textDocument/prepareRename") then PrepareRename
-    else if bytes_eq name (codes "textDocument/rename") then Rename
-    else if bytes_eq name (codes "textDocument/documentSymbol") then Symbols
-    else if bytes_eq name (codes "textDocument/completion") then Completion
-    else if bytes_eq name (codes "textDocument/signatureHelp") then Signature
-    else if bytes_eq name (codes "textDocument/formatting") then Formatting
+    if bytes_eq name (codes "textDocument/prepareRename") then shows PrepareRename
+    else if bytes_eq name (codes "textDocument/rename") then Asks Rename
+    else if bytes_eq name (codes "textDocument/documentSymbol") then shows Symbols
+    else if bytes_eq name (codes "textDocument/completion") then shows Completion
+    else if bytes_eq name (codes "textDocument/signatureHelp") then shows Signature
+    else if bytes_eq name (codes "textDocument/formatting") then Asks Formatting
     else Other
 
 unfoldable pub place_named : List ℕ → Method
 place_named name =
-    if bytes_eq name (codes "textDocument/hover") then Hover
-    else if bytes_eq name (codes "textDocument/definition") then Definition
-    else if bytes_eq name (codes "textDocument/references") then References
-    else if bytes_eq name (codes "textDocument/documentHighlight") then Highlight
+    if bytes_eq name (codes "textDocument/hover") then shows Hover
+    else if bytes_eq name (codes "textDocument/definition") then shows Definition
+    else if bytes_eq name (codes "textDocument/references") then shows References
+    else if bytes_eq name (codes "textDocument/documentHighlight") then shows Highlight
     else name_named name
 
 unfoldable pub method_named : List ℕ → Method
@@ -38,9 +45,9 @@ method_named name =
     if bytes_eq name (codes "initialize") then Initialize
     else if bytes_eq name (codes "shutdown") then Shutdown
     else if bytes_eq name (codes "exit") then Exit
-    else if bytes_eq name (codes "textDocument/didOpen") then DidOpen
-    else if bytes_eq name (codes "textDocument/didChange") then DidChange
-    else if bytes_eq name (codes "textDocument/didClose") then DidClose
+    else if bytes_eq name (codes "textDocument/didOpen") then Tells DidOpen
+    else if bytes_eq name (codes "textDocument/didChange") then Tells DidChange
+    else if bytes_eq name (codes "textDocument/didClose") then Tells DidClose
     else place_named name
 
 abbrev pub method_by : Data → Option Method

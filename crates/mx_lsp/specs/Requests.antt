@@ -21,7 +21,11 @@ use Rattle.mx_lsp.specs.Documents.{text_of}
 use Rattle.mx_lsp.specs.Lines.{number_of}
 use Rattle.mx_lsp.specs.Messages.{IsTextOf, number_at, text_at, uri_of, wants_label}
 use Rattle.mx_lsp.specs.declared.message.Method.{Method}
-use Rattle.mx_lsp.specs.declared.message.Method.TheVariants.{Initialize, Shutdown, Exit, DidOpen, DidChange, DidClose, Hover, Definition, References, Highlight, PrepareRename, Rename, Symbols, Completion, Signature, Formatting, Other}
+use Rattle.mx_lsp.specs.declared.message.Method.TheVariants.{Initialize, Shutdown, Exit, Tells, Asks, Other}
+use Rattle.mx_lsp.specs.declared.message.Query.{Query}
+use Rattle.mx_lsp.specs.declared.message.Query.TheVariants.{Shows, Rename, Formatting}
+use Rattle.mx_lsp.specs.declared.message.Showing.{Showing}
+use Rattle.mx_lsp.specs.declared.message.Showing.TheVariants.{Hover, Definition, References, Highlight, PrepareRename, Symbols, Completion, Signature}
 use Rattle.mx_lsp.specs.declared.session.Session.{Session}
 use Rattle.mx_lsp.specs.declared.session.Stage.{Stage}
 use Rattle.mx_lsp.specs.declared.session.Stage.TheVariants.{Waiting, Serving, Shut}
@@ -37,8 +41,8 @@ from_in message source =
 
 -- ---- requests about a text
 
--- the result of one that changes nothing
-abbrev pub result_at : Method → List ℕ → ℕ → ℕ → Bool → List ℕ → List ℕ
+-- what is shown, at a place of a text or of the whole
+abbrev pub result_at : Showing → List ℕ → ℕ → ℕ → Bool → List ℕ → List ℕ
 result_at Hover uri line from has_labels source = hover line from source
 result_at Definition uri line from has_labels source = definition uri line from source
 result_at References uri line from has_labels source = references uri line from has_labels source
@@ -47,10 +51,9 @@ result_at PrepareRename uri line from has_labels source = name_range line from s
 result_at Symbols uri line from has_labels source = outline source
 result_at Completion uri line from has_labels source = completion line from source
 result_at Signature uri line from has_labels source = signature line from source
-result_at method uri line from has_labels source = codes "null"
 
-abbrev pub result_in : Method → Data → List ℕ → List ℕ
-result_in method message source = result_at method (uri_of message) (line_in message) (from_in message source) (wants_label message) source
+abbrev pub result_in : Showing → Data → List ℕ → List ℕ
+result_in what message source = result_at what (uri_of message) (line_in message) (from_in message source) (wants_label message) source
 
 -- the answer by a change, which is done or refused
 abbrev pub IsChangeAnswer : List ℕ → Change → List ℕ → Type 0
@@ -69,15 +72,18 @@ pub record IsLayoutAnswer (id source body : List ℕ) : Type 0 where
   pub formats : Formats source change
   pub answer : IsChangeAnswer id change body
 
-abbrev pub IsTextAnswer : List ℕ → Method → Data → List ℕ → List ℕ → Type 0
+abbrev pub IsTextAnswer : List ℕ → Query → Data → List ℕ → List ℕ → Type 0
+IsTextAnswer id (Shows what) message source body = body ≡ result_body id (result_in what message source)
 IsTextAnswer id Rename message source body =
     IsRenameAnswer id (uri_of message) (line_in message) (from_in message source) (text_at (codes "/params/newName") message) source body
 IsTextAnswer id Formatting message source body = IsLayoutAnswer id source body
-IsTextAnswer id method message source body = body ≡ result_body id (result_in method message source)
 
-abbrev pub IsAnswerIf : List ℕ → Method → Data → Option (List ℕ) → List ℕ → Type 0
-IsAnswerIf id method message None body = body ≡ refusal_body id Failed (codes "this text is not open")
-IsAnswerIf id method message (Some source) body = IsTextAnswer id method message source body
+abbrev pub IsAnswerIf : List ℕ → Query → Data → Option (List ℕ) → List ℕ → Type 0
+IsAnswerIf id query message None body = body ≡ refusal_body id Failed (codes "this text is not open")
+IsAnswerIf id query message (Some source) body = IsTextAnswer id query message source body
+
+abbrev pub IsQueryAnswer : Session → List ℕ → Query → Data → List ℕ → Type 0
+IsQueryAnswer s id query message body = IsAnswerIf id query message (text_of s.documents (uri_of message)) body
 
 -- ---- all requests
 
@@ -103,11 +109,9 @@ abbrev pub IsServingAnswer : Session → List ℕ → Method → Data → List �
 IsServingAnswer s id Initialize message body = body ≡ refusal_body id NoRequest (codes "initialize has come before")
 IsServingAnswer s id Shutdown message body = body ≡ result_body id (codes "null")
 IsServingAnswer s id Exit message body = body ≡ no_request id
-IsServingAnswer s id DidOpen message body = body ≡ no_request id
-IsServingAnswer s id DidChange message body = body ≡ no_request id
-IsServingAnswer s id DidClose message body = body ≡ no_request id
+IsServingAnswer s id (Tells notice) message body = body ≡ no_request id
+IsServingAnswer s id (Asks query) message body = IsQueryAnswer s id query message body
 IsServingAnswer s id Other message body = body ≡ no_request id
-IsServingAnswer s id method message body = IsAnswerIf id method message (text_of s.documents (uri_of message)) body
 
 -- a request is carried out from `initialize` on, up to `shutdown`; before and after it is refused
 abbrev pub IsAnswerAt : Stage → Session → List ℕ → Method → Data → List ℕ → Type 0

@@ -11,7 +11,9 @@ use Rattle.mx_lsp.specs.Documents as documents
 use Rattle.mx_lsp.specs.Messages.{id_of, message_in, method_of, text_after, text_at, uri_of}
 use Rattle.mx_lsp.specs.Requests.{IsAnswer, after_request}
 use Rattle.mx_lsp.specs.declared.message.Method.{Method}
-use Rattle.mx_lsp.specs.declared.message.Method.TheVariants.{Exit, DidOpen, DidChange, DidClose}
+use Rattle.mx_lsp.specs.declared.message.Method.TheVariants.{Exit, Tells}
+use Rattle.mx_lsp.specs.declared.message.Notice.{Notice}
+use Rattle.mx_lsp.specs.declared.message.Notice.TheVariants.{DidOpen, DidChange, DidClose}
 use Rattle.mx_lsp.specs.declared.session.Session.{Session}
 use Rattle.mx_lsp.specs.declared.session.Stage.{Stage}
 use Rattle.mx_lsp.specs.declared.session.Stage.TheVariants.{Waiting, Serving, Shut}
@@ -48,29 +50,35 @@ abbrev pub notices_if : List ℕ → Option (List ℕ) → List (List ℕ)
 notices_if uri None = []
 notices_if uri (Some text) = notice uri (diagnostics_of text) ∷ []
 
-abbrev pub after_told : Session → Method → Data → Session
+abbrev pub after_told : Session → Notice → Data → Session
 after_told s DidOpen message = with_text s (uri_of message) (opened_text message)
 after_told s DidChange message = with_text_if s (uri_of message) (changed_text s message)
 after_told s DidClose message = without s (uri_of message)
-after_told s method message = s
 
 -- what is sent: the faults of a text that has come or has changed, and none of one that is closed
-abbrev pub notices_of : Session → Method → Data → List (List ℕ)
+abbrev pub notices_of : Session → Notice → Data → List (List ℕ)
 notices_of s DidOpen message = notice (uri_of message) (diagnostics_of (opened_text message)) ∷ []
 notices_of s DidChange message = notices_if (uri_of message) (changed_text s message)
 notices_of s DidClose message = notice (uri_of message) [] ∷ []
-notices_of s method message = []
 
 -- what is told of a text is taken from `initialize` on, up to `shutdown`
-abbrev pub after_told_at : Stage → Session → Method → Data → Session
-after_told_at Waiting s method message = s
-after_told_at Serving s method message = after_told s method message
-after_told_at Shut s method message = s
+abbrev pub after_told_at : Stage → Session → Notice → Data → Session
+after_told_at Waiting s told message = s
+after_told_at Serving s told message = after_told s told message
+after_told_at Shut s told message = s
 
-abbrev pub notices_at : Stage → Session → Method → Data → List (List ℕ)
-notices_at Waiting s method message = []
-notices_at Serving s method message = notices_of s method message
-notices_at Shut s method message = []
+abbrev pub notices_at : Stage → Session → Notice → Data → List (List ℕ)
+notices_at Waiting s told message = []
+notices_at Serving s told message = notices_of s told message
+notices_at Shut s told message = []
+
+abbrev pub after_notice : Session → Method → Data → Session
+after_notice s (Tells told) message = after_told_at s.stage s told message
+after_notice s method message = s
+
+abbrev pub notices_by : Session → Method → Data → List (List ℕ)
+notices_by s (Tells told) message = notices_at s.stage s told message
+notices_by s method message = []
 
 -- `exit` ends a session at any stage: well after `shutdown`
 abbrev pub status_of : Stage → ℕ
@@ -91,8 +99,8 @@ pub record IsPassed (s t : Session) (before after : List (List ℕ)) (flow : Flo
   pub goes_on : flow ≡ Going
 
 pub record IsNoticed (s : Session) (method : Method) (message : Data) (t : Session) (before after : List (List ℕ)) (flow : Flow) : Type 0 where
-  pub session : t ≡ after_told_at s.stage s method message
-  pub sent : after ≡ before ++ notices_at s.stage s method message
+  pub session : t ≡ after_notice s method message
+  pub sent : after ≡ before ++ notices_by s method message
   pub goes_on : flow ≡ flow_after s method
 
 pub record IsAnswered (s : Session) (method : Method) (id message : Data) (t : Session) (before after : List (List ℕ)) (flow : Flow) : Type 0 where

@@ -10,25 +10,43 @@ use mx_word::{Bytes, NoMemory};
 use serde_json::Value;
 use std::alloc::Global;
 
-/// What a message asks for or tells.
-#[derive(Clone, Copy, Debug, PartialEq, Eq)]
-pub(crate) enum Method {
-    Initialize,
-    Shutdown,
-    Exit,
+/// What a message tells of a text.
+#[derive(Clone, Copy)]
+pub(crate) enum Notice {
     DidOpen,
     DidChange,
     DidClose,
+}
+
+/// What a request asks to be shown, at a place of a text or of the whole.
+#[derive(Clone, Copy)]
+pub(crate) enum Showing {
     Hover,
     Definition,
     References,
     Highlight,
     PrepareRename,
-    Rename,
     Symbols,
     Completion,
     Signature,
+}
+
+/// What a request asks for that is about a text: to be shown something, or a change.
+#[derive(Clone, Copy)]
+pub(crate) enum Query {
+    Shows(Showing),
+    Rename,
     Formatting,
+}
+
+/// What a message asks for or tells.
+#[derive(Clone, Copy)]
+pub(crate) enum Method {
+    Initialize,
+    Shutdown,
+    Exit,
+    Tells(Notice),
+    Asks(Query),
     Other,
 }
 
@@ -38,17 +56,17 @@ fn name_named(name: &[u8]) -> Method
     ensures { result ≡ spec.name_named name.now }
 {
     if name == b"textDocument/prepareRename".as_slice() {
-        Method::PrepareRename
+        Method::Asks(Query::Shows(Showing::PrepareRename))
     } else if name == b"textDocument/rename".as_slice() {
-        Method::Rename
+        Method::Asks(Query::Rename)
     } else if name == b"textDocument/documentSymbol".as_slice() {
-        Method::Symbols
+        Method::Asks(Query::Shows(Showing::Symbols))
     } else if name == b"textDocument/completion".as_slice() {
-        Method::Completion
+        Method::Asks(Query::Shows(Showing::Completion))
     } else if name == b"textDocument/signatureHelp".as_slice() {
-        Method::Signature
+        Method::Asks(Query::Shows(Showing::Signature))
     } else if name == b"textDocument/formatting".as_slice() {
-        Method::Formatting
+        Method::Asks(Query::Formatting)
     } else {
         Method::Other
     }
@@ -60,13 +78,13 @@ fn place_named(name: &[u8]) -> Method
     ensures { result ≡ spec.place_named name.now }
 {
     if name == b"textDocument/hover".as_slice() {
-        Method::Hover
+        Method::Asks(Query::Shows(Showing::Hover))
     } else if name == b"textDocument/definition".as_slice() {
-        Method::Definition
+        Method::Asks(Query::Shows(Showing::Definition))
     } else if name == b"textDocument/references".as_slice() {
-        Method::References
+        Method::Asks(Query::Shows(Showing::References))
     } else if name == b"textDocument/documentHighlight".as_slice() {
-        Method::Highlight
+        Method::Asks(Query::Shows(Showing::Highlight))
     } else {
         name_named(name)
     }
@@ -84,11 +102,11 @@ fn method_named(name: &[u8]) -> Method
     } else if name == b"exit".as_slice() {
         Method::Exit
     } else if name == b"textDocument/didOpen".as_slice() {
-        Method::DidOpen
+        Method::Tells(Notice::DidOpen)
     } else if name == b"textDocument/didChange".as_slice() {
-        Method::DidChange
+        Method::Tells(Notice::DidChange)
     } else if name == b"textDocument/didClose".as_slice() {
-        Method::DidClose
+        Method::Tells(Notice::DidClose)
     } else {
         place_named(name)
     }

@@ -5,11 +5,11 @@ ghost use Rattle.serde_json.specs.View.{view};
 ghost use Rattle.mx_diagnostics.specs.Diagnostics.{diagnostics_of};
 ghost use Rattle.mx_diagnostics.specs.Published as notices;
 ghost use Rattle.mx_lsp.specs.Sessions as spec;
-ghost use Rattle.mx_lsp.specs.declared.message.Method.TheVariants.{DidChange};
+ghost use Rattle.mx_lsp.specs.declared.message.Notice.TheVariants.{DidChange};
 
 use crate::changes::text_after;
 use crate::documents::{Documents, text_of, with_text, without};
-use crate::message::{Method, text_at, uri_of};
+use crate::message::{Method, Notice, text_at, uri_of};
 use crate::session::{Bodies, Flow, Session, Stage};
 use mx_diagnostics::{published, withdrawn};
 use mx_word::{Bytes, NoMemory};
@@ -85,21 +85,20 @@ fn change_text(
 fn take_told(
     alloc: Global,
     session: &mut Session,
-    method: Method,
+    notice: Notice,
     message: &Value,
     out: &mut Bodies,
 ) -> Result<(), NoMemory>
-    ensures told { OnOk result (out.new ≡ out.old ++ spec.notices_of session.old method (view message.now)) }
-    ensures session { OnOk result (session.new ≡ spec.after_told session.old method (view message.now)) }
+    ensures told { OnOk result (out.new ≡ out.old ++ spec.notices_of session.old notice (view message.now)) }
+    ensures session { OnOk result (session.new ≡ spec.after_told session.old notice (view message.now)) }
 {
-    match method {
-        Method::DidOpen => {
+    match notice {
+        Notice::DidOpen => {
             let text = text_at(message, "/params/textDocument/text");
             take_text(alloc, session, uri_of(message), text, out)
         }
-        Method::DidChange => change_text(alloc, session, message, out),
-        Method::DidClose => close_text(alloc, session, uri_of(message), out),
-        _ => Ok(()),
+        Notice::DidChange => change_text(alloc, session, message, out),
+        Notice::DidClose => close_text(alloc, session, uri_of(message), out),
     }
 }
 
@@ -108,19 +107,38 @@ fn take_told_at(
     alloc: Global,
     stage: Stage,
     session: &mut Session,
+    notice: Notice,
+    message: &Value,
+    out: &mut Bodies,
+) -> Result<(), NoMemory>
+    ensures told { OnOk result (out.new
+        ≡ out.old ++ spec.notices_at stage session.old notice (view message.now)) }
+    ensures session { OnOk result (session.new
+        ≡ spec.after_told_at stage session.old notice (view message.now)) }
+{
+    match stage {
+        Stage::Waiting => Ok(()),
+        Stage::Serving => take_told(alloc, session, notice, message, out),
+        Stage::Shut => Ok(()),
+    }
+}
+
+/// Takes what a message tells, if it is about a text.
+fn take_if_told(
+    alloc: Global,
+    session: &mut Session,
     method: Method,
     message: &Value,
     out: &mut Bodies,
 ) -> Result<(), NoMemory>
     ensures told { OnOk result (out.new
-        ≡ out.old ++ spec.notices_at stage session.old method (view message.now)) }
+        ≡ out.old ++ spec.notices_by session.old method (view message.now)) }
     ensures session { OnOk result (session.new
-        ≡ spec.after_told_at stage session.old method (view message.now)) }
+        ≡ spec.after_notice session.old method (view message.now)) }
 {
-    match stage {
-        Stage::Waiting => Ok(()),
-        Stage::Serving => take_told(alloc, session, method, message, out),
-        Stage::Shut => Ok(()),
+    match method {
+        Method::Tells(notice) => take_told_at(alloc, session.stage, session, notice, message, out),
+        _ => Ok(()),
     }
 }
 
@@ -157,6 +175,6 @@ pub(crate) fn take_notice(
         spec.IsNoticed session.old method (view message.now) session.new out.old out.new flow) }
 {
     let flow = flow_after(session, method);
-    take_told_at(alloc, session.stage, session, method, message, out)?;
+    take_if_told(alloc, session, method, message, out)?;
     Ok(flow)
 }

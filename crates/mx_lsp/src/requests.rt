@@ -7,7 +7,7 @@ ghost use Rattle.mx_lsp.specs.Requests as spec;
 
 use crate::documents::text_of;
 use crate::lines::{Place, place_at};
-use crate::message::{Method, id_text, number_at, text_at, uri_of, wants_label};
+use crate::message::{Method, Query, Showing, id_text, number_at, text_at, uri_of, wants_label};
 use crate::session::{Session, Stage};
 use mx_changes::{Change, formatting_of, rename};
 use mx_hover::{completion, hover, signature};
@@ -38,45 +38,44 @@ fn place_of_message(message: &Value, source: &[u8]) -> Place
     )
 }
 
-/// The result of a request about a place of a text, or about the whole, that changes nothing.
+/// What is shown, at a place of a text or of the whole.
 fn result_at(
     alloc: Global,
-    method: Method,
+    what: Showing,
     uri: &[u8],
     place: Place,
     has_labels: bool,
     source: &[u8],
 ) -> Result<Bytes, NoMemory>
     ensures { IfOk result (λ text. text
-        ≡ spec.result_at method uri.now place.line place.from has_labels source.now) }
+        ≡ spec.result_at what uri.now place.line place.from has_labels source.now) }
 {
-    match method {
-        Method::Hover => hover(alloc, place.line, place.from, source),
-        Method::Definition => definition(alloc, uri, place.line, place.from, source),
-        Method::References => references(alloc, uri, place.line, place.from, has_labels, source),
-        Method::Highlight => highlights(alloc, place.line, place.from, source),
-        Method::PrepareRename => name_range(alloc, place.line, place.from, source),
-        Method::Symbols => outline(alloc, source),
-        Method::Completion => completion(alloc, place.line, place.from, source),
-        Method::Signature => signature(alloc, place.line, place.from, source),
-        _ => Bytes::copy(alloc, b"null"),
+    match what {
+        Showing::Hover => hover(alloc, place.line, place.from, source),
+        Showing::Definition => definition(alloc, uri, place.line, place.from, source),
+        Showing::References => references(alloc, uri, place.line, place.from, has_labels, source),
+        Showing::Highlight => highlights(alloc, place.line, place.from, source),
+        Showing::PrepareRename => name_range(alloc, place.line, place.from, source),
+        Showing::Symbols => outline(alloc, source),
+        Showing::Completion => completion(alloc, place.line, place.from, source),
+        Showing::Signature => signature(alloc, place.line, place.from, source),
     }
 }
 
-/// The answer to a request about a text that changes nothing.
-fn answer_result(
+/// The answer to a request that changes nothing of a text.
+fn answer_showing(
     alloc: Global,
     id: &[u8],
-    method: Method,
+    what: Showing,
     message: &Value,
     source: &[u8],
 ) -> Result<Bytes, NoMemory>
     ensures { IfOk result (λ body. body
-        ≡ result_body id.now (spec.result_in method (view message.now) source.now)) }
+        ≡ result_body id.now (spec.result_in what (view message.now) source.now)) }
 {
     let place = place_of_message(message, source);
     let has_labels = wants_label(message);
-    let result = result_at(alloc, method, uri_of(message), place, has_labels, source)?;
+    let result = result_at(alloc, what, uri_of(message), place, has_labels, source)?;
     result_of(alloc, id, result.as_slice())
 }
 
@@ -120,21 +119,21 @@ fn answer_layout(alloc: Global, id: &[u8], source: &[u8]) -> Result<Bytes, NoMem
 fn answer_text(
     alloc: Global,
     id: &[u8],
-    method: Method,
+    query: Query,
     message: &Value,
     source: &[u8],
 ) -> Result<Bytes, NoMemory>
     ensures { IfOk result (λ body.
-        spec.IsTextAnswer id.now method (view message.now) source.now body) }
+        spec.IsTextAnswer id.now query (view message.now) source.now body) }
 {
-    match method {
-        Method::Rename => {
+    match query {
+        Query::Shows(what) => answer_showing(alloc, id, what, message, source),
+        Query::Rename => {
             let place = place_of_message(message, source);
             let name = text_at(message, "/params/newName");
             answer_rename(alloc, id, uri_of(message), place, name, source)
         }
-        Method::Formatting => answer_layout(alloc, id, source),
-        _ => answer_result(alloc, id, method, message, source),
+        Query::Formatting => answer_layout(alloc, id, source),
     }
 }
 
@@ -142,17 +141,32 @@ fn answer_text(
 fn answer_if(
     alloc: Global,
     id: &[u8],
-    method: Method,
+    query: Query,
     message: &Value,
     text: Option<&[u8]>,
 ) -> Result<Bytes, NoMemory>
     ensures { IfOk result (λ body.
-        spec.IsAnswerIf id.now method (view message.now) (option_copied text.entry) body) }
+        spec.IsAnswerIf id.now query (view message.now) (option_copied text.entry) body) }
 {
     match text {
         None => refusal_of(alloc, id, Refused::Failed, b"this text is not open"),
-        Some(source) => answer_text(alloc, id, method, message, source),
+        Some(source) => answer_text(alloc, id, query, message, source),
     }
+}
+
+/// The answer to a request about the text that it names.
+fn answer_query(
+    alloc: Global,
+    session: &Session,
+    id: &[u8],
+    query: Query,
+    message: &Value,
+) -> Result<Bytes, NoMemory>
+    ensures { IfOk result (λ body.
+        spec.IsQueryAnswer session.now id.now query (view message.now) body) }
+{
+    let text = text_of(session.documents.as_slice(), uri_of(message));
+    answer_if(alloc, id, query, message, text)
 }
 
 /// The answer to what is no request.
@@ -189,14 +203,9 @@ fn answer_serving(
         }
         Method::Shutdown => result_of(alloc, id, b"null"),
         Method::Exit => refuse_method(alloc, id),
-        Method::DidOpen => refuse_method(alloc, id),
-        Method::DidChange => refuse_method(alloc, id),
-        Method::DidClose => refuse_method(alloc, id),
+        Method::Tells(_) => refuse_method(alloc, id),
+        Method::Asks(query) => answer_query(alloc, session, id, query, message),
         Method::Other => refuse_method(alloc, id),
-        _ => {
-            let text = text_of(session.documents.as_slice(), uri_of(message));
-            answer_if(alloc, id, method, message, text)
-        }
     }
 }
 
