@@ -24,14 +24,20 @@ bytes_at s a n = bytes_from (machine_contents s).bytes (min a (2 ^ 63)) (readabl
 unfoldable pub reference : ℕ → List ℕ
 reference a = codes "\"0x" ++ hex_digits 16 a ++ codes "\""
 
+unfoldable pub unreadable_name : List ℕ
+unreadable_name = codes ",\"unreadableBytes\":"
+
 -- how many bytes are no memory, if there are some
 unfoldable pub unreadable_member : ℕ → List ℕ
-unreadable_member n = if n == 0 then [] else codes ",\"unreadableBytes\":" ++ decimal n
+unreadable_member n = if n == 0 then [] else unreadable_name ++ decimal n
+
+unfoldable pub address_name : List ℕ
+address_name = codes "{\"address\":"
 
 -- bytes from an address on, of which so many are no memory
 unfoldable pub bytes_body : ℕ → List ℕ → ℕ → List ℕ
 bytes_body a bytes n =
-    codes "{\"address\":" ++ reference a ++ codes ",\"data\":" ++ quoted (encode_of standard bytes) ++ unreadable_member n ++ codes "}"
+    address_name ++ reference a ++ codes ",\"data\":" ++ quoted (encode_of standard bytes) ++ unreadable_member n ++ codes "}"
 
 -- so many bytes from an address on
 abbrev pub memory_body : State → ℕ → ℕ → List ℕ

@@ -60,6 +60,14 @@ fn read_bytes(alloc: Global, machine: &Machine, address: u64, count: u64) -> Res
     Ok(bytes)
 }
 
+/// The beginning of the member that tells how many bytes are no memory.
+#[tactic(auto, unfolding(crate::specs::Memory::unreadable_name))]
+fn unreadable_name() -> &'static [u8]
+    ensures { result.now ≡ spec.unreadable_name }
+{
+    b",\"unreadableBytes\":"
+}
+
 /// Adds how many bytes are no memory, if there are some.
 #[tactic(auto, unfolding(crate::specs::Memory::unreadable_member))]
 fn add_unreadable(text: &mut Bytes, count: u64) -> Result<(), NoMemory>
@@ -68,8 +76,16 @@ fn add_unreadable(text: &mut Bytes, count: u64) -> Result<(), NoMemory>
     if count == 0 {
         Ok(())
     } else {
-        add_number(text, b",\"unreadableBytes\":", count)
+        add_number(text, unreadable_name(), count)
     }
+}
+
+/// The beginning of the member that tells an address.
+#[tactic(auto, unfolding(crate::specs::Memory::address_name))]
+fn address_name() -> &'static [u8]
+    ensures { result.now ≡ spec.address_name }
+{
+    b"{\"address\":"
 }
 
 /// What is answered of bytes from an address on, of which so many are no memory.
@@ -79,7 +95,7 @@ fn bytes_body(alloc: Global, address: u64, bytes: &[u8], unreadable: u64) -> Res
 {
     let data = STANDARD.encode(alloc, bytes)?;
     let mut text = Bytes::new(alloc);
-    add_reference(&mut text, b"{\"address\":", address)?;
+    add_reference(&mut text, address_name(), address)?;
     add_quoted(&mut text, b",\"data\":", data.as_bytes())?;
     add_unreadable(&mut text, unreadable)?;
     text.extend(b"}")?;
