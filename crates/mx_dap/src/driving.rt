@@ -153,9 +153,11 @@ fn see_watched_values(session: &Session) -> Result<Sequence<Seen>, NoMemory> {
 }
 
 /// What is seen of the places that are watched one step before.
+#[tactic(auto, using(crate::proofs::Told::returning))]
 fn values_before(session: &mut Session) -> Result<Sequence<Seen>, NoMemory>
     ensures program { KeepsProgram session.old session.new }
     ensures stops { KeepsStops session.old session.new }
+    ensures place { OnOk result (session.new.at ≡ session.old.at) }
 {
     let here = session.replay.step_number();
     session.replay.go_to(here.saturating_sub(1))?;
@@ -193,6 +195,7 @@ fn add_watches_met(
 pub(crate) fn find_met(session: &mut Session) -> Result<Sequence<u32>, NoMemory>
     ensures program { KeepsProgram session.old session.new }
     ensures stops { KeepsStops session.old session.new }
+    ensures place { OnOk result (session.new.at ≡ session.old.at) }
 {
     let mut numbers = Sequence::new(session.known.alloc);
     add_breaks_met(session, &mut numbers)?;
