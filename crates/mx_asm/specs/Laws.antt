@@ -41,8 +41,8 @@ sights_of_lines lines = pages.accepted_in (lines_entries lines)
 -- ---- lines that are taken
 
 -- a line more was taken, and its items were added
-abbrev pub TakesLine : List Line → Line → List Item → Status → Type 0
-TakesLine lines text out a = HasTaken (lines ++ text ∷ []) (line_following out a text).1
+abbrev pub HasTakenMore : List Line → Line → List Item → Status → Type 0
+HasTakenMore lines text out a = HasTaken (lines ++ text ∷ []) (line_following out a text).1
 
 abbrev pub AddsItems : List Line → Line → List Item → Status → Type 0
 AddsItems lines text out a = GrowsAlike (lines_items lines) (lines_items (lines ++ text ∷ [])) out (line_following out a text).0

@@ -16,7 +16,7 @@ ghost use Rattle.mx_word.specs.declared.symbols.Value.{Value};
 ghost use Rattle.mx_asm.specs.Emission.{front};
 ghost use Rattle.mx_asm.specs.Entries.{statements_in};
 ghost use Rattle.mx_asm.specs.Faults.{fault_number};
-ghost use Rattle.mx_asm.specs.Laws.{AddsItems, AddsLast, GivesFault, GivesStatement, TakesLine, accepted_of, emitted};
+ghost use Rattle.mx_asm.specs.Laws.{AddsItems, AddsLast, GivesFault, GivesStatement, HasTakenMore, accepted_of, emitted};
 ghost use Rattle.mx_asm.specs.Laws.{lines_accepted, statements_of};
 ghost use Rattle.mx_asm.specs.Locals.{HasNoLocal};
 ghost use Rattle.mx_asm.specs.OnePass.{Status, beginning, end_following};
@@ -53,7 +53,7 @@ pub fn one_pass_gives_the_whole()
 pub fn lines_are_taken_in_turn()
     ensures none { HasTaken [] (Ok beginning) }
     ensures line { (lines : List Line) (text : Line) (out : List Item) (a : Status) → HasTaken lines a →
-        TakesLine lines text out a }
+        HasTakenMore lines text out a }
     ensures items { (lines : List Line) (text : Line) (out : List Item) (a : Status) → HasTaken lines a →
         AddsItems lines text out a }
     ensures end { (all : List Line) (out : List Item) (a : Status) → HasTaken all a →

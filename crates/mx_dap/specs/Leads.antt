@@ -22,7 +22,7 @@ LeadsBy d (GoTo k) at = GoesTo d k at
 LeadsBy d Finish at = at ≡ d.at
 
 -- A part of what is to be done leads there; where nothing is left to do, what was sent last tells of that step.
-pub record DoesWork (old new : Debugged) (work : Work) (sent : Sent) (left : Result (Option Work) NoMemory) : Type 0 where
+pub record LeadsAndTells (old new : Debugged) (work : Work) (sent : Sent) (left : Result (Option Work) NoMemory) : Type 0 where
   pub program : KeepsProgram old new
   pub stops : KeepsStops old new
   pub leads : OnOk left (LeadsBy old work new.at)

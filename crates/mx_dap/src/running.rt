@@ -2,7 +2,7 @@
 
 ghost use Rattle.std.specs.Prelude.{◌≡◌, None};
 ghost use Rattle.mx_debug.specs.Going.{depth_at};
-ghost use Rattle.mx_dap.specs.Leads.{DoesWork, StepsBack};
+ghost use Rattle.mx_dap.specs.Leads.{LeadsAndTells, StepsBack};
 
 use crate::driving::{find_met, seek, seek_last_stop, seek_stop};
 use crate::loaded::Loaded;
@@ -94,7 +94,7 @@ impl Loaded {
 
     /// Tells of the step that is shown.
     fn tell_here(&mut self, out: &mut Outbox, reason: Reason) -> Result<Option<Work>, NoMemory>
-        ensures { DoesWork self.old.debugged self.new.debugged (Work.Tell reason) out.new result }
+        ensures { LeadsAndTells self.old.debugged self.new.debugged (Work.Tell reason) out.new result }
     {
         self.tell_stop(out, reason)?;
         Ok(None)
@@ -103,7 +103,7 @@ impl Loaded {
     /// Tells that the run is done.
     #[tactic(auto, using(crate::proofs::Told::telling))]
     fn finish(&mut self, out: &mut Outbox) -> Result<Option<Work>, NoMemory>
-        ensures { DoesWork self.old.debugged self.new.debugged Work.Finish out.new result }
+        ensures { LeadsAndTells self.old.debugged self.new.debugged Work.Finish out.new result }
     {
         self.tell_done(out)?;
         Ok(None)
@@ -111,7 +111,7 @@ impl Loaded {
 
     /// Begins the run: it stays at the start where that is wished or a break is met, and goes on otherwise.
     fn begin(&mut self, out: &mut Outbox) -> Result<Option<Work>, NoMemory>
-        ensures { DoesWork self.old.debugged self.new.debugged Work.Begin out.new result }
+        ensures { LeadsAndTells self.old.debugged self.new.debugged Work.Begin out.new result }
     {
         if self.wishes.on_entry && !self.wishes.no_debug {
             return self.tell_here(out, Reason::Entry);
@@ -131,7 +131,7 @@ impl Loaded {
         depth: Option<u64>,
         until: u64,
     ) -> Result<Option<Work>, NoMemory>
-        ensures { DoesWork self.old.debugged self.new.debugged (Work.GoOn depth until) out.new result }
+        ensures { LeadsAndTells self.old.debugged self.new.debugged (Work.GoOn depth until) out.new result }
     {
         let here = self.step_number();
         let next = here.saturating_add(PIECE).min(until);
@@ -151,7 +151,7 @@ impl Loaded {
     /// Goes back to the last stop, and tells of it.
     #[tactic(auto, using(crate::proofs::Told::leading))]
     fn go_back(&mut self, out: &mut Outbox, depth: Option<u64>) -> Result<Option<Work>, NoMemory>
-        ensures { DoesWork self.old.debugged self.new.debugged (Work.GoBack depth) out.new result }
+        ensures { LeadsAndTells self.old.debugged self.new.debugged (Work.GoBack depth) out.new result }
     {
         seek_last_stop(&mut self.debugged, depth)?;
         self.tell_stop(out, Reason::Step)?;
@@ -161,7 +161,7 @@ impl Loaded {
     /// Goes to a step, and tells of it.
     #[tactic(auto, using(crate::proofs::Told::leading))]
     fn go_to(&mut self, out: &mut Outbox, k: u64) -> Result<Option<Work>, NoMemory>
-        ensures { DoesWork self.old.debugged self.new.debugged (Work.GoTo k) out.new result }
+        ensures { LeadsAndTells self.old.debugged self.new.debugged (Work.GoTo k) out.new result }
     {
         seek(&mut self.debugged, k)?;
         self.tell_stop(out, Reason::Step)?;
@@ -170,7 +170,7 @@ impl Loaded {
 
     /// Does a part of what is to be done, and gives what is left of it.
     pub(crate) fn work(&mut self, out: &mut Outbox, work: Work) -> Result<Option<Work>, NoMemory>
-        ensures { DoesWork self.old.debugged self.new.debugged work out.new result }
+        ensures { LeadsAndTells self.old.debugged self.new.debugged work out.new result }
     {
         match work {
             Work::Begin => self.begin(out),

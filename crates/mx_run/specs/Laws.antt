@@ -12,8 +12,8 @@ use Rattle.mx_run.specs.WildRuns.{MachineKind, as_list_turn, run_by}
 use Rattle.mx_run.specs.declared.end.End.{End}
 
 -- the list that a machine represents makes the same turn
-abbrev pub TurnsAsList : State → HostModel → Type 0
-TurnsAsList s m = turn (as_list_state s) m ≡ as_list_turn (turn s m)
+abbrev pub TurnsAlike : State → HostModel → Type 0
+TurnsAlike s m = turn (as_list_state s) m ≡ as_list_turn (turn s m)
 
 -- a run without flags
 abbrev pub free_run : MachineKind → ℕ → State → HostModel → Course End RunWorld

@@ -12,7 +12,7 @@ ghost use Rattle.mx_word.specs.Lists.{IsFront};
 ghost use Rattle.mx_word.specs.Ranges.{AreOctas};
 ghost use Rattle.mx_core.specs.Bounds.{IsMachine, as_list_state};
 ghost use Rattle.mx_core.specs.State.{State};
-ghost use Rattle.mx_run.specs.Laws.{TurnsAsList, free_run, plan_end};
+ghost use Rattle.mx_run.specs.Laws.{TurnsAlike, free_run, plan_end};
 ghost use Rattle.mx_run.specs.RunPlans.{RunPlan, RunWorld, ended_world, running};
 ghost use Rattle.mx_run.specs.Runs.{Ended, FlagsOf, no_flags, ended, run, IsLater};
 ghost use Rattle.mx_run.specs.Turns.{went_on, halts, stops, turn};
@@ -28,7 +28,7 @@ ghost use Rattle.mx_run.specs.WildRuns.{turn_is_wild, state_after};
 #[tactic(auto, using(crate::proofs::ListTurns::turns))]
 pub fn turns_go_as_lists()
     ensures turn { (s : State) (w : Window) (m : HostModel) → IsMachine s w → AreOctas w.hidden.stack
-        → s.touched ≡ false → turn_is_wild s ≡ false → TurnsAsList s m }
+        → s.touched ≡ false → turn_is_wild s ≡ false → TurnsAlike s m }
     ensures wild { (s : State) (w : Window) → IsMachine s w → s.touched ≡ false
         → turn_is_wild (as_list_state s) ≡ turn_is_wild s }
     ensures untouched { (s : State) (m : HostModel) → s.touched ≡ false → turn_is_wild s ≡ false
