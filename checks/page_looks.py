@@ -83,7 +83,7 @@ def take_readme_picture():
         for _, kind in browsers():
             browser = kind()
             path = page_of(["sort.mms", "discovery"], room)
-            show(browser, path + "#93", "Right", ((960, 640), "light", "", ""))
+            show(browser, path + "#93", "Right", ((1120, 660), "light", "", ""))
             picture = browser.picture()
             browser.close()
             if len(picture) > MOST_BYTES:

@@ -244,10 +244,17 @@ Where another command than those of this mode was called, it is its last word."
 ;;;###autoload
 (add-to-list 'auto-mode-alist '("\\.mms\\'" . mmixal-mode))
 
-;; M-x eglot asks `mmixview lsp` for faults, meaning and names.
+;; M-x eglot asks `mmixview lsp` for faults, meaning and names. The operands of an instruction, what it means, and what is wrong
+;; are shown one below the other.
 (defvar eglot-server-programs)
+(defvar eglot-managed-mode-hook)
+(defun mmixal--show-all ()
+  "Show all that a server says of the place of the cursor."
+  (when (and (derived-mode-p 'mmixal-mode) (fboundp 'eldoc-documentation-compose))
+    (setq-local eldoc-documentation-strategy #'eldoc-documentation-compose)))
 (with-eval-after-load 'eglot
-  (add-to-list 'eglot-server-programs '(mmixal-mode "mmixview" "lsp")))
+  (add-to-list 'eglot-server-programs '(mmixal-mode "mmixview" "lsp"))
+  (add-hook 'eglot-managed-mode-hook #'mmixal--show-all))
 
 (provide 'mmixal-mode)
 
