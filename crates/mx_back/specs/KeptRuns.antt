@@ -7,6 +7,8 @@ use Rattle.mx_plan.specs.Plan.{Stops, end_of}
 use Rattle.mx_core.specs.State.{State}
 use Rattle.mx_core.specs.Step.{Stepped, went, calls, stopped, step}
 use Rattle.mx_core.specs.Undoing.{StateWas}
+use Rattle.mx_core.specs.Way.Stepping.{advanced}
+use Rattle.mx_core.specs.declared.step.Advance.TheVariants as advance
 use Rattle.mx_run.specs.RunPlans.{RunWorld, running, step_plan, turn_plan}
 use Rattle.mx_run.specs.Runs.{IsLater, no_flags, run}
 use Rattle.mx_run.specs.Runs as run_end
@@ -16,7 +18,7 @@ use Rattle.mx_run.specs.declared.end.End.{End}
 use Rattle.mx_run.specs.declared.end.End.TheVariants as end
 use Rattle.mx_run.specs.declared.turn_answer.TurnAnswer.{TurnAnswer}
 use Rattle.mx_run.specs.declared.turn_answer.TurnAnswer.TheVariants as answer
-use Rattle.mx_back.specs.History.{AreNotesOf, Turned, stepped, trapped, ended, kept_turn, states_kept, states_before}
+use Rattle.mx_back.specs.History.{AreNotesOf, Turned, stepped, trapped, ended, kept_turn, kept_with, states_kept, states_before}
 
 -- ---- what is kept
 
@@ -111,6 +113,13 @@ pub record TakesKeptStep (old new : Option HostModel) (faults_before faults_afte
   pub fits : AreNotesOf later after
   pub kept : KeepsTurn old before after result earlier later
   pub lacking : KeepsLacking old new before after result earlier later
+
+-- what a usual step comes to, over any host, which it leaves as it is: it is made from a state over a window, which is kept
+pub record TakesUsualStep (before after : State) (earlier later : List StateWas) : Type 0 where
+  pub over : HasWindow before
+  pub made : (advance.Went, after) ≡ advanced before (step before)
+  pub kept : states_before later after ≡ kept_with before (states_before earlier before)
+  pub fits : AreNotesOf later after
 
 -- whether the run goes on after a turn from an address, or its end
 abbrev pub ended_at : ℕ → TurnAnswer → Result (Unit {0}) End
