@@ -42,7 +42,6 @@ done
 most_lines() {
   case $1 in
     mx_core) echo 4880 ;;
-    mx_view) echo 1513 ;;
     test_*) echo 5000 ;;
     *) echo 1500 ;;
   esac

@@ -1,4 +1,4 @@
--- What notes stand for, and what calls of `back` come to.
+-- What notes represent, and what calls of `back` come to.
 use Rattle.std.proofs.Common.{◌≡◌, ℕ, zero, suc, ◌-◌, ◌≤◌, List, [], ◌∷◌, None, Some, length, take, drop, slice_get, arith, refl, sym, subst, ◌∙◌, ap}
 use Rattle.circular_buffer.specs.Buffer.{Buffer, buffer}
 use Rattle.std.proofs.lemmas.List.{length-drop}

@@ -2,11 +2,11 @@
 
 ghost use Rattle.std.specs.Prelude.{◌≡◌, ◌≢◌, ◌↔◌, ◌≤◌, ◌∷◌, [], false, Err, IfOk, IsTrue, OnErr, OnOk, length};
 ghost use Rattle.mx_back.specs.History as spec;
-ghost use Rattle.mx_back.specs.History.{AreNotesOf, KeepsNotes, states_before};
+ghost use Rattle.mx_back.specs.History.{AreNotesOf, KeepsNotes, kept_after, states_before, states_noted};
 ghost use Rattle.mx_core.specs.Kept.{state_of};
 ghost use Rattle.mx_core.specs.State.{State};
 ghost use Rattle.mx_core.specs.Step.{step};
-ghost use Rattle.mx_core.specs.Way.Stepping.{advanced, step_answer};
+ghost use Rattle.mx_core.specs.Way.Stepping.{HasStepped, advanced};
 
 use crate::BackFault;
 use circular_buffer::HeapCircularBuffer;
@@ -18,7 +18,7 @@ use std::marker::Model;
 /// How many steps are kept at most.
 const MOST: usize = 1024;
 
-/// The notes of the last steps, at most 1,024 of them, the newest first. With the state of the machine they stand for
+/// The notes of the last steps, at most 1,024 of them, the newest first. With the state of the machine they represent
 /// the states before these steps.
 #[derive(Drop)]
 pub struct Back {
@@ -63,11 +63,9 @@ impl Back {
     /// goes where 1,024 were kept. It may take memory for the note.
     pub fn step(&mut self, m: &mut Machine) -> Step
         requires { AreNotesOf self.old (state_of m.old) }
-        ensures answer { result ≢ Step.OutOfMemory →
-            (result, state_of m.new) ≡ step_answer (state_of m.old) (step (state_of m.old)) }
+        ensures answer { HasStepped result m.old m.new }
         ensures memory { result ≡ Step.OutOfMemory → state_of m.new ≡ state_of m.old }
-        ensures kept { states_before self.new (state_of m.new)
-            ≡ spec.kept_after result (state_of m.old) (states_before self.old (state_of m.old)) }
+        ensures kept { states_noted self.new m.new ≡ kept_after result (state_of m.old) (states_noted self.old m.old) }
         ensures same { KeepsNotes result self.old self.new }
         ensures fits { AreNotesOf self.new (state_of m.new) }
     {
@@ -88,8 +86,7 @@ impl Back {
         requires { AreNotesOf self.old (state_of m.old) }
         ensures made { IsTrue result →
             (Advance.Went, state_of m.new) ≡ advanced (state_of m.old) (step (state_of m.old)) }
-        ensures kept { IsTrue result → states_before self.new (state_of m.new)
-            ≡ spec.kept_with (state_of m.old) (states_before self.old (state_of m.old)) }
+        ensures kept { IsTrue result → states_noted self.new m.new ≡ spec.kept_with (state_of m.old) (states_noted self.old m.old) }
         ensures unmade { result ≡ false → state_of m.new ≡ state_of m.old }
         ensures same { result ≡ false → self.new ≡ self.old }
         ensures fits { AreNotesOf self.new (state_of m.new) }

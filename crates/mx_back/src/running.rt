@@ -34,10 +34,8 @@ pub fn run_kept<H: Host>(
     back: &mut Back,
 ) -> End
     requires { AreNotesOf back.old (state_of machine.old) }
-    ensures plan { CarriesOutAccompanied (H.told host.old) (H.told host.new) (state_of machine.old) (state_of machine.new)
-        n result }
-    ensures run { IsRun (H.told host.old) (H.told host.new) (H.faults host.old) (H.faults host.new) (state_of machine.old)
-        (state_of machine.new) n no_flags false result }
+    ensures plan { CarriesOutAccompanied H.told host.old host.new machine.old machine.new n result }
+    ensures run { IsRun H.told H.faults host.old host.new machine.old machine.new n no_flags false result }
     ensures fits { AreNotesOf back.new (state_of machine.new) }
     ensures kept { KeepsRun (H.told host.old) (state_of machine.old) (state_of machine.new) n result back.old back.new }
     ensures front { KeepsFront (H.told host.old) (H.told host.new) (state_of machine.old) (state_of machine.new) n result
@@ -63,8 +61,7 @@ fn keep_step<H: Host>(
     back: &mut Back,
 ) -> Result<(), End>
     requires { AreNotesOf back.old (state_of machine.old) }
-    ensures { TakesKeptStep (H.told host.old) (H.told host.new) (H.faults host.old) (H.faults host.new)
-        (state_of machine.old) (state_of machine.new) back.old back.new result }
+    ensures { TakesKeptStep H.told H.faults host.old host.new machine.old machine.new back.old back.new result }
 {
     machines_keep_the_invariant(machine);
     machines_are_whole(machine);
@@ -85,8 +82,7 @@ fn keep_any_step<H: Host>(
     back: &mut Back,
 ) -> Result<(), End>
     requires { AreNotesOf back.old (state_of machine.old) }
-    ensures { TakesKeptStep (H.told host.old) (H.told host.new) (H.faults host.old) (H.faults host.new)
-        (state_of machine.old) (state_of machine.new) back.old back.new result }
+    ensures { TakesKeptStep H.told H.faults host.old host.new machine.old machine.new back.old back.new result }
 {
     machines_keep_the_invariant(machine);
     machines_are_whole(machine);

@@ -7,8 +7,8 @@ ghost use Rattle.mx_code.specs.Instructions.{operation_in};
 ghost use Rattle.mx_core.specs.Kept.{state_of};
 ghost use Rattle.mx_core.specs.Way.Noting as spec;
 ghost use Rattle.mx_core.specs.Way.Noting.{IfWent, TellsDeed, step_of};
-ghost use Rattle.mx_core.specs.Step.{fetched, step};
-ghost use Rattle.mx_core.specs.Way.Stepping.{step_answer};
+ghost use Rattle.mx_core.specs.Step.{fetched};
+ghost use Rattle.mx_core.specs.Way.Stepping.{HasStepped};
 ghost use Rattle.mx_core.specs.Undoing as undoing;
 ghost use Rattle.mx_core.specs.Undoing.{TakesBack};
 
@@ -85,8 +85,7 @@ pub enum Noted {
 impl Machine {
     /// One step, as `step` makes it, and a note by which it is taken back. It may take memory for the note.
     pub fn step_noted(&mut self) -> Noted
-        ensures answer { step_of result ≢ Step.OutOfMemory →
-            (step_of result, state_of self.new) ≡ step_answer (state_of self.old) (step (state_of self.old)) }
+        ensures answer { HasStepped (step_of result) self.old self.new }
         ensures memory { step_of result ≡ Step.OutOfMemory → state_of self.new ≡ state_of self.old }
         ensures back { IfWent result (λ note. TakesBack note (state_of self.new) (state_of self.old)) }
     {
@@ -97,8 +96,7 @@ impl Machine {
 
     /// One step and its note. The page of its instruction is not kept.
     fn step_with_note(&mut self) -> Noted
-        ensures answer { step_of result ≢ Step.OutOfMemory →
-            (step_of result, state_of self.new) ≡ step_answer (state_of self.old) (step (state_of self.old)) }
+        ensures answer { HasStepped (step_of result) self.old self.new }
         ensures memory { step_of result ≡ Step.OutOfMemory → state_of self.new ≡ state_of self.old }
         ensures back { IfWent result (λ note. TakesBack note (state_of self.new) (state_of self.old)) }
     {
@@ -118,8 +116,7 @@ impl Machine {
         requires fetched { i.now ≡ fetched (state_of self.old) }
         requires range { (state_of self.old).pc < 2 ^ 63 }
         requires no_trap { operation_in i.now ≢ Operation.Trap }
-        ensures answer { step_of result ≢ Step.OutOfMemory →
-            (step_of result, state_of self.new) ≡ step_answer (state_of self.old) (step (state_of self.old)) }
+        ensures answer { HasStepped (step_of result) self.old self.new }
         ensures memory { step_of result ≡ Step.OutOfMemory → state_of self.new ≡ state_of self.old }
         ensures back { IfWent result (λ note. TakesBack note (state_of self.new) (state_of self.old)) }
     {
@@ -136,7 +133,7 @@ impl Machine {
         }
     }
 
-    /// What an instruction may overwrite, or nothing where memory is lacking.
+    /// What an instruction may overwrite, or nothing where memory runs out.
     #[tactic(auto, using(crate::proofs::Undone::Notes::tells))]
     fn note(&mut self, i: &Instruction) -> Option<Note>
         ensures note { IfSome result (λ n.
@@ -233,7 +230,7 @@ impl Machine {
     }
 }
 
-/// The note of a step, or nothing where memory is lacking.
+/// The note of a step, or nothing where memory runs out.
 #[inline(always)]
 fn into_note(alloc: Global, whole: WholeNote) -> Option<Note>
     ensures { IfSome result (λ n. n ≡ undoing.whole whole) }

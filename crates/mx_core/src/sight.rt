@@ -79,7 +79,7 @@ impl Machine {
     {
         let (rx, rw) = (self.special(RX), self.special(RW));
         match inserted(rx, rw, self.l(), self.g()) {
-            Insert::Perform { kind, at, word } => self.inserted_sight(kind, at, word),
+            Insert::Perform { kind, at, word } => self.find_inserted_sight(kind, at, word),
             _ => Sight {
                 dest: None,
                 reads: None,
@@ -90,7 +90,7 @@ impl Machine {
 
     /// What an inserted instruction does.
     #[tactic(auto, using(crate::proofs::Results::Foretold::set_foretold))]
-    fn inserted_sight(&self, kind: Kind, at: u64, word: u32) -> Sight
+    fn find_inserted_sight(&self, kind: Kind, at: u64, word: u32) -> Sight
         ensures { Foretells (state_of self.now) (deeds.performed kind (state_of self.now) at word) result }
     {
         match kind {

@@ -9,7 +9,7 @@ ghost use Rattle.mx_core.specs.Step as spec;
 ghost use Rattle.mx_code.specs.Told.{answer_in};
 ghost use Rattle.mx_core.specs.Walks.{Goes};
 ghost use Rattle.mx_core.specs.Way.KeptPage.{IsHere, address_in};
-ghost use Rattle.mx_core.specs.Way.Stepping.{advanced, needs_page, step_answer, step_needs_page};
+ghost use Rattle.mx_core.specs.Way.Stepping.{HasAdvanced, HasStepped, needs_page, step_needs_page};
 
 use crate::along::Next;
 use crate::bounds::{know_steps, machines_keep_the_invariant};
@@ -49,8 +49,7 @@ pub struct Advanced {
 impl Machine {
     /// One step. It takes memory only for a store to a page that is not there.
     pub fn step(&mut self) -> Step
-        ensures answer { result ≢ Step.OutOfMemory →
-            (result, state_of self.new) ≡ step_answer (state_of self.old) (spec.step (state_of self.old)) }
+        ensures answer { HasStepped result self.old self.new }
         ensures memory { result ≡ Step.OutOfMemory → state_of self.new ≡ state_of self.old }
         ensures lacks_memory { result ≡ Step.OutOfMemory → IsTrue (step_needs_page (state_of self.old)) }
     {
@@ -82,8 +81,7 @@ impl Machine {
         requires fetched { i.now ≡ spec.fetched (state_of self.old) }
         requires range { (state_of self.old).pc < 2 ^ 63 }
         requires no_trap { operation_in i.now ≢ Operation.Trap }
-        ensures answer { result ≢ Step.OutOfMemory →
-            (result, state_of self.new) ≡ step_answer (state_of self.old) (spec.step (state_of self.old)) }
+        ensures answer { HasStepped result self.old self.new }
         ensures memory { result ≡ Step.OutOfMemory → state_of self.new ≡ state_of self.old }
         ensures lacks_memory { result ≡ Step.OutOfMemory →
             IsTrue (needs_page (state_of self.old) (deed_at (state_of self.old) i.now)) }
@@ -108,8 +106,7 @@ impl Machine {
 
     /// One step without its trace. It takes memory only for a store to a page that is not there.
     pub fn advance(&mut self) -> Advance
-        ensures answer { result ≢ Advance.OutOfMemory →
-            (result, state_of self.new) ≡ advanced (state_of self.old) (spec.step (state_of self.old)) }
+        ensures answer { HasAdvanced result self.old self.new }
         ensures memory { result ≡ Advance.OutOfMemory → state_of self.new ≡ state_of self.old }
         ensures lacks_memory { result ≡ Advance.OutOfMemory → IsTrue (step_needs_page (state_of self.old)) }
     {
@@ -124,8 +121,7 @@ impl Machine {
         ensures most { result.made ≤ n }
         ensures all { result.last ≡ Advance.Went → result.made ≡ n }
         ensures fewer { result.last ≢ Advance.Went → result.made < n }
-        ensures last { result.last ≢ Advance.Went → result.last ≢ Advance.OutOfMemory →
-            (result.last, state_of self.new) ≡ advanced (state_of self.new) (spec.step (state_of self.new)) }
+        ensures last { result.last ≢ Advance.Went → HasAdvanced result.last self.new self.new }
         ensures lacks_memory { result.last ≡ Advance.OutOfMemory → IsTrue (step_needs_page (state_of self.new)) }
     {
         let mut left = n;
@@ -202,8 +198,7 @@ impl Machine {
     /// One step without its trace, after which the page of its instruction is kept.
     #[inline(always)]
     fn advance_and_keep(&mut self) -> Advance
-        ensures answer { result ≢ Advance.OutOfMemory →
-            (result, state_of self.new) ≡ advanced (state_of self.old) (spec.step (state_of self.old)) }
+        ensures answer { HasAdvanced result self.old self.new }
         ensures memory { result ≡ Advance.OutOfMemory → state_of self.new ≡ state_of self.old }
         ensures lacks_memory { result ≡ Advance.OutOfMemory → IsTrue (step_needs_page (state_of self.old)) }
     {
@@ -215,8 +210,7 @@ impl Machine {
     /// One step without its trace, for each address and each instruction.
     #[inline(never)]
     fn advance_general(&mut self) -> Advance
-        ensures answer { result ≢ Advance.OutOfMemory →
-            (result, state_of self.new) ≡ advanced (state_of self.old) (spec.step (state_of self.old)) }
+        ensures answer { HasAdvanced result self.old self.new }
         ensures memory { result ≡ Advance.OutOfMemory → state_of self.new ≡ state_of self.old }
         ensures lacks_memory { result ≡ Advance.OutOfMemory → IsTrue (step_needs_page (state_of self.old)) }
     {
@@ -237,8 +231,7 @@ impl Machine {
         requires fetched { i.now ≡ spec.fetched (state_of self.old) }
         requires range { (state_of self.old).pc < 2 ^ 63 }
         requires no_trap { operation_in i.now ≢ Operation.Trap }
-        ensures answer { result ≢ Advance.OutOfMemory →
-            (result, state_of self.new) ≡ advanced (state_of self.old) (spec.step (state_of self.old)) }
+        ensures answer { HasAdvanced result self.old self.new }
         ensures memory { result ≡ Advance.OutOfMemory → state_of self.new ≡ state_of self.old }
         ensures lacks_memory { result ≡ Advance.OutOfMemory →
             IsTrue (needs_page (state_of self.old) (deed_at (state_of self.old) i.now)) }

@@ -144,7 +144,7 @@ pub(crate) fn drop_stop(session: &mut Session, number: u32) -> Result<(), NoMemo
 }
 
 /// What is seen of the places that are watched.
-fn watched_values(session: &Session) -> Result<Sequence<Seen>, NoMemory> {
+fn see_watched_values(session: &Session) -> Result<Sequence<Seen>, NoMemory> {
     let mut values = Sequence::new(session.known.alloc);
     for watch in session.known.stops.watches.as_slice() {
         values.push(see(session.replay.machine(), watch.place))?;
@@ -153,13 +153,15 @@ fn watched_values(session: &Session) -> Result<Sequence<Seen>, NoMemory> {
 }
 
 /// What is seen of the places that are watched one step before.
+#[tactic(auto, using(crate::proofs::Told::returning))]
 fn values_before(session: &mut Session) -> Result<Sequence<Seen>, NoMemory>
     ensures program { KeepsProgram session.old session.new }
     ensures stops { KeepsStops session.old session.new }
+    ensures place { OnOk result (session.new.at ≡ session.old.at) }
 {
     let here = session.replay.step_number();
     session.replay.go_to(here.saturating_sub(1))?;
-    let values = watched_values(session)?;
+    let values = see_watched_values(session)?;
     session.replay.go_to(here)?;
     Ok(values)
 }
@@ -193,6 +195,7 @@ fn add_watches_met(
 pub(crate) fn find_met(session: &mut Session) -> Result<Sequence<u32>, NoMemory>
     ensures program { KeepsProgram session.old session.new }
     ensures stops { KeepsStops session.old session.new }
+    ensures place { OnOk result (session.new.at ≡ session.old.at) }
 {
     let mut numbers = Sequence::new(session.known.alloc);
     add_breaks_met(session, &mut numbers)?;

@@ -1,5 +1,7 @@
 //! A program that is launched.
 
+ghost use Rattle.std.specs.Prelude.{◌≡◌};
+
 use crate::breaks::Mark;
 use crate::outputs::Told;
 use mx_adapter::Wishes;
@@ -67,7 +69,9 @@ impl Loaded {
     }
 
     /// The step that is shown.
-    pub(crate) fn step_number(&self) -> u64 {
+    pub(crate) fn step_number(&self) -> u64
+        ensures { result ≡ self.now.debugged.at }
+    {
         self.debugged.replay.step_number()
     }
 

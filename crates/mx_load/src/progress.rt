@@ -5,7 +5,7 @@ ghost use Rattle.mx_mmo.specs.Meaning as spec;
 ghost use Rattle.mx_mmo.specs.Meaning.{nothing, after_load, with_image, with_name, noted, take_item};
 ghost use Rattle.mx_mmo.specs.Valid.{Fits};
 ghost use Rattle.mx_load.specs.Faults.{told, given};
-ghost use Rattle.mx_load.specs.Standing.{GoesOn, loading_of};
+ghost use Rattle.mx_load.specs.Status.{GoesOn, loading_of};
 
 use crate::{Image, LoadFault};
 use mx_mmo::Item;
@@ -32,8 +32,8 @@ fn tetras_before(n: u32, a: u64) -> u64
 }
 
 /// The address this many tetras after another.
-fn tetras_behind(n: u32, a: u64) -> u64
-    ensures { result ≡ spec.tetras_behind n a }
+fn tetras_following(n: u32, a: u64) -> u64
+    ensures { result ≡ spec.tetras_following n a }
 {
     a.wrapping_add(4 * u64::from(n))
 }
@@ -44,7 +44,7 @@ fn far_place(a: u64, bits: u8, t: u32) -> u64
     ensures { result ≡ spec.far_place a bits t }
 {
     if t >= 1 << 24 {
-        tetras_behind(1 << bits, tetras_before(t % (1 << 24), a))
+        tetras_following(1 << bits, tetras_before(t % (1 << 24), a))
     } else {
         tetras_before(t, a)
     }

@@ -8,7 +8,7 @@ use Rattle.mx_host.specs.Keeping.{Keeps}
 use Rattle.mx_host.proofs.Keeping.{keeps-then, keeps-all}
 use Rattle.mx_word.proofs.Fronts.{front-through}
 use Rattle.mx_plan.specs.Plan.{Stops}
-use Rattle.mx_multi.specs.Clauses.{MakesAtMost, RestsBoth, TakesTurns, TurnsBoth, WriteOn}
+use Rattle.mx_multi.specs.Clauses.{MakesAtMost, RestsBoth, TakesTurnsBetween, TurnsBoth, WriteOn}
 use Rattle.mx_multi.specs.Joint.{has_halted}
 use Rattle.mx_multi.specs.JointTurns.{JointWorld, halted_by}
 use Rattle.mx_multi.specs.MultiPlans.{MultiPlan, multi, step_plan, steps_plan, turns_plan}
@@ -60,7 +60,7 @@ pub record Underway (schedule : List ℕ) (n : ℕ) (start : Over) (left : ℕ) 
   pub keeps : Keeps start.0 v.0 start.1 v.1
 
 abbrev pub Done : List ℕ → ℕ → Over → Over → MultiEnd → Type 0
-Done schedule n start w end = TakesTurns schedule n start.0 w.0 start.1 w.1 start.2 w.2 end
+Done schedule n start w end = TakesTurnsBetween schedule n start.0 w.0 start.1 w.1 start.2 w.2 end
 
 pub begins : (schedule : List ℕ) (n : ℕ) (start : Over) → Underway schedule n start n schedule start
 begins schedule n start = record {

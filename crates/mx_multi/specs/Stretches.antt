@@ -3,7 +3,7 @@ use Rattle.std.specs.Prelude.{ℕ, zero, suc, ◌≡◌, ◌+◌, ◌<◌, ◌�
 use Rattle.std.specs.List.{filter}
 use Rattle.mx_host.specs.HostModel.{HostModel}
 use Rattle.mx_plan.specs.Plan.{Comes}
-use Rattle.mx_multi.specs.Clauses.{TakesTurn, TurnGoesAsLists}
+use Rattle.mx_multi.specs.Clauses.{TakesTurnBetween, TurnGoesAsLists}
 use Rattle.mx_multi.specs.Joint.{Joint, NoneTouched, as_list_joint, has_halted}
 use Rattle.mx_multi.specs.JointTurns.{MakesOne, is_wild_turn}
 use Rattle.mx_multi.specs.MultiPlans.{multi, turn_plan}
@@ -32,7 +32,7 @@ abbrev pub Over : Type 0
 Over = Option HostModel × ℕ × Joint
 
 abbrev pub Taken : ℕ → Turn → Over → Over → Type 0
-Taken who answer v w = TakesTurn v.0 w.0 v.1 w.1 v.2 w.2 who answer
+Taken who answer v w = TakesTurnBetween v.0 w.0 v.1 w.1 v.2 w.2 who answer
 
 -- this many turns of a processor, each of which goes on, lead from one to another
 unfoldable pub Row : ℕ → ℕ → Over → Over → Type 0

@@ -83,7 +83,7 @@ impl Multi {
     }
 
     /// Which processors have halted, by their numbers. It takes no memory.
-    pub(crate) fn halted_flags(&self) -> &[bool]
+    pub(crate) fn read_halted_flags(&self) -> &[bool]
         ensures flags { result.now ≡ self.now.halted }
         ensures count { length result.now ≡ processor_count self.now }
     {

@@ -45,7 +45,7 @@ pub(crate) fn queue_of(alloc: Global, multi: &Multi, schedule: &[u8]) -> Result<
     }
     let names = Vec::from_slice(alloc, schedule)?;
     let mut queue = Queue { names, at: 0 };
-    if has_any_halted(multi.halted_flags()) {
+    if has_any_halted(multi.read_halted_flags()) {
         leave_out_halted(multi, &mut queue);
     }
     Ok(queue)
@@ -85,7 +85,7 @@ pub(crate) fn leave_out_halted(multi: &Multi, queue: &mut Queue)
     ensures names { queue.new.names.items ≡ running multi.now.halted queue.old.names.items }
     ensures place { drop queue.new.at queue.new.names.items ≡ running multi.now.halted (drop queue.old.at queue.old.names.items) }
 {
-    let halted = multi.halted_flags();
+    let halted = multi.read_halted_flags();
     let length = queue.names.len();
     let names = queue.names.as_mut_slice();
     let place = pack(halted, names, 0, queue.at, 0);

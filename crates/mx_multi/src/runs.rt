@@ -27,7 +27,7 @@ pub fn run_turns<H: Host>(
     n: u64,
 ) -> MultiEnd
     requires { AreNames (processor_count multi.now) schedule.now }
-    ensures turns { TakesTurns schedule.now n (H.told host.old) (H.told host.new) (H.faults host.old) (H.faults host.new)
+    ensures turns { TakesTurns schedule.now n H.told H.faults host.old host.new
         (joint_of multi.old) (joint_of multi.new) result }
     ensures count { processor_count multi.new ≡ processor_count multi.old }
 {

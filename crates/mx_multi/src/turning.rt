@@ -22,7 +22,7 @@ use std::alloc::Global;
 #[tactic(auto, using(crate::proofs::Exchanges::exchanging))]
 fn turn_on<H: Host>(alloc: Global, machine: &mut Machine, memory: &mut Memory, host: &mut H) -> Turn
     requires { shared_of (state_of machine.now) ≡ nothing_shared }
-    ensures turn { TurnsAlone (H.told host.old) (H.told host.new) (H.faults host.old) (H.faults host.new)
+    ensures turn { TurnsAlone H.told H.faults host.old host.new
         (with_shared (shared_in memory.old) (state_of machine.old))
         (with_shared (shared_in memory.new) (state_of machine.new)) result }
     ensures alone { shared_of (state_of machine.new) ≡ nothing_shared }
@@ -43,7 +43,7 @@ fn turn_at<H: Host>(
 ) -> Turn
     requires inside { at < length machines.now.items }
     requires apart { AllAlone (map state_of machines.now.items) }
-    ensures turn { (d : State) → TurnsAlone (H.told host.old) (H.told host.new) (H.faults host.old) (H.faults host.new)
+    ensures turn { (d : State) → TurnsAlone H.told H.faults host.old host.new
         (with_shared (shared_in memory.old) (slice_index_or (map state_of machines.old.items) at d))
         (with_shared (shared_in memory.new) (slice_index_or (map state_of machines.new.items) at d)) result }
     ensures placed { (d : State) → map state_of machines.new.items ≡
@@ -107,7 +107,7 @@ fn make_turn<H: Host>(
     requires inside { at < length machines.now.items }
     requires apart { AllAlone (map state_of machines.now.items) }
     requires flags { length halted.now.items ≡ length machines.now.items }
-    ensures turn { TakesTurn (H.told host.old) (H.told host.new) (H.faults host.old) (H.faults host.new)
+    ensures turn { TakesTurn H.told H.faults host.old host.new
         (joint_by machines.old.items halted.old.items memory.old)
         (joint_by machines.new.items halted.new.items memory.new) at result }
     ensures apart { AllAlone (map state_of machines.new.items) }
@@ -130,8 +130,7 @@ impl Multi {
     /// it made.
     pub fn turn<H: Host>(&mut self, host: &mut H, who: u8) -> Turn
         requires { who < processor_count self.now }
-        ensures turn { TakesTurn (H.told host.old) (H.told host.new) (H.faults host.old) (H.faults host.new)
-            (joint_of self.old) (joint_of self.new) who result }
+        ensures turn { TakesTurn H.told H.faults host.old host.new (joint_of self.old) (joint_of self.new) who result }
         ensures count { processor_count self.new ≡ processor_count self.old }
     {
         make_turn(

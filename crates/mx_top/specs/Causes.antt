@@ -1,18 +1,13 @@
 -- What holds over every host, also over one that tells nothing. `told` is what a host tells, `faults` its count of faults, `old` and
 -- `new` are the host before and after.
-use Rattle.std.specs.Prelude.{ℕ, ◌≡◌, ◌≢◌, false, List, Option, Err}
+use Rattle.std.specs.Prelude.{ℕ, ◌≡◌, ◌≢◌, List, Option, Err}
 use Rattle.mx_host.specs.HostModel.{HostModel}
 use Rattle.mx_host.specs.Keeping.{ComesByFault, Keeps, OnlyByFailure}
 use Rattle.mx_words.specs.Orders.{order_of}
 use Rattle.mx_words.specs.declared.order.WordsFault.{WordsFault}
-use Rattle.mx_outcome.specs.Kinds.{is_usage}
 use Rattle.mx_outcome.specs.declared.outcome.Outcome.{Outcome}
 use Rattle.mx_outcome.specs.declared.outcome.Outcome.TheVariants.{HostFault, NoFile, OutOfMemory, Usage}
 use Rattle.mx_begin.specs.Arguments.{Word}
-
--- an outcome that a machine comes to: neither a fault of the host, nor a file that is missing, nor a fault of the words
-abbrev pub IsOfMachine : Outcome → Type 0
-IsOfMachine outcome = (outcome ≢ HostFault) × (outcome ≢ NoFile) × (is_usage outcome ≡ false)
 
 -- Of all that the program does by these words: they are told to be no order exactly where they are none, or out of memory; and
 -- the rest as above.

@@ -28,7 +28,7 @@ use std::alloc::Global;
 /// it, they are as the run leaves them then, and the watchers were told all steps before it; where a watcher or a report
 /// lacked it, the steps up to there were made, and the watchers were told them, the last step only the first ones. One
 /// whose report lacked memory is left. With no watchers it takes no more memory than the run.
-pub fn watched_run<H: Host>(
+pub fn run_with_watchers<H: Host>(
     alloc: Global,
     machine: &mut Machine,
     host: &mut H,
@@ -36,10 +36,8 @@ pub fn watched_run<H: Host>(
     watchers: &mut Vec<Box<dyn Watcher>>,
     kept: &mut Reports,
 ) -> End
-    ensures plan { CarriesOutAccompanied (H.told host.old) (H.told host.new) (state_of machine.old) (state_of machine.new)
-        n result }
-    ensures run { IsRun (H.told host.old) (H.told host.new) (H.faults host.old) (H.faults host.new) (state_of machine.old)
-        (state_of machine.new) n no_flags false result }
+    ensures plan { CarriesOutAccompanied H.told host.old host.new machine.old machine.new n result }
+    ensures run { IsRun H.told H.faults host.old host.new machine.old machine.new n no_flags false result }
     ensures spared { watchers.old.items ≡ [] → SparesMemory n (state_of machine.old) → result ≢ End.OutOfMemory }
     ensures stops { StopsHearing (H.told host.old) (H.told host.new) (state_of machine.old) (state_of machine.new) n result
         (starting (map meaning watchers.old.items) kept.old) (map meaning watchers.new.items) kept.new }
@@ -72,10 +70,8 @@ fn listen<H: Host>(
     kept: &mut Reports,
 ) -> End
     requires { length places.now.items ≡ length watchers.now.items }
-    ensures plan { CarriesOutAccompanied (H.told host.old) (H.told host.new) (state_of machine.old) (state_of machine.new)
-        n result }
-    ensures run { IsRun (H.told host.old) (H.told host.new) (H.faults host.old) (H.faults host.new) (state_of machine.old)
-        (state_of machine.new) n no_flags false result }
+    ensures plan { CarriesOutAccompanied H.told host.old host.new machine.old machine.new n result }
+    ensures run { IsRun H.told H.faults host.old host.new machine.old machine.new n no_flags false result }
     ensures stops { StopsHearing (H.told host.old) (H.told host.new) (state_of machine.old) (state_of machine.new) n result
         (listening places.old.items (map meaning watchers.old.items) kept.old)
         (map meaning watchers.new.items) kept.new }
@@ -87,7 +83,7 @@ fn listen<H: Host>(
         (map meaning watchers.new.items) kept.new }
 {
     for _made in 0..n {
-        match next_trace(alloc, machine, host) {
+        match trace_step(alloc, machine, host) {
             Ok(trace) => match tell_all(watchers, places, kept, &trace) {
                 Ok(()) => {}
                 Err(_) => return End::OutOfMemory,
@@ -98,9 +94,13 @@ fn listen<H: Host>(
     End::Spent
 }
 
-/// A step of a run without flags: its trace, or the end of the run.
+/// Makes a step of a run without flags. Answers its trace, or the end of the run.
 #[tactic(auto, using(mx_run::proofs::FreeRuns::turned))]
-fn next_trace<H: Host>(alloc: Global, machine: &mut Machine, host: &mut H) -> Result<Trace, End>
+pub fn trace_step<H: Host>(
+    alloc: Global,
+    machine: &mut Machine,
+    host: &mut H,
+) -> Result<Trace, End>
     ensures told { StepsTo (H.told host.old) (H.told host.new) (state_of machine.old) (state_of machine.new) result }
     ensures has_window { HasWindow (state_of machine.old) }
     ensures bound { IsLater 1 (state_of machine.old) (state_of machine.new) }

@@ -1,5 +1,5 @@
 -- What a step answers, with the state that it leaves.
-use Rattle.std.specs.Prelude.{ℕ, ◌≡◌, ◌==◌, Bool, true, false, not, ◌&&◌, if◌then◌else◌, Option, None, Some}
+use Rattle.std.specs.Prelude.{ℕ, ◌≡◌, ◌≢◌, ◌==◌, Bool, true, false, not, ◌&&◌, if◌then◌else◌, Option, None, Some}
 use Rattle.std.specs.Option.{option_map, is_some}
 use Rattle.mx_mem.specs.declared.part.Part.TheVariants.{Octa}
 use Rattle.mx_ring.specs.Stack.{Stack, register}
@@ -8,8 +8,9 @@ use Rattle.mx_code.specs.LoadsAndStores.{touch}
 use Rattle.mx_core.specs.Effects.{Store, data_address}
 use Rattle.mx_code.specs.Instructions.{x_of}
 use Rattle.mx_code.specs.declared.instruction.Instruction.{Instruction}
+use Rattle.mx_core.specs.Kept.{Kept, state_of}
 use Rattle.mx_core.specs.State.{State, begins_page, is_negative}
-use Rattle.mx_core.specs.Step.{Stepped, went, calls, stopped, fetched, store_touch}
+use Rattle.mx_core.specs.Step.{Stepped, went, calls, stopped, fetched, step, store_touch}
 use Rattle.mx_code.specs.declared.trace.Touch.{Touch}
 use Rattle.mx_code.specs.declared.operation.Operation.{Operation}
 use Rattle.mx_code.specs.declared.operation.Operation.TheVariants as op
@@ -30,6 +31,13 @@ abbrev pub advanced : State → Stepped → Advance × State
 advanced s (went t trace) = (advance.Went, t)
 advanced s (calls call) = (advance.Trap, s)
 advanced s (stopped reason) = (advance.Stopped reason, s)
+
+-- a call makes a step of the old machine, with its trace and without it, unless it is out of memory
+abbrev pub HasStepped : Step → Kept → Kept → Type 0
+HasStepped result old new = result ≢ answer.OutOfMemory → (result, state_of new) ≡ step_answer (state_of old) (step (state_of old))
+
+abbrev pub HasAdvanced : Advance → Kept → Kept → Type 0
+HasAdvanced result old new = result ≢ advance.OutOfMemory → (result, state_of new) ≡ advanced (state_of old) (step (state_of old))
 
 -- what an instruction does to its destination and to memory
 abbrev pub sight_of : Deed → Sight
