@@ -139,11 +139,7 @@ fn sheet_with(
 }
 
 /// The sheet of a source, by what is counted of a run of it.
-pub fn make_sheet(
-    alloc: Global,
-    source: &[u8],
-    entries: &[Entry],
-) -> Result<LineSheet, NoMemory>
+pub fn make_sheet(alloc: Global, source: &[u8], entries: &[Entry]) -> Result<LineSheet, NoMemory>
     ensures { IfOk result (λ sheet. sheet ≡ spec.source_sheet source.now (counts_in entries.now)) }
 {
     let loads = cells_by_line(alloc, source)?;

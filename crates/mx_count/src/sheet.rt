@@ -47,11 +47,7 @@ pub fn add_figures(alloc: Global, text: &mut Bytes, tally: Tally) -> Result<(), 
 }
 
 /// Adds what is in front of a line with this tally.
-fn add_line_figures(
-    alloc: Global,
-    text: &mut Bytes,
-    tally: Option<Tally>,
-) -> Result<(), NoMemory>
+fn add_line_figures(alloc: Global, text: &mut Bytes, tally: Option<Tally>) -> Result<(), NoMemory>
     ensures { OnOk result (text.new ≡ text.old ++ spec.line_figures tally) }
 {
     let Some(tally) = tally else {

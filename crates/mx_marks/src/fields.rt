@@ -159,8 +159,10 @@ pub fn unknown_place(line: &[u8]) -> Option<usize>
 {
     let mut place = 0;
     while let Ok(Some(cut)) = next_statement(line, place) {
-        let operation =
-            cut_leading_word(from_field(Field::Operation, split_at_most(line, place).1));
+        let operation = cut_leading_word(from_field(
+            Field::Operation,
+            split_at_most(line, place).1,
+        ));
         if find(operation).is_none() {
             return Some(place);
         }

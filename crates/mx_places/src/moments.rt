@@ -24,7 +24,10 @@ fn register_sum(book: &Book, machine: &Machine, text: &[u8]) -> Option<u64>
     ensures { result ≡ spec.register_sum book.now (state_of machine.now) text.now }
 {
     let (base, rest) = cut_sum(text);
-    add_numbers(read_held(machine, resolve_name(book, base)), parse_offset(rest))
+    add_numbers(
+        read_held(machine, resolve_name(book, base)),
+        parse_offset(rest),
+    )
 }
 
 /// What a text names in a machine.

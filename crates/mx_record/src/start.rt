@@ -42,12 +42,7 @@ fn global_values(alloc: Global, machine: &Machine) -> Result<Sequence<Change>, N
     machines_keep_the_invariant(machine);
     let mut changes = Sequence::new(alloc);
     for k in 0..256u16 {
-        note(
-            &mut changes,
-            u64::from(k),
-            0,
-            show_global(machine, k as u8),
-        )?;
+        note(&mut changes, u64::from(k), 0, show_global(machine, k as u8))?;
     }
     Ok(changes)
 }

@@ -96,11 +96,7 @@ fn listen<H: Host>(
 
 /// Makes a step of a run without flags. Answers its trace, or the end of the run.
 #[tactic(auto, using(mx_run::proofs::FreeRuns::turned))]
-pub fn trace_step<H: Host>(
-    alloc: Global,
-    machine: &mut Machine,
-    host: &mut H,
-) -> Result<Trace, End>
+pub fn trace_step<H: Host>(alloc: Global, machine: &mut Machine, host: &mut H) -> Result<Trace, End>
     ensures told { StepsTo (H.told host.old) (H.told host.new) (state_of machine.old) (state_of machine.new) result }
     ensures has_window { HasWindow (state_of machine.old) }
     ensures bound { IsLater 1 (state_of machine.old) (state_of machine.new) }
