@@ -11,6 +11,7 @@ pub mod ListStarts
 pub mod Folded
 pub mod Stretches
 pub mod Names
+pub mod Rounds
 pub mod Packed
 pub mod RowTurns
 pub mod Underway

@@ -6,8 +6,8 @@ ghost use Rattle.mx_multi.specs.Joint.{joint_of, processor_count};
 ghost use Rattle.mx_multi.specs.Schedules.{AreNames};
 
 use crate::queue::{leave_out_halted, next_place, queue_of};
-use crate::rows::{RowEnd, row_length, run_row};
-use crate::{Multi, MultiEnd};
+use crate::rows::walk_rows;
+use crate::{Multi, MultiEnd, Turn};
 use mx_host::Host;
 use std::alloc::Global;
 
@@ -42,18 +42,28 @@ pub fn run_turns<H: Host>(
             Some(place) => place,
             None => return MultiEnd::AllHalted,
         };
-        let length = row_length(names, place, left);
-        match run_row(multi, host, names[place], length) {
-            RowEnd::Went => {
-                queue.at = place + length as usize;
-                left -= length;
-            }
-            RowEnd::Halted(made) => {
-                queue.at = place + made as usize + 1;
+        let walked = walk_rows(multi, names, place, left);
+        left = walked.left;
+        if left == 0 {
+            return MultiEnd::Spent;
+        }
+        left -= 1;
+        let who = names[walked.at];
+        match multi.turn(host, who) {
+            Turn::Went => queue.at = walked.at + 1,
+            Turn::Idle => queue.at = walked.at + 1,
+            Turn::Halted(_) => {
+                queue.at = walked.at + 1;
                 leave_out_halted(multi, &mut queue);
-                left -= made + 1;
             }
-            RowEnd::Ended(end) => return end,
+            Turn::Stopped { pc, reason } => {
+                return MultiEnd::Stopped {
+                    processor: who,
+                    pc,
+                    reason,
+                };
+            }
+            Turn::OutOfMemory => return MultiEnd::OutOfMemory,
         }
     }
     match next_place(queue.names.as_slice(), queue.at) {

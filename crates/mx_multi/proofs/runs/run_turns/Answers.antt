@@ -1,9 +1,10 @@
-use Rattle.std.proofs.Common.{ℕ, ◌+◌, ◌-◌, ◌<◌, List, drop, length, ◌∙◌, ap, refl, subst, sym}
+use Rattle.std.proofs.Common.{◌≡◌, ℕ, ◌+◌, ◌-◌, ◌<◌, false, true, List, arith, drop, length, ◌∙◌, ap, refl, subst, sym}
 use Rattle.mx_multi.specs.Joint.{joint_of}
-use Rattle.mx_multi.specs.Stretches.{Over, running}
+use Rattle.mx_multi.specs.Stretches.{running}
 use Rattle.mx_multi.proofs.Names.{name-runs, names-of}
 use Rattle.mx_multi.proofs.Schedules.{name-below}
-use Rattle.mx_multi.proofs.Underway.{Queued, all-spent, begins, ended-named, halted-named, none-named, none-spent, placed, row-named, start-lacks}
+use Rattle.mx_multi.proofs.RowTurns.{Over}
+use Rattle.mx_multi.proofs.Underway.{Queued, all-spent, begins, ended-named, halted-named, none-named, none-spent, one-named, placed, start-lacks, walked-named}
 use Rattle.mx_multi.proofs.runs.run_turns.Goals as goal
 
 -- ---- the start
@@ -19,48 +20,77 @@ loop-left-init g c = record {
   count = refl;
 }
 
--- ---- a row
+-- ---- turns by names, each of which goes on
 
-pub run_row-requires-clause-inside : goal.run_row-requires-clause-inside
-run_row-requires-clause-inside g c =
-    rw c.loop-left.invariant.count
-    (name-below _ _ _ _ c.in-Some.ensures.some.inside (names-of _ _ _ _ (c.as_slice-names.ensures.value ∙ c.loop-left.invariant.queue.named) c.requires))
+pub walk_rows-walked-requires-clause-names : goal.walk_rows-walked-requires-clause-names
+walk_rows-walked-requires-clause-names g c =
+    rw c.loop-left.invariant.count (names-of _ _ _ _ (c.as_slice-names.ensures.value ∙ c.loop-left.invariant.queue.named) c.requires)
 
-pub run_row-requires-clause-runs : goal.run_row-requires-clause-runs
-run_row-requires-clause-runs g c = name-runs _ _ _ _ (c.as_slice-names.ensures.value ∙ c.loop-left.invariant.queue.named) c.in-Some.ensures.some.inside
+pub walk_rows-walked-requires-clause-run : goal.walk_rows-walked-requires-clause-run
+walk_rows-walked-requires-clause-run g c =
+    record { runs = λ i l. name-runs _ _ _ i (c.as_slice-names.ensures.value ∙ c.loop-left.invariant.queue.named) l }
+
+pub returns-then-left-eq0-clause-turns : goal.returns-then-left-eq0-clause-turns
+returns-then-left-eq0-clause-turns g c =
+    let e = c.walk_rows-walked.ensures in
+    let queue = placed _ _ _ _ _ _ _ _ _ c.as_slice-names.ensures.value c.loop-left.invariant.queue c.in-Some.ensures.some in
+    let walked = walked-named _ _ _ _ _ _ _ _ _ _ _ _ e.few c.in-Some.ensures.some.inside e.turns queue in
+    let none = c.if-left-eq0.true in
+    all-spent _ _ _ _ _ _ _ _ (omega (arith, none)) e.inside walked
+
+-- ---- the turn after them
+
+pub turn-requires : goal.turn-requires
+turn-requires g c =
+    rw (c.walk_rows-walked.ensures.count, c.loop-left.invariant.count)
+    (name-below _ _ _ _ c.walk_rows-walked.ensures.inside (names-of _ _ _ _ (c.as_slice-names.ensures.value ∙ c.loop-left.invariant.queue.named) c.requires))
 
 pub loop-left-preserved-in-Went : goal.loop-left-preserved-in-Went
 loop-left-preserved-in-Went g c =
     let was = c.loop-left.invariant in
-    let row = c.row_length-length.ensures in
+    let e = c.walk_rows-walked.ensures in
     let queue = placed _ _ _ _ _ _ _ _ _ c.as_slice-names.ensures.value was.queue c.in-Some.ensures.some in
+    let walked = walked-named _ _ _ _ _ _ _ _ _ _ _ _ e.few c.in-Some.ensures.some.inside e.turns queue in
+    let some = c.if-left-eq0.false in
     let start : Over = (g.H.Host.told c.args.host.now, g.H.Host.faults c.args.host.now, joint_of c.args.multi.now) in
-    let after : Over = (g.H.Host.told c.run_row.new.host, g.H.Host.faults c.run_row.new.host, joint_of c.run_row.new.multi) in
-    let made = c.row_length-length.result in
+    let after : Over = (g.H.Host.told c.turn.new.host, g.H.Host.faults c.turn.new.host, joint_of c.turn.new.self) in
+    let left = c.walk_rows-walked.result.left in
+    let at = c.walk_rows-walked.result.at in
     record {
-      queue = subst (λ (ns : List ℕ). Queued c.args.schedule.now c.args.n start (c.loop-left.left - made) ns (c.in-Some.place + made) after) c.as_slice-names.ensures.value
-          (row-named c.args.schedule.now c.args.n start _ made c.in-Some.place c.loop-left.left _ _ after row.few row.row c.in-Went.ensures.row queue);
-      count = c.run_row.ensures.count ∙ was.count;
+      queue = subst (λ (ns : List ℕ). Queued c.args.schedule.now c.args.n start (left - 1) ns (at + 1) after) c.as_slice-names.ensures.value
+          (one-named _ _ _ _ _ _ _ _ (omega (arith, some)) e.inside walked c.in-Went.ensures.turn);
+      count = c.turn.ensures.count ∙ e.count ∙ was.count;
     }
+
+-- a processor that has not halted is not idle
+pub loop-left-preserved-in-Idle : goal.loop-left-preserved-in-Idle
+loop-left-preserved-in-Idle g c =
+    let e = c.walk_rows-walked.ensures in
+    let queue = placed _ _ _ _ _ _ _ _ _ c.as_slice-names.ensures.value c.loop-left.invariant.queue c.in-Some.ensures.some in
+    let walked = walked-named _ _ _ _ _ _ _ _ _ _ _ _ e.few c.in-Some.ensures.some.inside e.turns queue in
+    let no : false ≡ true = sym (name-runs _ _ _ _ walked.named e.inside) ∙ c.in-Idle.ensures.turn.idle.0 refl in
+    absurd (cc)
 
 -- ---- a halt
 
 pub leave_out_halted-requires-clause-names : goal.leave_out_halted-requires-clause-names
 leave_out_halted-requires-clause-names g c =
-    rw (c.run_row.ensures.count, c.loop-left.invariant.count) (names-of _ _ _ _ c.loop-left.invariant.queue.named c.requires)
+    rw (c.turn.ensures.count, c.walk_rows-walked.ensures.count, c.loop-left.invariant.count) (names-of _ _ _ _ c.loop-left.invariant.queue.named c.requires)
 
 pub loop-left-preserved : goal.loop-left-preserved
 loop-left-preserved g c =
     let was = c.loop-left.invariant in
-    let row = c.row_length-length.ensures in
+    let e = c.walk_rows-walked.ensures in
     let same = c.as_slice-names.ensures.value in
-    let after = c.run_row.new.multi.halted in
-    let queue = placed _ _ _ _ _ _ _ _ _ c.as_slice-names.ensures.value was.queue c.in-Some.ensures.some in
+    let halted = c.turn.new.self.halted in
+    let queue = placed _ _ _ _ _ _ _ _ _ same was.queue c.in-Some.ensures.some in
+    let walked = walked-named _ _ _ _ _ _ _ _ _ _ _ _ e.few c.in-Some.ensures.some.inside e.turns queue in
+    let some = c.if-left-eq0.false in
     record {
-      queue = halted-named _ _ _ _ _ _ _ _ _ _ _ _ row.few row.row c.in-Halted.ensures.row.1 queue _ _
-          (c.leave_out_halted.ensures.names ∙ ap (running after) (sym same))
-          (c.leave_out_halted.ensures.place ∙ ap (λ (ns : List ℕ). running after (drop (c.in-Some.place + c.in-Halted.made + 1) ns)) (sym same));
-      count = c.run_row.ensures.count ∙ was.count;
+      queue = halted-named _ _ _ _ _ _ _ _ (omega (arith, some)) e.inside walked _ _ _ c.in-Halted.ensures.turn
+          (c.leave_out_halted.ensures.names ∙ ap (running halted) (sym same))
+          (c.leave_out_halted.ensures.place ∙ ap (λ (ns : List ℕ). running halted (drop (c.walk_rows-walked.result.at + 1) ns)) (sym same));
+      count = c.turn.ensures.count ∙ e.count ∙ was.count;
     }
 
 -- ---- the end
@@ -69,12 +99,21 @@ pub returns-in-None-clause-turns : goal.returns-in-None-clause-turns
 returns-in-None-clause-turns g c =
     none-named _ _ _ _ _ _ _ c.loop-left-test.true (sym c.as_slice-names.ensures.value ∙ c.in-None.ensures.none refl) c.loop-left.invariant.queue
 
-pub returns-in-Ended-clause-turns : goal.returns-in-Ended-clause-turns
-returns-in-Ended-clause-turns g c =
-    let row = c.row_length-length.ensures in
+pub returns-in-Stopped-clause-turns : goal.returns-in-Stopped-clause-turns
+returns-in-Stopped-clause-turns g c =
+    let e = c.walk_rows-walked.ensures in
     let queue = placed _ _ _ _ _ _ _ _ _ c.as_slice-names.ensures.value c.loop-left.invariant.queue c.in-Some.ensures.some in
-    let end = c.in-Ended.ensures.row in
-    ended-named _ _ _ _ _ _ _ _ _ _ _ _ _ row.few row.row end.1.1.0 end.1.1.1 queue
+    let walked = walked-named _ _ _ _ _ _ _ _ _ _ _ _ e.few c.in-Some.ensures.some.inside e.turns queue in
+    let some = c.if-left-eq0.false in
+    ended-named _ _ _ _ _ _ _ _ (omega (arith, some)) e.inside walked _ _ c.in-Stopped.ensures.turn refl
+
+pub returns-in-OutOfMemory-clause-turns : goal.returns-in-OutOfMemory-clause-turns
+returns-in-OutOfMemory-clause-turns g c =
+    let e = c.walk_rows-walked.ensures in
+    let queue = placed _ _ _ _ _ _ _ _ _ c.as_slice-names.ensures.value c.loop-left.invariant.queue c.in-Some.ensures.some in
+    let walked = walked-named _ _ _ _ _ _ _ _ _ _ _ _ e.few c.in-Some.ensures.some.inside e.turns queue in
+    let some = c.if-left-eq0.false in
+    ended-named _ _ _ _ _ _ _ _ (omega (arith, some)) e.inside walked _ _ c.in-OutOfMemory.ensures.turn refl
 
 -- ---- the end where no step is left
 
