@@ -60,6 +60,16 @@ impl Machine {
     {
         self.memory.exchange(memory);
     }
+
+    /// Exchanges the machine's memory with that of another machine. Nothing else changes in either of them. It takes no
+    /// memory, and the same time for any memory.
+    #[tactic(auto, unfolding(crate::specs::Kept::state_of))]
+    pub fn exchange_memory(&mut self, other: &mut Machine)
+        ensures here { state_of self.new ≡ with_shared (shared_of (state_of other.old)) (state_of self.old) }
+        ensures there { state_of other.new ≡ with_shared (shared_of (state_of self.old)) (state_of other.old) }
+    {
+        self.memory.exchange(&mut other.memory);
+    }
 }
 
 /// The register stack at the start, with these registers.

@@ -1,5 +1,5 @@
 -- The names of a schedule that are those of processors which have not halted.
-use Rattle.std.proofs.Common.{◌≡◌, ◌<◌, ◌≤◌, ℕ, zero, suc, not, Bool, true, false, cond, IsTrue, List, [], ◌∷◌, length, get_or, set, None, Some, arith, refl, sym, subst, ap, ◌∙◌}
+use Rattle.std.proofs.Common.{◌≡◌, ◌<◌, ℕ, zero, suc, not, Bool, true, false, cond, IsTrue, List, [], ◌∷◌, length, get_or, set, None, Some, arith, refl, sym, subst, ap, ◌∙◌}
 use Rattle.std.proofs.lemmas.List.Elements.{filter_passes, All-get_or}
 use Rattle.mx_multi.specs.Joint.{has_halted}
 use Rattle.mx_multi.specs.Stretches.{running}

@@ -1,5 +1,5 @@
 -- Places in names that are repeated, and rows of one name.
-use Rattle.std.proofs.Common.{◌≡◌, ◌<◌, ◌≤◌, ℕ, suc, ◌+◌, ◌-◌, ◌%◌, List, length, get_or, arith, refl, sym, subst, ap, ◌∙◌, ⊎_elim}
+use Rattle.std.proofs.Common.{◌≡◌, ◌<◌, ◌≤◌, ℕ, suc, ◌+◌, ◌-◌, ◌%◌, List, length, get_or, arith, sym, subst, ap, ◌∙◌, ⊎_elim}
 use Rattle.std.proofs.lemmas.Bool.{cases_eq}
 use Rattle.std.proofs.Math.Nat.{add-mod-mod, mod-add-mod, mod-eq-sub-mod, mod-eq_of_lt, mod-lt}
 use Rattle.mx_multi.specs.Stretches.{IsPlaceFrom, IsRow, place_after}

@@ -1,5 +1,5 @@
 -- Turns by names, each of which goes on.
-use Rattle.std.proofs.Common.{◌≡◌, ◌<◌, ◌≤◌, ℕ, zero, suc, ◌+◌, ◌-◌, true, false, List, length, get_or, Option, arith, refl, sym, subst, ap, ◌∙◌}
+use Rattle.std.proofs.Common.{◌≡◌, ◌<◌, ◌≤◌, ℕ, zero, suc, ◌+◌, ◌-◌, true, false, List, length, Option, arith, refl, sym, subst, ap, ◌∙◌}
 use Rattle.mx_host.specs.HostModel.{HostModel, contents}
 use Rattle.mx_host.proofs.Keeping.{keeps-all}
 use Rattle.mx_multi.specs.Clauses.{TakesTurn}
@@ -45,13 +45,12 @@ pub stretch-along : (names : List ℕ) (n who at : ℕ) (j l : Joint) → at < l
 unfolding Along Stretch
 stretch-along names zero who at j l inside row s = (sym (place-here (length names) at inside), s)
 stretch-along names (suc n) who at j l inside row s =
-    let more : 1 + n ≡ suc n = omega arith in
-    (
+    let more : 1 + n ≡ suc n = omega arith in (
       s.0,
       (
         subst (λ x. GoesOn x j s.0) (sym (row-first names at n who inside row)) s.1.0,
         subst (λ p. Along names n (place_after (length names) at 1) p s.0 l) (place-then (length names) at 1 n ∙ ap (λ k. place_after (length names) at k) more)
-        (stretch-along names n who (place_after (length names) at 1) s.0 l (place-below (length names) at 1 inside) (row-rest names at n who row) s.1.1),
+            (stretch-along names n who (place_after (length names) at 1) s.0 l (place-below (length names) at 1 inside) (row-rest names at n who row) s.1.1),
       ),
     )
 

@@ -1,5 +1,5 @@
 -- Steps of a machine that go on are a stretch of turns.
-use Rattle.std.proofs.Common.{◌≡◌, ◌<◌, ◌≤◌, ℕ, zero, suc, ◌+◌, Bool, true, false, List, length, get_or, set, arith, refl, sym, subst, ap, ◌∙◌}
+use Rattle.std.proofs.Common.{◌≡◌, ◌<◌, ℕ, zero, suc, Bool, true, false, List, length, get_or, set, arith, refl, sym, subst, ap, ◌∙◌}
 use Rattle.std.specs.Prelude.{Some}
 use Rattle.std.proofs.lemmas.List.{get_or-set_same, length-set, set-set, set-get_or}
 use Rattle.mx_word.proofs.Fronts.{front-self}
@@ -22,7 +22,7 @@ use Rattle.mx_run.proofs.Later.{advanced-later}
 use Rattle.mx_run.proofs.ListTurns.{TurnWindow, turn-listed-on, wild-listed, turn-untouched}
 use Rattle.mx_run.proofs.Runners.{turn-told}
 use Rattle.mx_multi.specs.Clauses.{MakesTurn}
-use Rattle.mx_multi.specs.Joint.{Joint, no_processor, has_halted, alone, AllAlone}
+use Rattle.mx_multi.specs.Joint.{no_processor, has_halted, alone, AllAlone}
 use Rattle.mx_multi.specs.JointTurns.{told_at}
 use Rattle.mx_multi.specs.Stretches.{GoesOn, Stretch}
 use Rattle.mx_multi.specs.declared.turn.Turn.TheVariants as turned

@@ -1,11 +1,11 @@
 //! Rows: turns of one processor, one after another, also across the end of a schedule.
 
 ghost use Rattle.std.specs.Prelude.{◌≡◌, ◌≤◌, ◌<◌, ◌-◌, get_or, length};
-ghost use Rattle.mx_multi.specs.Joint.{joint_of, processor_count};
 ghost use Rattle.mx_multi.specs.Schedules.{AreNames};
+ghost use Rattle.mx_multi.specs.Seats.{seated};
 ghost use Rattle.mx_multi.specs.Stretches.{AllRun, Along, IsRow, place_after};
 
-use crate::Multi;
+use crate::seats::Seats;
 
 /// How many names of a row are counted at once, so that it costs little to count them again after a turn of another kind.
 const COUNTED: u64 = 256;
@@ -119,22 +119,22 @@ fn next_row(names: &[u8], at: usize, most: u64) -> Row
 }
 
 /// Makes at most this many turns by names, from a place on, as far as each goes on: how many are left, and where.
-pub(crate) fn walk_rows(multi: &mut Multi, names: &[u8], at: usize, n: u64) -> Walked
-    requires names { AreNames (processor_count multi.now) names.now }
+pub(crate) fn walk_rows(seats: &mut Seats, names: &[u8], at: usize, n: u64) -> Walked
+    requires names { AreNames (length seats.now.machines) names.now }
     requires inside { at < length names.now }
-    requires run { AllRun multi.now.halted names.now }
+    requires run { AllRun seats.now.halted names.now }
     ensures few { result.left ≤ n }
     ensures inside { result.at < length names.now }
-    ensures turns { Along names.now (n - result.left) at result.at (joint_of multi.old) (joint_of multi.new) }
-    ensures halted { multi.new.halted ≡ multi.old.halted }
-    ensures count { processor_count multi.new ≡ processor_count multi.old }
+    ensures turns { Along names.now (n - result.left) at result.at (seated seats.old) (seated seats.new) }
+    ensures halted { seats.new.halted ≡ seats.old.halted }
+    ensures count { length seats.new.machines ≡ length seats.old.machines }
 {
     let mut place = at;
     let mut left = n;
     while left > 0 {
         let row = next_row(names, place, left);
         let length = row.length;
-        let made = multi.walk(names[place], length);
+        let made = seats.walk(names[place], length);
         left -= made;
         if made < length {
             let at = pass(names.len(), place, made);

@@ -1,24 +1,30 @@
 use Rattle.std.proofs.Common.{◌≡◌, ℕ, ◌+◌, ◌-◌, ◌<◌, false, true, List, arith, drop, length, ◌∙◌, ap, refl, subst, sym}
-use Rattle.mx_multi.specs.Joint.{joint_of}
+use Rattle.mx_multi.specs.Schedules.{AllHaveHalted}
+use Rattle.mx_multi.specs.Seats.{seated}
 use Rattle.mx_multi.specs.Stretches.{running}
 use Rattle.mx_multi.proofs.Names.{name-runs, names-of}
 use Rattle.mx_multi.proofs.Schedules.{name-below}
 use Rattle.mx_multi.proofs.RowTurns.{Over}
 use Rattle.mx_multi.proofs.Underway.{Queued, all-spent, begins, ended-named, halted-named, none-named, none-spent, one-named, placed, start-lacks, walked-named}
-use Rattle.mx_multi.proofs.runs.run_turns.Goals as goal
+use Rattle.mx_multi.proofs.runs.run_seats.Goals as goal
 
 -- ---- the start
 
 pub returns-in-Err-clause-turns : goal.returns-in-Err-clause-turns
 returns-in-Err-clause-turns g c =
-    let start : Over = (g.H.Host.told c.args.host.now, g.H.Host.faults c.args.host.now, joint_of c.args.multi.now) in
-    start-lacks c.args.schedule.now c.args.n start c.in-Err.ensures.none
+    let start : Over = (g.H.Host.told c.args.host.now, g.H.Host.faults c.args.host.now, seated c.args.seats.now) in
+    start-lacks c.args.schedule.now c.args.n start (λ all. c.in-Err.ensures.none (subst (λ hs. AllHaveHalted hs c.args.schedule.now) (sym c.halted.ensures.flags) all))
+
+pub queue_of-requires : goal.queue_of-requires
+queue_of-requires g c = rw c.halted.ensures.count c.requires
 
 pub loop-left-init : goal.loop-left-init
-loop-left-init g c = record {
-  queue = record { rest = c.args.schedule.now; under = begins _ _ _; named = c.in-Ok.ensures.names; place = c.in-Ok.ensures.place };
-  count = refl;
-}
+loop-left-init g c =
+    let same = ap (λ hs. running hs c.args.schedule.now) c.halted.ensures.flags in
+    record {
+      queue = record { rest = c.args.schedule.now; under = begins _ _ _; named = c.in-Ok.ensures.names ∙ same; place = c.in-Ok.ensures.place ∙ same };
+      count = refl;
+    }
 
 -- ---- turns by names, each of which goes on
 
@@ -40,10 +46,17 @@ returns-then-left-eq0-clause-turns g c =
 
 -- ---- the turn after them
 
-pub turn-requires : goal.turn-requires
-turn-requires g c =
+pub turn-requires-clause-inside : goal.turn-requires-clause-inside
+turn-requires-clause-inside g c =
     rw (c.walk_rows-walked.ensures.count, c.loop-left.invariant.count)
     (name-below _ _ _ _ c.walk_rows-walked.ensures.inside (names-of _ _ _ _ (c.as_slice-names.ensures.value ∙ c.loop-left.invariant.queue.named) c.requires))
+
+pub turn-requires-clause-runs : goal.turn-requires-clause-runs
+turn-requires-clause-runs g c =
+    let e = c.walk_rows-walked.ensures in
+    let queue = placed _ _ _ _ _ _ _ _ _ c.as_slice-names.ensures.value c.loop-left.invariant.queue c.in-Some.ensures.some in
+    let walked = walked-named _ _ _ _ _ _ _ _ _ _ _ _ e.few c.in-Some.ensures.some.inside e.turns queue in
+    name-runs _ _ _ _ walked.named e.inside
 
 pub loop-left-preserved-in-Went : goal.loop-left-preserved-in-Went
 loop-left-preserved-in-Went g c =
@@ -52,8 +65,8 @@ loop-left-preserved-in-Went g c =
     let queue = placed _ _ _ _ _ _ _ _ _ c.as_slice-names.ensures.value was.queue c.in-Some.ensures.some in
     let walked = walked-named _ _ _ _ _ _ _ _ _ _ _ _ e.few c.in-Some.ensures.some.inside e.turns queue in
     let some = c.if-left-eq0.false in
-    let start : Over = (g.H.Host.told c.args.host.now, g.H.Host.faults c.args.host.now, joint_of c.args.multi.now) in
-    let after : Over = (g.H.Host.told c.turn.new.host, g.H.Host.faults c.turn.new.host, joint_of c.turn.new.self) in
+    let start : Over = (g.H.Host.told c.args.host.now, g.H.Host.faults c.args.host.now, seated c.args.seats.now) in
+    let after : Over = (g.H.Host.told c.turn.new.host, g.H.Host.faults c.turn.new.host, seated c.turn.new.self) in
     let left = c.walk_rows-walked.result.left in
     let at = c.walk_rows-walked.result.at in
     record {
@@ -73,8 +86,8 @@ loop-left-preserved-in-Idle g c =
 
 -- ---- a halt
 
-pub leave_out_halted-requires-clause-names : goal.leave_out_halted-requires-clause-names
-leave_out_halted-requires-clause-names g c =
+pub leave_out-requires-clause-names : goal.leave_out-requires-clause-names
+leave_out-requires-clause-names g c =
     rw (c.turn.ensures.count, c.walk_rows-walked.ensures.count, c.loop-left.invariant.count) (names-of _ _ _ _ c.loop-left.invariant.queue.named c.requires)
 
 pub loop-left-preserved : goal.loop-left-preserved
@@ -88,8 +101,8 @@ loop-left-preserved g c =
     let some = c.if-left-eq0.false in
     record {
       queue = halted-named _ _ _ _ _ _ _ _ (omega (arith, some)) e.inside walked _ _ _ c.in-Halted.ensures.turn
-          (c.leave_out_halted.ensures.names ∙ ap (running halted) (sym same))
-          (c.leave_out_halted.ensures.place ∙ ap (λ (ns : List ℕ). running halted (drop (c.walk_rows-walked.result.at + 1) ns)) (sym same));
+          (c.leave_out.ensures.names ∙ ap (running halted) (sym same))
+          (c.leave_out.ensures.place ∙ ap (λ (ns : List ℕ). running halted (drop (c.walk_rows-walked.result.at + 1) ns)) (sym same));
       count = c.turn.ensures.count ∙ e.count ∙ was.count;
     }
 
