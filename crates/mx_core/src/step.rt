@@ -147,9 +147,9 @@ impl Machine {
     }
 
     /// At most `n` steps on the page of instructions that is kept, up to the first that is no usual one or leads
-    /// elsewhere. How many of the `n` are left.
-    #[inline(always)]
-    fn make_usual_ones(&mut self, n: u64) -> u64
+    /// elsewhere. How many of the `n` are left. It is a call, which several processors make for each turn of one step.
+    #[inline(never)]
+    pub fn make_usual_ones(&mut self, n: u64) -> u64
         ensures goes { Goes (n - result) (state_of self.old) (state_of self.new) }
         ensures most { result ≤ n }
     {

@@ -102,13 +102,16 @@ fn swap_at(machines: &mut Vec<Machine>, at: usize, memory: &mut Memory)
     machines[at].swap_memory(memory);
 }
 
-/// Steps of a machine, up to this many, as far as they go on: how many.
+/// Steps of a machine, up to this many, as far as they go on: how many. One alone is made only if it is a usual one.
 #[inline(always)]
 fn walk_machine(machine: &mut Machine, most: u64) -> u64
     ensures few { result ≤ most }
     ensures goes { Goes result (state_of machine.old) (state_of machine.new) }
 {
-    machine.advance_many(most).made
+    if most > 1 {
+        return machine.advance_many(most).made;
+    }
+    most - machine.make_usual_ones(most)
 }
 
 /// Steps of the machine at a place, up to this many, as far as they go on: how many.
