@@ -2,7 +2,7 @@
 use Rattle.std.proofs.Common.{◌≡◌, ◌<◌, ◌≤◌, ℕ, zero, suc, ◌+◌, ◌-◌, true, false, List, length, Option, arith, refl, sym, subst, ap, ◌∙◌}
 use Rattle.mx_host.specs.HostModel.{HostModel, contents}
 use Rattle.mx_host.proofs.Keeping.{keeps-all}
-use Rattle.mx_multi.specs.Clauses.{TakesTurn}
+use Rattle.mx_multi.specs.Clauses.{TakesTurnBetween}
 use Rattle.mx_multi.specs.Joint.{Joint, has_halted}
 use Rattle.mx_multi.specs.Stretches.{Along, GoesOn, IsRow, Stretch, place_after}
 use Rattle.mx_multi.specs.declared.turn.Turn.{Turn}
@@ -15,7 +15,7 @@ abbrev pub Over : Type 0
 Over = Option HostModel × ℕ × Joint
 
 abbrev pub Taken : ℕ → Turn → Over → Over → Type 0
-Taken who answer v w = TakesTurn v.0 w.0 v.1 w.1 v.2 w.2 who answer
+Taken who answer v w = TakesTurnBetween v.0 w.0 v.1 w.1 v.2 w.2 who answer
 
 -- a turn that goes on is made over every host
 pub goes-taken : (who : ℕ) (j k : Joint) (o : Option HostModel) (f : ℕ) → has_halted j.halted who ≡ false → GoesOn who j k → Taken who turned.Went (o, f, j) (o, f, k)

@@ -46,8 +46,7 @@ pub(crate) fn run_seats<H: Host>(
     n: u64,
 ) -> MultiEnd
     requires { AreNames (length seats.now.machines) schedule.now }
-    ensures turns { TakesTurns schedule.now n (H.told host.old) (H.told host.new) (H.faults host.old) (H.faults host.new)
-        (seated seats.old) (seated seats.new) result }
+    ensures turns { TakesTurns schedule.now n H.told H.faults host.old host.new (seated seats.old) (seated seats.new) result }
     ensures count { length seats.new.machines ≡ length seats.old.machines }
 {
     let mut queue = match queue_of(alloc, seats.halted(), schedule) {

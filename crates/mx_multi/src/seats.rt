@@ -131,8 +131,7 @@ fn walk_at(machines: &mut Vec<Machine>, at: usize, most: u64) -> u64
 /// A turn of the machine at a place.
 fn turn_at<H: Host>(alloc: Global, machines: &mut Vec<Machine>, host: &mut H, at: usize) -> Turn
     requires { at < length machines.now.items }
-    ensures turn { TurnsAlone (H.told host.old) (H.told host.new) (H.faults host.old) (H.faults host.new)
-        (get_or (map state_of machines.old.items) at no_processor)
+    ensures turn { TurnsAlone H.told H.faults host.old host.new (get_or (map state_of machines.old.items) at no_processor)
         (get_or (map state_of machines.new.items) at no_processor) result }
     ensures placed { let ss = map state_of machines.new.items in
         ss ≡ slice_set (map state_of machines.old.items) at (get_or ss at no_processor) }
@@ -249,8 +248,7 @@ impl Seats {
     /// A turn of the processor that has the memory and has not halted.
     fn turn_here<H: Host>(&mut self, alloc: Global, host: &mut H) -> Turn
         requires { has_halted self.now.halted self.now.at ≡ false }
-        ensures turn { TakesTurn (H.told host.old) (H.told host.new) (H.faults host.old) (H.faults host.new)
-            (seated self.old) (seated self.new) self.old.at result }
+        ensures turn { TakesTurn H.told H.faults host.old host.new (seated self.old) (seated self.new) self.old.at result }
         ensures count { length self.new.machines ≡ length self.old.machines }
     {
         let answer = turn_at(alloc, &mut self.machines, host, self.at);
@@ -262,8 +260,7 @@ impl Seats {
     pub(crate) fn turn<H: Host>(&mut self, alloc: Global, host: &mut H, who: u8) -> Turn
         requires inside { who < length self.now.machines }
         requires runs { has_halted self.now.halted who ≡ false }
-        ensures turn { TakesTurn (H.told host.old) (H.told host.new) (H.faults host.old) (H.faults host.new)
-            (seated self.old) (seated self.new) who result }
+        ensures turn { TakesTurn H.told H.faults host.old host.new (seated self.old) (seated self.new) who result }
         ensures count { length self.new.machines ≡ length self.old.machines }
     {
         self.seat(usize::from(who));

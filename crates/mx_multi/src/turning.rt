@@ -31,8 +31,7 @@ impl Multi {
     fn make_turn<H: Host>(&mut self, host: &mut H, who: u8) -> Turn
         requires inside { who < processor_count self.now }
         requires runs { has_halted self.now.halted who ≡ false }
-        ensures turn { TakesTurn (H.told host.old) (H.told host.new) (H.faults host.old) (H.faults host.new)
-            (joint_of self.old) (joint_of self.new) who result }
+        ensures turn { TakesTurn H.told H.faults host.old host.new (joint_of self.old) (joint_of self.new) who result }
         ensures count { processor_count self.new ≡ processor_count self.old }
     {
         self.seats.lend(&mut self.memory);
@@ -50,8 +49,7 @@ impl Multi {
         n: u64,
     ) -> MultiEnd
         requires { AreNames (processor_count self.now) schedule.now }
-        ensures turns { TakesTurns schedule.now n (H.told host.old) (H.told host.new) (H.faults host.old) (H.faults host.new)
-            (joint_of self.old) (joint_of self.new) result }
+        ensures turns { TakesTurns schedule.now n H.told H.faults host.old host.new (joint_of self.old) (joint_of self.new) result }
         ensures count { processor_count self.new ≡ processor_count self.old }
     {
         self.seats.lend(&mut self.memory);
