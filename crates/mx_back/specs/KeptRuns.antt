@@ -8,6 +8,8 @@ use Rattle.mx_core.specs.Kept.{Kept, state_of}
 use Rattle.mx_core.specs.State.{State}
 use Rattle.mx_core.specs.Step.{Stepped, went, calls, stopped, step}
 use Rattle.mx_core.specs.Undoing.{StateWas}
+use Rattle.mx_core.specs.Way.Stepping.{advanced}
+use Rattle.mx_core.specs.declared.step.Advance.TheVariants as advance
 use Rattle.mx_run.specs.RunPlans.{RunWorld, running, step_plan, turn_plan}
 use Rattle.mx_run.specs.Runs.{IsLater, no_flags, run}
 use Rattle.mx_run.specs.Runs as run_end
@@ -17,7 +19,7 @@ use Rattle.mx_run.specs.declared.end.End.{End}
 use Rattle.mx_run.specs.declared.end.End.TheVariants as end
 use Rattle.mx_run.specs.declared.turn_answer.TurnAnswer.{TurnAnswer}
 use Rattle.mx_run.specs.declared.turn_answer.TurnAnswer.TheVariants as answer
-use Rattle.mx_back.specs.History.{AreNotesOf, Turned, stepped, trapped, ended, kept_turn, states_kept, states_before}
+use Rattle.mx_back.specs.History.{AreNotesOf, Turned, stepped, trapped, ended, kept_turn, kept_with, states_kept, states_before}
 
 -- ---- what is kept
 
@@ -117,6 +119,13 @@ pub record TakesKeptStepBetween (old new : Option HostModel) (faults_before faul
 abbrev pub TakesKeptStep : {H : Type 0} → (H → Option HostModel) → (H → ℕ) → H → H → Kept → Kept → List StateWas → List StateWas → Result (Unit {0}) End → Type 0
 TakesKeptStep told faults old new before after earlier later result =
     TakesKeptStepBetween (told old) (told new) (faults old) (faults new) (state_of before) (state_of after) earlier later result
+
+-- what a usual step comes to, over any host, which it leaves as it is: it is made from a state over a window, which is kept
+pub record TakesUsualStep (before after : State) (earlier later : List StateWas) : Type 0 where
+  pub over : HasWindow before
+  pub made : (advance.Went, after) ≡ advanced before (step before)
+  pub kept : states_before later after ≡ kept_with before (states_before earlier before)
+  pub fits : AreNotesOf later after
 
 -- whether the run goes on after a turn from an address, or its end
 abbrev pub ended_at : ℕ → TurnAnswer → Result (Unit {0}) End

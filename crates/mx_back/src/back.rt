@@ -81,7 +81,8 @@ impl Back {
     }
 
     /// One step of the machine, where its instruction is a usual one, as the machine's `advance_noted` makes it. Whether it
-    /// was made: then the state before it is kept as by `step`, and else nothing changed. It takes no memory.
+    /// was made: then the state before it is kept as by `step`, and else nothing changed. It takes memory for the note of a
+    /// call or a return alone.
     pub fn step_if_usual(&mut self, m: &mut Machine) -> bool
         requires { AreNotesOf self.old (state_of m.old) }
         ensures made { IsTrue result →

@@ -59,7 +59,7 @@ impl Machine {
 
     /// Registers are hidden, and the machine goes to an address.
     #[inline(always)]
-    fn push_to(&mut self, i: &Instruction, address: u64) -> Result<(), Stop>
+    pub(crate) fn push_to(&mut self, i: &Instruction, address: u64) -> Result<(), Stop>
         ensures { Makes (λ s. spec.push_outcome s i.now address) result self.old self.new }
     {
         match self.push(i.x()) {

@@ -21,6 +21,7 @@ mod overwritten;
 mod perform;
 mod plain;
 mod puts;
+mod rare_noting;
 mod resume;
 mod search;
 mod sight;

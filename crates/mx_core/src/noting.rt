@@ -14,7 +14,7 @@ ghost use Rattle.mx_core.specs.Undoing.{TakesBack};
 
 use crate::bounds::machines_hold_octas;
 use crate::machine::is_in_stack_area;
-use crate::overwritten::{OctaWas, UsualWas};
+use crate::overwritten::{CallWas, OctaWas, UsualWas};
 use crate::sight::Sight;
 use crate::undoing::machines_are_paged;
 use crate::{Machine, Reason, Step, Touch, Trace};
@@ -41,11 +41,12 @@ impl Model for Note {
     ghost view = { note_in };
 }
 
-/// What a step of any kind may have overwritten, or the little that a usual one did.
+/// What a step of any kind may have overwritten, or the little that a usual one did, or a call of few registers.
 #[derive(Drop)]
 pub(crate) enum Was {
     Whole(Box<WholeNote>),
     Usual(UsualWas),
+    Call(Box<CallWas>),
 }
 
 /// What a step of any kind may have overwritten.

@@ -19,6 +19,7 @@ ghost use Rattle.mx_ring.specs.Window.{window_at_start};
 ghost use Rattle.mx_word.specs.Ranges.{AreOctas};
 
 mod back;
+mod calls;
 mod copy;
 
 use crate::frame::{frame_at, specials_at};
@@ -149,6 +150,14 @@ impl Ring {
         ensures list { result ≡ register (list_of self.now) k }
     {
         self.visible.get(k)
+    }
+
+    /// Whether $k is neither local nor global.
+    #[inline(always)]
+    pub fn is_marginal(&self, k: u8) -> bool
+        ensures { result ≡ is_marginal self.now.visible k }
+    {
+        self.visible.is_marginal(k)
     }
 
     /// Gives $k a value. A register that is neither local nor global becomes local, and those below

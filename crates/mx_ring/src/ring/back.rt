@@ -177,7 +177,7 @@ impl Ring {
     }
 
     /// How many of them are hidden still after POP.
-    fn count_staying_at_pop(&self) -> usize
+    pub(super) fn count_staying_at_pop(&self) -> usize
         ensures { result ≡ length (octas_of self.now.hidden)
             - (hole_in (octas_of self.now.hidden) + 1) - self.now.hidden.spilled }
     {
