@@ -36,6 +36,7 @@ mod undoing;
 mod usual;
 mod usual_codes;
 mod usual_noting;
+mod usual_tracing;
 mod values;
 mod works;
 

@@ -33,7 +33,7 @@ impl Machine {
     /// Errors: the stops of the instruction; then nothing changed.
     #[tactic(auto, using(crate::proofs::Results::Others::stops))]
     #[inline(always)]
-    fn perform_without_store(&mut self, i: &Instruction) -> Result<(), Stop>
+    pub(crate) fn perform_without_store(&mut self, i: &Instruction) -> Result<(), Stop>
         requires { may_store (operation_in i.now) ≡ false }
         ensures { Performs (operation_in i.now) i.now result self.old self.new }
     {

@@ -34,7 +34,8 @@ impl Machine {
 
     /// What an instruction does, told by its operation.
     #[tactic(auto, using(crate::proofs::Results::Sights::load_sight, crate::proofs::Results::Sights::store_sight, crate::proofs::Results::Sights::quiet_sight))]
-    fn sight_by_operation(&self, i: &Instruction) -> Sight
+    #[inline(always)]
+    pub(crate) fn sight_by_operation(&self, i: &Instruction) -> Sight
         ensures value { is_swap (operation_in i.now) ≡ false →
             result ≡ sight_of (deed_of (operation_in i.now) (state_of self.now) i.now) }
         ensures apart { is_swap (operation_in i.now) ≡ false → is_exchange result ≡ false }

@@ -53,6 +53,18 @@ impl Machine {
         ensures memory { result ≡ Step.OutOfMemory → state_of self.new ≡ state_of self.old }
         ensures lacks_memory { result ≡ Step.OutOfMemory → IsTrue (step_needs_page (state_of self.old)) }
     {
+        let answer = self.step_with_trace();
+        self.keep_code();
+        answer
+    }
+
+    /// One step. The page of its instruction is not kept.
+    fn step_with_trace(&mut self) -> Step
+        ensures answer { result ≢ Step.OutOfMemory →
+            (result, state_of self.new) ≡ step_answer (state_of self.old) (spec.step (state_of self.old)) }
+        ensures memory { result ≡ Step.OutOfMemory → state_of self.new ≡ state_of self.old }
+        ensures lacks_memory { result ≡ Step.OutOfMemory → IsTrue (step_needs_page (state_of self.old)) }
+    {
         let at = self.pc();
         if at >= 1 << 63 {
             return Step::Stopped(Reason::Negative);

@@ -12,6 +12,7 @@ use Rattle.mx_core.specs.Kept.{Kept, state_of}
 use Rattle.mx_core.specs.State.{State, begins_page, is_negative}
 use Rattle.mx_core.specs.Step.{Stepped, went, calls, stopped, fetched, step, store_touch}
 use Rattle.mx_code.specs.declared.trace.Touch.{Touch}
+use Rattle.mx_code.specs.declared.trace.Trace.{Trace}
 use Rattle.mx_code.specs.declared.operation.Operation.{Operation}
 use Rattle.mx_code.specs.declared.operation.Operation.TheVariants as op
 use Rattle.mx_core.specs.declared.sight.Sight.{Sight}
@@ -42,6 +43,10 @@ HasAdvanced result old new = result ≢ advance.OutOfMemory → (result, state_o
 -- what an instruction does to its destination and to memory
 abbrev pub sight_of : Deed → Sight
 sight_of d = record { dest = d.destination; reads = d.effect.load; writes = option_map store_touch d.effect.store }
+
+-- a trace has what an instruction does
+abbrev pub ShowsSight : Trace → Sight → Type 0
+ShowsSight t g = (t.dest ≡ g.dest) × (t.reads ≡ g.reads) × (t.writes ≡ g.writes)
 
 -- whether an operation loads, stores or exchanges
 abbrev pub moves_memory : Operation → Bool

@@ -7,7 +7,7 @@ use Rattle.mx_core.specs.Way.Stepping.{step_answer}
 use Rattle.mx_code.specs.declared.operation.Operation.TheVariants as op
 use Rattle.mx_core.specs.declared.step.Step.TheVariants as answer
 use Rattle.mx_core.proofs.Steps.{step_negative, step_traps}
-use Rattle.mx_core.proofs.machine.Machine.step.Goals as goal
+use Rattle.mx_core.proofs.machine.Machine.step_with_trace.Goals as goal
 
 pub returns-then-at-clause-answer : goal.returns-then-at-clause-answer
 returns-then-at-clause-answer c = λ m.
