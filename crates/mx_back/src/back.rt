@@ -9,31 +9,26 @@ ghost use Rattle.mx_core.specs.Step.{step};
 ghost use Rattle.mx_core.specs.Way.Stepping.{HasStepped, advanced};
 
 use crate::BackFault;
-use circular_buffer::HeapCircularBuffer;
-use mx_core::{Advance, Machine, Note, Noted, Step};
+use crate::notes::Notes;
+use mx_core::{Advance, Machine, Noted, Step};
 use mx_word::NoMemory;
 use std::alloc::Global;
 use std::marker::Model;
-
-/// How many steps are kept at most.
-const MOST: usize = 1024;
 
 /// The notes of the last steps, at most 1,024 of them, the newest first. With the state of the machine they represent
 /// the states before these steps.
 #[derive(Drop)]
 pub struct Back {
-    notes: HeapCircularBuffer<Note>,
+    notes: Notes,
 }
 
 impl Model for Back {
-    ghost use Rattle.std.specs.Prelude.{List, ◌≡◌};
+    ghost use Rattle.std.specs.Prelude.{List};
     ghost use Rattle.mx_core.specs.Undoing.{StateWas};
 
     ghost Value = { List StateWas };
 
-    ghost view = { λ b. b.notes.items };
-
-    ghost invariant = { λ b. b.notes.capacity ≡ 1024 };
+    ghost view = { λ b. b.notes };
 }
 
 impl Back {
@@ -45,7 +40,7 @@ impl Back {
         ensures none { IfOk result (λ b. b ≡ []) }
         ensures fits { IfOk result (λ b. (s : State) → AreNotesOf b s) }
     {
-        match HeapCircularBuffer::with_capacity(alloc, MOST) {
+        match Notes::new(alloc) {
             Ok(notes) => Ok(Back { notes }),
             Err(_) => Err(NoMemory),
         }
@@ -71,7 +66,7 @@ impl Back {
     {
         match m.step_noted() {
             Noted::Went(trace, note) => {
-                self.notes.push_front(note);
+                self.notes.push(note);
                 Step::Went(trace)
             }
             Noted::Trap(call) => Step::Trap(call),
@@ -94,7 +89,7 @@ impl Back {
     {
         match m.advance_noted() {
             Some(note) => {
-                self.notes.push_front(note);
+                self.notes.push(note);
                 true
             }
             None => false,
@@ -123,7 +118,7 @@ impl Back {
         ensures same { OnErr result (self.new ≡ self.old) }
         ensures fits { AreNotesOf self.new (state_of m.new) }
     {
-        let Some(note) = self.notes.pop_front() else {
+        let Some(note) = self.notes.pop() else {
             return Err(BackFault::NothingKept);
         };
         m.undo(note);
