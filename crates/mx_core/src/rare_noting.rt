@@ -48,7 +48,7 @@ impl Machine {
         ensures kept { result ≡ None → state_of self.new ≡ state_of self.old }
     {
         match i.operation() {
-            Operation::Compute => self.give_noted(i),
+            Operation::Compute => self.compute_noted(i),
             Operation::PushJump => self.push_jump_noted(i),
             Operation::PushGo => self.push_go_noted(i),
             Operation::Pop => self.pop_noted(i),
@@ -58,7 +58,7 @@ impl Machine {
 
     /// MULU, DIV and DIVU in plain cases.
     #[inline(always)]
-    fn give_noted(&mut self, i: &Instruction) -> Option<Note>
+    fn compute_noted(&mut self, i: &Instruction) -> Option<Note>
         requires compute { operation_in i.now ≡ Operation.Compute }
         requires aligned { (state_of self.old).pc % 4 ≡ 0 }
         ensures made { result ≢ None → MakesState (λ s. outcome s (deed_of Operation.Compute s i.now)) self.old self.new }

@@ -3,7 +3,7 @@ use Rattle.mx_core.specs.Way.Calls.{left}
 use Rattle.mx_core.specs.Effects.{alu_answer, y_operand, z_operand}
 use Rattle.mx_core.specs.Kept.{state_of}
 use Rattle.mx_core.proofs.Results.Events.{compute_given}
-use Rattle.mx_core.proofs.machine.Machine.give_noted.Goals as goal
+use Rattle.mx_core.proofs.machine.Machine.compute_noted.Goals as goal
 
 pub returns-in-Some-clause-made : goal.returns-in-Some-clause-made
 returns-in-Some-clause-made c = λ n.
