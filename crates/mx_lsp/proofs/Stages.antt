@@ -8,7 +8,6 @@ use Rattle.mx_lsp.specs.Requests.IsAnswerOf.{given, lacking}
 use Rattle.mx_lsp.specs.declared.message.Method.{Method}
 use Rattle.mx_lsp.specs.declared.message.Method.TheVariants.{Initialize}
 use Rattle.mx_lsp.specs.declared.session.Session.{Session}
-use Rattle.mx_lsp.specs.declared.session.Stage.{Stage}
 use Rattle.mx_lsp.specs.declared.session.Stage.TheVariants.{Waiting, Shut}
 
 waiting-refused : (text : List ℕ) (method : Method) (body : List ℕ) → (method ≡ Initialize → ⊥) → body ≡ waiting_answer text method →

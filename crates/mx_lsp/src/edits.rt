@@ -1,6 +1,6 @@
 //! Texts that are changed by ranges.
 
-ghost use Rattle.std.specs.Prelude.{◌≡◌, IfOk, drop, length, take};
+ghost use Rattle.std.specs.Prelude.{◌≡◌, ◌+◌, IfOk, drop, length, min, take};
 ghost use Rattle.mx_line.specs.Bytes.{run};
 ghost use Rattle.mx_lsp.specs.Edits as spec;
 
@@ -54,15 +54,14 @@ fn past_end(text: &[u8]) -> &[u8]
     ensures { result.now ≡ spec.past_end text.now }
 {
     match text {
-        [] => &[],
-        [_] => &[],
         [a, b, rest @ ..] => {
             if *a == b'\r' && *b == b'\n' {
                 rest
             } else {
-                &text[1..]
+                past(text, 1)
             }
         }
+        _ => &[],
     }
 }
 
@@ -90,16 +89,33 @@ fn lines_after(text: &[u8], count: u64) -> &[u8]
     rest
 }
 
+/// A sum, or this where it is more.
+fn sum_up_to(start: usize, place: usize, most: usize) -> usize
+    ensures { result ≡ min (start + place) most }
+{
+    if most <= start {
+        return most;
+    }
+    if place < most - start {
+        start + place
+    } else {
+        most
+    }
+}
+
+/// How many bytes of a text are before a column of the first line of its rest, and not more than all.
+fn offset_in(text: &[u8], rest: &[u8], column: usize) -> usize
+    ensures { result ≡ spec.offset_in text.now rest.now column }
+{
+    let start = text.len().saturating_sub(rest.len());
+    sum_up_to(start, place_of(first_line(rest), column), text.len())
+}
+
 /// How many bytes of a text are before a column of a line, both counted from 0; where the column is beyond the line, before its end.
 pub(crate) fn offset_of(text: &[u8], line: u64, column: u64) -> usize
     ensures { result ≡ spec.offset_of text.now line column }
 {
-    let rest = lines_after(text, line);
-    let place = place_of(first_line(rest), column as usize);
-    text.len()
-        .saturating_sub(rest.len())
-        .saturating_add(place)
-        .min(text.len())
+    offset_in(text, lines_after(text, line), column as usize)
 }
 
 /// Where a range ends that begins at a place, and not before it.

@@ -53,6 +53,7 @@ pub fn new_session(alloc: Global) -> Session
 }
 
 /// Answers a request.
+#[tactic(auto, using(crate::proofs::Answering::taking))]
 fn take_request(
     alloc: Global,
     session: &mut Session,

@@ -1,8 +1,9 @@
 -- The names of a field are those of its trees.
-use Rattle.std.proofs.Common.{◌≡◌, ◌<◌, ℕ, zero, suc, ◌+◌, ◌-◌, ◌==◌, ◌&&◌, Bool, true, false, not, nat_lt, List, [], ◌∷◌, ◌++◌, length, map, take, drop, Option, None, Some, refl, ap, sym, ◌∙◌, arith, append-nil, append_assoc}
+use Rattle.std.proofs.Common.{◌≡◌, ◌≤◌, ◌<◌, ℕ, zero, suc, ◌+◌, ◌-◌, ◌==◌, ◌&&◌, ◌||◌, Bool, true, false, true≢false, not, cond, if◌then◌else◌, nat_le, nat_lt, List, [], ◌∷◌, ◌++◌, length, map, take, drop, Option, None, Some, refl, ap, sym, ◌∙◌, arith, append-nil, append_assoc, length-append, lt-ltb, leb-true, eqb-true}
 use Rattle.std.specs.List.{flat_map, list_all, position, position_or_len}
-use Rattle.std.proofs.lemmas.Bool.{and_parts}
+use Rattle.std.proofs.lemmas.Bool.{and_from, and_parts}
 use Rattle.std.proofs.lemmas.Bool.Decides.{nat_tests}
+use Rattle.std.proofs.lemmas.List.Sums.{take_while-cons}
 use Rattle.mx_word.specs.Kinds.{is_digit, is_hexadecimal, is_letter, is_name_byte}
 use Rattle.mx_line.specs.Bytes.{run}
 use Rattle.mx_expr.specs.Bytes.{digit_value, is_no_quote}
@@ -35,10 +36,14 @@ abbrev picked : List ℕ → Option Named → List (List ℕ)
 picked text None = []
 picked text (Some named) = text ∷ []
 
+-- what stops a run of a kind
+abbrev stops : (ℕ → Bool) → List ℕ → Bool
+stops kind [] = true
+stops kind (b ∷ bs) = not (kind b)
+
 -- the rest of a text after a word begins with no letter or digit
 abbrev is_apart : List ℕ → Bool
-is_apart [] = true
-is_apart (b ∷ bs) = not (is_name_byte b)
+is_apart text = stops is_name_byte text
 
 texts-if : (line : ℕ) (t : Token) (n : Option Named) → texts_of (token_if line t n) ≡ picked t.text n
 texts-if line t None = refl
@@ -81,57 +86,106 @@ word-is : (before c : Course) (line end : ℕ) (b : ℕ) (bs rest : List ℕ) �
 word-is before c line end b bs rest e =
     let word : take (token_length (b ∷ (bs ++ rest))) (b ∷ (bs ++ rest)) ≡ b ∷ bs =
     ap (λ n. take n (b ∷ (bs ++ rest))) e ∙ ap (λ more. b ∷ more) (take-front bs rest) in
+    let less : suc (length bs) - 1 ≡ length bs = omega arith in
     let left : drop (token_length (b ∷ (bs ++ rest)) - 1) (bs ++ rest) ≡ rest =
-    ap (λ n. drop (n - 1) (bs ++ rest)) e ∙ drop-front bs rest in
+    ap (λ n. drop (n - 1) (bs ++ rest)) e ∙ ap (λ n. drop n (bs ++ rest)) less ∙ drop-front bs rest in
     first-is before c line end b (bs ++ rest)
     ∙ ap (λ w. picked w (token_named before c w) ++ field_names before c line end (drop (token_length (b ∷ (bs ++ rest)) - 1) (bs ++ rest))) word
     ∙ ap (λ more. picked (b ∷ bs) (token_named before c (b ∷ bs)) ++ field_names before c line end more) left
 
 -- ---- the lengths of tokens
 
-run-front : (kind : ℕ → Bool) (xs rest : List ℕ) → list_all kind xs ≡ true → run kind (xs ++ rest) ≡ xs ++ run kind rest
-run-front kind [] rest e = refl
-run-front kind (a ∷ xs) rest e = rw (and_parts (kind a) (list_all kind xs) e).0 (ap (λ more. a ∷ more) (run-front kind xs rest (and_parts (kind a) (list_all kind xs) e).1))
-
 not-so : (b : Bool) → not b ≡ true → b ≡ false
 not-so true e = sym e
 not-so false e = refl
 
-apart-run : (rest : List ℕ) → is_apart rest ≡ true → run is_name_byte rest ≡ []
-apart-run [] e = refl
-apart-run (b ∷ bs) e = rw (not-so (is_name_byte b) e) refl
+neither : (x y : Bool) → (x || y) ≡ false → (x ≡ false) × (y ≡ false)
+neither true y e = absurd (true≢false e)
+neither false y e = (refl, e)
 
-apart-digits : (rest : List ℕ) → is_apart rest ≡ true → run is_hexadecimal rest ≡ []
+-- another byte than one of a name
+no-byte : (n b : ℕ) → is_name_byte b ≡ true → is_name_byte n ≡ false → (b == n) ≡ false
+no-byte n b is other = by (b == n) refl
+  where
+    by : (t : Bool) → (b == n) ≡ t → t ≡ false
+    by true e = absurd (true≢false (sym is ∙ ap is_name_byte (eqb-true b n e) ∙ other))
+    by false e = refl
+
+narrower : (n m k b : ℕ) → k ≤ m → (nat_le n b && nat_le b m) ≡ false → (nat_le n b && nat_le b k) ≡ false
+narrower n m k b le e = grind (arith, nat_tests, le, e)
+
+no-hexadecimal : (b : ℕ) → is_letter b ≡ false → is_digit b ≡ false → is_hexadecimal b ≡ false
+no-hexadecimal b letter digit =
+    let capital = nat_le 65 b && nat_le b 90 in
+    let small = nat_le 97 b && nat_le b 122 in
+    let four = neither (capital || small || b == 58 || b == 95) (nat_lt 126 b) letter in
+    let three = neither (capital || small || b == 58) (b == 95) four.0 in
+    let two = neither (capital || small) (b == 58) three.0 in
+    let one = neither capital small two.0 in
+    rw (digit, narrower 97 122 102 b (omega arith) one.1, narrower 65 90 70 b (omega arith) one.0) refl
+
+run-stopped : (kind : ℕ → Bool) (b : ℕ) (bs : List ℕ) → not (kind b) ≡ true → run kind (b ∷ bs) ≡ []
+run-stopped kind b bs e = let no : kind b ≡ false = not-so (kind b) e in take_while-cons kind b bs ∙ rw no refl
+
+run-of : (kind : ℕ → Bool) (xs rest : List ℕ) → list_all kind xs ≡ true → stops kind rest ≡ true → run kind (xs ++ rest) ≡ xs
+run-of kind [] [] all s = refl
+run-of kind [] (b ∷ rest) all s = run-stopped kind b rest s
+run-of kind (x ∷ xs) rest all s =
+    let p = and_parts (kind x) (list_all kind xs) all in
+    take_while-cons kind x (xs ++ rest) ∙ rw (p.0, run-of kind xs rest p.1 s) refl
+
+apart-digits : (rest : List ℕ) → is_apart rest ≡ true → stops is_hexadecimal rest ≡ true
 apart-digits [] e = refl
-apart-digits (b ∷ bs) e = let other : is_hexadecimal b ≡ false = grind (arith, nat_tests, e) in rw other refl
+apart-digits (b ∷ bs) e =
+    let kinds = neither (is_letter b) (is_digit b) (not-so (is_name_byte b) e) in
+    ap not (no-hexadecimal b kinds.0 kinds.1)
+
+-- which of the kinds of tokens begins with a byte
+choice : (s c h n : Bool) (x y z w : ℕ) → s ≡ false → c ≡ false → h ≡ false →
+    (if s then x else if c then y else if h then z else if n then w else 1) ≡ (if n then w else 1)
+choice s c h n x y z w d e f = rw (d, e, f) refl
+
+other-length : (b : ℕ) (bs : List ℕ) → (b == 34) ≡ false → (b == 39) ≡ false → (b == 35) ≡ false →
+    token_length (b ∷ bs) ≡ (if is_name_byte b then length (run is_name_byte (b ∷ bs)) else 1)
+unfolding token_length
+other-length b bs no-string no-character no-hash =
+    choice (b == 34) (b == 39) (b == 35) (is_name_byte b) (string_length bs (position (λ c. c == 34) bs)) 3 (length (run is_hexadecimal bs) + 1) (length (run is_name_byte (b ∷ bs)))
+    no-string no-character no-hash
 
 name-length : (b : ℕ) (bs rest : List ℕ) → is_name_byte b ≡ true → list_all is_name_byte bs ≡ true → is_apart rest ≡ true →
     token_length (b ∷ (bs ++ rest)) ≡ suc (length bs)
-unfolding token_length
 name-length b bs rest is all apart =
-    let no-string : (b == 34) ≡ false = grind (arith, nat_tests, is) in
-    let no-character : (b == 39) ≡ false = grind (arith, nat_tests, is) in
-    let no-hash : (b == 35) ≡ false = grind (arith, nat_tests, is) in
-    let later : run is_name_byte (bs ++ rest) ≡ bs = run-front is_name_byte bs rest all ∙ ap (λ more. bs ++ more) (apart-run rest apart) ∙ append-nil bs in
-    rw (no-string, no-character, no-hash, is) (ap (λ more. suc (length more)) later)
+    let word : run is_name_byte (b ∷ (bs ++ rest)) ≡ b ∷ bs =
+    run-of is_name_byte (b ∷ bs) rest (and_from (is_name_byte b) (list_all is_name_byte bs) is all) apart in
+    other-length b (bs ++ rest) (no-byte 34 b is refl) (no-byte 39 b is refl) (no-byte 35 b is refl)
+    ∙ ap (λ t. if t then length (run is_name_byte (b ∷ (bs ++ rest))) else 1) is ∙ ap length word
 
 hash-length : (bs rest : List ℕ) → list_all is_hexadecimal bs ≡ true → is_apart rest ≡ true → token_length (35 ∷ (bs ++ rest)) ≡ suc (length bs)
 unfolding token_length
 hash-length bs rest all apart =
-    ap (λ digits. length digits + 1) (run-front is_hexadecimal bs rest all ∙ ap (λ more. bs ++ more) (apart-digits rest apart) ∙ append-nil bs) ∙ omega arith
+    ap (λ digits. length digits + 1) (run-of is_hexadecimal bs rest all (apart-digits rest apart)) ∙ omega arith
 
 -- a byte that is a token alone
 abbrev is_lone : ℕ → Bool
 is_lone b = not (b == 34) && not (b == 39) && not (b == 35) && not (is_name_byte b)
 
+pub record Lone (b : ℕ) : Type 0 where
+  pub no-string : (b == 34) ≡ false
+  pub no-character : (b == 39) ≡ false
+  pub no-hash : (b == 35) ≡ false
+  pub no-name : is_name_byte b ≡ false
+
+lone-parts : (b : ℕ) → is_lone b ≡ true → Lone b
+lone-parts b is =
+    let three = and_parts (not (b == 34) && not (b == 39) && not (b == 35)) (not (is_name_byte b)) is in
+    let two = and_parts (not (b == 34) && not (b == 39)) (not (b == 35)) three.0 in
+    let one = and_parts (not (b == 34)) (not (b == 39)) two.0 in
+    record { no-string = not-so (b == 34) one.0; no-character = not-so (b == 39) one.1; no-hash = not-so (b == 35) two.1; no-name = not-so (is_name_byte b) three.1 }
+
 lone-length : (b : ℕ) (rest : List ℕ) → is_lone b ≡ true → token_length (b ∷ rest) ≡ 1
-unfolding token_length
 lone-length b rest is =
-    let no-string : (b == 34) ≡ false = grind (arith, nat_tests, is) in
-    let no-character : (b == 39) ≡ false = grind (arith, nat_tests, is) in
-    let no-hash : (b == 35) ≡ false = grind (arith, nat_tests, is) in
-    let no-name : is_name_byte b ≡ false = grind (arith, nat_tests, is) in
-    rw (no-string, no-character, no-hash, no-name) refl
+    let l = lone-parts b is in
+    other-length b rest l.no-string l.no-character l.no-hash ∙ ap (λ t. if t then length (run is_name_byte (b ∷ rest)) else 1) l.no-name
 
 character-length : (b : ℕ) (rest : List ℕ) → token_length (39 ∷ b ∷ 39 ∷ rest) ≡ 3
 unfolding token_length
@@ -140,29 +194,31 @@ character-length b rest = refl
 quote-prefix : (bs rest : List ℕ) → list_all is_no_quote bs ≡ true → position_or_len (λ c. c == 34) (bs ++ 34 ∷ rest) ≡ length bs
 quote-prefix [] rest e = refl
 quote-prefix (b ∷ bs) rest e =
-    rw (and_parts (is_no_quote b) (list_all is_no_quote bs) e).0 (ap suc (quote-prefix bs rest (and_parts (is_no_quote b) (list_all is_no_quote bs) e).1))
+    let parts = and_parts (is_no_quote b) (list_all is_no_quote bs) e in
+    let more : 1 + length bs ≡ suc (length bs) = omega arith in
+    ap (λ t. cond t (1 + position_or_len (λ c. c == 34) (bs ++ 34 ∷ rest)) 0) parts.0 ∙ ap (λ n. 1 + n) (quote-prefix bs rest parts.1) ∙ more
 
 length-longer : (bs rest : List ℕ) → length (bs ++ 34 ∷ rest) ≡ length bs + suc (length rest)
-length-longer [] rest = refl
-length-longer (b ∷ bs) rest = ap suc (length-longer bs rest)
+length-longer bs rest = length-append bs (34 ∷ rest)
 
 string-length : (bs rest : List ℕ) → list_all is_no_quote bs ≡ true → token_length (34 ∷ ((bs ++ 34 ∷ []) ++ rest)) ≡ suc (length (bs ++ 34 ∷ []))
 unfolding token_length
 string-length bs rest all =
     let joined : (bs ++ 34 ∷ []) ++ rest ≡ bs ++ 34 ∷ rest = append_assoc bs (34 ∷ []) rest in
     let there : position_or_len (λ c. c == 34) (bs ++ 34 ∷ rest) ≡ length bs = quote-prefix bs rest all in
-    let less : nat_lt (length bs) (length (bs ++ 34 ∷ rest)) ≡ true = grind (arith, nat_tests, length-longer bs rest) in
+    let inside : length bs < length (bs ++ 34 ∷ rest) = omega (arith, length-longer bs rest) in
+    let less : nat_lt (length bs) (length (bs ++ 34 ∷ rest)) ≡ true = lt-ltb (length bs) (length (bs ++ 34 ∷ rest)) inside in
     let found : position (λ c. c == 34) (bs ++ 34 ∷ rest) ≡ Some (length bs) = rw (there, less) refl in
-    ap (λ text. string_length text (position (λ c. c == 34) text)) joined ∙ ap (string_length (bs ++ 34 ∷ rest)) found
-    ∙ sym (ap suc (length-longer bs []) ∙ omega arith)
+    let whole : length bs + 2 ≡ suc (length (bs ++ 34 ∷ [])) = omega (arith, length-longer bs []) in
+    ap (λ text. string_length text (position (λ c. c == 34) text)) joined ∙ ap (string_length (bs ++ 34 ∷ rest)) found ∙ whole
 
 -- ---- what tokens are names
 
 lone-none : (before c : Course) (b : ℕ) → is_lone b ≡ true → token_named before c (b ∷ []) ≡ None
 lone-none before c b is =
-    let no-digit : is_digit b ≡ false = grind (arith, nat_tests, is) in
-    let no-letter : is_letter b ≡ false = grind (arith, nat_tests, is) in
-    rw (no-digit, no-letter) refl
+    let l = lone-parts b is in
+    let kinds = neither (is_letter b) (is_digit b) l.no-name in
+    rw (kinds.1, kinds.0) refl
 
 digits-none : (before c : Course) (b : ℕ) (bs : List ℕ) → is_digit b ≡ true → list_all is_digit bs ≡ true → token_named before c (b ∷ bs) ≡ None
 digits-none before c b [] is all = rw is refl
@@ -178,25 +234,37 @@ letter-some before c b bs is =
     let no-digit : is_digit b ≡ false = grind (arith, nat_tests, is) in
     rw (no-digit, is) refl
 
+either : (x y : Bool) → y ≡ true → (x || y) ≡ true
+either true y e = refl
+either false y e = e
+
 letter-name : (b : ℕ) → is_letter b ≡ true → is_name_byte b ≡ true
-letter-name b is = rw is refl
+letter-name b is = ap (λ t. t || is_digit b) is
 
 digit-name : (b : ℕ) → is_digit b ≡ true → is_name_byte b ≡ true
-digit-name b is = grind (arith, nat_tests, is)
+digit-name b is = either (is_letter b) (is_digit b) is
 
 digits-names : (bs : List ℕ) → list_all is_digit bs ≡ true → list_all is_name_byte bs ≡ true
 digits-names [] all = refl
 digits-names (b ∷ bs) all =
-    rw (digit-name b (and_parts (is_digit b) (list_all is_digit bs) all).0) (digits-names bs (and_parts (is_digit b) (list_all is_digit bs) all).1)
+    let parts = and_parts (is_digit b) (list_all is_digit bs) all in
+    and_from (is_name_byte b) (list_all is_name_byte bs) (digit-name b parts.0) (digits-names bs parts.1)
 
 label-digit : (b : ℕ) → is_digit b ≡ true → 48 + digit_value b ≡ b
-label-digit b is = rw is (grind (arith, nat_tests, is))
+label-digit b is =
+    let value : digit_value b ≡ b - 48 = rw is refl in
+    let least : 48 ≤ b = leb-true 48 b (and_parts (nat_le 48 b) (nat_le b 57) is).0 in
+    omega (arith, value, least)
 
 back-some : (before c : Course) (b : ℕ) → is_digit b ≡ true → picked (b ∷ 66 ∷ []) (token_named before c (b ∷ 66 ∷ [])) ≡ names_in (back (digit_value b))
-back-some before c b is = rw (label-digit b is, is) refl
+back-some before c b is =
+    let named : picked (b ∷ 66 ∷ []) (token_named before c (b ∷ 66 ∷ [])) ≡ (b ∷ 66 ∷ []) ∷ [] = rw is refl in
+    named ∙ ap (λ d. (d ∷ 66 ∷ []) ∷ []) (sym (label-digit b is))
 
 ahead-some : (before c : Course) (b : ℕ) → is_digit b ≡ true → picked (b ∷ 70 ∷ []) (token_named before c (b ∷ 70 ∷ [])) ≡ names_in (ahead (digit_value b))
-ahead-some before c b is = rw (label-digit b is, is) refl
+ahead-some before c b is =
+    let named : picked (b ∷ 70 ∷ []) (token_named before c (b ∷ 70 ∷ [])) ≡ (b ∷ 70 ∷ []) ∷ [] = rw is refl in
+    named ∙ ap (λ d. (d ∷ 70 ∷ []) ∷ []) (sym (label-digit b is))
 
 -- ---- words of a field
 
@@ -219,7 +287,7 @@ weak-lone by_or = refl
 weak-lone by_xor = refl
 
 lone-apart : (b : ℕ) (rest : List ℕ) → is_lone b ≡ true → is_apart (b ∷ rest) ≡ true
-lone-apart b rest is = grind (arith, nat_tests, is)
+lone-apart b rest is = (and_parts (not (b == 34) && not (b == 39) && not (b == 35)) (not (is_name_byte b)) is).1
 
 strong-apart : {word : List ℕ} {op : BinOp} → StrongOperator word op → (rest : List ℕ) → is_apart (word ++ rest) ≡ true
 strong-apart by_mul rest = refl
@@ -325,12 +393,17 @@ operands-are (more_operands text part es fs h g) before c line end rest =
     ∙ sym (append_assoc (flat_map names_in es) (flat_map names_in fs) (field_names before c line end rest))
     ∙ ap (λ names. names ++ field_names before c line end rest) (sym (names-join es fs))
 
+none-is : (before c : Course) (line end : ℕ) → field_names before c line end [] ≡ []
+unfolding tokens_after
+none-is before c line end = refl
+
 spelled-names : {field : List ℕ} {list : List Tree} → Spells field list → (before c : Course) (line end : ℕ) →
     field_names before c line end field ≡ flat_map names_in list
-spelled-names no_field before c line end = refl
+spelled-names no_field before c line end = none-is before c line end
 spelled-names (some_operands text part es fs h g) before c line end =
     operands-are h before c line end part
-    ∙ ap (λ after. flat_map names_in es ++ after) (ap (field_names before c line end) (sym (append-nil part)) ∙ operand-is g before c line end [] refl ∙ append-nil (flat_map names_in fs))
+    ∙ ap (λ after. flat_map names_in es ++ after) (ap (field_names before c line end) (sym (append-nil part)) ∙ operand-is g before c line end [] refl
+    ∙ ap (λ last. flat_map names_in fs ++ last) (none-is before c line end) ∙ append-nil (flat_map names_in fs))
     ∙ sym (names-join es fs)
 
 pub names-of-trees : (before c : Course) (line end : ℕ) (field : List ℕ) (list : List Tree) → AreThoseOfTrees before c line end field list
