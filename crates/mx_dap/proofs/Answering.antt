@@ -12,7 +12,7 @@ pub answered-early : (request : Request) (early : Option Answer) (answer : Answe
     ((a : Answer) → early ≡ Some a → answer ≡ a) → AnswersEarly request early before after
 answered-early request early answer before start between after k h s g =
     subst (λ x. AnswersEarly request early x after) s
-      (record { each = λ a e. inl (k ∙ ap (after_answer request.command) (h ∙ ap (λ b. and_then start (answered request b)) (g a e))) })
+    (record { each = λ a e. inl (k ∙ ap (after_answer request.command) (h ∙ ap (λ b. and_then start (answered request b)) (g a e))) })
 
 pub refused-early : (request : Request) (early : Option Answer) (before start after : Sent) →
     after ≡ and_then start (refused request (codes "out of memory")) → start ≡ before → AnswersEarly request early before after

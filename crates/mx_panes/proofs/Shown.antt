@@ -41,7 +41,7 @@ pub ruleset showing = (has-digits, shows-value)
 pub value-same : (x y : ℕ) (row : List ℕ) → ShowsValue y row → y ≡ x → ShowsValue x row
 value-same x y row h e = subst (λ n. ShowsValue n row) e h
 
-pub ruleset same = (value-same)
+pub ruleset equal_values = (value-same)
 
 -- ---- registers
 

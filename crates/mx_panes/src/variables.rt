@@ -102,7 +102,7 @@ impl Scene<'_> {
     }
 
     /// The row of a register as it is.
-    #[tactic(auto, using(crate::proofs::Shown::same))]
+    #[tactic(auto, using(crate::proofs::Shown::equal_values))]
     fn row_now(&self, k: u8) -> Result<Bytes, NoMemory>
         ensures { IfOk result (ShowsValue (register (state_of self.now.machine.now).stack k)) }
     {
