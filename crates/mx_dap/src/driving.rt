@@ -2,12 +2,27 @@
 //! watches are set one by one.
 
 ghost use Rattle.std.specs.Prelude.{◌≡◌, min, OnOk};
-ghost use Rattle.mx_debug.specs.Going.{GoesTo, GoesToLast, GoesToNext};
+ghost use Rattle.mx_debug.specs.Going.{GoesTo, GoesToLast, GoesToNext, depth_at};
 ghost use Rattle.mx_debug.specs.Sessions.{KeepsProgram, KeepsStops};
 
 use mx_debug::Session;
 use mx_stops::{Break, Condition, Place, Seen, Watch, see};
 use mx_word::{NoMemory, Sequence};
+
+/// The step that is shown.
+pub(crate) fn step_at(session: &Session) -> u64
+    ensures { result ≡ session.now.at }
+{
+    session.replay.step_number()
+}
+
+/// How many registers are hidden at the step that is shown.
+#[tactic(auto, using(mx_debug::proofs::Reaching::depths))]
+pub(crate) fn hidden_at(session: &Session) -> u64
+    ensures { result ≡ depth_at session.now }
+{
+    session.replay.depth()
+}
 
 /// Goes to step k, but not past the last one that can be reached nor past the end.
 pub(crate) fn seek(session: &mut Session, k: u64) -> Result<(), NoMemory>

@@ -3,6 +3,7 @@
 ghost use Rattle.std.specs.Prelude.{◌≡◌};
 
 use crate::breaks::Mark;
+use crate::driving::step_at;
 use crate::outputs::Told;
 use mx_adapter::Wishes;
 use mx_debug::Session as Debugged;
@@ -72,7 +73,7 @@ impl Loaded {
     pub(crate) fn step_number(&self) -> u64
         ensures { result ≡ self.now.debugged.at }
     {
-        self.debugged.replay.step_number()
+        step_at(&self.debugged)
     }
 
     /// How the run has ended at the step that is shown, or that it goes on.

@@ -1,10 +1,9 @@
 //! How a run goes on and back.
 
 ghost use Rattle.std.specs.Prelude.{◌≡◌, None};
-ghost use Rattle.mx_debug.specs.Going.{depth_at};
 ghost use Rattle.mx_dap.specs.Leads.{LeadsAndTells, StepsBack};
 
-use crate::driving::{find_met, seek, seek_last_stop, seek_stop};
+use crate::driving::{find_met, hidden_at, seek, seek_last_stop, seek_stop};
 use crate::loaded::Loaded;
 use crate::stops::Reason;
 use mx_adapter::{Command, Outbox, text_at};
@@ -50,17 +49,9 @@ impl Loaded {
         Work::GoOn(depth, self.pause_step())
     }
 
-    /// How many registers are hidden.
-    #[tactic(auto, using(mx_debug::proofs::Reaching::depths))]
-    fn depth(&self) -> u64
-        ensures { result ≡ depth_at self.now.debugged }
-    {
-        self.debugged.replay.depth()
-    }
-
     /// What a request that goes forward asks for.
     fn forward(&self, command: Command) -> Work {
-        let depth = self.depth();
+        let depth = hidden_at(&self.debugged);
         match command {
             _ if self.has_ended() => Work::Finish,
             Command::Next => self.keep_going(Some(depth)),
@@ -77,7 +68,7 @@ impl Loaded {
         if text_at(message, "/arguments/granularity") == Some(b"instruction".as_slice()) {
             return Work::GoTo(self.step_number().saturating_sub(1));
         }
-        Work::GoBack(Some(self.depth()))
+        Work::GoBack(Some(hidden_at(&self.debugged)))
     }
 
     /// What a request asks for that goes to another step.
@@ -93,6 +84,7 @@ impl Loaded {
     }
 
     /// Tells of the step that is shown.
+    #[tactic(auto, using(crate::proofs::Told::beginning))]
     fn tell_here(&mut self, out: &mut Outbox, reason: Reason) -> Result<Option<Work>, NoMemory>
         ensures { LeadsAndTells self.old.debugged self.new.debugged (Work.Tell reason) out.new result }
     {
@@ -101,7 +93,7 @@ impl Loaded {
     }
 
     /// Tells that the run is done.
-    #[tactic(auto, using(crate::proofs::Told::telling))]
+    #[tactic(auto, using(crate::proofs::Told::beginning))]
     fn finish(&mut self, out: &mut Outbox) -> Result<Option<Work>, NoMemory>
         ensures { LeadsAndTells self.old.debugged self.new.debugged Work.Finish out.new result }
     {
@@ -110,6 +102,7 @@ impl Loaded {
     }
 
     /// Begins the run: it stays at the start where that is wished or a break is met, and goes on otherwise.
+    #[tactic(auto, using(crate::proofs::Told::beginning))]
     fn begin(&mut self, out: &mut Outbox) -> Result<Option<Work>, NoMemory>
         ensures { LeadsAndTells self.old.debugged self.new.debugged Work.Begin out.new result }
     {

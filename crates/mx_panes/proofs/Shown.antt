@@ -1,5 +1,5 @@
 -- Bytes of memory and values that are shown.
-use Rattle.std.proofs.Common.{◌≡◌, ◌+◌, ◌++◌, ℕ, List, [], ◌∷◌, length, suc, arith, refl, sym, ◌∙◌, ap, subst, length-append}
+use Rattle.std.proofs.Common.{◌≡◌, ◌+◌, ◌++◌, ℕ, List, [], ◌∷◌, length, suc, drop, codes, arith, refl, sym, ◌∙◌, ap, subst, length-append}
 use Rattle.mx_core.specs.State.{State}
 use Rattle.mx_ring.specs.Stack.{register}
 use Rattle.serde_json.specs.Data.{Data}
@@ -21,6 +21,13 @@ bytes-shown s d a n body e same = record { address = a; is = e ∙ ap (memory_bo
 
 pub ruleset reading = (no-bytes, one-byte-more, bytes-shown)
 
+-- ---- references
+
+pub after-mark : (digits text : List ℕ) → text ≡ codes "#" ++ digits → drop 1 text ≡ digits
+after-mark digits text e = ap (drop 1) e
+
+pub ruleset marked = (after-mark)
+
 -- ---- values
 
 pub has-digits : (x : ℕ) (front label text : List ℕ) → text ≡ digits_text front x label → HasDigits x text
@@ -30,6 +37,11 @@ pub shows-value : (x : ℕ) (name value text rest row : List ℕ) → row ≡ ro
 shows-value x name value text rest row e same d = record { name = name; value = value; rest = rest; digits = subst (HasDigits x) (sym same) d; is = e }
 
 pub ruleset showing = (has-digits, shows-value)
+
+pub value-same : (x y : ℕ) (row : List ℕ) → ShowsValue y row → y ≡ x → ShowsValue x row
+value-same x y row h e = subst (λ n. ShowsValue n row) e h
+
+pub ruleset equal_values = (value-same)
 
 -- ---- registers
 
@@ -50,4 +62,13 @@ one-row-more s first i k rows new row n g e h =
       shown = row-more s first rows row h.shown (subst (λ m. ShowsValue (register s.stack m) row) there g);
     })
 
-pub ruleset listing = (no-rows, one-row-more)
+pub all-rows : (s : State) (first i count : ℕ) (rows : List (List ℕ)) → ShowRegisters s first i rows → i ≡ count → ShowRegisters s first count rows
+all-rows s first i count rows h e = subst (λ n. ShowRegisters s first n rows) e h
+
+pub ruleset listing = (no-rows, one-row-more, all-rows)
+
+pub rows-same : (s : State) (first count start number : ℕ) (rows : List (List ℕ)) → ShowRegisters s first count rows → first ≡ start → count ≡ number → ShowRegisters s start number rows
+rows-same s first count start number rows h e f =
+    subst (λ n. ShowRegisters s start n rows) f (subst (λ k. ShowRegisters s k count rows) e h)
+
+pub ruleset listed = (rows-same)

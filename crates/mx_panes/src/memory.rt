@@ -108,13 +108,13 @@ impl Scene<'_> {
         ensures { IfOk result (λ text.
             text ≡ spec.memory_body (state_of self.now.machine.now) address count) }
     {
-        let readable = readable(address, count);
-        let bytes = read_bytes(self.alloc, self.machine, address.min(MEMORY_END), readable)?;
+        let held = readable(address, count);
+        let bytes = read_bytes(self.alloc, self.machine, address.min(MEMORY_END), held)?;
         bytes_body(
             self.alloc,
             address,
             bytes.as_slice(),
-            count.saturating_sub(readable),
+            count.saturating_sub(held),
         )
     }
 

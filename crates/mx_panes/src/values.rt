@@ -86,7 +86,7 @@ pub(crate) fn is_data(value: u64) -> bool {
 }
 
 /// Adds the reference to an address between quotation marks.
-#[tactic(auto, unfolding(crate::specs::Memory::reference))]
+#[tactic(auto, using(crate::proofs::Shown::marked), unfolding(crate::specs::Memory::reference))]
 pub fn add_reference(text: &mut Bytes, front: &[u8], address: u64) -> Result<(), NoMemory>
     ensures { OnOk result (text.new ≡ text.old ++ front.now ++ reference address) }
 {

@@ -102,10 +102,13 @@ impl Scene<'_> {
     }
 
     /// The row of a register as it is.
+    #[tactic(auto, using(crate::proofs::Shown::equal_values))]
     fn row_now(&self, k: u8) -> Result<Bytes, NoMemory>
         ensures { IfOk result (ShowsValue (register (state_of self.now.machine.now).stack k)) }
     {
-        self.register_row(k, self.machine.register(k), true)
+        let value = self.machine.register(k);
+        let row = self.register_row(k, value, true)?;
+        Ok(row)
     }
 
     /// The rows of so many registers from one on.
@@ -143,18 +146,23 @@ impl Scene<'_> {
     }
 
     /// The rows of the local registers.
+    #[tactic(auto, using(crate::proofs::Shown::listed))]
     pub fn local_rows(&self) -> Result<Values, NoMemory>
         ensures { IfOk result (ShowLocals (state_of self.now.machine.now)) }
     {
-        self.register_rows(0, usize::from(self.machine.l()))
+        let count = usize::from(self.machine.l());
+        let rows = self.register_rows(0, count)?;
+        Ok(rows)
     }
 
     /// The rows of the global registers.
+    #[tactic(auto, using(crate::proofs::Shown::listed))]
     pub fn global_rows(&self) -> Result<Values, NoMemory>
         ensures { IfOk result (ShowGlobals (state_of self.now.machine.now)) }
     {
         let first = usize::from(self.machine.g());
-        self.register_rows(first, 256 - first)
+        let rows = self.register_rows(first, 256 - first)?;
+        Ok(rows)
     }
 
     /// The row of a frame that is not the innermost one.
