@@ -60,8 +60,7 @@ impl Machine {
 
     /// One step. The page of its instruction is not kept.
     fn step_with_trace(&mut self) -> Step
-        ensures answer { result ≢ Step.OutOfMemory →
-            (result, state_of self.new) ≡ step_answer (state_of self.old) (spec.step (state_of self.old)) }
+        ensures answer { HasStepped result self.old self.new }
         ensures memory { result ≡ Step.OutOfMemory → state_of self.new ≡ state_of self.old }
         ensures lacks_memory { result ≡ Step.OutOfMemory → IsTrue (step_needs_page (state_of self.old)) }
     {
