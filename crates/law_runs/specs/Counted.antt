@@ -112,7 +112,7 @@ traced_counts r = record {
 pub record ShortSource : Type 0 where
   pub name : List ℕ
   pub text : List ℕ
-  pub old : HostModel
-  pub new : HostModel
+  pub host : HostModel
+  pub after : HostModel
   pub short : length text ≤ 2 ^ 22
-  pub read : file_bytes source_pieces name old ≡ (Ok text, new)
+  pub read : file_bytes source_pieces name host ≡ (Ok text, after)

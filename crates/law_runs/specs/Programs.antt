@@ -190,11 +190,11 @@ pub record CalledProgram : Type 0 where
   pub image : Image
   pub old : Option HostModel
   pub new : Option HostModel
-  pub result : Outcome
-  pub called : IsCalled words old new result
+  pub outcome : Outcome
+  pub called : IsCalled words old new outcome
   pub there : ProgramIsThere words order form image (contents old)
   pub none : NoCallFails window_machine words (contents old)
-  pub enough : result ≢ OutOfMemory
+  pub enough : outcome ≢ OutOfMemory
 
 abbrev pub called_run : CalledProgram → ImageRun
 called_run p = record { kind = window_machine; words = p.words; order = p.order; image = p.image; host = unscheduled (contents p.old) }
@@ -205,12 +205,12 @@ pub record CalledAssembler : Type 0 where
   pub text : List ℕ
   pub old : Option HostModel
   pub new : Option HostModel
-  pub result : Outcome
-  pub called : IsCalled words old new result
+  pub outcome : Outcome
+  pub called : IsCalled words old new outcome
   pub ordered : IsOrdered words order Asm
   pub there : IsThere (word_at words order.file) source_pieces text (contents old)
   pub none : NoCallFails window_machine words (contents old)
-  pub enough : result ≢ OutOfMemory
+  pub enough : outcome ≢ OutOfMemory
 
 pub record CalledGenerator : Type 0 where
   pub words : List Word
@@ -218,12 +218,12 @@ pub record CalledGenerator : Type 0 where
   pub line : List ℕ
   pub old : Option HostModel
   pub new : Option HostModel
-  pub result : Outcome
-  pub called : IsCalled words old new result
+  pub outcome : Outcome
+  pub called : IsCalled words old new outcome
   pub slots : HasStartSlots (contents old)
   pub none : NoCallFails window_machine words (contents old)
   pub generated : IsGenerated window_machine words (unscheduled (contents old)) left line
-  pub enough : result ≢ OutOfMemory
+  pub enough : outcome ≢ OutOfMemory
 
 -- ---- a run of a machine without flags that halts
 

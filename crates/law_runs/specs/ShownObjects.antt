@@ -87,9 +87,9 @@ pub record CalledListing : Type 0 where
   pub bytes : List ℕ
   pub old : Option HostModel
   pub new : Option HostModel
-  pub result : Outcome
-  pub called : IsCalled words old new result
+  pub outcome : Outcome
+  pub called : IsCalled words old new outcome
   pub ordered : IsOrdered words order Show
   pub there : IsThere (word_at words order.file) object_pieces bytes (contents old)
   pub none : NoCallFails window_machine words (contents old)
-  pub enough : result ≢ OutOfMemory
+  pub enough : outcome ≢ OutOfMemory

@@ -23,8 +23,8 @@ pub fn statuses_are_low_bytes()
 /// those over the host with no call counted and none that fails.
 pub fn calls_answer_what_is_due()
     ensures run { (p : CalledProgram) (r : Halting (called_run p)) →
-        p.result ≡ Done (register r.ended.stack 255 % 2 ^ 8) }
-    ensures asm { (p : CalledAssembler) → refusal p.text ≡ None → p.result ≡ Done 0 }
-    ensures generate { (p : CalledGenerator) → p.result ≡ Done 0 }
-    ensures console { (p : CalledProgram) (r : Playing (called_run p)) → p.result ≡ r.outcome }
+        p.outcome ≡ Done (register r.ended.stack 255 % 2 ^ 8) }
+    ensures asm { (p : CalledAssembler) → refusal p.text ≡ None → p.outcome ≡ Done 0 }
+    ensures generate { (p : CalledGenerator) → p.outcome ≡ Done 0 }
+    ensures console { (p : CalledProgram) (r : Playing (called_run p)) → p.outcome ≡ r.outcome }
 {}

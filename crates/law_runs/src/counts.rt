@@ -29,5 +29,5 @@ pub fn counts_go_by_the_traces_of_their_runs()
 /// A source of at most 2^22 bytes, which is the most that is not refused, is read alike by `mmixview count`, which takes up
 /// to as many bytes as an object may have, and by `mmixware run`.
 pub fn sources_are_read_alike()
-    ensures { (f : ShortSource) → file_bytes object_pieces f.name f.old ≡ (Ok f.text, f.new) }
+    ensures { (f : ShortSource) → file_bytes object_pieces f.name f.host ≡ (Ok f.text, f.after) }
 {}

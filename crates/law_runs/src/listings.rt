@@ -60,5 +60,5 @@ pub fn objects_are_listed_beside_what_they_mean()
 /// is out of memory.
 pub fn objects_that_are_there_are_listed()
     ensures listed { (p : ShownObject) → shown_answer p ≡ said (listing_answer p.bytes (unscheduled p.host)) }
-    ensures called { (p : CalledListing) → p.result ≡ (typed p.bytes).1 }
+    ensures called { (p : CalledListing) → p.outcome ≡ (typed p.bytes).1 }
 {}

@@ -1,5 +1,5 @@
 -- A run whose steps are counted, after some of them and as a whole.
-use Rattle.std.proofs.Common.{◌≡◌, ◌≢◌, ◌<◌, ◌≤◌, ◌+◌, ◌-◌, ℕ, Bool, true, false, cond, List, [], ◌∷◌, ◌++◌, Err, arith, refl, sym, ap, ◌∙◌}
+use Rattle.std.proofs.Common.{◌≡◌, ◌≢◌, ◌<◌, ◌≤◌, ◌+◌, ◌-◌, ℕ, Bool, true, false, cond, List, [], ◌∷◌, ◌++◌, Err, arith, sym, ap, ◌∙◌}
 use Rattle.mx_host.specs.HostModel.{HostModel}
 use Rattle.mx_plan.specs.Plan.{Comes}
 use Rattle.mx_plan.specs.Wild.{Course}
@@ -39,7 +39,7 @@ step-counted es new t more h = λ i test. one-more es new t more h test i
 -- ---- over a window
 
 pub begun-counted : (n : ℕ) (s : State) (m : HostModel) (es : List Entry) → counts_with es (traces window_machine (n - 0) s m) ≡ counts_with es (traces window_machine n s m)
-begun-counted n s m es = let all : n - 0 ≡ n = omega arith in rw all refl
+begun-counted n s m es = let all : n - 0 ≡ n = omega arith in ap (λ k. counts_with es (traces window_machine k s m)) all
 
 pub went-counted : (n i : ℕ) (s t : State) (m k : HostModel) (trace : Trace) (es new : List Entry) (whole : Counts) → i < n → turn s m ≡ went_on t k trace →
     ((test : ℕ → Bool) → kept_tally test new ≡ added (kept_tally test es) (tally_if test trace)) → counts_with es (traces window_machine (n - i) s m) ≡ whole →
@@ -78,6 +78,9 @@ spent-by-list n i whole s m es goal end w = spent-with-list counts_with n i whol
 
 -- ---- the step that halts
 
+pub same-step : (test : ℕ → Bool) (x y : Tally) (step : Trace) (pc : ℕ) → step ≡ halting_step pc → y ≡ added x (tally_if test step) → y ≡ added x (tally_if test (halting_step pc))
+same-step test x y step pc is e = e ∙ ap (λ (t : Trace). added x (tally_if test t)) is
+
 pub halt-counted : (test : ℕ → Bool) (end : End) (pc : ℕ) (x y : Tally) → is_halted end ≡ true → y ≡ added x (tally_if test (halting_step pc)) → y ≡ added x (tally_in test (halting_steps end pc))
 unfolding tally_in
 halt-counted test end pc x y e is =
@@ -86,8 +89,6 @@ halt-counted test end pc x y e is =
 pub none-counted : (test : ℕ → Bool) (end : End) (pc : ℕ) (x : Tally) → is_halted end ≡ false → x ≡ added x (tally_in test (halting_steps end pc))
 unfolding tally_in
 none-counted test end pc x e = sym (nothing-more x) ∙ ap (λ b. added x (tally_in test (cond b (halting_step pc ∷ []) []))) (sym e)
-
-pub ruleset halting = (halt-counted, none-counted)
 
 -- ---- the whole
 

@@ -83,7 +83,6 @@ fn is_halted(end: End) -> bool
 }
 
 /// Counts the last step of a run that ended so at an address, if it is the one that halts.
-#[tactic(auto, using(crate::proofs::CountedTraces::halting))]
 fn add_end(counts: &mut Counts, end: End, pc: u64) -> Result<(), NoMemory>
     ensures { (test : ℕ → Bool) → OnOk result (kept_tally test counts.new
         ≡ tallies.added (kept_tally test counts.old) (tallies.tally_in test (spec.halting_steps end pc))) }

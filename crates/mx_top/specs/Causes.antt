@@ -9,8 +9,9 @@ use Rattle.mx_outcome.specs.declared.outcome.Outcome.{Outcome}
 use Rattle.mx_outcome.specs.declared.outcome.Outcome.TheVariants.{HostFault, NoFile, OutOfMemory, Usage}
 use Rattle.mx_begin.specs.Arguments.{Word}
 
--- Of all that the program does by these words: they are told to be no order exactly where they are none, or out of memory; and
--- the rest as above.
+-- Of all that the program does by these words: they are told to be no order exactly where they are none, unless memory runs out;
+-- where slots 258 and 259 lead to the tool's streams, the host is at fault only where a call failed; over a host that tells nothing
+-- a file is missing only so, too; and what every function keeps is kept.
 pub record Causes {H : Type 0} (told : H → Option HostModel) (faults : H → ℕ) (old new : H) (result : Outcome) (words : List Word) : Type 0 where
   pub usage : (fault : WordsFault) → order_of words ≡ Err fault → result ≢ OutOfMemory → result ≡ Usage fault
   pub only_usage : (fault : WordsFault) → result ≡ Usage fault → order_of words ≡ Err fault

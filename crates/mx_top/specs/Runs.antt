@@ -1,4 +1,4 @@
--- What a run and a session are to the program: the outcomes that they come to, and the states that come back after a run.
+-- What a run and a session are to the program: the outcome that a session comes to, and the states that come back after a run.
 use Rattle.std.specs.Prelude.{ℕ, ◌^◌, Bool, true, false, List, [], ◌∷◌, map}
 use Rattle.mx_core.specs.State.{State}
 use Rattle.mx_show.specs.Texts.{ended, state_text}

@@ -31,7 +31,7 @@ use std::alloc::Global;
 /// A generated program makes at most this many steps.
 const STEP_BOUND: u64 = 1 << 26;
 
-/// Writes the line that prints what came of a program that halted.
+/// Writes the line that tells what came of a program that halted.
 fn put_summary<H: Host>(
     alloc: Global,
     host: &mut H,

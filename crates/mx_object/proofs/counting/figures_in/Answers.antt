@@ -6,3 +6,6 @@ returns-clause-counts c = counts-are c.args.tetras.now c.args.entries.now _ c.in
 
 pub returns-clause-elsewhere : goal.returns-clause-elsewhere
 returns-clause-elsewhere c = elsewhere-is c.args.tetras.now c.args.entries.now _ c.in_ok-sums.ensures _ _ _ c.in_ok-all.ensures c.in_ok-loaded.ensures c.less.ensures
+
+pub returns-clause-total : goal.returns-clause-total
+returns-clause-total c = c.in_ok-all.ensures
