@@ -1,6 +1,6 @@
 -- A run whose last steps are kept, step by step.
 use Rattle.std.proofs.Common.{◌≡◌, ◌≢◌, ◌<◌, ◌≤◌, ◌+◌, ◌-◌, ℕ, zero, suc, Bool, true, false, List, [], Ok, Err, inl, inr, arith, refl, sym, subst, ◌∙◌, ap}
-use Rattle.std.specs.Prelude.{Result, ◌⊎◌}
+use Rattle.std.specs.Prelude.{Option, Result, ◌⊎◌}
 use Rattle.mx_host.specs.HostModel.{HostModel, contents}
 use Rattle.mx_host.proofs.Keeping.{keeps-all}
 use Rattle.mx_plan.specs.Plan.{Comes, Stops}
