@@ -9,7 +9,7 @@ use Rattle.mx_core.specs.Bare.{Shared, nothing_shared, shared_of, with_shared}
 use Rattle.mx_core.specs.Kept.{Kept, state_of}
 use Rattle.mx_core.specs.State.{State}
 use Rattle.mx_core.specs.Walks.{Goes}
-use Rattle.mx_multi.specs.Clauses.{TakesTurn, TakesTurns, TurnsAlone}
+use Rattle.mx_multi.specs.Clauses.{TakesTurnBetween, TakesTurnsBetween, TurnsAloneBetween}
 use Rattle.mx_multi.specs.Joint.{AllAlone, Joint, alone, has_halted, no_processor}
 use Rattle.mx_multi.specs.JointTurns.{halted_by}
 use Rattle.mx_multi.specs.Seats.{IsSeated, exchanged, seated_by}
@@ -163,7 +163,7 @@ module _ (R N : List State) (H : List Bool) (a : ℕ) (inside : a < length R) (a
   pub still-apart : IsSeated N a
   still-apart = subst AllAlone (sym put-back) (alone-set P a (alone last) apart refl)
 
-  -- as they stand on the memory
+  -- as they are on the memory
   before : with_shared (shared_of first) (get_or P a no_processor) ≡ first
   before = ap (with_shared (shared_of first)) (get_or-set_same R a (alone first) no_processor inside)
 
@@ -175,10 +175,10 @@ module _ (R N : List State) (H : List Bool) (a : ℕ) (inside : a < length R) (a
       goes-stretch H a runs n P Q (shared_of first) (shared_of last) inside-P apart still-apart same-length put
       (subst (λ s. Goes n s (with_shared (shared_of last) (get_or Q a no_processor))) (sym before) (subst (λ t. Goes n first t) (sym after) g))
 
-  pub seat-takes : (o p : Option HostModel) (e f : ℕ) (x : Turn) → TurnsAlone o p e f first last x → TakesTurn o p e f (seated_by R H a) (seated_by N (halted_by H a x) a) a x
+  pub seat-takes : (o p : Option HostModel) (e f : ℕ) (x : Turn) → TurnsAloneBetween o p e f first last x → TakesTurnBetween o p e f (seated_by R H a) (seated_by N (halted_by H a x) a) a x
   seat-takes o p e f x t =
-      let made : TurnsAlone o p e f (with_shared (shared_of first) (get_or P a no_processor)) (with_shared (shared_of last) (get_or Q a no_processor)) x =
-      subst (λ s. TurnsAlone o p e f s (with_shared (shared_of last) (get_or Q a no_processor)) x) (sym before) (subst (λ s. TurnsAlone o p e f first s x) (sym after) t) in
+      let made : TurnsAloneBetween o p e f (with_shared (shared_of first) (get_or P a no_processor)) (with_shared (shared_of last) (get_or Q a no_processor)) x =
+      subst (λ s. TurnsAloneBetween o p e f s (with_shared (shared_of last) (get_or Q a no_processor)) x) (sym before) (subst (λ s. TurnsAloneBetween o p e f first s x) (sym after) t) in
       record {
         plan = λ h. told-comes P Q H (shared_of first) (shared_of last) a o p x inside-P same-length runs put still-apart made.told h;
         told = λ h ne. turn-is _ _ _ _ _ _ (told-comes P Q H (shared_of first) (shared_of last) a o p x inside-P same-length runs put still-apart made.told h) ne;
@@ -191,7 +191,7 @@ module _ (R N : List State) (H : List Bool) (a : ℕ) (inside : a < length R) (a
 
 -- ---- turns while the memory is lent
 
-pub idle-takes : (o : Option HostModel) (f : ℕ) (j : Joint) (who : ℕ) → has_halted j.halted who ≡ true → TakesTurn o o f f j j who turned.Idle
+pub idle-takes : (o : Option HostModel) (f : ℕ) (j : Joint) (who : ℕ) → has_halted j.halted who ≡ true → TakesTurnBetween o o f f j j who turned.Idle
 idle-takes o f j who h = record {
   plan = λ t. idle-comes who j (contents o) h;
   told = λ t ne. turn-is who j j (contents o) (contents o) turned.Idle (idle-comes who j (contents o) h) ne;
@@ -202,9 +202,9 @@ idle-takes o f j who h = record {
   keeps = keeps-all o f;
 }
 
-pub takes-back : (o p : Option HostModel) (e f : ℕ) (j k l m : Joint) (who : ℕ) (x : Turn) → k ≡ j → m ≡ l → TakesTurn o p e f k l who x → TakesTurn o p e f j m who x
-takes-back o p e f j k l m who x same back t = subst (λ a. TakesTurn o p e f a m who x) same (subst (λ b. TakesTurn o p e f k b who x) (sym back) t)
+pub takes-back : (o p : Option HostModel) (e f : ℕ) (j k l m : Joint) (who : ℕ) (x : Turn) → k ≡ j → m ≡ l → TakesTurnBetween o p e f k l who x → TakesTurnBetween o p e f j m who x
+takes-back o p e f j k l m who x same back t = subst (λ a. TakesTurnBetween o p e f a m who x) same (subst (λ b. TakesTurnBetween o p e f k b who x) (sym back) t)
 
-pub turns-back : (schedule : List ℕ) (n : ℕ) (o p : Option HostModel) (e f : ℕ) (j k l m : Joint) (end : MultiEnd) → k ≡ j → m ≡ l → TakesTurns schedule n o p e f k l end → TakesTurns schedule n o p e f j m end
+pub turns-back : (schedule : List ℕ) (n : ℕ) (o p : Option HostModel) (e f : ℕ) (j k l m : Joint) (end : MultiEnd) → k ≡ j → m ≡ l → TakesTurnsBetween schedule n o p e f k l end → TakesTurnsBetween schedule n o p e f j m end
 turns-back schedule n o p e f j k l m end same back t =
-    subst (λ a. TakesTurns schedule n o p e f a m end) same (subst (λ b. TakesTurns schedule n o p e f k b end) (sym back) t)
+    subst (λ a. TakesTurnsBetween schedule n o p e f a m end) same (subst (λ b. TakesTurnsBetween schedule n o p e f k b end) (sym back) t)

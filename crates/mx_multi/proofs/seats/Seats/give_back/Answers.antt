@@ -9,15 +9,13 @@ returns-clause-joint c =
     (given-back (map state_of c.self.inside.machines.items) c.self.inside.halted.items c.self.inside.at _ _ _ c.swap_at.ensures.machines c.requires c.swap_at.ensures.memory)
 
 pub returns-clause-apart : goal.returns-clause-apart
-returns-clause-apart c = given-apart (map state_of c.self.inside.machines.items) c.self.inside.at _ _ c.swap_at.ensures.machines c.requires c.self.invariant.1.1
+returns-clause-apart c = given-apart (map state_of c.self.inside.machines.items) c.self.inside.at _ _ c.swap_at.ensures.machines c.requires c.self.invariant.2
 
 pub invariant_of-self : goal.invariant_of-self
 invariant_of-self c =
     let count = c.swap_at.ensures.count in
-    let inside = c.self.invariant.1.0 in (
+    let inside = c.self.invariant.1 in (
       c.self.invariant.0 ∙ sym count,
-      (
-        omega (arith, count, inside),
-        still-alone _ _ (given-apart (map state_of c.self.inside.machines.items) c.self.inside.at _ _ c.swap_at.ensures.machines c.requires c.self.invariant.1.1),
-      ),
+      omega (arith, count, inside),
+      still-alone _ _ (given-apart (map state_of c.self.inside.machines.items) c.self.inside.at _ _ c.swap_at.ensures.machines c.requires c.self.invariant.2),
     )

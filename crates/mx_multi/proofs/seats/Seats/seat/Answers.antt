@@ -10,16 +10,14 @@ returns-clause-same c =
     let there = subst (λ (p : Seated). c.args.who < length p.machines) (sym c.self.view_is) c.requires in
     rw (← c.self.view_is)
     (ap (λ ss. seated_by ss c.self.inside.halted.items c.args.who) c.exchange.ensures.states
-    ∙ moved (map state_of c.self.inside.machines.items) c.self.inside.halted.items c.self.inside.at (kept-inside _ _ c.self.invariant.1.0) c.args.who (kept-inside _ _ there) c.if-who-at.false c.self.invariant.1.1)
+    ∙ moved (map state_of c.self.inside.machines.items) c.self.inside.halted.items c.self.inside.at (kept-inside _ _ c.self.invariant.1) c.args.who (kept-inside _ _ there) c.if-who-at.false c.self.invariant.2)
 
 pub invariant_of-self : goal.invariant_of-self
 invariant_of-self c =
     let there = subst (λ (p : Seated). c.args.who < length p.machines) (sym c.self.view_is) c.requires in
     let count = c.exchange.ensures.count in (
       c.self.invariant.0 ∙ sym count,
-      (
-        omega (arith, count, there),
-        subst (λ ss. IsSeated ss c.args.who) (sym c.exchange.ensures.states)
-            (moved-apart (map state_of c.self.inside.machines.items) c.self.inside.halted.items c.self.inside.at (kept-inside _ _ c.self.invariant.1.0) c.args.who (kept-inside _ _ there) c.if-who-at.false c.self.invariant.1.1),
-      ),
+      omega (arith, count, there),
+      subst (λ ss. IsSeated ss c.args.who) (sym c.exchange.ensures.states)
+            (moved-apart (map state_of c.self.inside.machines.items) c.self.inside.halted.items c.self.inside.at (kept-inside _ _ c.self.invariant.1) c.args.who (kept-inside _ _ there) c.if-who-at.false c.self.invariant.2),
     )

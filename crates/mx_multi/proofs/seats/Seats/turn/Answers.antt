@@ -1,5 +1,5 @@
 use Rattle.std.proofs.Common.{◌∙◌, subst}
-use Rattle.mx_multi.specs.Clauses.{TakesTurn}
+use Rattle.mx_multi.specs.Clauses.{TakesTurnBetween}
 use Rattle.mx_multi.specs.Seats.{seated}
 use Rattle.mx_multi.proofs.seats.Seats.turn.Goals as goal
 
@@ -8,5 +8,5 @@ turn_here-requires g c = rw (c.seat.ensures.halted, c.seat.ensures.at, c.from.en
 
 pub returns-clause-turn : goal.returns-clause-turn
 returns-clause-turn g c =
-    subst (λ j. TakesTurn _ _ _ _ j (seated c.turn_here.new.self) c.args.who c.turn_here.result) c.seat.ensures.same
-    (subst (λ k. TakesTurn _ _ _ _ (seated c.seat.new.self) (seated c.turn_here.new.self) k c.turn_here.result) (c.seat.ensures.at ∙ c.from.ensures) c.turn_here.ensures.turn)
+    subst (λ j. TakesTurnBetween _ _ _ _ j (seated c.turn_here.new.self) c.args.who c.turn_here.result) c.seat.ensures.same
+    (subst (λ k. TakesTurnBetween _ _ _ _ (seated c.seat.new.self) (seated c.turn_here.new.self) k c.turn_here.result) (c.seat.ensures.at ∙ c.from.ensures) c.turn_here.ensures.turn)

@@ -11,7 +11,7 @@ returns-clause-turn g c =
     let runs = subst (λ (p : Seated). has_halted p.halted p.at ≡ false) (sym c.self.view_is) c.requires in
     let e = c.turn_at-answer.ensures in
     rw (← c.self.view_is, c.mark.ensures.flags)
-    (seat-takes (map state_of c.self.inside.machines.items) (map state_of c.turn_at-answer.new.machines.items) c.self.inside.halted.items c.self.inside.at (kept-inside _ _ c.self.invariant.1.0) c.self.invariant.1.1
+    (seat-takes (map state_of c.self.inside.machines.items) (map state_of c.turn_at-answer.new.machines.items) c.self.inside.halted.items c.self.inside.at (kept-inside _ _ c.self.invariant.1) c.self.invariant.2
     e.placed runs _ _ _ _ c.turn_at-answer.result e.turn)
 
 pub invariant_of-self : goal.invariant_of-self
@@ -19,10 +19,8 @@ invariant_of-self g c =
     let runs = subst (λ (p : Seated). has_halted p.halted p.at ≡ false) (sym c.self.view_is) c.requires in
     let e = c.turn_at-answer.ensures in
     let count = e.count in
-    let inside = c.self.invariant.1.0 in (
+    let inside = c.self.invariant.1 in (
       c.mark.ensures.count ∙ c.self.invariant.0 ∙ sym count,
-      (
-        omega (arith, count, inside),
-        still-apart (map state_of c.self.inside.machines.items) (map state_of c.turn_at-answer.new.machines.items) c.self.inside.halted.items c.self.inside.at (kept-inside _ _ inside) c.self.invariant.1.1 e.placed runs,
-      ),
+      omega (arith, count, inside),
+      still-apart (map state_of c.self.inside.machines.items) (map state_of c.turn_at-answer.new.machines.items) c.self.inside.halted.items c.self.inside.at (kept-inside _ _ inside) c.self.invariant.2 e.placed runs,
     )
