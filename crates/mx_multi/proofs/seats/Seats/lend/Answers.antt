@@ -28,5 +28,5 @@ invariant_of-self c =
       c.self.invariant.0 ∙ sym count,
       omega (arith, count, inside),
       subst (λ ss. IsSeated ss c.self.inside.at) (sym c.swap_at.ensures.machines)
-            (lent-apart (map state_of c.self.inside.machines.items) c.self.inside.halted.items c.self.inside.at (kept-inside _ _ inside) (shared_in c.args.memory.now) apart),
+          (lent-apart (map state_of c.self.inside.machines.items) c.self.inside.halted.items c.self.inside.at (kept-inside _ _ inside) (shared_in c.args.memory.now) apart),
     )

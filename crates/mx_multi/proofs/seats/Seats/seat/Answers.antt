@@ -19,5 +19,5 @@ invariant_of-self c =
       c.self.invariant.0 ∙ sym count,
       omega (arith, count, there),
       subst (λ ss. IsSeated ss c.args.who) (sym c.exchange.ensures.states)
-            (moved-apart (map state_of c.self.inside.machines.items) c.self.inside.halted.items c.self.inside.at (kept-inside _ _ c.self.invariant.1) c.args.who (kept-inside _ _ there) c.if-who-at.false c.self.invariant.2),
+          (moved-apart (map state_of c.self.inside.machines.items) c.self.inside.halted.items c.self.inside.at (kept-inside _ _ c.self.invariant.1) c.args.who (kept-inside _ _ there) c.if-who-at.false c.self.invariant.2),
     )
