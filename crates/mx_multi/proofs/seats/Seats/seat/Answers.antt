@@ -10,7 +10,7 @@ returns-clause-same c =
     let there = subst (λ (p : Seated). c.args.who < length p.machines) (sym c.self.view_is) c.requires in
     rw (← c.self.view_is)
     (ap (λ ss. seated_by ss c.self.inside.halted.items c.args.who) c.exchange.ensures.states
-    ∙ moved (map state_of c.self.inside.machines.items) c.self.inside.halted.items c.self.inside.at (kept-inside _ _ c.self.invariant.1) c.args.who (kept-inside _ _ there) c.if-who-at.false c.self.invariant.2)
+    ∙ moved (map state_of c.self.inside.machines.items) c.self.inside.halted.items c.self.inside.at (kept-inside _ _ c.self.invariant.1) c.args.who (kept-inside _ _ there) c.if-who-self.false c.self.invariant.2)
 
 pub invariant_of-self : goal.invariant_of-self
 invariant_of-self c =
@@ -19,5 +19,5 @@ invariant_of-self c =
       c.self.invariant.0 ∙ sym count,
       omega (arith, count, there),
       subst (λ ss. IsSeated ss c.args.who) (sym c.exchange.ensures.states)
-          (moved-apart (map state_of c.self.inside.machines.items) c.self.inside.halted.items c.self.inside.at (kept-inside _ _ c.self.invariant.1) c.args.who (kept-inside _ _ there) c.if-who-at.false c.self.invariant.2),
+          (moved-apart (map state_of c.self.inside.machines.items) c.self.inside.halted.items c.self.inside.at (kept-inside _ _ c.self.invariant.1) c.args.who (kept-inside _ _ there) c.if-who-self.false c.self.invariant.2),
     )

@@ -8,5 +8,9 @@ turn_here-requires g c = rw (c.seat.ensures.halted, c.seat.ensures.at, c.from.en
 
 pub returns-clause-turn : goal.returns-clause-turn
 returns-clause-turn g c =
-    subst (λ j. TakesTurnBetween _ _ _ _ j (seated c.turn_here.new.self) c.args.who c.turn_here.result) c.seat.ensures.same
-    (subst (λ k. TakesTurnBetween _ _ _ _ (seated c.seat.new.self) (seated c.turn_here.new.self) k c.turn_here.result) (c.seat.ensures.at ∙ c.from.ensures) c.turn_here.ensures.turn)
+    let o = g.H.Host.told c.args.host.now in
+    let p = g.H.Host.told c.turn_here.new.host in
+    let e = g.H.Host.faults c.args.host.now in
+    let f = g.H.Host.faults c.turn_here.new.host in
+    subst (λ j. TakesTurnBetween o p e f j (seated c.turn_here.new.self) c.args.who c.turn_here.result) c.seat.ensures.same
+    (subst (λ k. TakesTurnBetween o p e f (seated c.seat.new.self) (seated c.turn_here.new.self) k c.turn_here.result) (c.seat.ensures.at ∙ c.from.ensures) c.turn_here.ensures.turn)
