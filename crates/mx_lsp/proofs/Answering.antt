@@ -22,11 +22,11 @@ pub body-read : (body text : List ℕ) (message : Option Data) → IsUtf8 body �
 body-read body text message u e h = rw (is_utf8-from_IsUtf8 body u) (h ∙ ap read e)
 
 no-text-by : (body : List ℕ) (b : Bool) → is_utf8 body ≡ b → (IsUtf8 body → ⊥) → None ≡ cond b (read body) None
-no-text-by body true e no = absurd (no (IsUtf8-from_is_utf8 body e))
-no-text-by body false e no = refl
+no-text-by body true e never = absurd (never (IsUtf8-from_is_utf8 body e))
+no-text-by body false e never = refl
 
 pub no-text-read : (body : List ℕ) → (IsUtf8 body → ⊥) → None ≡ message_in body
-no-text-read body no = no-text-by body (is_utf8 body) refl no
+no-text-read body never = no-text-by body (is_utf8 body) refl never
 
 pub ruleset reading = (body-read, no-text-read)
 

@@ -66,7 +66,7 @@ method-noticed s (Tells told) message = stage-noticed s.stage s told message
 method-noticed s method message = nothing
 
 -- the names of the second members differ
-bytes-differ : 105 ≡ 109 → ⊥
+bytes-differ : ◌≡◌ {A = ℕ} 105 109 → ⊥
 bytes-differ e = omega (arith, e)
 
 no-result : (text value rest : List ℕ) → result_body text value ≡ notice_open ++ rest → ⊥

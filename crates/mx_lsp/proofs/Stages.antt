@@ -12,14 +12,18 @@ use Rattle.mx_lsp.specs.declared.session.Stage.TheVariants.{Waiting, Shut}
 
 waiting-refused : (text : List ℕ) (method : Method) (body : List ℕ) → (method ≡ Initialize → ⊥) → body ≡ waiting_answer text method →
     body ≡ refusal_body text TooEarly (codes "initialize has not come")
-waiting-refused text Initialize body no e = absurd (no refl)
-waiting-refused text method body no e = e
+waiting-refused text Initialize body never e = absurd (never refl)
+waiting-refused text method body never e = e
+
+pub waiting-else : (text : List ℕ) (method : Method) → (method ≡ Initialize → ⊥) → refusal_body text TooEarly (codes "initialize has not come") ≡ waiting_answer text method
+waiting-else text Initialize never = absurd (never refl)
+waiting-else text method never = refl
 
 early-refused : (s : Session) (text : List ℕ) (method : Method) (message : Data) (body : List ℕ) → s.stage ≡ Waiting → (method ≡ Initialize → ⊥) →
     IsAnswerOf s text method message body → Refuses text TooEarly body ⊎ Refuses text NoMemory body
-early-refused s text method message body e no (given a) =
-    inl (codes "initialize has not come", waiting-refused text method body no (subst (λ stage. IsAnswerAt stage s text method message body) e a))
-early-refused s text method message body e no (lacking a) = inr (codes "out of memory", a)
+early-refused s text method message body e never (given a) =
+    inl (codes "initialize has not come", waiting-refused text method body never (subst (λ stage. IsAnswerAt stage s text method message body) e a))
+early-refused s text method message body e never (lacking a) = inr (codes "out of memory", a)
 
 late-refused : (s : Session) (text : List ℕ) (method : Method) (message : Data) (body : List ℕ) → s.stage ≡ Shut →
     IsAnswerOf s text method message body → Refuses text NoRequest body ⊎ Refuses text NoMemory body
@@ -29,7 +33,7 @@ late-refused s text method message body e (lacking a) = inr (codes "out of memor
 
 pub refused-before : (s : Session) (id : Data) (method : Method) (message : Data) (body : List ℕ) → s.stage ≡ Waiting → (method ≡ Initialize → ⊥) →
     IsAnswer s id method message body → IsRefusedAs TooEarly id body
-refused-before s id method message body e no a = record { text = a.text; mark = a.mark; refusal = early-refused s a.text method message body e no a.answer }
+refused-before s id method message body e never a = record { text = a.text; mark = a.mark; refusal = early-refused s a.text method message body e never a.answer }
 
 pub refused-after : (s : Session) (id : Data) (method : Method) (message : Data) (body : List ℕ) → s.stage ≡ Shut →
     IsAnswer s id method message body → IsRefusedAs NoRequest id body
