@@ -1,10 +1,12 @@
 -- Bytes of memory and values that are shown.
-use Rattle.std.proofs.Common.{◌≡◌, ◌+◌, ◌++◌, ℕ, List, [], ◌∷◌, length, suc, drop, codes, arith, refl, sym, ◌∙◌, ap, subst, length-append}
+use Rattle.std.proofs.Common.{◌≡◌, ◌+◌, ◌++◌, ℕ, List, [], ◌∷◌, length, zero, suc, take, drop, arith, refl, sym, ◌∙◌, ap, subst, length-append}
+use Rattle.std.proofs.lemmas.List.{take_all}
 use Rattle.mx_core.specs.State.{State}
 use Rattle.mx_ring.specs.Stack.{register}
 use Rattle.serde_json.specs.Data.{Data}
 use Rattle.mx_panes.specs.Memory.{ShowsBytes, count_asked, memory_body}
 use Rattle.mx_panes.specs.Registers.{HasDigits, ShowFrom, ShowRegisters, ShowsValue, digits_text, row_text}
+use Rattle.mx_text.specs.Numbers.{hex_digits, hex_text}
 use Rattle.mx_trap.specs.Requests.{bytes_from}
 use Rattle.mx_trap.proofs.Buffers.{bytes-more, bytes-none}
 
@@ -23,10 +25,15 @@ pub ruleset reading = (no-bytes, one-byte-more, bytes-shown)
 
 -- ---- references
 
-pub after-mark : (digits text : List ℕ) → text ≡ codes "#" ++ digits → drop 1 text ≡ digits
-after-mark digits text e = ap (drop 1) e
+digit-count : (k x : ℕ) → length (hex_digits k x) ≡ k
+unfolding hex_digits
+digit-count zero x = refl
+digit-count (suc k) x = ap suc (digit-count k x)
 
-pub ruleset marked = (after-mark)
+pub digits-after-mark : (x : ℕ) (text : List ℕ) → text ≡ hex_text x → take 16 (drop 1 text) ≡ hex_digits 16 x
+digits-after-mark x text e =
+    let few : length (hex_digits 16 x) ≡ 16 = digit-count 16 x in
+    ap (λ ds. take 16 (drop 1 ds)) e ∙ take_all 16 (hex_digits 16 x) (omega (arith, few))
 
 -- ---- values
 

@@ -4,6 +4,7 @@ ghost use Rattle.std.specs.Prelude.{◌≡◌, ◌++◌, IfOk, OnOk};
 ghost use Rattle.mx_panes.specs.Memory.{reference};
 ghost use Rattle.mx_panes.specs.Registers as spec;
 ghost use Rattle.mx_panes.specs.Registers.{HasDigits};
+ghost use Rattle.mx_text.specs.Numbers.{hex_digits};
 
 use mx_ask::parse_address;
 use mx_book::{Book, Thing};
@@ -85,15 +86,22 @@ pub(crate) fn is_data(value: u64) -> bool {
     DATA <= value && value < MEMORY_END
 }
 
+/// Adds the hexadecimal digits of an address.
+fn add_digits(text: &mut Bytes, address: u64) -> Result<(), NoMemory>
+    ensures { OnOk result (text.new ≡ text.old ++ hex_digits 16 address) }
+{
+    let digits = octa_hex(address);
+    text.extend(&digits[1..])
+}
+
 /// Adds the reference to an address between quotation marks.
-#[tactic(auto, using(crate::proofs::Shown::marked), unfolding(crate::specs::Memory::reference))]
+#[tactic(auto, unfolding(crate::specs::Memory::reference))]
 pub fn add_reference(text: &mut Bytes, front: &[u8], address: u64) -> Result<(), NoMemory>
     ensures { OnOk result (text.new ≡ text.old ++ front.now ++ reference address) }
 {
-    let digits = octa_hex(address);
     text.extend(front)?;
     text.extend(b"\"0x")?;
-    text.extend(&digits[1..])?;
+    add_digits(text, address)?;
     text.extend(b"\"")
 }
 
