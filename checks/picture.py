@@ -18,7 +18,7 @@ AREAS = [
     ("machine", "mx_mem mx_alu mx_registers mx_ring mx_code mx_core mx_start"),
     ("host and runs", "mx_host mx_plan mx_trap mx_run mx_back mx_watch mx_multi mx_real"),
     ("console", "mx_text mx_cmd mx_show mx_con"),
-    ("program", "mx_words mx_outcome mx_files mx_begin mx_dump mx_top mmixware"),
+    ("program", "mx_words mx_outcome mx_files mx_begin mx_dump mx_gen mx_top mmixware"),
     (
         "views",
         "mx_marks mx_advice mx_sentences mx_walk mx_view mx_slips mx_warn mx_costs mx_count mx_object mx_ask mx_stops mx_replay mx_record "

@@ -18,7 +18,9 @@ TEXTS = ["Main TRAP 0,Halt,0\n", "", "\tLOC #100\nMain ADD $1,$1,1000\n", "é\U0
 
 
 def good(random_, mark):
-    """A message, and how many answers it has."""
+    """A message, and how many answers it has; the first one begins the session."""
+    if mark == 0:
+        return wire.message("initialize", {"capabilities": {}}, mark), 1
     kind = random_.randrange(6)
     if kind == 0:
         return wire.message("textDocument/didOpen", {"textDocument": {"uri": URI, "text": random_.choice(TEXTS)}}), 1

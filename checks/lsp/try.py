@@ -5,6 +5,8 @@ usage: checks/lsp/try.py [PROGRAM]
 """
 import json
 import os
+import random
+import re
 import subprocess
 import sys
 
@@ -81,6 +83,56 @@ def edited(text, edits):
     return text
 
 
+def try_changes(server):
+    """A text that is changed by ranges is the text that the changes make of it: the server says the same of both."""
+    random_ = random.Random(20261201)
+    pieces = ["A", "Loop ", "\tADD $1,$1,1000\n", "\n", "\r\n", "é", "\U0001d11e", " IS 1\n", "Main\tTRAP 0,Halt,0\n", ""]
+    other, text = URI + ".whole", PROGRAM_TEXT
+    server.change(URI, text)
+    server.open(other, text)
+    for _ in range(200):
+        changes = []
+        for _ in range(random_.randrange(1, 4)):
+            lines = re.split("\r\n|\r|\n", text)
+            ends = sorted((random_.randrange(len(lines)), random_.randrange(12)) for _ in range(2))
+            new = random_.choice(pieces)
+            starts = [m.end() for m in re.finditer("\r\n|\r|\n", text)]
+            at = [([0] + starts)[line] + len(reached(lines[line], column)) for line, column in ends]
+            text = text[: at[0]] + new + text[max(at) :]
+            range_ = {side: {"line": line, "character": column} for side, (line, column) in zip(("start", "end"), ends)}
+            changes.append({"range": range_, "text": new})
+        server.tell("textDocument/didChange", {"textDocument": {"uri": URI}, "contentChanges": changes})
+        want("the faults of a changed text", server.diagnostics(URI) == server.change(other, text), (changes, text))
+        for method in ("documentSymbol", "formatting"):
+            said = [server.ask("textDocument/" + method, {"textDocument": {"uri": uri}}) for uri in (URI, other)]
+            want(method + " of a changed text", said[0].get("result") == said[1].get("result"), (changes, text))
+    server.change(URI, PROGRAM_TEXT)
+
+
+def try_stages():
+    """Before `initialize` and after `shutdown` requests are refused, and no text is taken; `exit` ends at any time."""
+    hover, begin, shut, leave = (wire.message("textDocument/hover", {}, "h"), wire.message("initialize", {}, 1), wire.message("shutdown", None, 2), wire.message("exit", None))
+    text = wire.message("textDocument/didOpen", {"textDocument": {"uri": URI, "languageId": "mmixal", "version": 1, "text": ""}})
+    for what, stream, codes, status in (
+        ("an exit at once", leave, [], 1),
+        ("before initialize", text + hover + shut + leave, [-32002, -32002], 1),
+        ("a second initialize", begin + begin + leave, [None, -32600], 1),
+        ("after shutdown", begin + shut + text + hover + shut + begin + leave, [None, None, -32600, -32600, -32600], 0),
+    ):
+        out, ended = wire.session(PROGRAM, stream)
+        want(what, [b.get("error", {}).get("code") for b in wire.bodies(out)[0]] == codes and ended == status, (out, ended))
+
+
+def reached(line, column):
+    """The front of a line up to a column in units of UTF-16, and not within a character."""
+    front = ""
+    for character in line:
+        if units(front) >= column:
+            return front
+        front += character
+    return front
+
+
 PROGRAM_TEXT = """\tLOC #100
 Size\tIS 10
 Main\tSETL $1,Size
@@ -141,12 +193,11 @@ def main():
     changes = server.ask("textDocument/formatting", {"textDocument": {"uri": URI}, "options": {}})
     rows = edited(PROGRAM_TEXT, changes["result"]).splitlines()
     want("the columns", rows[:2] + rows[6:] == ["        LOC   #100", "Size    IS    10", "2H      TRAP  0,Halt,0        end"], rows)
+    try_changes(server)
     want("places beyond a line", "error" not in server.at("hover", URI, 3, 1000) and "error" not in server.at("hover", URI, 1000, 0))
     want("no such request", server.ask("workspace/none", {})["error"]["code"] == -32601)
     want("the end", server.end() == 0)
-    stream = wire.message("initialize", {}, 1) + wire.message("shutdown", None, 2) + wire.message("textDocument/hover", {}, 3)
-    out, status = wire.session(PROGRAM, stream + wire.message("exit", None))
-    want("after shutdown", [b.get("error", {}).get("code") for b in wire.bodies(out)[0]] == [None, None, -32600] and status == 0, out)
+    try_stages()
     for bad in (b"Content-Type: x\r\n\r\n{}", b"Content-Length: 67108865\r\n\r\n", wire.frame(b"{"), b"x" * 5000):
         out, status = wire.session(PROGRAM, bad)
         want("no message", wire.bodies(out)[0][0]["error"]["code"] == -32700 and status == 1, out)

@@ -2,9 +2,8 @@
 
 ghost use Rattle.std.specs.Prelude.{◌≡◌, ◌++◌, [], IfOk, is_some};
 ghost use Rattle.std.specs.List.{list_any};
-ghost use Rattle.mx_face.specs.Pages.{FaultsOnlyBy, IsOfView, page_put, shown_file};
+ghost use Rattle.mx_face.specs.Pages.{FaultsOnlyBy, IsOfView, Shows, page_put, shown_file};
 ghost use Rattle.mx_face.specs.Visible.{visible_text as shown_text};
-ghost use Rattle.mx_host.specs.Keeping.{Answers};
 ghost use Rattle.mx_view.specs.Listing.{refusal_in};
 ghost use Rattle.mx_view.specs.Refusals.{faults_in, faults_of};
 ghost use Rattle.face_check.specs.CheckPages as spec;
@@ -238,7 +237,7 @@ fn show_check<H: Host>(
     name: &[u8],
     source: &[u8],
 ) -> Outcome
-    ensures told { Answers (H.told host.old) (H.told host.new) Outcome.OutOfMemory result
+    ensures told { Shows H.told host.old host.new result
         (λ m. page_put (spec.check_page form no_warnings name.now source.now) m) }
     ensures causes { FaultsOnlyBy H.told H.faults host.old host.new result }
 {
@@ -258,7 +257,7 @@ pub fn check<H: Host>(
     no_warnings: bool,
     name: &[u8],
 ) -> Outcome
-    ensures told { Answers (H.told host.old) (H.told host.new) Outcome.OutOfMemory result
+    ensures told { Shows H.told host.old host.new result
         (λ m. shown_file (spec.check_page form no_warnings name.now) name.now m) }
     ensures causes { FaultsOnlyBy H.told H.faults host.old host.new result }
 {

@@ -7,9 +7,8 @@ use Rattle.mx_host.specs.HostAnswer.{Then}
 use Rattle.mx_plan.specs.Wild.{meets_wild, ends}
 use Rattle.mx_run.specs.WildRuns.{MachineKind, window_machine, list_machine}
 use Rattle.mx_begin.specs.Arguments.{Word, arguments, word_at}
-use Rattle.mx_count.specs.Runs.{CountAnswer, data_of, in_form, mapped, source_counted}
+use Rattle.mx_count.specs.Runs.{CountAnswer, by_lines, by_text, source_counted}
 use Rattle.mx_count.specs.declared.count.Counted.{Counted}
-use Rattle.mx_count.specs.declared.counts.Form.TheVariants.{Octas, Text}
 use Rattle.mx_count.specs.declared.lines.CountedLines.{CountedLines}
 use Rattle.mx_face.specs.Pages.{page_put}
 use Rattle.mx_face.specs.declared.page.Page.{Page}
@@ -69,8 +68,8 @@ page_after page (meets_wild m) = meets_wild m
 
 -- a source is run with these arguments and counted, and that is shown as a table or as a line of JSON
 unfoldable pub shown_source : Bool → MachineKind → Order → List (List ℕ) → List ℕ → HostModel → Answer
-shown_source false kind o given source m = page_after sheet_page (source_counted kind o given (in_form Text source) source m)
-shown_source true kind o given source m = page_after json_page (mapped (data_of source) (source_counted kind o given (in_form Octas source) source m))
+shown_source false kind o given source m = page_after sheet_page (source_counted kind o given (by_text source) source m)
+shown_source true kind o given source m = page_after json_page (source_counted kind o given (by_lines source) source m)
 
 -- and so is an object
 unfoldable pub shown_object : Bool → MachineKind → Order → List (List ℕ) → List ℕ → HostModel → Answer
@@ -95,6 +94,10 @@ shown_count is_json kind o name given m = shown_after is_json kind o given (file
 -- machine they are, up to what is wild
 abbrev pub AnswersByKind : Option HostModel → Option HostModel → Outcome → (MachineKind → HostModel → Answer) → Type 0
 AnswersByKind old new result f = AnswersAs old new result (f window_machine) × AnswersAsList old new result (f list_machine)
+
+-- the same of a host: `told` is what it tells, `old` and `new` are the host before and after
+abbrev pub ShowsByKind : {H : Type 0} → (H → Option HostModel) → H → H → Outcome → (MachineKind → HostModel → Answer) → Type 0
+ShowsByKind told old new result f = AnswersByKind (told old) (told new) result f
 
 -- the words after `count`: whether `--json` is the first, and those that follow it
 abbrev pub is_json_word : Word → Bool

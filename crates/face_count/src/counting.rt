@@ -3,11 +3,10 @@
 ghost use Rattle.std.specs.Prelude.{◌≡◌, ◌≢◌, ◌<◌, ◌≤◌, false, length, map, string_bytes, true};
 ghost use Rattle.mx_begin.specs.Arguments.{arguments, word_at};
 ghost use Rattle.mx_count.specs.Runs.{AreArguments};
-ghost use Rattle.mx_face.specs.Pages.{FaultsOnlyBy, FaultsOnward, IsOfView, page_put};
-ghost use Rattle.mx_host.specs.Keeping.{Answers};
+ghost use Rattle.mx_face.specs.Pages.{FaultsOnlyBy, FaultsOnward, IsOfView, Shows, page_put};
 ghost use Rattle.face_count.specs.CountPages as spec;
 ghost use Rattle.mx_outcome.specs.Kinds.{is_usage};
-ghost use Rattle.face_count.specs.CountPages.{AnswersByKind, CountsOrder};
+ghost use Rattle.face_count.specs.CountPages.{CountsOrder, ShowsByKind};
 
 use crate::pages::{
     object_json_page, object_table_page, put_made, source_json_page, source_table_page,
@@ -35,7 +34,7 @@ fn show_source<H: Host>(
     given: &[Bytes],
 ) -> Outcome
     requires { AreArguments given.now }
-    ensures told { AnswersByKind (H.told host.old) (H.told host.new) result
+    ensures told { ShowsByKind H.told host.old host.new result
         (λ kind m. spec.shown_source is_json kind order.now given.now source.now m) }
     ensures causes { FaultsOnlyBy H.told H.faults host.old host.new result }
 {
@@ -58,7 +57,7 @@ fn show_object<H: Host>(
     given: &[Bytes],
 ) -> Outcome
     requires { AreArguments given.now }
-    ensures told { AnswersByKind (H.told host.old) (H.told host.new) result
+    ensures told { ShowsByKind H.told host.old host.new result
         (λ kind m. spec.shown_object is_json kind order.now given.now bytes.now m) }
     ensures causes { FaultsOnlyBy H.told H.faults host.old host.new result }
 {
@@ -79,7 +78,7 @@ fn show_bytes<H: Host>(
     given: &[Bytes],
 ) -> Outcome
     requires { AreArguments given.now }
-    ensures told { AnswersByKind (H.told host.old) (H.told host.new) result
+    ensures told { ShowsByKind H.told host.old host.new result
         (λ kind m. spec.shown_bytes is_json kind order.now given.now bytes.now m) }
     ensures causes { FaultsOnlyBy H.told H.faults host.old host.new result }
 {
@@ -91,8 +90,7 @@ fn show_bytes<H: Host>(
 
 /// Shows that a file is not read.
 fn show_unread<H: Host>(alloc: Global, host: &mut H, is_json: bool, outcome: Outcome) -> Outcome
-    ensures told { Answers (H.told host.old) (H.told host.new) Outcome.OutOfMemory result
-        (λ m. page_put (spec.unread_page is_json outcome) m) }
+    ensures told { Shows H.told host.old host.new result (λ m. page_put (spec.unread_page is_json outcome) m) }
     ensures lacking { outcome ≡ Outcome.OutOfMemory → result ≡ Outcome.OutOfMemory }
     ensures onward { FaultsOnward H.told H.faults host.old host.new outcome result }
 {
@@ -110,7 +108,7 @@ fn show_file<H: Host>(
     given: &[Bytes],
 ) -> Outcome
     requires { AreArguments given.now }
-    ensures told { AnswersByKind (H.told host.old) (H.told host.new) result
+    ensures told { ShowsByKind H.told host.old host.new result
         (λ kind m. spec.shown_count is_json kind order.now name.now given.now m) }
     ensures causes { FaultsOnlyBy H.told H.faults host.old host.new result }
 {
@@ -130,7 +128,7 @@ fn count_ordered<H: Host>(
 ) -> Outcome
     requires file { order.now.file < length words.now }
     requires rest { order.now.rest ≤ length words.now }
-    ensures told { AnswersByKind (H.told host.old) (H.told host.new) result
+    ensures told { ShowsByKind H.told host.old host.new result
         (λ kind m. spec.shown_count is_json kind order.now (word_at (map string_bytes words.now) order.now.file)
         (arguments (map string_bytes words.now) order.now) m) }
     ensures causes { FaultsOnlyBy H.told H.faults host.old host.new result }

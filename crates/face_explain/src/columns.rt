@@ -4,6 +4,7 @@ ghost use Rattle.std.specs.Prelude.{◌≡◌, ◌++◌, ◌-◌, IfOk, OnOk, le
 ghost use Rattle.std.specs.List.{flat_map};
 ghost use Rattle.mx_explain.specs.Topics.{row, seen};
 ghost use Rattle.face_explain.specs.Lists as spec;
+ghost use Rattle.face_explain.specs.Lists.{cells};
 ghost use Rattle.face_explain.specs.Tables as tables;
 
 use crate::sections::{Part, Section, all, part_of};
@@ -68,7 +69,7 @@ fn add_cells(
     width: usize,
     most: usize,
 ) -> Result<(), NoMemory>
-    ensures { OnOk result (text.new ≡ text.old ++ spec.cells (λ e. row e.0 e.1.now e.2.now e.3.now e.4.now) width most most entries.now) }
+    ensures { OnOk result (text.new ≡ text.old ++ cells (λ e. row e.0 e.1.now e.2.now e.3.now e.4.now) width most most entries.now) }
 {
     let mut left = most;
     let mut rest = entries;

@@ -3,6 +3,7 @@
 ghost use Rattle.std.specs.Prelude.{◌≡◌, map};
 ghost use Rattle.mx_explain.specs.Topics.{row};
 ghost use Rattle.face_explain.specs.Tables as spec;
+ghost use Rattle.face_explain.specs.Tables.{seen_part};
 
 use mx_explain::{
     Entry, event_rows, file_rows, more_register_rows, other_rows, pseudo_rows, register_rows,
@@ -116,7 +117,7 @@ pub(crate) fn all() -> &'static [Section]
 
 /// A section of numbers with their names.
 fn numbers_section(title: &'static str, entries: &'static [Entry]) -> Part
-    ensures { spec.seen_part result ≡ spec.numbers_section title.now (map (λ e. row e.0 e.1.now e.2.now e.3.now e.4.now) entries.now) }
+    ensures { seen_part result ≡ spec.numbers_section title.now (map (λ e. row e.0 e.1.now e.2.now e.3.now e.4.now) entries.now) }
 {
     Part {
         title,
@@ -128,7 +129,7 @@ fn numbers_section(title: &'static str, entries: &'static [Entry]) -> Part
 
 /// A section of operations or registers.
 fn operations_section(title: &'static str, entries: &'static [Entry]) -> Part
-    ensures { spec.seen_part result ≡ spec.operations_section title.now (map (λ e. row e.0 e.1.now e.2.now e.3.now e.4.now) entries.now) }
+    ensures { seen_part result ≡ spec.operations_section title.now (map (λ e. row e.0 e.1.now e.2.now e.3.now e.4.now) entries.now) }
 {
     Part {
         title,
@@ -140,7 +141,7 @@ fn operations_section(title: &'static str, entries: &'static [Entry]) -> Part
 
 /// A section of symbols.
 fn symbols_section(title: &'static str, entries: &'static [Entry]) -> Part
-    ensures { spec.seen_part result ≡ spec.symbols_section title.now (map (λ e. row e.0 e.1.now e.2.now e.3.now e.4.now) entries.now) }
+    ensures { seen_part result ≡ spec.symbols_section title.now (map (λ e. row e.0 e.1.now e.2.now e.3.now e.4.now) entries.now) }
 {
     Part {
         title,
@@ -152,7 +153,7 @@ fn symbols_section(title: &'static str, entries: &'static [Entry]) -> Part
 
 /// What a section has.
 pub(crate) fn part_of(section: Section) -> Part
-    ensures { spec.seen_part result ≡ spec.part_of section }
+    ensures { seen_part result ≡ spec.part_of section }
 {
     match section {
         Section::Lines => numbers_section("Faults of a line", line_rows()),

@@ -35,7 +35,7 @@ impl Answering for Server {
 
     fn refuse_header(&mut self, alloc: Global) -> Result<Reply, NoMemory> {
         let mut bodies = Bodies::new(alloc);
-        let flow = no_header(alloc, &mut bodies)?;
+        let flow = no_header(alloc, &self.session, &mut bodies)?;
         Ok(Reply {
             flow: next_after(flow),
             bodies,

@@ -37,7 +37,7 @@ line_json l =
     object_of l.text ++ codes "\"cells\":" ++ array cell_json l.cells ++ codes ",\"line\":" ++ decimal l.number
     ++ codes ",\"text\":" ++ string l.text ++ codes "}"
 
--- what a symbol stands for: an octa as `#` and 16 digits, or a register as `$` and its number
+-- what a symbol means: an octa as `#` and 16 digits, or a register as `$` and its number
 unfoldable pub value_json : Value → List ℕ
 value_json (Pure octa) = address_json octa
 value_json (Reg register) = quoted (codes "$" ++ decimal register)

@@ -1,8 +1,7 @@
 //! Addresses.
 
 ghost use Rattle.std.specs.Prelude.{◌≡◌};
-ghost use Rattle.mx_face.specs.Pages.{FaultsOnlyBy, remarked};
-ghost use Rattle.mx_host.specs.Keeping.{Answers};
+ghost use Rattle.mx_face.specs.Pages.{FaultsOnlyBy, Shows, remarked};
 ghost use Rattle.face_source.specs.SourcePages as spec;
 
 use mx_face::add_remark;
@@ -25,8 +24,7 @@ pub fn read_address(text: &str) -> Option<u64> {
 /// Says on standard error what an address is, and answers that the words are at fault.
 #[tactic(auto, unfolding(crate::specs::SourcePages::address_refused))]
 pub fn refuse_address<H: Host>(host: &mut H) -> Outcome
-    ensures told { Answers (H.told host.old) (H.told host.new) Outcome.OutOfMemory result
-        (λ m. remarked spec.no_address spec.address_refused m) }
+    ensures told { Shows H.told host.old host.new result (λ m. remarked spec.no_address spec.address_refused m) }
     ensures causes { FaultsOnlyBy H.told H.faults host.old host.new result }
 {
     let fault = WordsFault { kind: 5, word: 1 };

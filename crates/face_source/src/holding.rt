@@ -1,8 +1,7 @@
 //! The lines or the tetra of an address.
 
 ghost use Rattle.std.specs.Prelude.{◌≡◌, ◌++◌, IfOk, OnOk, true};
-ghost use Rattle.mx_face.specs.Pages.{FaultsOnlyBy, IsOfView, page_put};
-ghost use Rattle.mx_host.specs.Keeping.{Answers};
+ghost use Rattle.mx_face.specs.Pages.{FaultsOnlyBy, IsOfView, Shows, page_put};
 ghost use Rattle.mx_view.specs.Listing.{lines_listed, refusal_in};
 ghost use Rattle.mx_view.specs.declared.cells.Wanted.TheVariants.{Holding};
 ghost use Rattle.face_source.specs.SourceJson.{holding_json};
@@ -171,8 +170,7 @@ fn show_lines<H: Host>(
     address: u64,
     bytes: &[u8],
 ) -> Outcome
-    ensures told { Answers (H.told host.old) (H.told host.new) Outcome.OutOfMemory result
-        (λ m. page_put (where_view is_json address bytes.now) m) }
+    ensures told { Shows H.told host.old host.new result (λ m. page_put (where_view is_json address bytes.now) m) }
     ensures causes { FaultsOnlyBy H.told H.faults host.old host.new result }
 {
     match where_view(alloc, is_json, address, bytes) {
@@ -191,8 +189,7 @@ pub fn find_lines<H: Host>(
     address: u64,
     name: &[u8],
 ) -> Outcome
-    ensures told { Answers (H.told host.old) (H.told host.new) Outcome.OutOfMemory result
-        (λ m. shown_view (where_view is_json address) name.now m) }
+    ensures told { Shows H.told host.old host.new result (λ m. shown_view (where_view is_json address) name.now m) }
     ensures causes { FaultsOnlyBy H.told H.faults host.old host.new result }
 {
     match read_view(alloc, host, name) {

@@ -117,7 +117,7 @@ pub fn add_lines(alloc: Global, text: &mut Bytes, lines: &[ListedLine]) -> Resul
     }
 }
 
-/// Adds what a symbol stands for.
+/// Adds what a symbol means.
 #[tactic(auto, unfolding(crate::specs::SourceJson::value_json))]
 fn add_value(text: &mut Bytes, value: Value) -> Result<(), NoMemory>
     ensures { OnOk result (text.new ≡ text.old ++ spec.value_json value) }

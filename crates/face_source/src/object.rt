@@ -53,7 +53,7 @@ fn refusal_page(alloc: Global, place: u64, fault: u16) -> Result<Page, NoMemory>
 }
 
 /// What is shown where all is done.
-fn done_page(text: Bytes, remark: Bytes) -> Page
+fn make_done_page(text: Bytes, remark: Bytes) -> Page
     ensures page { result ≡ record { text = text; remark = remark; outcome = Outcome.Done 0 } }
     ensures view { IsOfView result.outcome }
 {
@@ -70,7 +70,7 @@ fn listing_page(alloc: Global, listed: &ListedObject) -> Result<Page, NoMemory>
     ensures view { IfOk result (λ page. IsOfView page.outcome) }
 {
     let text = format_listing(alloc, listed)?;
-    Ok(done_page(text, Bytes::new(alloc)))
+    Ok(make_done_page(text, Bytes::new(alloc)))
 }
 
 /// The listing of an object, or why it is refused.
@@ -132,7 +132,7 @@ fn tetra_page(alloc: Global, address: u64, found: &Option<FoundTetra>) -> Result
 {
     let text = format_found(alloc, found)?;
     let remark = remark(alloc, address, found)?;
-    Ok(done_page(text, remark))
+    Ok(make_done_page(text, remark))
 }
 
 /// The tetra that holds an address, or why the object is refused.

@@ -12,7 +12,7 @@ use Rattle.mx_run.specs.Runs.{no_flags}
 use Rattle.mx_run.specs.WildRuns.{MachineKind, run_by}
 use Rattle.mx_run.specs.declared.end.End.TheVariants.{Halted}
 use Rattle.mx_words.specs.declared.order.Command.{Command}
-use Rattle.mx_words.specs.declared.order.Command.TheVariants.{Run, Asm, Sim, Gen}
+use Rattle.mx_words.specs.declared.order.Command.TheVariants.{Asm, Gen}
 use Rattle.mx_words.specs.declared.order.Order.{Order}
 use Rattle.mx_asm.specs.OnePass.{Ended}
 use Rattle.mx_asm.specs.Pages.{run_refusal, run_refusal_with, page_refusal, accepted_in}
@@ -23,12 +23,13 @@ use Rattle.mx_asm.specs.declared.refused.Refused.{Refused}
 use Rattle.mx_asm.proofs.InTurn.{source-accepted}
 use Rattle.mx_files.specs.Answers.{Answer, plainly, after_lines}
 use Rattle.mx_begin.specs.Arguments.{Word, word_at, arguments}
-use Rattle.mx_begin.specs.Begun.{assembled, loaded, started}
+use Rattle.mx_begin.specs.Begun.{most_pieces, started}
+use Rattle.mx_begin.specs.declared.images.Form.{Form}
 use Rattle.mx_begin.specs.declared.images.Form.TheVariants.{Source, Object}
 use Rattle.mx_dump.specs.Dump.{dump_lines}
-use Rattle.law_gen.specs.Generator.{generated, summary}
-use Rattle.law_gen.specs.Program.{generated_image}
-use Rattle.law_gen.proofs.Meaning.{not-refused-run, statements-of}
+use Rattle.mx_gen.specs.Generator.{generated, summary}
+use Rattle.mx_gen.specs.Program.{generated_image}
+use Rattle.mx_gen.proofs.Meaning.{not-refused-run, statements-of}
 use Rattle.mx_words.proofs.OrderedBlocks.{order-few}
 use Rattle.mx_files.specs.Writing.{lines_put}
 use Rattle.mx_files.specs.Objects.{source_object}
@@ -36,6 +37,7 @@ use Rattle.mx_files.specs.Objects as assembling
 use Rattle.mx_files.specs.ObjectPlans.{assemble_plan}
 use Rattle.mx_files.specs.Assembling.{refused_with, assembled_outcome}
 use Rattle.mx_files.proofs.FileEnds.{assembled-by}
+use Rattle.mx_files.specs.Source.{file_bytes}
 use Rattle.mx_files.specs.Sources.{source_meaning, meaning_unless}
 use Rattle.mx_files.specs.declared.refusal.Refusal.{Refusal}
 use Rattle.mx_outcome.specs.Kinds.{leaves_machine}
@@ -44,7 +46,7 @@ use Rattle.mx_outcome.specs.declared.outcome.Outcome.TheVariants.{Done}
 use Rattle.mx_top.specs.Endings.{dumped_plan, summed_plan}
 use Rattle.mx_top.specs.MachineWork as work
 use Rattle.mx_top.specs.MachineWork.{machine_plan, generated_work}
-use Rattle.mx_top.specs.Product.{on_host, run_on, run_source, run_text, taking, ordered_plan, work_plan, work_on, at_start, answer_of, product}
+use Rattle.mx_top.specs.Product.{host_in_program, run_on, run_source, run_text, taking, ordered_plan, work_plan, work_on, at_start, answer_of, product}
 use Rattle.mx_top.specs.Runs.{generator_steps}
 use Rattle.mx_top.specs.Telling.{telling, with_message}
 use Rattle.mx_top.specs.WorkClauses.{answer_by, work_by}
@@ -53,7 +55,7 @@ use Rattle.mx_top.proofs.Spoken.{plain-so, product-is-said}
 use Rattle.mx_top.proofs.Told.{done-said}
 use Rattle.mx_top.proofs.WorkParts.{run-on}
 use Rattle.mx_top.proofs.WorkPlans.{host-course, taking-course}
-use Rattle.law_runs.specs.Complete.{IsOrdered, HasSource, HasObject, IsStarted, IsHalted, IsPlayed, IsWritten, IsGenerated, image_answer, session_answer}
+use Rattle.law_runs.specs.Complete.{IsOrdered, HasProgram, IsStarted, IsHalted, IsPlayed, IsWritten, IsGenerated, command_for, image_answer, session_answer}
 use Rattle.law_runs.proofs.MachineAnswers.{run_answer, run-answers, session_told, machine_by, machine-answer, sitting-answer, halted-answer, telling-end, dumped-end}
 use Rattle.law_runs.proofs.ReadRuns.{image_ran, file_ran, file-read, image-course}
 
@@ -66,22 +68,21 @@ order-is kind words o c m h =
     ∙ ap (λ d. with_message (answer_by kind (ordered_plan words o d) m)) h.command
 
 -- a plan of the host alone
-pub host-answer : (kind : MachineKind) (p : HostPlan Outcome) (m : HostModel) → answer_by kind (on_host p) m ≡ plainly (end_of host p m)
+pub host-answer : (kind : MachineKind) (p : HostPlan Outcome) (m : HostModel) → answer_by kind (host_in_program p) m ≡ plainly (end_of host p m)
 host-answer kind p m = ap answer_of (host-course kind p (m, [])) ∙ plain-so (end_of host p m)
 
-pub source-run : (kind : MachineKind) (words : List Word) (o : Order) (image : Image) (m begun : HostModel) → HasSource words o image m begun →
-    product kind words m ≡ with_message (image_answer kind o (arguments words o) image begun)
+-- a source or an object
+ordered-run : (kind : MachineKind) (words : List Word) (o : Order) (form : Form) (m : HostModel) →
+    answer_by kind (ordered_plan words o (command_for form)) m ≡ file_ran kind o (arguments words o) form (file_bytes (most_pieces form) (word_at words o.file) m)
 unfolding ordered_plan
-source-run kind words o image m begun h =
-    order-is kind words o Run m h.ordered
-    ∙ ap with_message (file-read kind words o Source m ∙ ap (file_ran kind o (arguments words o) Source) h.read ∙ ap (λ r. image_ran kind o (arguments words o) r begun) (ap assembled h.means))
+ordered-run kind words o Source m = file-read kind words o Source m
+ordered-run kind words o Object m = file-read kind words o Object m
 
-pub object-run : (kind : MachineKind) (words : List Word) (o : Order) (image : Image) (m begun : HostModel) → HasObject words o image m begun →
+pub program-run : (kind : MachineKind) (words : List Word) (o : Order) (form : Form) (image : Image) (m begun : HostModel) → HasProgram words o form image m begun →
     product kind words m ≡ with_message (image_answer kind o (arguments words o) image begun)
-unfolding ordered_plan
-object-run kind words o image m begun h =
-    order-is kind words o Sim m h.ordered
-    ∙ ap with_message (file-read kind words o Object m ∙ ap (file_ran kind o (arguments words o) Object) h.read ∙ ap (λ r. image_ran kind o (arguments words o) r begun) (ap loaded h.loads))
+program-run kind words o form image m begun h =
+    order-is kind words o (command_for form) m h.ordered
+    ∙ ap with_message (ordered-run kind words o form m ∙ ap (file_ran kind o (arguments words o) form) h.read ∙ ap (λ r. image_ran kind o (arguments words o) r begun) h.means)
 
 -- ---- the machine
 

@@ -42,14 +42,16 @@ use Rattle.mx_files.specs.Source.{file_bytes}
 use Rattle.mx_files.specs.Writing.{was_put, lines_put}
 use Rattle.mx_files.proofs.FileEnds.{then_carried, no-lines, line-by}
 use Rattle.mx_begin.specs.Arguments.{Word, word_at, arguments}
+use Rattle.mx_begin.specs.Begun.{most_pieces}
+use Rattle.mx_begin.specs.declared.images.Form.{Form}
 use Rattle.mx_outcome.specs.declared.outcome.Outcome.{Outcome}
 use Rattle.mx_outcome.specs.declared.outcome.Outcome.TheVariants.{Done}
 use Rattle.mx_top.specs.Product.{ordered_plan, product}
 use Rattle.mx_top.specs.Telling.{with_message}
 use Rattle.mx_top.proofs.Told.{done-said}
-use Rattle.law_runs.specs.Complete.{IsOrdered, IsThere, SourceIsThere, ObjectIsThere, image_answer, with_output}
+use Rattle.law_runs.specs.Complete.{IsOrdered, IsThere, ProgramIsThere, image_answer, with_output}
 use Rattle.law_runs.specs.Detour.{answer_unscheduled}
-use Rattle.law_runs.proofs.Completed.{order-is, host-answer, source-run, object-run}
+use Rattle.law_runs.proofs.Completed.{order-is, host-answer, program-run}
 use Rattle.law_runs.proofs.IdleFiles.{idle, file-idle, assembled-idle}
 use Rattle.law_runs.proofs.SteadyFiles.{lines-steady}
 
@@ -143,16 +145,11 @@ session-left kind steps s m e w well slots h =
 
 -- ---- running
 
-pub source-still : (kind : MachineKind) (words : List Word) (o : Order) (image : Image) (m : HostModel) → SourceIsThere words o image m →
+pub program-still : (kind : MachineKind) (words : List Word) (o : Order) (form : Form) (image : Image) (m : HostModel) → ProgramIsThere words o form image m →
     product kind words (still m) ≡ with_message (image_answer kind o (arguments words o) image (still m))
-source-still kind words o image m h =
-    source-run kind words o image (still m) (still m) (record { ordered = h.ordered; text = h.text; read = there-read (word_at words o.file) 1025 h.text m h.there; means = h.means })
-
-pub object-still : (kind : MachineKind) (words : List Word) (o : Order) (image : Image) (m : HostModel) → ObjectIsThere words o image m →
-    product kind words (still m) ≡ with_message (image_answer kind o (arguments words o) image (still m))
-object-still kind words o image m h =
-    object-run kind words o image (still m) (still m)
-    (record { ordered = h.ordered; object = h.object; symbols = h.symbols; read = there-read (word_at words o.file) 16385 h.object m h.there; loads = h.loads })
+program-still kind words o form image m h =
+    program-run kind words o form image (still m) (still m)
+    (record { ordered = h.ordered; bytes = h.bytes; read = there-read (word_at words o.file) (most_pieces form) h.bytes m h.there; means = h.means })
 
 -- ---- assembling
 

@@ -57,6 +57,7 @@ use Rattle.mx_files.specs.Assembling.{assembled_outcome}
 use Rattle.mx_files.proofs.FileEnds.{assembled-later}
 use Rattle.mx_top.specs.MachineWork.{Work, WorkCall, of_host, stepping, reporting, keeping, sitting as sitting_call, work_goes, machine_plan, back_plan}
 use Rattle.mx_top.specs.Product.{ordered_plan, work_plan, work_on, worked, at_start, answer_of, product}
+use Rattle.mx_begin.specs.Ends.{outcome_of}
 use Rattle.mx_top.specs.Runs as runs
 use Rattle.mx_top.specs.Telling.{message_plan, with_message}
 use Rattle.mx_top.specs.WorkClauses.{answer_by}
@@ -77,16 +78,16 @@ use Rattle.law_runs.proofs.ReadRuns.{image_ran, file_ran, file-read, image-cours
 
 -- ---- words
 
-word-behind : (front : List Word) (word : Word) (back : List Word) → word_at (front ++ word ∷ back) (length front) ≡ word
-word-behind front word back = unwrap_or-slice_get (front ++ word ∷ back) (length front) [] ∙ get_or-append_seam front word back []
+word-after : (front : List Word) (word : Word) (back : List Word) → word_at (front ++ word ∷ back) (length front) ≡ word
+word-after front word back = unwrap_or-slice_get (front ++ word ∷ back) (length front) [] ∙ get_or-append_seam front word back []
 
-file-behind : (command : Word) (options : List Word) (file : Word) (rest : List Word) (place : ℕ) → place ≡ length options + 1 → word_at (command ∷ options ++ file ∷ rest) place ≡ file
-file-behind command options file rest place e =
+file-after : (command : Word) (options : List Word) (file : Word) (rest : List Word) (place : ℕ) → place ≡ length options + 1 → word_at (command ∷ options ++ file ∷ rest) place ≡ file
+file-after command options file rest place e =
     let size : place ≡ length (command ∷ options) = omega (arith, e) in
-    ap (word_at (command ∷ options ++ file ∷ rest)) size ∙ word-behind (command ∷ options) file rest
+    ap (word_at (command ∷ options ++ file ∷ rest)) size ∙ word-after (command ∷ options) file rest
 
-rest-behind : (command : Word) (options : List Word) (file : Word) (rest : List Word) (place : ℕ) → place ≡ length options + 2 → drop place (command ∷ options ++ file ∷ rest) ≡ rest
-rest-behind command options file rest place e =
+rest-after : (command : Word) (options : List Word) (file : Word) (rest : List Word) (place : ℕ) → place ≡ length options + 2 → drop place (command ∷ options ++ file ∷ rest) ≡ rest
+rest-after command options file rest place e =
     let front : List Word = (command ∷ options) ++ file ∷ [] in
     let size : place ≡ length front = omega (arith, e, length-append (command ∷ options) (file ∷ [])) in
     ap (drop place) (sym (append_assoc (command ∷ options) (file ∷ []) rest)) ∙ ap (λ n. drop n (front ++ rest)) size ∙ drop_at front rest (length front) refl
@@ -102,8 +103,8 @@ run-is kind options source rest o m e f r =
     product-is-said kind words m
     ∙ ap (λ t. with_message (answer_by kind (work_plan words t) m)) e
     ∙ ap with_message (file-read kind words order Source m)
-    ∙ ap (λ (w : Word). with_message (file_ran kind order (program_name w ∷ drop o.rest words) Source (file_bytes 1025 w m))) (file-behind (codes "run") options source rest o.file f)
-    ∙ ap (λ (ws : List Word). with_message (file_ran kind order (program_name source ∷ ws) Source (file_bytes 1025 source m))) (rest-behind (codes "run") options source rest o.rest r)
+    ∙ ap (λ (w : Word). with_message (file_ran kind order (program_name w ∷ drop o.rest words) Source (file_bytes 1025 w m))) (file-after (codes "run") options source rest o.file f)
+    ∙ ap (λ (ws : List Word). with_message (file_ran kind order (program_name source ∷ ws) Source (file_bytes 1025 source m))) (rest-after (codes "run") options source rest o.rest r)
 
 sim-is : (kind : MachineKind) (options : List Word) (object : Word) (rest : List Word) (o : Order) (m : HostModel) → order_of (sim_words options object rest) ≡ Ok (record o { command = Sim }) →
     o.file ≡ length options + 1 → o.rest ≡ length options + 2 →
@@ -115,8 +116,8 @@ sim-is kind options object rest o m e f r =
     product-is-said kind words m
     ∙ ap (λ t. with_message (answer_by kind (work_plan words t) m)) e
     ∙ ap with_message (file-read kind words order Object m)
-    ∙ ap (λ (w : Word). with_message (file_ran kind order (program_name w ∷ drop o.rest words) Object (file_bytes 16385 w m))) (file-behind (codes "sim") options object rest o.file f)
-    ∙ ap (λ (ws : List Word). with_message (file_ran kind order (program_name object ∷ ws) Object (file_bytes 16385 object m))) (rest-behind (codes "sim") options object rest o.rest r)
+    ∙ ap (λ (w : Word). with_message (file_ran kind order (program_name w ∷ drop o.rest words) Object (file_bytes 16385 w m))) (file-after (codes "sim") options object rest o.file f)
+    ∙ ap (λ (ws : List Word). with_message (file_ran kind order (program_name object ∷ ws) Object (file_bytes 16385 object m))) (rest-after (codes "sim") options object rest o.rest r)
 
 -- ---- messages
 
@@ -199,31 +200,31 @@ module _ (files : List StoredFile) (slots : List Slot) (m : HostModel) (source o
   abbrev last : List Slot
   last = slice_set (slice_set slots 256 Closed) 257 Closed
 
-  abbrev behind : HostModel
-  behind = idle others (slice_set last 256 Closed) m
+  abbrev following : HostModel
+  following = idle others (slice_set last 256 Closed) m
 
   long : 256 < length last
   long = rw (length-set (slice_set slots 256 Closed) 257 Closed, length-set slots 256 Closed) h
 
   -- the source is read as before
   source-left : (kind : MachineKind) (o : Order) (args : List Word) → bytes_eq source object ≡ false →
-      file_ran kind o args Source (file_bytes 1025 source a) ≡ image_ran kind o args (assembled (source_meaning text)) behind
+      file_ran kind o args Source (file_bytes 1025 source a) ≡ image_ran kind o args (assembled (source_meaning text)) following
   source-left kind o args apart =
       let differ : bytes_eq object source ≡ false = nat_list_eq_equiv.symm object source ∙ apart in
       let same : bytes_at others known.at ≡ bytes_at files known.at = bytes-other files object bytes source known.at place differ known.there refl in
       let there : place_of others source ≡ Some known.at = place-other files object bytes source place differ (lies files object) ∙ known.there in
       ap (λ n. file_ran kind o args Source (file_bytes 1025 source n)) known.left
       ∙ ap (file_ran kind o args Source) (file-idle 1025 others last m source known.at long there)
-      ∙ ap (λ xs. image_ran kind o args (assembled (source_meaning xs)) behind) (ap (take (4096 * 1025)) same ∙ known.read)
+      ∙ ap (λ xs. image_ran kind o args (assembled (source_meaning xs)) following) (ap (take (4096 * 1025)) same ∙ known.read)
 
   -- and the object as it was written
   object-left : (kind : MachineKind) (o : Order) (args : List Word) → length bytes ≤ 2 ^ 26 →
-      file_ran kind o args Object (file_bytes 16385 object a) ≡ image_ran kind o args (loaded (object_loaded bytes)) behind
+      file_ran kind o args Object (file_bytes 16385 object a) ≡ image_ran kind o args (loaded (object_loaded bytes)) following
   object-left kind o args short =
       let held : bytes_at others (home files place) ≡ bytes = at-home files object bytes place (lies files object) in
       ap (λ n. file_ran kind o args Object (file_bytes 16385 object n)) known.left
       ∙ ap (file_ran kind o args Object) (file-idle 16385 others last m object (home files place) long (place-home files object bytes place refl (lies files object)))
-      ∙ ap (λ xs. image_ran kind o args (loaded (object_loaded xs)) behind) (ap (take (4096 * 16385)) held ∙ take_all (4096 * 16385) bytes (omega arith))
+      ∙ ap (λ xs. image_ran kind o args (loaded (object_loaded xs)) following) (ap (take (4096 * 16385)) held ∙ take_all (4096 * 16385) bytes (omega arith))
 
   -- both files are read, and then the same image is run
   runs-left : (kind : MachineKind) (o : Order) (rest : List Word) → bytes_eq source object ≡ false → program_name source ≡ program_name object → (image : Image) → AreBytes text → source_meaning text ≡ Ok image →
@@ -231,10 +232,10 @@ module _ (files : List StoredFile) (slots : List Slot) (m : HostModel) (source o
       ≡ file_ran kind (record o { command = Sim }) (program_name object ∷ rest) Object (file_bytes 16385 object a)
   runs-left kind o rest apart alike image each means =
       source-left kind (record o { command = Run }) (program_name source ∷ rest) apart
-      ∙ ap (λ r. image_ran kind (record o { command = Run }) (program_name source ∷ rest) (assembled r) behind) means
-      ∙ ap (λ (w : Word). image_answer kind (record o { command = Run }) (w ∷ rest) image behind) alike
-      ∙ same-order kind o (program_name object ∷ rest) image behind
-      ∙ ap (λ r. image_ran kind (record o { command = Sim }) (program_name object ∷ rest) (loaded r) behind) (sym (source-loads text image each means))
+      ∙ ap (λ r. image_ran kind (record o { command = Run }) (program_name source ∷ rest) (assembled r) following) means
+      ∙ ap (λ (w : Word). image_answer kind (record o { command = Run }) (w ∷ rest) image following) alike
+      ∙ same-order kind o (program_name object ∷ rest) image following
+      ∙ ap (λ r. image_ran kind (record o { command = Sim }) (program_name object ∷ rest) (loaded r) following) (sym (source-loads text image each means))
       ∙ sym (object-left kind (record o { command = Sim }) (program_name object ∷ rest) (source-short text each (accepted-run text image means)))
 
 -- no call that reads the source fails, where none that assembles it does
@@ -281,7 +282,7 @@ IsUnrefused (ends outcome m) = is_refusal outcome ≡ false
 IsUnrefused (meets_wild m) = Unit {0}
 
 -- no run does, and no session
-run-unrefused : (steps : ℕ) (e : End) → is_refusal (runs.outcome_of steps e) ≡ false
+run-unrefused : (steps : ℕ) (e : End) → is_refusal (outcome_of steps e) ≡ false
 run-unrefused steps (ending.Halted status) = refl
 run-unrefused steps (ending.Stopped pc reason) = refl
 run-unrefused steps (ending.Broke kind at traced) = refl
@@ -305,7 +306,7 @@ Unrefused outcome = is_refusal outcome ≡ false
 abbrev Any : (o : HostCall) → HostSays o → Type 0
 Any o r = Unit {0}
 
-ends-unrefused : (n : ℕ) (c : Course End RunWorld) → Answers (λ e. Unrefused (runs.outcome_of n e)) c
+ends-unrefused : (n : ℕ) (c : Course End RunWorld) → Answers (λ e. Unrefused (outcome_of n e)) c
 ends-unrefused n (ends e w) = run-unrefused n e
 ends-unrefused n (meets_wild w) = tt
 
@@ -377,7 +378,7 @@ refused-detour kind options source object arguments text m after line fault from
     let run = product-steady kind (run_words options source arguments) after in
     let sim = product-steady kind (sim_words options object arguments) after in
     let order : Order = record words.order { command = Run } in
-    let back : HostModel = behind m.files m.slots m source object text (still after) (omega arith) known in
+    let back : HostModel = following m.files m.slots m source object text (still after) (omega arith) known in
     let ran-as : product kind (run_words options source arguments) (still after) ≡ with_message (image_ran kind order (program_name source ∷ arguments) (assembled (source_meaning text)) back) =
     run-is kind options source arguments words.order (still after) words.run words.file words.rest
     ∙ ap with_message (source-left m.files m.slots m source object text (still after) (omega arith) known kind order (program_name source ∷ arguments) a.apart) in

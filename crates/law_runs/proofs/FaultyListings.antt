@@ -6,7 +6,7 @@ use Rattle.std.proofs.lemmas.Bool.Decides.{nat_tests}
 use Rattle.mx_word.specs.Ranges.{AreBytes}
 use Rattle.mx_word.specs.declared.symbols.Symbol.{Symbol}
 use Rattle.mx_mmo.specs.Replies.{limit, tail_of}
-use Rattle.mx_mmo.specs.Turns.{StandFirst, phase_end}
+use Rattle.mx_mmo.specs.Turns.{ComeFirst, phase_end}
 use Rattle.mx_mmo.specs.Whole.{Left, Walk, items_of}
 use Rattle.mx_mmo.specs.declared.due.Phase.TheVariants.{Start}
 use Rattle.mx_mmo.specs.declared.faults.MmoFault.{MmoFault}
@@ -14,7 +14,7 @@ use Rattle.mx_mmo.specs.declared.faults.MmoFault.TheVariants.{TooLong}
 use Rattle.mx_mmo.specs.declared.items.Item.{Item}
 use Rattle.mx_mmo.specs.declared.items.Tail.{Tail}
 use Rattle.mx_mmo.proofs.Complete.{walk-spelled}
-use Rattle.mx_mmo.proofs.Sound.{Stands, stands}
+use Rattle.mx_mmo.proofs.Sound.{IsSoundWalk, items-sound}
 use Rattle.mx_stab.specs.Reading.{trie_answer}
 use Rattle.mx_stab.specs.declared.faults.StabFault.{StabFault}
 use Rattle.mx_type.specs.Listing.{AreLines}
@@ -25,7 +25,7 @@ use Rattle.law_runs.specs.WholeItems.{AreWholeItems}
 use Rattle.law_runs.proofs.ListedObjects.{items-joined}
 
 -- items that are first in bytes are the first that are read
-first-read : (bytes : List ℕ) (others : List Item) (taken left : List ℕ) → StandFirst Start bytes others taken left →
+first-read : (bytes : List ℕ) (others : List Item) (taken left : List ℕ) → ComeFirst Start bytes others taken left →
     (more : List Item) × ((items_of Start 0 bytes).0 ≡ others ++ more)
 first-read bytes others taken left s = (
   (items_of (phase_end Start others) (0 + length taken) left).0,
@@ -33,7 +33,7 @@ first-read bytes others taken left s = (
       ∙ ap (λ (w : Walk). w.0) (walk-spelled Start 0 left s.spelled s.turn s.specs s.ended),
 )
 
-walk-whole : (bytes : List ℕ) (w : Walk) → items_of Start 0 bytes ≡ w → Stands Start 0 bytes w → AreWholeItems bytes w.0
+walk-whole : (bytes : List ℕ) (w : Walk) → items_of Start 0 bytes ≡ w → IsSoundWalk Start 0 bytes w → AreWholeItems bytes w.0
 walk-whole bytes (items, Ok left) e s = record {
   front = s.front;
   rest = left.rest;
@@ -76,6 +76,6 @@ pub whole_items_listed : (bytes : List ℕ) → AreBytes bytes → length bytes 
 whole_items_listed bytes b l n =
     let items : List Item = (items_of Start 0 bytes).0 in (
       items,
-      walk-whole bytes (items_of Start 0 bytes) refl (stands bytes b),
+      walk-whole bytes (items_of Start 0 bytes) refl (items-sound bytes b),
       subst (AreLines items) (sym (ap concat (items-lines bytes l n) ∙ items-joined 0 items)) (items-listed items),
     )

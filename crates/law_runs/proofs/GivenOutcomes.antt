@@ -18,8 +18,9 @@ use Rattle.mx_outcome.specs.Kinds.{leaves_machine}
 use Rattle.mx_outcome.specs.declared.outcome.Outcome.{Outcome}
 use Rattle.mx_outcome.specs.declared.outcome.Outcome.TheVariants.{Done, HostFault}
 use Rattle.mx_dump.specs.Dump.{Line}
-use Rattle.mx_top.specs.MachineWork.{Work, WorkCall, of_host, stepping, reporting, keeping, sitting, going_back, dumping, summing, WorkSays, WorkPlan, on_host, ran, sat, calling, dumped_plan, then_dumped, back_plan, sitting_plan, kept_plan, reported_plan, stepped_plan, machine_plan, summed_plan, generated_work}
-use Rattle.mx_top.specs.Runs.{generator_steps, outcome_of, session_outcome, is_done, takes_back}
+use Rattle.mx_top.specs.MachineWork.{Work, WorkCall, of_host, stepping, reporting, keeping, sitting, going_back, dumping, summing, WorkSays, WorkPlan, host_in_work, ran, sat, calling, dumped_plan, then_dumped, back_plan, sitting_plan, kept_plan, reported_plan, stepped_plan, machine_plan, summed_plan, generated_work}
+use Rattle.mx_begin.specs.Ends.{outcome_of}
+use Rattle.mx_top.specs.Runs.{generator_steps, session_outcome, is_done, takes_back}
 use Rattle.mx_top.specs.Telling.{telling, written_with}
 
 -- of what calls of the host may answer something is known
@@ -41,8 +42,8 @@ EndsWith Such (Ok x) = Unit {0}
 EndsWith Such (Err outcome) = Such outcome
 
 module _ (May : HostMay) (Such : Outcome → Type 0) where
-  pub work-host : {A : Type 0} (First : A → Type 0) (p : HostPlan A) → Gives May First p → Gives (WorkMay May Such) First (on_host p)
-  unfolding Gives on_host
+  pub work-host : {A : Type 0} (First : A → Type 0) (p : HostPlan A) → Gives May First p → Gives (WorkMay May Such) First (host_in_work p)
+  unfolding Gives host_in_work
   work-host First (returns a) h = h
   work-host First (calls o k) h = λ r m. work-host First (k r) (h r m)
 
@@ -89,7 +90,7 @@ module _ (May : HostMay) (Such : Outcome → Type 0) where
     unfolding Gives dumped_plan
     dumped-gives dump outcome h = by (dump && leaves_machine outcome)
       where
-        by : (b : Bool) → WorkGives (cond b (calling dumping (λ lines. on_host (telling outcome lines))) (returns outcome))
+        by : (b : Bool) → WorkGives (cond b (calling dumping (λ lines. host_in_work (telling outcome lines))) (returns outcome))
         by true = λ lines u. work-host Such (telling outcome lines) (telling-gives outcome lines h)
         by false = h
 
@@ -102,13 +103,13 @@ module _ (May : HostMay) (Such : Outcome → Type 0) where
     unfolding Gives back_plan
     back-gives o outcome h = by (takes_back outcome)
       where
-        by : (b : Bool) → WorkGives (cond b (calling (going_back o.last) (λ lines. bind (then_dumped o.dump outcome) (on_host (lines_plan lines)))) (dumped_plan o.dump outcome))
+        by : (b : Bool) → WorkGives (cond b (calling (going_back o.last) (λ lines. bind (then_dumped o.dump outcome) (host_in_work (lines_plan lines)))) (dumped_plan o.dump outcome))
         by true = λ lines u.
-            gives-bind (WorkMay May Such) (EndsWith Such) Such (then_dumped o.dump outcome) (on_host (lines_plan lines)) (work-host (EndsWith Such) (lines_plan lines) (lines-give lines)) (then-gives o.dump outcome h)
+            gives-bind (WorkMay May Such) (EndsWith Such) Such (then_dumped o.dump outcome) (host_in_work (lines_plan lines)) (work-host (EndsWith Such) (lines_plan lines) (lines-give lines)) (then-gives o.dump outcome h)
         by false = dumped-gives o.dump outcome h
 
     pub machine-gives : (o : Order) → WorkGives (machine_plan o)
-    unfolding Gives machine_plan bind on_host need
+    unfolding Gives machine_plan bind host_in_work need
     machine-gives o = by o.interactive (o.last == 0) o.report
       where
         by : (b d c : Bool) → WorkGives (cond b (sitting_plan o) (cond (not d) (kept_plan o) (cond c (reported_plan o) (stepped_plan o))))
@@ -123,7 +124,7 @@ module _ (May : HostMay) (Such : Outcome → Type 0) where
     unfolding Gives
     summed-gives blocks size done outcome h = by (is_done outcome)
       where
-        by : (b : Bool) → WorkGives (cond b (calling (summing blocks size) (λ line. on_host (telling (Done 0) (line ∷ [])))) (returns outcome))
+        by : (b : Bool) → WorkGives (cond b (calling (summing blocks size) (λ line. host_in_work (telling (Done 0) (line ∷ [])))) (returns outcome))
         by true = λ line u. work-host Such (telling (Done 0) (line ∷ [])) (telling-gives (Done 0) (line ∷ []) done)
         by false = h
 

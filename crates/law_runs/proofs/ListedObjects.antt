@@ -19,7 +19,7 @@ use Rattle.mx_mmo.specs.declared.items.Object.{Object}
 use Rattle.mx_mmo.specs.declared.items.Tail.{Tail}
 use Rattle.mx_mmo.specs.Object.{IsObject}
 use Rattle.mx_mmo.specs.Tetras.{wide_lop}
-use Rattle.mx_mmo.proofs.Sound.{left-bytes, object-stands}
+use Rattle.mx_mmo.proofs.Sound.{left-bytes, object-sound}
 use Rattle.mx_plan.specs.Counts.{unscheduled}
 use Rattle.mx_plan.proofs.Spared.{uncalled}
 use Rattle.mx_plan.specs.Wild.{ends}
@@ -44,7 +44,7 @@ use Rattle.mx_top.specs.Product.{ordered_plan, product}
 use Rattle.mx_top.specs.Telling.{with_message}
 use Rattle.mx_files.specs.ObjectPlans.{list_plan}
 use Rattle.mx_files.specs.Source.{object_pieces}
-use Rattle.mx_files.specs.Typed.{Typed, shown, item_lines, tail_lines, trie_typed, tail_typed, unread, unread_trie, behind, walk_typed, typed}
+use Rattle.mx_files.specs.Typed.{Typed, shown, item_lines, tail_lines, trie_typed, tail_typed, unread, unread_trie, with_lines_first, walk_typed, typed}
 use Rattle.mx_outcome.specs.declared.outcome.Outcome.{Outcome}
 use Rattle.mx_outcome.specs.declared.outcome.Outcome.TheVariants.{Done, OutOfMemory}
 use Rattle.law_runs.specs.Called.{IsCalled, NoCallFails}
@@ -87,22 +87,22 @@ all-joined items trie symbols =
 -- ---- what is written, by what the bytes are
 
 tail-typed : (items : List Item) (r : Result Tail MmoFault) (object : Object) → with_tail items r ≡ Ok object →
-    behind (item_lines 0 items) (tail_typed r) ≡ behind (item_lines 0 object.items) (tail_typed (Ok object.tail))
+    with_lines_first (item_lines 0 items) (tail_typed r) ≡ with_lines_first (item_lines 0 object.items) (tail_typed (Ok object.tail))
 tail-typed items (Ok tail) object e =
     let is : record { items = items; tail = tail } ≡ object = cc in
-    ap (λ (o : Object). behind (item_lines 0 o.items) (tail_typed (Ok o.tail))) is
+    ap (λ (o : Object). with_lines_first (item_lines 0 o.items) (tail_typed (Ok o.tail))) is
 tail-typed items (Err fault) object e = absurd (cc)
 
-walk-typed : (w : Walk) (object : Object) → object_after w.0 w.1 ≡ Ok object → walk_typed 0 w ≡ behind (item_lines 0 object.items) (tail_typed (Ok object.tail))
+walk-typed : (w : Walk) (object : Object) → object_after w.0 w.1 ≡ Ok object → walk_typed 0 w ≡ with_lines_first (item_lines 0 object.items) (tail_typed (Ok object.tail))
 walk-typed (items, Ok left) object e = tail-typed items (tail_of left.phase left.at left.rest) object e
 walk-typed (items, Err fault) object e = absurd (cc)
 
 either-object : (b : Bool) (long : MmoFault) (w : Walk) (object : Object) → cond b (Err long) (object_after w.0 w.1) ≡ Ok object →
-    cond b ([], unread long) (walk_typed 0 w) ≡ behind (item_lines 0 object.items) (tail_typed (Ok object.tail))
+    cond b ([], unread long) (walk_typed 0 w) ≡ with_lines_first (item_lines 0 object.items) (tail_typed (Ok object.tail))
 either-object true long w object e = absurd (cc)
 either-object false long w object e = walk-typed w object e
 
-pub object-typed : (bytes : List ℕ) (object : Object) → object_of bytes ≡ Ok object → typed bytes ≡ behind (item_lines 0 object.items) (tail_typed (Ok object.tail))
+pub object-typed : (bytes : List ℕ) (object : Object) → object_of bytes ≡ Ok object → typed bytes ≡ with_lines_first (item_lines 0 object.items) (tail_typed (Ok object.tail))
 unfolding typed
 object-typed bytes object e = either-object (nat_lt limit (length bytes)) (TooLong limit) (items_of Start 0 bytes) object e
 
@@ -153,7 +153,7 @@ pub listing-typed : (bytes : List ℕ) (object : Object) (symbols : List Symbol)
     ((typed bytes).1 ≡ Done 0) × IsListing (concat (typed bytes).0) object.items object.tail.trie
 listing-typed bytes object symbols e h =
     let is : typed bytes ≡ (item_lines 0 object.items ++ tail_lines object.tail.trie symbols, Done 0) =
-    object-typed bytes object e ∙ ap (λ r. behind (item_lines 0 object.items) (trie_typed object.tail.place object.tail.trie r)) (trie-read object.tail.trie symbols h) in (
+    object-typed bytes object e ∙ ap (λ r. with_lines_first (item_lines 0 object.items) (trie_typed object.tail.place object.tail.trie r)) (trie-read object.tail.trie symbols h) in (
       ap (λ (t : Typed). t.1) is,
       all-listed (concat (typed bytes).0) object.items object.tail.trie symbols h
           (ap (λ (t : Typed). concat t.0) is ∙ all-joined object.items object.tail.trie symbols),
@@ -166,7 +166,7 @@ front-bytes (x ∷ xs) ys b = (b.0, front-bytes xs ys b.1)
 -- the trie of an object of bytes has bytes
 object-trie : (bytes : List ℕ) (object : Object) → AreBytes bytes → object_of bytes ≡ Ok object → AreBytes object.tail.trie
 object-trie bytes object b e =
-    let spelled : IsObject bytes object.items object.tail.trie = (object-stands bytes object b e).spelled in
+    let spelled : IsObject bytes object.items object.tail.trie = (object-sound bytes object b e).spelled in
     let whole : bytes ≡ spelled.front ++ (object.tail.trie ++ wide_lop 12 spelled.count) =
     spelled.whole ∙ append_assoc spelled.front object.tail.trie (wide_lop 12 spelled.count) in
     front-bytes object.tail.trie (wide_lop 12 spelled.count) (left-bytes spelled.front (object.tail.trie ++ wide_lop 12 spelled.count) bytes whole b)
@@ -199,8 +199,8 @@ pub once-typed : (bytes others : List ℕ) (object other : Object) → AreBytes 
     (typed bytes).1 ≡ Done 0 → (typed others).1 ≡ Done 0 → concat (typed bytes).0 ≡ concat (typed others).0 →
     (object.items ≡ other.items) × (object.tail.trie ≡ other.tail.trie)
 once-typed bytes others object other b c e f h k same =
-    let v : Valid object.items = (object-stands bytes object b e).spelled.valid in
-    let w : Valid other.items = (object-stands others other c f).spelled.valid in
+    let v : Valid object.items = (object-sound bytes object b e).spelled.valid in
+    let w : Valid other.items = (object-sound others other c f).spelled.valid in
     let one : IsListing (concat (typed bytes).0) object.items object.tail.trie = listed-of bytes object b e h in
     let two : IsListing (concat (typed bytes).0) other.items other.tail.trie =
     subst (λ (t : List ℕ). IsListing t other.items other.tail.trie) (sym same) (listed-of others other c f k) in (

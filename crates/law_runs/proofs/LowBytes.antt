@@ -76,5 +76,3 @@ run-low kind n s m = run-ends-so kind no_flags AnswersLow AnyWay EndsLow leads-l
 
 pub halts-low : (kind : MachineKind) (steps status : ℕ) (s left : State) (m after : HostModel) → run_by kind steps no_flags false s m ≡ ends (ending.Halted status) (left, after) → status ≡ register left.stack 255 % 2 ^ 8
 halts-low kind steps status s left m after h = subst (EndsSo EndsLow) h (run-low kind steps s m) status refl
-
-pub ruleset lowered = (halts-low)

@@ -34,7 +34,8 @@ use Rattle.mx_top.specs.Endings as end
 use Rattle.mx_top.specs.MachineWork as work
 use Rattle.mx_top.specs.MachineWork.{Work, WorkPlan, work_goes, calling, keeping}
 use Rattle.mx_top.specs.Product.{at_start, worked, answer_of, told_of}
-use Rattle.mx_top.specs.Runs.{outcome_of, session_outcome}
+use Rattle.mx_begin.specs.Ends.{outcome_of}
+use Rattle.mx_top.specs.Runs.{session_outcome}
 use Rattle.mx_top.specs.Telling.{telling, written_with}
 use Rattle.mx_top.specs.WorkClauses.{work_by}
 use Rattle.mx_top.proofs.Followed.{ComesTo, beside, to-dumped, to-back}
@@ -102,7 +103,7 @@ reported-answer kind o s m =
     run-answers kind o.steps (work.dumped_plan o.dump) (λ outcome t kept. end.dumped_plan o.dump outcome t) (at_start s (m, traces kind o.steps s m)) (run_by kind o.steps no_flags false s m) (to-dumped o.dump)
 
 kept-answer : (kind : MachineKind) (o : Order) (s : State) (m : HostModel) → answer_of (work_by kind (work.kept_plan o) s m) ≡ run_by_last kind o.steps o.last o.dump s m false
-unfolding course bind work.on_host need host
+unfolding course bind work.host_in_work need host
 kept-answer kind o s m =
     run-answers kind o.steps (work.back_plan o) (λ outcome t kept. end.back_plan o.dump outcome (take o.last kept) t) (record (at_start s (m, [])) { kept = kept_by o.steps s m }) (run_by kind o.steps no_flags false s m) (to-back o)
 

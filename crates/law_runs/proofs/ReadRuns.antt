@@ -19,7 +19,7 @@ use Rattle.mx_begin.specs.Begun.{image_in, most_pieces, started}
 use Rattle.mx_begin.specs.declared.images.Form.{Form}
 use Rattle.mx_begin.proofs.Beginnings.{image-by, image-end}
 use Rattle.mx_top.specs.MachineWork.{machine_plan}
-use Rattle.mx_top.specs.Product.{ProgramPlan, program_goes, on_host, on_part, run_on, run_file, work_on, answer_of}
+use Rattle.mx_top.specs.Product.{ProgramPlan, program_goes, host_in_program, on_part, run_on, run_file, work_on, answer_of}
 use Rattle.mx_top.specs.WorkClauses.{answer_by}
 use Rattle.mx_top.proofs.WorkParts.{run-on}
 use Rattle.mx_top.proofs.WorkPlans.{host-bind, returns-course, taking-course}
@@ -41,7 +41,7 @@ pub file-read : (kind : MachineKind) (words : List Word) (o : Order) (form : For
     answer_by kind (run_file words o form) m ≡ file_ran kind o (arguments words o) form (file_bytes (most_pieces form) (word_at words o.file) m)
 unfolding run_file end_of
 file-read kind words o form m =
-    ap answer_of (taking-course kind (bind (on_part more) (on_host (image_file_plan form (word_at words o.file)))) (m, []) ∙ host-bind kind (on_part more) (image_file_plan form (word_at words o.file)) (m, []))
+    ap answer_of (taking-course kind (bind (on_part more) (host_in_program (image_file_plan form (word_at words o.file)))) (m, []) ∙ host-bind kind (on_part more) (image_file_plan form (word_at words o.file)) (m, []))
     ∙ ap goes (image-by form (word_at words o.file) m) ∙ by (file_bytes (most_pieces form) (word_at words o.file) m)
   where
     args : List Word

@@ -22,7 +22,7 @@ use Rattle.mx_words.specs.Values.{blocks_value, is_number, is_option, ring_value
 use Rattle.mx_words.specs.declared.order.Command.{Command}
 use Rattle.mx_words.specs.declared.order.Command.TheVariants.{Run, Asm, Sim, Gen, Show, Multi}
 use Rattle.mx_words.specs.declared.order.Order.{Order}
-use Rattle.law_gen.specs.Generator.{generated}
+use Rattle.mx_gen.specs.Generator.{generated}
 use Rattle.mx_files.specs.FilePlans.{Part, on_ok}
 use Rattle.mx_files.specs.ObjectPlans.{assemble_plan, list_plan}
 use Rattle.mx_files.specs.Schedules.{schedule_plan}
@@ -37,7 +37,7 @@ use Rattle.mx_begin.specs.declared.images.Form.TheVariants.{Source, Object}
 use Rattle.mx_begin.proofs.Beginnings.{begin-by, start-end}
 use Rattle.mx_top.specs.MachineWork.{machine_plan, generated_work}
 use Rattle.mx_top.specs.Processors.{multi_outcome, processors_named}
-use Rattle.mx_top.specs.Product.{ProgramPlan, ProgramWorld, program_goes, on_host, on_part, taking, run_file, run_source, run_text, turns_from, turns_on, object_file, multi_file, ordered_plan, work_plan, work_on, turned, answer_of, told_of, product, product_traces}
+use Rattle.mx_top.specs.Product.{ProgramPlan, ProgramWorld, program_goes, host_in_program, on_part, taking, run_file, run_source, run_text, turns_from, turns_on, object_file, multi_file, ordered_plan, work_plan, work_on, turned, answer_of, told_of, product, product_traces}
 use Rattle.mx_top.specs.Reports.{due_reports, watched_product}
 use Rattle.mx_top.specs.Telling.{telling, with_message, with_reports}
 use Rattle.mx_top.specs.WorkClauses.{answer_by, told_by, work_by}
@@ -76,7 +76,7 @@ module _ (kind : MachineKind) (words others : List Word) (o p : Order) (e : Diff
   abbrev goes : ProgramPlan Outcome → HostModel → Course Outcome ProgramWorld
   goes plan m = course (program_goes kind) plan (m, [])
 
-  same-part : {A : Type 0} (f g : A → ProgramPlan Outcome) (part : Part A) (m : HostModel) → ((x : A) (n : HostModel) → goes (f x) n ≡ goes (g x) n) → goes (bind (on_part f) (on_host part)) m ≡ goes (bind (on_part g) (on_host part)) m
+  same-part : {A : Type 0} (f g : A → ProgramPlan Outcome) (part : Part A) (m : HostModel) → ((x : A) (n : HostModel) → goes (f x) n ≡ goes (g x) n) → goes (bind (on_part f) (host_in_program part)) m ≡ goes (bind (on_part g) (host_in_program part)) m
   same-part {A} f g part m h = host-bind kind (on_part f) part (m, []) ∙ by (end_of host part m) ∙ sym (host-bind kind (on_part g) part (m, []))
     where
       by : (t : Then (Result A Outcome)) → goes (on_part f t.0) t.1 ≡ goes (on_part g t.0) t.1
@@ -102,7 +102,7 @@ module _ (kind : MachineKind) (words others : List Word) (o p : Order) (e : Diff
   -- turns of processors with these stacks, and what follows
   abbrev after-turns : List ℕ → Image → HostModel → Bool → ℕ → Stack → Course Outcome ProgramWorld
   after-turns schedule image m dump steps stack =
-      then_on (λ t v. course (program_goes kind) (on_host (telling (multi_outcome steps t.0) t.1)) v)
+      then_on (λ t v. course (program_goes kind) (host_in_program (telling (multi_outcome steps t.0) t.1)) v)
       (turned dump [] (turns kind schedule steps schedule (joint.started image (processors_named schedule) stack) m))
 
   same-taken : (schedule : List ℕ) (image : Image) (m : HostModel) → goes (turns_from o schedule image) m ≡ goes (turns_from p schedule image) m
@@ -148,9 +148,9 @@ module _ (kind : MachineKind) (words others : List Word) (o p : Order) (e : Diff
     same-ordered Run m h k = same-file Source m (h tt)
     same-ordered Sim m h k = same-file Object m (h tt)
     same-ordered Asm m h k =
-        ap (λ (w : Word). see (goes (on_host (assemble_plan w (word_at words o.rest))) m)) e.file ∙ ap (λ (w : Word). see (goes (on_host (assemble_plan (word_at others p.file) w)) m)) e.object
+        ap (λ (w : Word). see (goes (host_in_program (assemble_plan w (word_at words o.rest))) m)) e.file ∙ ap (λ (w : Word). see (goes (host_in_program (assemble_plan (word_at others p.file) w)) m)) e.object
     same-ordered Gen m h k = ap see (same-gen m)
-    same-ordered Show m h k = ap (λ (w : Word). see (goes (on_host (list_plan w)) m)) e.file
+    same-ordered Show m h k = ap (λ (w : Word). see (goes (host_in_program (list_plan w)) m)) e.file
     same-ordered Multi m h k =
         ap see (same-multi (word_at words o.schedule) (word_at words o.file) m)
         ∙ ap (λ (w : Word). see (goes (multi_file p w (word_at words o.file)) m)) (k refl) ∙ ap (λ (w : Word). see (goes (multi_file p (word_at others p.schedule) w) m)) e.file
@@ -230,5 +230,3 @@ gen-row m = rings-generated (codes "1") (codes "512") 1 512 refl m refl
 
 pub gen-agrees : (blocks ring : Word) (n size : ℕ) (m : HostModel) → blocks_value blocks ≡ Ok n → ring_value ring ≡ Ok size → product list_machine (gen_words blocks) m ≡ product list_machine (gen_ring_words ring blocks) m
 gen-agrees blocks ring n size m counts is = rings-generated blocks ring n size counts m is
-
-pub ruleset rings = (rings-agree, rings-watched, reports-alone)

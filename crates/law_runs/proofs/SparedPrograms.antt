@@ -22,8 +22,9 @@ use Rattle.mx_words.specs.declared.order.Order.{Order}
 use Rattle.mx_files.specs.Answers.{Answer, after_lines}
 use Rattle.mx_outcome.specs.Kinds.{leaves_machine}
 use Rattle.mx_begin.specs.Arguments.{Word, word_at, arguments}
+use Rattle.mx_begin.specs.declared.images.Form.{Form}
 use Rattle.law_runs.specs.Called.{NoCallFails, IsCalled}
-use Rattle.law_runs.specs.Complete.{IsOrdered, IsStarted, IsThere, SourceIsThere, ObjectIsThere, IsHalted, IsPlayed, IsGenerated, image_answer, session_answer, with_output}
+use Rattle.law_runs.specs.Complete.{IsOrdered, IsStarted, IsThere, ProgramIsThere, IsHalted, IsPlayed, IsGenerated, image_answer, session_answer, with_output}
 use Rattle.law_runs.specs.Detour.{answer_unscheduled}
 use Rattle.mx_dump.specs.Dump.{dump_lines}
 use Rattle.mx_files.specs.Writing.{lines_put}
@@ -38,7 +39,7 @@ use Rattle.mx_files.specs.Source.{source_pieces}
 use Rattle.mx_outcome.specs.declared.outcome.Outcome.{Outcome}
 use Rattle.mx_outcome.specs.declared.outcome.Outcome.TheVariants.{Done, OutOfMemory}
 use Rattle.law_runs.proofs.Completed.{sat-image, halted-run, played-answer, plain-told, accepted-object, generated-told}
-use Rattle.law_runs.proofs.CompletedFiles.{LinesWritten, lines-written, lines-done, IsReady, run-left, session-left, source-still, object-still, with_object, assembled-still, file-left}
+use Rattle.law_runs.proofs.CompletedFiles.{LinesWritten, lines-written, lines-done, IsReady, run-left, session-left, program-still, with_object, assembled-still}
 use Rattle.law_runs.proofs.LowBytes.{halts-low}
 use Rattle.law_runs.proofs.MachineAnswers.{dumped-end}
 use Rattle.law_runs.proofs.SteadyProduct.{SparedAnswers, plan-steady, message-steady, product-steady, answer-unscheduled, product-same}
@@ -63,11 +64,8 @@ runs-as kind words o image m none e =
     carried-as kind words m (unscheduled m) (with_message (image_answer kind o (arguments words o) image (unscheduled m))) (with_message (image_answer kind o (arguments words o) image (still m))) none e
     (message-steady (image_answer kind o (arguments words o) image (unscheduled m)) (image_answer kind o (arguments words o) image (still m)) (plan-steady kind (run_on o.ring (arguments words o) (machine_plan o) image) (unscheduled m))) refl
 
-pub source-spared : (kind : MachineKind) (words : List Word) (o : Order) (image : Image) (m : HostModel) → SourceIsThere words o image m → NoCallFails kind words m → RunsAs kind words o image m
-source-spared kind words o image m h none = runs-as kind words o image m none (source-still kind words o image m h)
-
-pub object-spared : (kind : MachineKind) (words : List Word) (o : Order) (image : Image) (m : HostModel) → ObjectIsThere words o image m → NoCallFails kind words m → RunsAs kind words o image m
-object-spared kind words o image m h none = runs-as kind words o image m none (object-still kind words o image m h)
+pub program-spared : (kind : MachineKind) (words : List Word) (o : Order) (form : Form) (image : Image) (m : HostModel) → ProgramIsThere words o form image m → NoCallFails kind words m → RunsAs kind words o image m
+program-spared kind words o form image m h none = runs-as kind words o image m none (program-still kind words o form image m h)
 
 pub halted-plain : (kind : MachineKind) (words : List Word) (o : Order) (image : Image) (status : ℕ) (ended : State) (m after : HostModel) → RunsAs kind words o image m →
     IsHalted kind words o image (unscheduled m) status ended after → o.dump ≡ false → answer_unscheduled (product kind words m) ≡ ends (Done status) (unscheduled after)
@@ -109,8 +107,6 @@ generated-spared kind words m left line slots none h =
     product-same kind words m (unscheduled m) refl none (λ call from to. refl) ∙ ap answer_unscheduled (generated-told kind words (unscheduled m) left line h)
     ∙ lines-done (line ∷ []) 0 left (run-left kind generator_steps h.machine (unscheduled m) (Halted h.status) (h.ended, left) refl slots h.halts)
     ∙ ap (λ text. ends (Done 0) (unscheduled (with_output left text))) (append-nil line)
-
-pub ruleset spared = (source-spared, object-spared, told-spared, assembled-spared, generated-spared, file-left)
 
 -- ---- outcomes
 

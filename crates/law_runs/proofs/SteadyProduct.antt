@@ -136,7 +136,7 @@ traces-same kind words m n e h k = (traces-steady kind words m).same h ∙ ap (p
 pub product-list : (kind : MachineKind) (words : List Word) (m : HostModel) → (host_of (product kind words m)).failing ≡ m.failing
 product-list kind words m = (product-steady kind words m).list
 
-pub ruleset steady = (product-same, traces-same, product-list)
+pub ruleset steady = (product-list)
 
 -- ---- what is the same in the still model is the same but for the number of calls, where the lists are the same
 

@@ -44,7 +44,7 @@ use Rattle.mx_words.specs.declared.order.Command.TheVariants.{Run, Asm, Sim, Gen
 use Rattle.mx_words.specs.declared.order.Order.{Order}
 use Rattle.mx_words.specs.declared.order.WordsFault.{WordsFault}
 use Rattle.mx_begin.specs.Arguments.{Word, word_at, arguments}
-use Rattle.law_gen.specs.Generator.{generated}
+use Rattle.mx_gen.specs.Generator.{generated}
 use Rattle.mx_files.specs.Typed.{Typed, trie_typed, tail_typed, end_typed, typed}
 use Rattle.mx_outcome.specs.Messages.{message_of}
 use Rattle.mx_files.specs.Objects.{Assembled, source_object}
@@ -55,7 +55,7 @@ use Rattle.mx_top.specs.MachineWork.{Work, WorkCall, of_host, stepping, reportin
 use Rattle.mx_top.specs.Processors.{multi_outcome}
 use Rattle.mx_top.specs.Product as page
 use Rattle.mx_top.specs.Product.{ProgramCall, on_machine, taking_turns, ProgramSays, ProgramWorld, ProgramPlan, program_goes, at_start, joint_at_start, worked, work_on, turned, on_part, run_on, run_file, run_source, run_text, turns_from, turns_on, object_file, ordered_plan, work_plan, product_plan, product_course, answer_of, product}
-use Rattle.mx_top.specs.Runs as runs
+use Rattle.mx_begin.specs.Ends.{outcome_of}
 use Rattle.mx_top.specs.Runs.{session_outcome}
 use Rattle.mx_top.specs.Telling.{telling, message_if, message_plan}
 use Rattle.mx_begin.specs.BeginPlans.{image_plan, image_file_plan}
@@ -89,7 +89,7 @@ either : {A : Type 0} (Such : A → Type 0) (b : Bool) (x y : A) → Such x → 
 either Such true x y h k = h
 either Such false x y h k = k
 
--- an answer that is other than the want of memory
+-- an answer that is other than that memory ran out
 abbrev OpensSo : Then (Result (Unit {0}) OpenFault) → Type 0
 OpensSo t = is_opened t.0 ≡ true
 
@@ -295,7 +295,7 @@ end-told steps sitting_end.Limit h = refl
 end-told steps sitting_end.HostFault h = refl
 end-told steps sitting_end.OutOfMemory h = absurd (cc)
 
-run-told : (n : ℕ) (c : Course End RunWorld) → EndsSo Told c → Answers (λ e. OutcomeTold (runs.outcome_of n e)) c
+run-told : (n : ℕ) (c : Course End RunWorld) → EndsSo Told c → Answers (λ e. OutcomeTold (outcome_of n e)) c
 run-told n (ends e w) h = h n
 run-told n (meets_wild w) h = tt
 
@@ -303,7 +303,7 @@ session-told : (n : ℕ) (c : Course SessionEnd SessionWorld) → sessions.is_to
 session-told n (ends e w) h = end-told n e h
 session-told n (meets_wild w) h = tt
 
-runs-told : (kind : MachineKind) (n : ℕ) (w : Work) → Answers (λ e. OutcomeTold (runs.outcome_of n e)) (run_by kind n no_flags false w.machine w.host)
+runs-told : (kind : MachineKind) (n : ℕ) (w : Work) → Answers (λ e. OutcomeTold (outcome_of n e)) (run_by kind n no_flags false w.machine w.host)
 runs-told kind n w = run-told n (run_by kind n no_flags false w.machine w.host) (run-course-told kind n w.machine w.host)
 
 work-told : (kind : MachineKind) (o : WorkCall) (w : Work) → Answers (WorkMay May OutcomeTold o) (work_goes kind o w)
@@ -353,13 +353,13 @@ calls-told kind (taking_turns ring image schedule steps dump) w =
 abbrev ProgramTold : ProgramPlan Outcome → Type 0
 ProgramTold p = Gives ProgramMay OutcomeTold p
 
-host-gives : {A : Type 0} (First : A → Type 0) (p : HostPlan A) → Gives May First p → Gives ProgramMay First (page.on_host p)
-unfolding Gives page.on_host
+host-gives : {A : Type 0} (First : A → Type 0) (p : HostPlan A) → Gives May First p → Gives ProgramMay First (page.host_in_program p)
+unfolding Gives page.host_in_program
 host-gives First (returns a) h = h
 host-gives First (calls o k) h = λ r m. host-gives First (k r) (h r m)
 
 taking-told : (p : ProgramPlan Outcome) → ProgramTold p → ProgramTold (page.taking p)
-unfolding Gives bind page.on_host need
+unfolding Gives bind page.host_in_program need
 taking-told p h = λ u t. h
 
 on-part-told : {A : Type 0} (f : A → ProgramPlan Outcome) → ((x : A) → ProgramTold (f x)) → (r : Result A Outcome) → ReadTold r → ProgramTold (on_part f r)
@@ -367,17 +367,17 @@ unfolding Gives
 on-part-told f h (Ok x) t = h x
 on-part-told f h (Err outcome) t = t
 
-part-told : {A : Type 0} (f : A → ProgramPlan Outcome) (p : Part A) → IsTold p → ((x : A) → ProgramTold (f x)) → ProgramTold (bind (on_part f) (page.on_host p))
-part-told {A} f p t h = gives-bind ProgramMay (ReadTold {A = A}) OutcomeTold (on_part f) (page.on_host p) (host-gives (ReadTold {A = A}) p t) (on-part-told f h)
+part-told : {A : Type 0} (f : A → ProgramPlan Outcome) (p : Part A) → IsTold p → ((x : A) → ProgramTold (f x)) → ProgramTold (bind (on_part f) (page.host_in_program p))
+part-told {A} f p t h = gives-bind ProgramMay (ReadTold {A = A}) OutcomeTold (on_part f) (page.host_in_program p) (host-gives (ReadTold {A = A}) p t) (on-part-told f h)
 
 run-on-told : (ring : ℕ) (args : List Word) (plan : WorkPlan Outcome) (image : Image) → Gives (WorkMay May OutcomeTold) OutcomeTold plan → ProgramTold (run_on ring args plan image)
-unfolding Gives bind page.on_host need
+unfolding Gives bind page.host_in_program need
 run-on-told ring args plan image h = λ u t. λ r m. m h
 
 file-told : (words : List Word) (o : Order) (form : Form) → ProgramTold (run_file words o form)
 unfolding run_file
 file-told words o form =
-    taking-told (bind (on_part (run_on o.ring (arguments words o) (machine_plan o))) (page.on_host (image_file_plan form (word_at words o.file)))) (part-told (run_on o.ring (arguments words o) (machine_plan o)) (image_file_plan form (word_at words o.file)) (image_file-told form (word_at words o.file))
+    taking-told (bind (on_part (run_on o.ring (arguments words o) (machine_plan o))) (page.host_in_program (image_file_plan form (word_at words o.file)))) (part-told (run_on o.ring (arguments words o) (machine_plan o)) (image_file_plan form (word_at words o.file)) (image_file-told form (word_at words o.file))
     (λ image. run-on-told o.ring (arguments words o) (machine_plan o) image (machine-gives May OutcomeTold refl o)))
 
 source-told : (o : Order) (size : ℕ) (r : Result Image Refusal) → ProgramTold (run_source o size r)
@@ -414,13 +414,13 @@ unfolding Gives bind need write_plan
 message-if-told outcome [] h = h
 message-if-told outcome (b ∷ bs) h = λ u t. λ r k. h
 
-message-told : (outcome : Outcome) → OutcomeTold outcome → Gives ProgramMay OutcomeTold (page.on_host (message_plan outcome))
+message-told : (outcome : Outcome) → OutcomeTold outcome → Gives ProgramMay OutcomeTold (page.host_in_program (message_plan outcome))
 unfolding message_plan
 message-told outcome h = host-gives OutcomeTold (message_if outcome (message_of outcome)) (message-if-told outcome (message_of outcome) h)
 
 product-told : (words : List Word) → ProgramTold (product_plan words)
 unfolding product_plan
-product-told words = gives-bind ProgramMay OutcomeTold OutcomeTold (λ outcome. page.on_host (message_plan outcome)) (work_plan words (order_of words)) (work-plan-told words (order_of words)) message-told
+product-told words = gives-bind ProgramMay OutcomeTold OutcomeTold (λ outcome. page.host_in_program (message_plan outcome)) (work_plan words (order_of words)) (work-plan-told words (order_of words)) message-told
 
 answer-told : (c : Course Outcome ProgramWorld) → Answers OutcomeTold c → is_answer_told (answer_of c) ≡ true
 answer-told (ends outcome w) h = h

@@ -14,7 +14,7 @@ use Rattle.mx_run.specs.declared.turn_answer.TurnAnswer.{TurnAnswer}
 use Rattle.mx_run.specs.declared.turn_answer.TurnAnswer.TheVariants as answer
 use Rattle.mx_run.proofs.FreeTurns.{trace-free}
 use Rattle.mx_run.proofs.RunCases.{OnOr, LeadsTo, AnyWay, HasMemory, has-memory, run-ends-so}
-use Rattle.mx_top.specs.Runs.{outcome_of}
+use Rattle.mx_begin.specs.Ends.{outcome_of}
 use Rattle.law_runs.specs.Unbroken.{is_outcome_told, is_run_told}
 
 abbrev pub Told : End → RunWorld → Type 0

@@ -19,9 +19,9 @@ use Rattle.mx_top.proofs.Told.{plain-as}
 use Rattle.law_runs.specs.Called.{IsCalled, IsWatched}
 use Rattle.law_runs.specs.Detour.{host_of}
 
-pub reports-behind : (kind : MachineKind) (words : List Word) (ws : List Watching) (outcome : Outcome) (m n : HostModel) → product kind words m ≡ ends outcome n →
+pub reports-after : (kind : MachineKind) (words : List Word) (ws : List Watching) (outcome : Outcome) (m n : HostModel) → product kind words m ≡ ends outcome n →
     watched_product kind words ws m ≡ ends outcome (end_of host (reports_plan outcome (due_reports (order_of words) ws (product_traces kind words m))) n).1
-reports-behind kind words ws outcome m n e =
+reports-after kind words ws outcome m n e =
     let due : List (List ℕ) = due_reports (order_of words) ws (product_traces kind words m) in
     ap (with_reports due) e ∙ plain-as outcome (end_of host (reports_plan outcome due) n) (reports-said outcome due n)
 
@@ -39,4 +39,4 @@ watched-called words ws old new result e = record {
   answers = λ t ne. same-answer result (contents new) (due_reports (order_of words) ws (product_traces window_machine words (contents old))) (product window_machine words (contents old)) (e.answers t ne);
 }
 
-pub ruleset watched_calls = (reports-behind, watched-called)
+pub ruleset watched_calls = (reports-after, watched-called)

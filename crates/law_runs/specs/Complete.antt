@@ -1,12 +1,10 @@
--- What has to stand for a run of the program to be done: the words, the file that is read, what it means, and how its
+-- What has to hold for a run of the program to be done: the words, the file that is read, what it means, and how its
 -- machine ends.
 use Rattle.std.specs.Prelude.{ℕ, ◌≡◌, ◌*◌, List, [], ◌∷◌, ◌++◌, codes, length, take, true, false, Some, Ok}
-use Rattle.mx_word.specs.declared.symbols.Symbol.{Symbol}
 use Rattle.mx_host.specs.HostModel.{HostModel, HasStartSlots, place_of}
 use Rattle.mx_host.specs.HostAnswer.{open_answer, close_answer, bytes_at}
 use Rattle.mx_host.specs.declared.slots.Mode.TheVariants.{BinaryWrite}
 use Rattle.mx_mmo.specs.Image.{Image}
-use Rattle.mx_load.specs.Objects.{object_loaded}
 use Rattle.mx_core.specs.State.{State}
 use Rattle.mx_ring.specs.Stack.{register}
 use Rattle.mx_plan.specs.Wild.{ends}
@@ -20,8 +18,8 @@ use Rattle.mx_words.specs.declared.order.Command.{Command}
 use Rattle.mx_words.specs.declared.order.Command.TheVariants.{Run, Asm, Sim, Gen}
 use Rattle.mx_words.specs.declared.order.Order.{Order}
 use Rattle.mx_begin.specs.Arguments.{Word, word_at, arguments}
-use Rattle.law_gen.specs.Generator.{generated, summary}
-use Rattle.law_gen.specs.Program.{generated_image}
+use Rattle.mx_gen.specs.Generator.{generated, summary}
+use Rattle.mx_gen.specs.Program.{generated_image}
 use Rattle.mx_files.specs.Answers.{Answer}
 use Rattle.mx_files.specs.Objects.{source_object}
 use Rattle.mx_files.specs.Writing.{put_text}
@@ -30,9 +28,10 @@ use Rattle.mx_top.specs.MachineWork.{machine_plan, sitting_plan}
 use Rattle.mx_top.specs.Product.{run_on, answer_of}
 use Rattle.mx_top.specs.Runs.{generator_steps, session_outcome}
 use Rattle.mx_top.specs.WorkClauses.{answer_by, work_by}
-use Rattle.mx_begin.specs.Begun.{started}
-use Rattle.mx_files.specs.Source.{file_bytes, source_pieces, object_pieces}
-use Rattle.mx_files.specs.Sources.{source_meaning}
+use Rattle.mx_begin.specs.Begun.{image_in, most_pieces, started}
+use Rattle.mx_begin.specs.declared.images.Form.{Form}
+use Rattle.mx_begin.specs.declared.images.Form.TheVariants.{Object, Source}
+use Rattle.mx_files.specs.Source.{file_bytes, source_pieces}
 use Rattle.mx_outcome.specs.declared.outcome.Outcome.{Outcome}
 
 -- What an image comes to that is run as an order says, with these arguments; and a session of the console on a machine that started.
@@ -47,20 +46,17 @@ pub record IsOrdered (words : List Word) (o : Order) (wanted : Command) : Type 0
   pub order : order_of words ≡ Ok o
   pub command : o.command ≡ wanted
 
--- The words order to run a source, which is read and means this image. The host is then `begun`.
-pub record HasSource (words : List Word) (o : Order) (image : Image) (m begun : HostModel) : Type 0 where
-  pub ordered : IsOrdered words o Run
-  pub text : List ℕ
-  pub read : file_bytes source_pieces (word_at words o.file) m ≡ (Ok text, begun)
-  pub means : source_meaning text ≡ Ok image
+-- The command that runs a source, and the one that runs an object.
+abbrev pub command_for : Form → Command
+command_for Source = Run
+command_for Object = Sim
 
--- The words order to run an object, which is read and loaded as this image.
-pub record HasObject (words : List Word) (o : Order) (image : Image) (m begun : HostModel) : Type 0 where
-  pub ordered : IsOrdered words o Sim
-  pub object : List ℕ
-  pub symbols : List Symbol
-  pub read : file_bytes object_pieces (word_at words o.file) m ≡ (Ok object, begun)
-  pub loads : object_loaded object ≡ Ok (image, symbols)
+-- The words order to run a source or an object, which is read and means this image. The host is then `begun`.
+pub record HasProgram (words : List Word) (o : Order) (form : Form) (image : Image) (m begun : HostModel) : Type 0 where
+  pub ordered : IsOrdered words o (command_for form)
+  pub bytes : List ℕ
+  pub read : file_bytes (most_pieces form) (word_at words o.file) m ≡ (Ok bytes, begun)
+  pub means : image_in form bytes ≡ Ok image
 
 -- The machine of this image starts with the arguments of the words, in this state.
 abbrev pub IsStarted : MachineKind → List Word → Order → Image → State → Type 0
@@ -123,17 +119,9 @@ pub record IsThere (name : Word) (most : ℕ) (text : List ℕ) (m : HostModel) 
   pub found : place_of m.files name ≡ Some place
   pub bytes : text ≡ take (4096 * most) (bytes_at m.files place)
 
--- The words order to run a source that is there, and that means this image.
-pub record SourceIsThere (words : List Word) (o : Order) (image : Image) (m : HostModel) : Type 0 where
-  pub ordered : IsOrdered words o Run
-  pub text : List ℕ
-  pub there : IsThere (word_at words o.file) source_pieces text m
-  pub means : source_meaning text ≡ Ok image
-
--- The words order to run an object that is there, and that is loaded as this image.
-pub record ObjectIsThere (words : List Word) (o : Order) (image : Image) (m : HostModel) : Type 0 where
-  pub ordered : IsOrdered words o Sim
-  pub object : List ℕ
-  pub symbols : List Symbol
-  pub there : IsThere (word_at words o.file) object_pieces object m
-  pub loads : object_loaded object ≡ Ok (image, symbols)
+-- The words order to run a source or an object that is there, and that means this image.
+pub record ProgramIsThere (words : List Word) (o : Order) (form : Form) (image : Image) (m : HostModel) : Type 0 where
+  pub ordered : IsOrdered words o (command_for form)
+  pub bytes : List ℕ
+  pub there : IsThere (word_at words o.file) (most_pieces form) bytes m
+  pub means : image_in form bytes ≡ Ok image

@@ -1,14 +1,16 @@
 -- Orders to run a source or an object, as those that are counted, and the answers of runs that were counted. The machine is that over a
 -- ring of registers, or that over an unbounded list.
-use Rattle.std.specs.Prelude.{ℕ, ◌≡◌, false, List, [], Result, Ok, Err}
+use Rattle.std.specs.Prelude.{ℕ, ◌≡◌, ◌≤◌, ◌^◌, true, false, List, [], ◌++◌, length, Result, Ok, Err, Some}
 use Rattle.mx_host.specs.HostModel.{HostModel}
 use Rattle.mx_host.specs.HostAnswer.{Then}
 use Rattle.mx_mmo.specs.Image.{Image}
 use Rattle.mx_plan.specs.Wild.{ends, meets_wild}
 use Rattle.mx_core.specs.State.{State}
-use Rattle.mx_run.specs.WildRuns.{MachineKind}
+use Rattle.mx_run.specs.Runs.{Ended}
+use Rattle.mx_run.specs.WildRuns.{MachineKind, run_ended}
 use Rattle.mx_words.specs.Orders.{order_of}
 use Rattle.mx_words.specs.declared.order.Command.{Command}
+use Rattle.mx_words.specs.declared.order.Command.TheVariants.{Run, Sim}
 use Rattle.mx_words.specs.declared.order.Order.{Order}
 use Rattle.mx_files.specs.Answers.{Answer}
 use Rattle.mx_files.specs.Source.{file_bytes, object_pieces, source_pieces}
@@ -16,7 +18,12 @@ use Rattle.mx_files.specs.Sources.{source_meaning}
 use Rattle.mx_outcome.specs.declared.outcome.Outcome.{Outcome}
 use Rattle.mx_begin.specs.Arguments.{Word, word_at, arguments}
 use Rattle.mx_begin.specs.Begun.{started}
-use Rattle.mx_count.specs.Runs.{CountAnswer, AnswerForms, source_counted}
+use Rattle.mx_begin.specs.Ends.{outcome_of}
+use Rattle.mx_top.specs.Product.{product_traces}
+use Rattle.mx_count.specs.Runs.{AnswerForms, CountAnswer, by_lines, by_text, halting_after, ran, source_counted}
+use Rattle.mx_count.specs.Sheets.{sheet_of}
+use Rattle.mx_count.specs.declared.count.Counted.{Counted}
+use Rattle.mx_count.specs.declared.lines.CountedLines.{CountedLines}
 use Rattle.mx_object.specs.Runs.{object_counted, uncounted}
 use Rattle.mx_object.specs.declared.counted.CountedObject.{CountedObject}
 
@@ -58,3 +65,54 @@ object_file kind words o m = object_read kind o (arguments words o) (file_bytes 
 abbrev pub answer_by : {A : Type 0} → (A → Outcome) → CountAnswer A → Answer
 answer_by outcome (ends x m) = ends (outcome x) m
 answer_by outcome (meets_wild m) = meets_wild m
+
+-- ---- what the laws speak of
+
+-- an order of one run, over this host
+pub record PlainRun (command : Command) : Type 0 where
+  pub kind : MachineKind
+  pub words : List Word
+  pub order : Order
+  pub host : HostModel
+  pub plain : RunsPlainly words order command
+
+-- what comes of it, counted: the sheet as a text, as data, and that of an object
+abbrev pub text_answer : PlainRun Run → Answer
+text_answer r = answer_by (λ (c : Counted). c.outcome) (source_file r.kind r.words r.order by_text r.host)
+
+abbrev pub data_answer : PlainRun Run → Answer
+data_answer r = answer_by (λ (c : CountedLines). c.outcome) (source_file r.kind r.words r.order by_lines r.host)
+
+abbrev pub object_answer : PlainRun Sim → Answer
+object_answer r = answer_by (λ (c : CountedObject). c.outcome) (object_file r.kind r.words r.order r.host)
+
+-- an order of one run whose watchers report: its source is read, its machine starts, and it ends so
+pub record TracedRun : Type 0 where
+  pub kind : MachineKind
+  pub words : List Word
+  pub order : Order
+  pub source : List ℕ
+  pub start : State
+  pub host : HostModel
+  pub begun : HostModel
+  pub last : Ended
+  pub plain : RunsPlainly words order Run
+  pub reports : order.report ≡ true
+  pub starts : StartsWith kind words order source start host begun
+  pub comes : ran kind order.steps start begun ≡ run_ended last
+
+-- its outcome, with the sheet of the traces that watchers are told, and of the step that halts
+abbrev pub traced_counts : TracedRun → Counted
+traced_counts r = record {
+  outcome = outcome_of r.order.steps r.last.end;
+  sheet = Some (sheet_of r.source (product_traces r.kind r.words r.host ++ halting_after r.last));
+}
+
+-- a file that is read as a source of at most 2^22 bytes
+pub record ShortSource : Type 0 where
+  pub name : List ℕ
+  pub text : List ℕ
+  pub host : HostModel
+  pub after : HostModel
+  pub short : length text ≤ 2 ^ 22
+  pub read : file_bytes source_pieces name host ≡ (Ok text, after)

@@ -1,8 +1,15 @@
 -- A source that is assembled into an object, and the object run in its place.
-use Rattle.std.specs.Prelude.{ℕ, ◌≡◌, ◌+◌, List, [], ◌∷◌, ◌++◌, codes, false, length, Ok}
+use Rattle.std.specs.Prelude.{ℕ, ◌≡◌, ◌+◌, List, [], ◌∷◌, ◌++◌, codes, false, length, None, Some, Ok, Err}
 use Rattle.std.specs.Str.{bytes_eq}
 use Rattle.mx_word.specs.Ranges.{AreBytes}
+use Rattle.mx_word.specs.declared.symbols.Symbol.{Symbol}
 use Rattle.mx_host.specs.HostModel.{HostModel}
+use Rattle.mx_mmo.specs.Image.{Image}
+use Rattle.mx_asm.specs.Entries.{source_entries, statements_in}
+use Rattle.mx_asm.specs.Image.{symbols_of}
+use Rattle.mx_asm.specs.Pages.{RunRefusal, run_refusal}
+use Rattle.mx_asm.specs.Refusal.{refusal}
+use Rattle.mx_load.specs.Objects.{object_loaded}
 use Rattle.mx_plan.specs.Counts.{NoneFailed, unscheduled, without_count}
 use Rattle.mx_plan.specs.Wild.{ends, meets_wild}
 use Rattle.mx_run.specs.WildRuns.{MachineKind}
@@ -12,7 +19,9 @@ use Rattle.mx_words.specs.declared.order.Order.{Order}
 use Rattle.mx_files.specs.Answers.{Answer}
 use Rattle.mx_begin.specs.Arguments.{Word, program_name}
 use Rattle.mx_top.specs.Product.{product}
+use Rattle.mx_files.specs.Objects.{source_object}
 use Rattle.mx_files.specs.Source.{file_bytes, source_pieces}
+use Rattle.mx_files.specs.Sources.{source_meaning}
 use Rattle.mx_outcome.specs.declared.outcome.Outcome.{Outcome}
 use Rattle.mx_outcome.specs.declared.outcome.Outcome.TheVariants.{Done}
 
@@ -65,3 +74,23 @@ pub record IsAssembled (kind : MachineKind) (source object : Word) (text : List 
   pub read : (file_bytes source_pieces source m).0 ≡ Ok text
   pub bytes : AreBytes text
   pub done : product kind (asm_words source object) m ≡ ends (Done 0) after
+
+-- ---- the object of a source, and its symbols
+
+abbrev pub object_bytes : List ℕ → List ℕ
+object_bytes text = (source_object text).0
+
+abbrev pub source_symbols : List ℕ → List Symbol
+source_symbols text = symbols_of (statements_in (source_entries text))
+
+-- a source of bytes that means this image
+abbrev pub IsMeant : List ℕ → Image → Type 0
+IsMeant text image = AreBytes text × (source_meaning text ≡ Ok image)
+
+-- a source of bytes that is assembled, and yet refused when it is run
+abbrev pub IsRefusedRun : List ℕ → RunRefusal → Type 0
+IsRefusedRun text r = AreBytes text × (refusal text ≡ None) × (run_refusal text ≡ Some r)
+
+-- it is refused for its pages, and so is its object
+abbrev pub HasTooManyPages : List ℕ → RunRefusal → Type 0
+HasTooManyPages text r = (r.number ≡ 90) × (place : ℕ) × (object_loaded (object_bytes text) ≡ Err (place, 90))

@@ -5,3 +5,5 @@ pub mod Rings
 pub mod Unbroken
 pub mod WholeItems
 pub mod Counted
+pub mod Programs
+pub mod ShownObjects

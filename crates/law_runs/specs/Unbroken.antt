@@ -4,11 +4,11 @@ use Rattle.mx_plan.specs.Wild.{Course, ends, meets_wild}
 use Rattle.mx_run.specs.RunPlans.{RunWorld}
 use Rattle.mx_run.specs.declared.end.End.{End}
 use Rattle.mx_files.specs.Answers.{Answer}
-use Rattle.mx_top.specs.Runs.{outcome_of}
+use Rattle.mx_begin.specs.Ends.{outcome_of}
 use Rattle.mx_outcome.specs.declared.outcome.Outcome.{Outcome}
 use Rattle.mx_outcome.specs.declared.outcome.Outcome.TheVariants.{OutOfMemory}
 
--- whether an outcome is other than that of no memory, which stands for a break too
+-- whether an outcome is other than that of no memory, which means a break too
 abbrev pub is_outcome_told : Outcome → Bool
 is_outcome_told OutOfMemory = false
 is_outcome_told outcome = true

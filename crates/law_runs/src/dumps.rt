@@ -5,7 +5,7 @@ ghost use Rattle.mx_core.specs.Bounds.{as_list_state};
 ghost use Rattle.mx_core.specs.State.{State, octa};
 ghost use Rattle.mx_dump.specs.Dump.{dump_lines, octa_lines};
 
-/// Where nothing was touched, a machine over a window and the one over the list that it stands for have
+/// Where nothing was touched, a machine over a window and the one over the list that it represents have
 /// the same dump. Octas that are 0 have no line.
 #[tactic(auto, using(crate::proofs::DumpLaws::dumping))]
 pub fn dumps_show_what_programs_see()

@@ -1,4 +1,4 @@
-//! Laws of whole runs of the program, over its definitions alone: what has to stand for it to be done, what goes
+//! Laws of whole runs of the program, over its definitions alone: what has to hold for it to be done, what goes
 //! by no ring and by no count of calls, and an object in place of its source.
 #![tactic(auto)]
 
@@ -15,9 +15,8 @@ mod rings;
 pub use called::{calls_answer_what_is_due, statuses_are_low_bytes};
 pub use complete::{
     consoles_answer_as_sessions, consoles_of_what_is_there_answer_as_sessions,
-    generated_sources_are_done, objects_that_are_there_are_run, objects_that_halt_are_done,
-    sources_that_are_there_are_assembled, sources_that_are_there_are_run,
-    sources_that_halt_are_done, sources_that_mean_are_assembled,
+    generated_sources_are_done, programs_that_are_there_are_run, programs_that_halt_are_done,
+    sources_that_are_there_are_assembled, sources_that_mean_are_assembled,
 };
 pub use counts::{
     counts_go_by_the_traces_of_their_runs, counts_run_as_the_program, sources_are_read_alike,

@@ -12,28 +12,24 @@ ghost use Rattle.mx_watch.specs.Watching.{Watching};
 ghost use Rattle.mx_outcome.specs.declared.outcome.Outcome.{Outcome};
 ghost use Rattle.mx_words.specs.Orders.{order_of};
 ghost use Rattle.mx_words.specs.Values.{blocks_value, ring_value};
-ghost use Rattle.mx_words.specs.declared.order.Order.{Order};
 ghost use Rattle.mx_begin.specs.Arguments.{Word};
 ghost use Rattle.mx_top.specs.Product.{product, product_traces};
 ghost use Rattle.mx_top.specs.Reports.{due_reports, watched_product};
 ghost use Rattle.mx_top.specs.Telling.{reports_plan};
 ghost use Rattle.law_runs.specs.Called.{IsCalled, IsWatched};
 ghost use Rattle.law_runs.specs.Detour.{host_of};
-ghost use Rattle.law_runs.specs.Rings.{DifferInRing, gen_ring_words, gen_words};
+ghost use Rattle.law_runs.specs.Rings.{OrderPair, SameReports, SameRings, gen_ring_words, gen_words, watching};
 ghost use Rattle.law_runs.specs.Unbroken.{is_answer_told, is_run_told};
 
 /// Orders that differ in the size of the ring alone come to the same over the list machine. So, by the
 /// clause `headline` of the top call, two rings give the same outcome and the same host, where the
 /// list machine meets nothing wild; and, with the clause of the call with watchers, the same reports. So `gen`
 /// comes to the same with `--ring` and without it.
-#[tactic(auto, using(crate::proofs::SameRings::rings))]
 pub fn two_rings_agree()
-    ensures alone { (words others : List Word) (o p : Order) (m : HostModel) → order_of words ≡ Ok o →
-        order_of others ≡ Ok p →
-        DifferInRing words others o p → product list_machine words m ≡ product list_machine others m }
-    ensures watched { (words others : List Word) (o p : Order) (watchers : List Watching) (m : HostModel) →
-        order_of words ≡ Ok o → order_of others ≡ Ok p → DifferInRing words others o p → o.report ≡ p.report →
-        watched_product list_machine words watchers m ≡ watched_product list_machine others watchers m }
+    ensures alone { (r : OrderPair) (m : HostModel) →
+        product list_machine r.words m ≡ product list_machine r.others m }
+    ensures watched { (r : OrderPair) (ws : List Watching) (m : HostModel) → SameReports r →
+        watching r.words ws m ≡ watching r.others ws m }
     ensures generated { (blocks ring : Word) (n size : ℕ) (m : HostModel) → blocks_value blocks ≡ Ok n →
         ring_value ring ≡ Ok size → product list_machine (gen_words blocks) m ≡
         product list_machine (gen_ring_words ring blocks) m }
@@ -42,11 +38,10 @@ pub fn two_rings_agree()
 /// Reports change nothing but what follows the message. Words with `--report` come to what the words without it
 /// come to, over each machine; watchers leave the outcome as it is, and write their reports after all else; and a call
 /// with watchers answers as one without them, so that what holds of answers of the program holds of it.
-#[tactic(auto, using(crate::proofs::SameRings::rings, crate::proofs::WatchedCalls::watched_calls))]
+#[tactic(auto, using(crate::proofs::WatchedCalls::watched_calls))]
 pub fn reports_change_nothing_else()
-    ensures words { (kind : MachineKind) (words others : List Word) (o p : Order) (m : HostModel) →
-        order_of words ≡ Ok o → order_of others ≡ Ok p → DifferInRing words others o p → o.ring ≡ p.ring →
-        product kind words m ≡ product kind others m }
+    ensures words { (kind : MachineKind) (r : OrderPair) (m : HostModel) → SameRings r →
+        product kind r.words m ≡ product kind r.others m }
     ensures outcome { (kind : MachineKind) (words : List Word) (watchers : List Watching) (outcome : Outcome)
         (m n : HostModel) → product kind words m ≡ ends outcome n → watched_product kind words watchers m ≡
         ends outcome (end_of host (reports_plan outcome
@@ -57,15 +52,15 @@ pub fn reports_change_nothing_else()
 {}
 
 /// A run of the program, which has no flags, halts, stops, spends its steps or meets something wild; by
-/// its definition it is never out of memory. So the one free answer stands for nothing else.
+/// its definition it is never out of memory. So the one free answer means nothing else.
 #[tactic(auto, using(crate::proofs::UnbrokenRuns::unbroken))]
 pub fn runs_end_by_themselves()
-    ensures { (kind : MachineKind) (steps : ℕ) (s : State) (m : HostModel) →
-        is_run_told steps (run_by kind steps no_flags false s m) ≡ true }
+    ensures { (kind : MachineKind) (n : ℕ) (s : State) (m : HostModel) →
+        is_run_told n (run_by kind n no_flags false s m) ≡ true }
 {}
 
 /// By its definition the program is never out of memory, with whatever words, files and failing calls. So
-/// that answer, which is always free, stands for nothing else in what it promises.
+/// that answer, which is always free, means nothing else in what it promises.
 #[tactic(auto, using(crate::proofs::ToldPrograms::unbroken_programs))]
 pub fn programs_end_by_themselves()
     ensures { (kind : MachineKind) (words : List Word) (m : HostModel) → is_answer_told (product kind words m) ≡ true }

@@ -20,7 +20,7 @@ use std::env;
 use std::io::{ErrorKind as Fault, IsTerminal};
 use std::process::ExitCode;
 
-/// The statuses of faulty words, of want of memory, and of a write that fails.
+/// The statuses of faulty words, of memory that runs out, and of a write that fails.
 const FAULTY_WORDS: u8 = 64;
 
 const OUT_OF_MEMORY: u8 = 71;

@@ -3,3 +3,4 @@ pub mod Messages
 pub mod Commands
 pub mod Requests
 pub mod Needs
+pub mod Early

@@ -30,6 +30,14 @@ pub enum Unread {
     NoMemory,
 }
 
+/// What is said where there is no launch.
+pub fn say_unread(unread: Unread) -> &'static [u8] {
+    match unread {
+        Unread::Refused(why) => why.as_bytes(),
+        Unread::NoMemory => b"out of memory",
+    }
+}
+
 impl From<NoMemory> for Unread {
     fn from(_error: NoMemory) -> Unread {
         Unread::NoMemory

@@ -3,6 +3,7 @@
 
 mod arguments;
 mod commands;
+mod early;
 mod launching;
 mod needs;
 mod outbox;
@@ -10,7 +11,7 @@ mod requests;
 
 pub use arguments::{argument, flag_at, integer_at, list_at, number_at, text_at, text_in};
 pub use commands::Command;
-pub use launching::{Launch, Unread, Wishes, read_launch};
-pub use needs::find_lack;
+pub use early::{answer_early, make_done, make_refusal, refuse_unknown, refuse_unlaunched};
+pub use launching::{Launch, Unread, Wishes, read_launch, say_unread};
 pub use outbox::{Answer, Bodies, Outbox};
-pub use requests::{Request, read_request};
+pub use requests::{Request, read_message, read_request};

@@ -308,7 +308,7 @@ fn breakpoints(message: &Value) -> &[Value]
 /// Says which of the arguments that the protocol requires a request lacks, if there is one: it is named, with what is
 /// wrong.
 #[tactic(auto, unfolding(crate::specs::Needs::lack))]
-pub fn find_lack(
+pub(crate) fn find_lack(
     alloc: Global,
     command: Command,
     message: &Value,

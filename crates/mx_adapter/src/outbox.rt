@@ -162,7 +162,7 @@ fn add_event(alloc: Global, text: &mut Bytes, event: &[u8], body: &[u8]) -> Resu
 
 /// The message with a number, after which this follows.
 #[tactic(auto, unfolding(crate::specs::Numbers::front))]
-fn numbered(alloc: Global, seq: u64, rest: &[u8]) -> Result<Bytes, NoMemory>
+fn with_number(alloc: Global, seq: u64, rest: &[u8]) -> Result<Bytes, NoMemory>
     ensures { IfOk result (λ body. body ≡ front seq ++ rest.now) }
 {
     let mut body = Bytes::new(alloc);
@@ -192,7 +192,7 @@ impl Outbox {
         let Some(count) = self.count.checked_add(1) else {
             return Err(NoMemory);
         };
-        let body = numbered(self.alloc, count, rest)?;
+        let body = with_number(self.alloc, count, rest)?;
         self.bodies.push(body)?;
         self.count = count;
         Ok(())

@@ -1,6 +1,7 @@
 //! Requests.
 
-ghost use Rattle.std.specs.Prelude.{◌≡◌, IfOk, IfSome, IsSome, List, Some, true, ℕ, option_map};
+ghost use Rattle.std.specs.Prelude.{◌≡◌, IfOk, IfSome, IsSome, IsUtf8, List, None, Some, true, ℕ, option_map};
+ghost use Rattle.serde_json.specs.Read.{read as read_text};
 ghost use Rattle.serde_json.specs.View.{view};
 ghost use Rattle.mx_adapter.specs.Commands.{named};
 ghost use Rattle.mx_adapter.specs.Requests as spec;
@@ -43,6 +44,26 @@ fn seq_of(message: &Value) -> u64
     match message.get("seq") {
         None => 0,
         Some(seq) => seq.as_u64().unwrap_or(0),
+    }
+}
+
+/// The value that a message writes in JSON, if it is JSON.
+pub fn read_message(alloc: Global, body: &[u8]) -> Result<Option<Value>, NoMemory>
+    ensures read { IfOk result (λ m. IfSome m (λ v. read_text body.now ≡ Some (view v))) }
+    ensures none { IfOk result (λ m. m ≡ None → IsUtf8 body.now → read_text body.now ≡ None) }
+{
+    let Ok(text) = str::from_utf8(body) else {
+        return Ok(None);
+    };
+    match Value::from_str(alloc, text) {
+        Ok(message) => Ok(Some(message)),
+        Err(e) => {
+            if e.is_memory() {
+                Err(NoMemory)
+            } else {
+                Ok(None)
+            }
+        }
     }
 }
 

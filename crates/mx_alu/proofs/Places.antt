@@ -42,7 +42,7 @@ lowest z k i =
     let last : field 8 (z / 2 ^ k) i % 2 ≡ z / 2 ^ k / 2 ^ (8 * i) % 2 = omega arith in
     and_mask (field 8 (z / 2 ^ k) i) 1 ∙ last ∙ ap (λ n. n % 2) deeper ∙ digit (bit_at z (8 * i + k)) (bit_at-lt z (8 * i + k))
 
--- the bytes in whose bit k a 1 stands
+-- the bytes whose bit k is 1
 ones-of : (z k : ℕ) → z < 2 ^ 64 → bit_and (z / 2 ^ k) 0x0101_0101_0101_0101 ≡ fields 8 8 (λ i. cond (bit z (8 * i + k)) 1 0)
 ones-of z k l =
     let small : z / 2 ^ k % 2 ^ 64 ≡ z / 2 ^ k = omega (arith, shr_le z k) in
@@ -56,7 +56,7 @@ times-digit : (b : Bool) (c : ℕ) → cond b 1 0 * c ≡ cond b c 0
 times-digit true c = one-mul c
 times-digit false c = zero-mul c
 
--- byte k of y in the bytes in whose bit k a 1 stands
+-- byte k of y in the bytes whose bit k is 1
 pub chosen-is : (y z k : ℕ) → z < 2 ^ 64 → bit_and (z / 2 ^ k) 0x0101_0101_0101_0101 * (y / 2 ^ (8 * k) % 2 ^ 8) ≡ fields 8 8 (λ i. cond (bit z (8 * i + k)) (field 8 y k) 0)
 chosen-is y z k l =
     ap (λ r. r * (y / 2 ^ (8 * k) % 2 ^ 8)) (ones-of z k l)

@@ -43,7 +43,7 @@ x_in w = w / 2 ^ 16 % 2 ^ 8
 abbrev pub tetra_address : ℕ → ℕ
 tetra_address a = 4 * (a / 4)
 
--- where the inserted instruction counts as standing: one tetra before the one that rW names
+-- where the inserted instruction counts: one tetra before the one that rW names
 abbrev pub insertion_place : ℕ → ℕ
 insertion_place next = (tetra_address next + (2 ^ 64 - 4)) % 2 ^ 64
 
@@ -56,7 +56,7 @@ trap_code = 0x00
 abbrev pub resume_code : ℕ
 resume_code = 0xf9
 
--- whether a code has no operands y and z that rY and rZ could stand for: branches, loads and stores, and from #f0 on
+-- whether a code has no operands y and z that rY and rZ could be: branches, loads and stores, and from #f0 on
 abbrev pub has_own_operands : ℕ → Bool
 has_own_operands code =
     (nat_le 0x40 code && nat_le code 0x5f) || (nat_le 0x80 code && nat_le code 0xbf) || nat_le 0xf0 code

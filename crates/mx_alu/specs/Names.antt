@@ -52,7 +52,7 @@ condition_ends =
 unfoldable pub condition_names : List (List ℕ × Condition)
 condition_names = flat_map (λ front. map (λ end. (front ++ end.0, end.1)) condition_ends) (words (codes "B PB CS ZS"))
 
--- the instruction or condition of a code, by its name; a code with another name has none, and the word after it stands for nothing
+-- the instruction or condition of a code, by its name; a code with another name has none, and the word after it means nothing
 unfoldable pub arithmetic_of : ℕ → Arithmetic
 arithmetic_of code = unwrap_or (first_of (opcode_name code) arithmetic_names) Mul
 

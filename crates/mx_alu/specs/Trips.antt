@@ -12,7 +12,7 @@ abbrev pub event_bit : Event → ℕ
 event_bit Divide = 0x80
 event_bit Overflow = 0x40
 
--- the bit that enables its trip stands eight places higher
+-- the bit that enables its trip is eight places higher
 abbrev pub enable_bit : Event → ℕ
 enable_bit event = event_bit event * 2 ^ 8
 

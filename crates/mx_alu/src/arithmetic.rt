@@ -19,13 +19,13 @@ pub(crate) fn perform(name: Arithmetic, y: u64, z: u64, d: u64) -> Answer
     ensures { result ≡ spec.arithmetic name y z d }
 {
     match name {
-        Arithmetic::Mul => Answer::from_signed(signed_product(y, z)),
+        Arithmetic::Mul => Answer::from_signed(multiply_signed(y, z)),
         Arithmetic::Mulu => multiply(y, z),
         Arithmetic::Div => divide(y, z),
         Arithmetic::Divu => divide_long(d, y, z),
-        Arithmetic::Add => Answer::from_signed(signed_sum(y, z)),
+        Arithmetic::Add => Answer::from_signed(add_signed(y, z)),
         Arithmetic::Addu => Answer::alone(y.wrapping_add(z)),
-        Arithmetic::Sub => Answer::from_signed(signed_difference(y, z)),
+        Arithmetic::Sub => Answer::from_signed(subtract_signed(y, z)),
         Arithmetic::Subu => Answer::alone(subtract(y, z)),
         Arithmetic::TwoAddu => Answer::alone((y << 1).wrapping_add(z)),
         Arithmetic::FourAddu => Answer::alone((y << 2).wrapping_add(z)),
@@ -60,8 +60,8 @@ pub(crate) fn perform_alone(name: Arithmetic, y: u64, z: u64) -> Option<u64>
         Arithmetic::Slu => Some(shift_left(y, z)),
         Arithmetic::Sr => Some(shift_right_signed(y, z)),
         Arithmetic::Sru => Some(shift_right(y, z)),
-        Arithmetic::Add => checked_sum(y, z),
-        Arithmetic::Sub => checked_difference(y, z),
+        Arithmetic::Add => add_checked(y, z),
+        Arithmetic::Sub => subtract_checked(y, z),
         Arithmetic::Mul => lone(&perform(Arithmetic::Mul, y, z, 0)),
         Arithmetic::Neg => fit_signed(less_signed(y, z)),
         Arithmetic::Sl => lone(&shift_left_signed(y, z)),
@@ -81,7 +81,7 @@ fn value(x: u64) -> i128
 
 /// The sum of two signed octas.
 #[inline(always)]
-fn signed_sum(y: u64, z: u64) -> i128
+fn add_signed(y: u64, z: u64) -> i128
     ensures { result ≡ signed_value y +ℤ signed_value z }
 {
     value(y) + value(z)
@@ -89,7 +89,7 @@ fn signed_sum(y: u64, z: u64) -> i128
 
 /// The sum of two signed octas, where it is one.
 #[inline(always)]
-fn checked_sum(y: u64, z: u64) -> Option<u64>
+fn add_checked(y: u64, z: u64) -> Option<u64>
     ensures { result ≡ lone_value (checked_answer (signed_value y +ℤ signed_value z)) }
 {
     match signed(y).checked_add(signed(z)) {
@@ -100,7 +100,7 @@ fn checked_sum(y: u64, z: u64) -> Option<u64>
 
 /// The difference of two signed octas, where it is one.
 #[inline(always)]
-fn checked_difference(y: u64, z: u64) -> Option<u64>
+fn subtract_checked(y: u64, z: u64) -> Option<u64>
     ensures { result ≡ lone_value (checked_answer (signed_value y -ℤ signed_value z)) }
 {
     match signed(y).checked_sub(signed(z)) {
@@ -111,7 +111,7 @@ fn checked_difference(y: u64, z: u64) -> Option<u64>
 
 /// The difference of two signed octas.
 #[inline(always)]
-fn signed_difference(y: u64, z: u64) -> i128
+fn subtract_signed(y: u64, z: u64) -> i128
     ensures { result ≡ signed_value y -ℤ signed_value z }
 {
     value(y) - value(z)
@@ -119,7 +119,7 @@ fn signed_difference(y: u64, z: u64) -> i128
 
 /// The product of two signed octas.
 #[inline(always)]
-fn signed_product(y: u64, z: u64) -> i128
+fn multiply_signed(y: u64, z: u64) -> i128
     ensures { result ≡ signed_value y *ℤ signed_value z }
 {
     value(y) * value(z)

@@ -13,7 +13,7 @@ pub enum Trip {
 }
 
 /// Whether an event trips where rA is ra. Its bit is #80 for D and #40 for V, and the bit that enables
-/// its trip stands eight places higher. The handlers are at 16 for D and 32 for V.
+/// its trip is eight places higher. The handlers are at 16 for D and 32 for V.
 pub fn decide(ra: u64, event: Event) -> Trip
     ensures { result ≡ spec.decided ra event }
 {

@@ -3,7 +3,7 @@
 ghost use Rattle.std.specs.Prelude.{◌≡◌, ◌<◌, ◌^◌};
 ghost use Rattle.mx_alu.specs.Insertions as spec;
 
-/// How an inserted instruction is performed: as if it stood at its address; with rY and rZ as its
+/// How an inserted instruction is performed: as if it were at its address; with rY and rZ as its
 /// operands; or not itself, but its register X gets rZ.
 #[derive(Clone, Copy, Debug, PartialEq, Eq)]
 pub enum Kind {
@@ -13,7 +13,7 @@ pub enum Kind {
 }
 
 /// What RESUME 0 comes to: it goes to an address; it performs an inserted instruction, with its kind,
-/// the address at which it counts as standing, and its tetra; it is illegal; or it is left out.
+/// the address at which it counts, and its tetra; it is illegal; or it is left out.
 #[derive(Clone, Copy, Debug, PartialEq, Eq)]
 pub enum Insert {
     Back(u64),
@@ -74,7 +74,7 @@ fn tetra_address(a: u64) -> u64
     a - a % 4
 }
 
-/// The place at which an inserted instruction counts as standing: one tetra before the one at rW,
+/// The place at which an inserted instruction counts: one tetra before the one at rW,
 /// modulo 2^64.
 fn insertion_place(rw: u64) -> u64
     ensures { result ≡ spec.insertion_place rw }
@@ -118,7 +118,7 @@ fn x_in(word: u32) -> u8
     (word >> 16 & 0xff) as u8
 }
 
-/// Whether rY and rZ can't stand for the operands of a code: branches, loads and stores, and from #f0 on.
+/// Whether rY and rZ can't be the operands of a code: branches, loads and stores, and from #f0 on.
 fn has_own_operands(code: u8) -> bool
     ensures { result ≡ spec.has_own_operands code }
 {

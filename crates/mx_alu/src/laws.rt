@@ -41,7 +41,7 @@ pub fn trips_are_resumed()
 
 /// RESUME 0 goes to a multiple of 4, which is not above rW. What it performs is at a multiple of 4
 /// below 2^64, and is a tetra.
-pub fn insertions_stand_at_tetras()
+pub fn insertions_are_at_tetras()
     ensures back { (rx next l g a : ℕ) → insertion rx next l g ≡ Back a → a % 4 ≡ 0 }
     ensures not_above { (rx next l g a : ℕ) → insertion rx next l g ≡ Back a → a ≤ next }
     ensures place { (rx next l g at w : ℕ) (kind : Kind) → insertion rx next l g ≡ Perform kind at w → at % 4 ≡ 0 }

@@ -21,6 +21,6 @@ pub use codes::{alu, lone_result, truth, wyde};
 pub use decision::{Trip, decide};
 pub use insertion::{Insert, Kind, inserted};
 pub use laws::{
-    codes_have_their_names, events_have_their_symbols, insertions_end, insertions_stand_at_tetras,
+    codes_have_their_names, events_have_their_symbols, insertions_are_at_tetras, insertions_end,
     noted_events_stay_in_18_bits, trips_are_resumed,
 };

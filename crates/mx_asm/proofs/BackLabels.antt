@@ -1,4 +1,4 @@
--- What dB stands for: the value of the last label dH before the statement, and pure 0 where there is none.
+-- What dB means: the value of the last label dH before the statement, and pure 0 where there is none.
 use Rattle.std.proofs.Common.{◌≡◌, ℕ, zero, suc, ◌<◌, ◌≤◌, List, [], ◌∷◌, ◌++◌, length, fold, replicate, slice_set, slice_index_or, false, Some, Ok, refl, ap, ◌∙◌, arith, rules}
 use Rattle.mx_asm.proofs.Words.{fold-append, Value, Pure, back, value_of, back_of, Local, Placed, Answer, Known, no_targets, knowledge_of, StatementTree, encoding, with_label, known_with, known_after, nothing_known, final_known, is_local}
 use Rattle.mx_asm.specs.Locals.{HasNoLocal}

@@ -1,6 +1,6 @@
 -- What holds of the statements and the fields of lines of bytes.
 use Rattle.std.proofs.Common.{◌<◌, ◌^◌, List, [], ◌∷◌, Option, None, Some, ◌≡◌, ℕ, ◌+◌, ◌≤◌, ◌++◌, length, map, arith, refl, subst, append_assoc, append-nil, ⊎_elim, Result, Ok, Err, ◌-◌, drop, option_map, rules}
-use Rattle.mx_asm.proofs.Words.{AllByRecursion, AreBytes, Tree, number, name, back, ahead, here, unary, binary, Label, Name, Local, StatementTree, HasOctas, IsStatement, cases_lt, all-both, ExprFault, TooWide, reading, Primary, Product, Sum, Operand, Operands, Spells, Before, FaultAt, Faultless, expression, string, none, more, empty, operands, list-read, cond_both, IfSome, bytes-front, bytes-behind, Span, LineFault, Cut, is_too_far, part, cuts_from, statement, faulty, too_far, item_of, before, items_of, Op, Answer, IsOperation, Fields, label_of, Entry, with_operands, with_operation, entry_with, entry_of, entries_of, statements_in, Line, lines_entries, nat_tests, common_steps}
+use Rattle.mx_asm.proofs.Words.{AllByRecursion, AreBytes, Tree, number, name, back, ahead, here, unary, binary, Label, Name, Local, StatementTree, HasOctas, IsStatement, cases_lt, all-both, ExprFault, TooWide, reading, Primary, Product, Sum, Operand, Operands, Spells, Before, FaultAt, Faultless, expression, string, none, more, empty, operands, list-read, cond_both, IfSome, bytes-front, bytes-after, Span, LineFault, Cut, is_too_far, part, cuts_from, statement, faulty, too_far, item_of, before, items_of, Op, Answer, IsOperation, Fields, label_of, Entry, with_operands, with_operation, entry_with, entry_of, entries_of, statements_in, Line, lines_entries, nat_tests, common_steps}
 use Rattle.mx_expr.specs.Spelling.Primary.{constant, character, symbol, last_label, enclosed, signed}
 use Rattle.mx_expr.specs.Spelling.Product.{primary, times}
 use Rattle.mx_expr.specs.Spelling.Sum.{product, plus}
@@ -51,11 +51,11 @@ are-statements (s ∷ later) h = (h.0.statement, are-statements later h.1)
 
 -- ---- the trees of a field of bytes: their numbers are octas, and their names are bytes
 
-pub bytes-cut : (front behind : List ℕ) → AreBytes (front ++ behind) → AreBytes front × AreBytes behind
-bytes-cut [] behind h = (tt, h)
-bytes-cut (b ∷ front) behind h = let rest = bytes-cut front behind h.1 in ((h.0, rest.0), rest.1)
+pub bytes-cut : (front following : List ℕ) → AreBytes (front ++ following) → AreBytes front × AreBytes following
+bytes-cut [] following h = (tt, h)
+bytes-cut (b ∷ front) following h = let rest = bytes-cut front following h.1 in ((h.0, rest.0), rest.1)
 
--- a part of a field without a fault, and what stands around it
+-- a part of a field without a fault, and what is around it
 record Part (front text rest : List ℕ) : Type 0 where
   field : List ℕ
   whole : front ++ (text ++ rest) ≡ field
@@ -94,9 +94,9 @@ mutual
             (record { field = s.field; whole = simp append_assoc (simp append_assoc at s.whole); sound = s.sound; bytes = cut.1.1 }),
       )
 
-numbers-bytes : (bytes behind : List ℕ) → AreBytes (bytes ++ behind) → AllByRecursion HasBytes (map number bytes)
-numbers-bytes [] behind l = tt
-numbers-bytes (b ∷ bytes) behind l = let byte = l.0 in (omega (arith, byte), numbers-bytes bytes behind l.1)
+numbers-bytes : (bytes following : List ℕ) → AreBytes (bytes ++ following) → AllByRecursion HasBytes (map number bytes)
+numbers-bytes [] following l = tt
+numbers-bytes (b ∷ bytes) following l = let byte = l.0 in (omega (arith, byte), numbers-bytes bytes following l.1)
 
 operand-bytes : {part : List ℕ} {fs : List Tree} → Operand part fs → (front rest : List ℕ) (es : List Tree) → Operands front es → Part front part rest → AllByRecursion HasBytes fs
 operand-bytes (expression t e h) front rest es o s = (sum-bytes h front rest 0 (first front es o) s, tt)
@@ -162,7 +162,7 @@ entries-have (i ∷ items) h = search (rules, entry-has, entries-have items h.1)
 -- ---- lines
 
 pub part-bytes : (line : List ℕ) (s : Span) → AreBytes line → AreBytes (part line s)
-part-bytes line s h = bytes-front (s.to - s.from) (drop s.from line) (bytes-behind s.from line h)
+part-bytes line s h = bytes-front (s.to - s.from) (drop s.from line) (bytes-after s.from line h)
 
 item-has : (n : ℕ) (line : List ℕ) (r : Result Cut LineFault) → 0 < n → AreBytes line → ItemHas (item_of n line r)
 item-has n line r h1 h2 = grind (arith, common_steps, nat_tests)

@@ -1,12 +1,12 @@
 -- The end of a source in one pass is that of the two passes.
 use Rattle.std.proofs.Common.{◌≡◌, ℕ, Bool, true, false, not, cond, List, [], ◌∷◌, ◌++◌, fold, Option, None, Some, is_some, refl, ap, sym, ◌∙◌, subst, append_assoc, append-nil, ◌||◌, rules, ◌+◌, ◌/◌, nat_lt, nat_le, length, Err, arith}
-use Rattle.mx_asm.proofs.Words.{filter, AllByRecursion, list_any-append, Value, Awaited, Wait, NameTable, first_value, value_of_name, Label, Placed, Answer, Known, no_targets, StatementTree, encoding, Refused, refused, Sight, outline, waits_in, is_local, next_local, referent, sights_from, known_after, fault_with, statement_fault, first_of, first_fault, undefined, unreferenced, first_undefined, IsUnknown, AreUnknown, encoding-awaits, list_any, nat_tests, Item, lowest_of, AsmFault, SymbolsTooMany, LocalAboveGlobals, Head, nothing_known, sights_of, final_known, opening, first_head, items_from, padded_trie, local_in, locals, trie_limit, last_fault, end_fault, last_line, at_line, end_refusal, assembly_fault, Assembly, beginning, last_number, main_fault, ended_main, ended_waits, end_behind, Line, accepted, assembled_with, assembled_lines, one_pass}
+use Rattle.mx_asm.proofs.Words.{filter, AllByRecursion, list_any-append, Value, Awaited, Wait, NameTable, first_value, value_of_name, Label, Placed, Answer, Known, no_targets, StatementTree, encoding, Refused, refused, Sight, outline, waits_in, is_local, next_local, referent, sights_from, known_after, fault_with, statement_fault, first_of, first_fault, undefined, unreferenced, first_undefined, IsUnknown, AreUnknown, encoding-awaits, list_any, nat_tests, Item, lowest_of, AsmFault, SymbolsTooMany, LocalAboveGlobals, Head, nothing_known, sights_of, final_known, opening, first_head, items_from, padded_trie, local_in, locals, trie_limit, last_fault, end_fault, last_line, at_line, end_refusal, assembly_fault, Assembly, beginning, last_number, main_fault, ended_main, ended_waits, end_following, Line, accepted, assembled_with, assembled_lines, one_pass}
 use Rattle.mx_word.specs.declared.waits.Awaited.TheVariants as awaited
 use Rattle.mx_names.specs.Waiting.{first_of as earliest}
 use Rattle.mx_asm.specs.TwoPass.{value_in}
 use Rattle.mx_asm.proofs.StatementForms.{HasLabel, encoding-label}
 use Rattle.mx_asm.proofs.OpenWaits.{any_settles, is_settled, unsettled, open_waits, local-is, or-false}
-use Rattle.mx_asm.proofs.OneStatement.{AreLabels, labels-kept, standing_at, sight_local, locals_from, outcome}
+use Rattle.mx_asm.proofs.OneStatement.{AreLabels, labels-kept, status_at, sight_local, locals_from, outcome}
 use Rattle.mx_line.specs.Source.{items_from as line_items}
 use Rattle.mx_asm.proofs.OnePassLaw.{counting, counted_progress, lines_after, size_after, no-labels, some-lines}
 
@@ -25,7 +25,7 @@ both-none a b h = search rules
 
 -- ---- the references of one statement
 
--- A reference stands for something exactly where its statement's own label or a later one settles it.
+-- A reference means something exactly where its statement's own label or a later one settles it.
 abbrev IsSettledWell : NameTable → Sight → List Sight → Wait → Type 0
 IsSettledWell final s later w = is_some (referent final later w.who) ≡ is_settled s later w.who
 
@@ -154,13 +154,13 @@ all-locals n sights = locals-from n sights 0 ∙ ap (λ b. b || list_any (λ reg
 
 -- ---- the number of the last line
 
-behind-more : (lines : List Line) (n : ℕ) → lines_after n lines ≡ n + length lines
+after-more : (lines : List Line) (n : ℕ) → lines_after n lines ≡ n + length lines
 unfolding lines_after
-behind-more [] n = omega arith
-behind-more (line ∷ lines) n = behind-more lines (n + 1) ∙ omega arith
+after-more [] n = omega arith
+after-more (line ∷ lines) n = after-more lines (n + 1) ∙ omega arith
 
 last-is : (line : Line) (lines : List Line) → last_number (lines_after 0 (line ∷ lines)) ≡ last_line (line ∷ lines)
-last-is line lines = search (rules, behind-more)
+last-is line lines = search (rules, after-more)
 
 -- ---- the end
 
@@ -172,7 +172,7 @@ module _ (out : List Item) (statements : List StatementTree) (last n m : ℕ) (h
   k = final_known statements
 
   abbrev a : Assembly
-  a = counting n m (standing_at k h sights (locals_from 0 sights))
+  a = counting n m (status_at k h sights (locals_from 0 sights))
 
   refused-alike : (fault : AsmFault) → (out, Err (refused (last_number n) fault)) ≡ assembled_with statements items (Some (refused last fault))
   refused-alike fault = λ i. (whole i, Err (refused (number i) fault))
@@ -197,8 +197,8 @@ module _ (out : List Item) (statements : List StatementTree) (last n m : ℕ) (h
 -- ---- the law
 
 outcome-ends : (line : Line) (lines : List Line) (statements : List StatementTree) (h : Head) (items : List Item) (r : Option Refused) → (r ≡ None → first_fault [] (sights_of statements) ≡ None) →
-    let p = counted_progress (lines_after 0 (line ∷ lines)) (size_after 0 (line ∷ lines)) (outcome (opening ++ items) r (standing_at (final_known statements) h (sights_of statements) (locals_from 0 (sights_of statements)))) in
-    end_behind p.0 p.1 ≡ assembled_with statements items (first_of r (end_refusal (last_line (line ∷ lines)) statements))
+    let p = counted_progress (lines_after 0 (line ∷ lines)) (size_after 0 (line ∷ lines)) (outcome (opening ++ items) r (status_at (final_known statements) h (sights_of statements) (locals_from 0 (sights_of statements)))) in
+    end_following p.0 p.1 ≡ assembled_with statements items (first_of r (end_refusal (last_line (line ∷ lines)) statements))
 outcome-ends line lines statements h items r none = grind (arith, ended-alike, last-is)
 
 -- whether the opening is there makes no difference at the end

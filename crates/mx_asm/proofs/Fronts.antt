@@ -17,9 +17,9 @@ front-append xs ys = (ys, refl)
 pub front-trans : (xs ys zs : List Item) → IsFront xs ys → IsFront ys zs → IsFront xs zs
 front-trans xs ys zs h g = (h.0 ++ g.0, g.1 ∙ ap (λ l. l ++ g.0) h.1 ∙ append_assoc xs h.0 g.0)
 
-pub behind-front : (out : List Item) (t : Taken) → IsFront out (after_entry out t).0
-behind-front out (Err refused) = front-refl out
-behind-front out (Ok (items, a)) = front-append out items
+pub after-front : (out : List Item) (t : Taken) → IsFront out (after_entry out t).0
+after-front out (Err refused) = front-refl out
+after-front out (Ok (items, a)) = front-append out items
 
 and-front : (more : List Item → Assembly → Progress) → ((out : List Item) (a : Assembly) → IsFront out (more out a).0) → (p : Progress) → IsFront p.0 (and_entries more p).0
 and-front more h (out, Err refused) = front-refl out
@@ -30,7 +30,7 @@ unfolding entries_taken
 entries-front [] out a = front-refl out
 entries-front (e ∷ entries) out a =
     front-trans out (after_entry out (entry_taken a e)).0 (and_entries (entries_taken entries) (after_entry out (entry_taken a e))).0
-    (behind-front out (entry_taken a e)) (and-front (entries_taken entries) (entries-front entries) (after_entry out (entry_taken a e)))
+    (after-front out (entry_taken a e)) (and-front (entries_taken entries) (entries-front entries) (after_entry out (entry_taken a e)))
 
 pub rest-front : (entries : List Entry) (p : Progress) → IsFront p.0 (and_entries (entries_taken entries) p).0
 rest-front entries p = and-front (entries_taken entries) (entries-front entries) p
@@ -57,7 +57,7 @@ waits-front None out a = main-front _ out a
 pub end-front : (out : List Item) (a : Assembly) → IsFront out (ended out a).0
 end-front out a = waits-front _ out a
 
-pub ruleset fronts = (front-refl, front-append, behind-front)
+pub ruleset fronts = (front-refl, front-append, after-front)
 
 -- ---- the entries of a line, taken one after another
 
@@ -105,10 +105,10 @@ before-op place op label h = search rules
 pub within-line : (place end : ℕ) (cut : Cut) (found : Option Cut) → found ≡ Some cut → IfSome found (InOrder place end) → cut.next ≤ end
 within-line place end cut found e h = search rules
 
-pub cut-behind : (place end : ℕ) (cut : Cut) → InOrder place end cut → place < cut.next
-cut-behind place end cut h = omega (arith, before-op place cut.op.from cut.label h.label, h.op, h.gap, h.operands, h.next)
+pub cut-after : (place end : ℕ) (cut : Cut) → InOrder place end cut → place < cut.next
+cut-after place end cut h = omega (arith, before-op place cut.op.from cut.label h.label, h.op, h.gap, h.operands, h.next)
 
-pub behind-line : (place end : ℕ) (cut : Cut) (found : Option Cut) → found ≡ Some cut → IfSome found (InOrder place end) → place < cut.next
-behind-line place end cut found e h = search (rules, cut-behind)
+pub after-line : (place end : ℕ) (cut : Cut) (found : Option Cut) → found ≡ Some cut → IfSome found (InOrder place end) → place < cut.next
+after-line place end cut found e h = search (rules, cut-after)
 
-pub ruleset entering = (taken-none, taken-fault, taken-failed, taken-next, cut-within, cut-behind)
+pub ruleset entering = (taken-none, taken-fault, taken-failed, taken-next, cut-within, cut-after)

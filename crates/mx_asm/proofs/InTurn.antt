@@ -1,6 +1,6 @@
 -- Lines that an assembler has taken, one line more, and the items of all of them.
 use Rattle.std.proofs.Common.{◌≡◌, ℕ, Bool, cond, List, [], ◌∷◌, ◌++◌, fold, Option, None, Some, Ok, Err, refl, ap, sym, ◌∙◌, append_assoc, append-nil, rules, map, arith}
-use Rattle.mx_asm.proofs.Words.{result_err, fold-append, Item, Refused, Wait, AsmFault, Entry, statements_in, source_entries, Sight, final_known, opening, emission, padded_trie, first_fault, refusal, Assembly, Standing, Taken, Progress, Ended, beginning, after_entry, and_entries, entries_taken, line_unless, with_opening, line_behind, ended_main, ended_waits, ended, end_behind, GrowsAlike, Line, accepted, accepted_with, entries_items, assembled_with, assembled_lines, assembled_source, line_after, lines_items, lines_taken, HasTaken, Known, StatementTree, refusal_in, nothing_known, known_after, sights_from, sights_of, first_head, items_from, front, lines_entries, lines_refusal}
+use Rattle.mx_asm.proofs.Words.{result_err, fold-append, Item, Refused, Wait, AsmFault, Entry, statements_in, source_entries, Sight, final_known, opening, emission, padded_trie, first_fault, refusal, Assembly, Status, Taken, Progress, Ended, beginning, after_entry, and_entries, entries_taken, line_unless, with_opening, line_following, ended_main, ended_waits, ended, end_following, GrowsAlike, Line, accepted, accepted_with, entries_items, assembled_with, assembled_lines, assembled_source, line_after, lines_items, lines_taken, HasTaken, Known, StatementTree, refusal_in, nothing_known, known_after, sights_from, sights_of, first_head, items_from, front, lines_entries, lines_refusal}
 use Rattle.mx_asm.proofs.OnePassLaw.{items-are, refusal-is}
 use Rattle.mx_asm.proofs.EndLaw.{both-none, whole-is}
 use Rattle.mx_asm.specs.Whole.{accepted_in}
@@ -12,62 +12,62 @@ use Rattle.mx_asm.specs.Whole.{accepted_in}
 abbrev pub after_items : {X : Type 0} → List Item → List Item × X → List Item × X
 after_items out p = (out ++ p.0, p.1)
 
-entry-behind : (out front : List Item) (t : Taken) → after_entry (out ++ front) t ≡ after_items out (after_entry front t)
-entry-behind out front t = grind (arith, append_assoc)
+entry-after : (out front : List Item) (t : Taken) → after_entry (out ++ front) t ≡ after_items out (after_entry front t)
+entry-after out front t = grind (arith, append_assoc)
 
-and-behind : (more : List Item → Assembly → Progress) (out : List Item) → ((front : List Item) (a : Assembly) → more (out ++ front) a ≡ after_items out (more front a)) →
+and-after : (more : List Item → Assembly → Progress) (out : List Item) → ((front : List Item) (a : Assembly) → more (out ++ front) a ≡ after_items out (more front a)) →
     (p : Progress) → and_entries more (after_items out p) ≡ after_items out (and_entries more p)
-and-behind more out h p = search rules
+and-after more out h p = search rules
 
-entries-behind : (entries : List Entry) (out front : List Item) (a : Assembly) → entries_taken entries (out ++ front) a ≡ after_items out (entries_taken entries front a)
+entries-after : (entries : List Entry) (out front : List Item) (a : Assembly) → entries_taken entries (out ++ front) a ≡ after_items out (entries_taken entries front a)
 unfolding entries_taken
-entries-behind [] out front a = refl
-entries-behind (e ∷ entries) out front a = search (rules, entry-behind, and-behind, entries-behind entries out)
+entries-after [] out front a = refl
+entries-after (e ∷ entries) out front a = search (rules, entry-after, and-after, entries-after entries out)
 
-unless-behind : (f : Option Refused) (out front : List Item) (a : Assembly) (text : List ℕ) → line_unless f (out ++ front) a text ≡ after_items out (line_unless f front a text)
-unless-behind f out front a text = search (rules, entries-behind)
+unless-after : (f : Option Refused) (out front : List Item) (a : Assembly) (text : List ℕ) → line_unless f (out ++ front) a text ≡ after_items out (line_unless f front a text)
+unless-after f out front a text = search (rules, entries-after)
 
-opening-behind : (b : Bool) (out : List Item) → with_opening b out ≡ out ++ with_opening b []
-opening-behind b out = search (rules, append-nil)
+opening-after : (b : Bool) (out : List Item) → with_opening b out ≡ out ++ with_opening b []
+opening-after b out = search (rules, append-nil)
 
-pub line-behind : (out : List Item) (a : Standing) (text : List ℕ) → line_behind out a text ≡ after_items out (line_behind [] a text)
-line-behind out a text = search (rules, append-nil, opening-behind, unless-behind)
+pub line-following : (out : List Item) (a : Status) (text : List ℕ) → line_following out a text ≡ after_items out (line_following [] a text)
+line-following out a text = search (rules, append-nil, opening-after, unless-after)
 
-trie-behind : (long : Bool) (out front more : List Item) (r : Refused) (trie : List ℕ) →
+trie-after : (long : Bool) (out front more : List Item) (r : Refused) (trie : List ℕ) →
     cond {A = Ended} long (out ++ front, Err r) (out ++ front ++ more, Ok trie) ≡ after_items out (cond {A = Ended} long (front, Err r) (front ++ more, Ok trie))
-trie-behind long out front more r trie = grind (arith, append_assoc)
+trie-after long out front more r trie = grind (arith, append_assoc)
 
-main-behind : (f : Option AsmFault) (out front : List Item) (a : Assembly) → ended_main (out ++ front) a f ≡ after_items out (ended_main front a f)
-main-behind f out front a = search (rules, trie-behind)
+main-after : (f : Option AsmFault) (out front : List Item) (a : Assembly) → ended_main (out ++ front) a f ≡ after_items out (ended_main front a f)
+main-after f out front a = search (rules, trie-after)
 
-waits-behind : (w : Option Wait) (out front : List Item) (a : Assembly) → ended_waits (out ++ front) a w ≡ after_items out (ended_waits front a w)
-waits-behind w out front a = search (rules, main-behind)
+waits-after : (w : Option Wait) (out front : List Item) (a : Assembly) → ended_waits (out ++ front) a w ≡ after_items out (ended_waits front a w)
+waits-after w out front a = search (rules, main-after)
 
-end-behind : (out : List Item) (a : Standing) → end_behind out a ≡ after_items out (end_behind [] a)
-end-behind out a = search (rules, append-nil, opening-behind, waits-behind)
+end-following : (out : List Item) (a : Status) → end_following out a ≡ after_items out (end_following [] a)
+end-following out a = search (rules, append-nil, opening-after, waits-after)
 
 -- ---- lines that were taken
 
-pub stands-at : (lines : List Line) (a : Standing) → a ≡ (lines_taken lines).1 → HasTaken lines a
-stands-at lines a is = record { taken = is; refusal = ap result_err is ∙ refusal-is lines }
+pub taken-at : (lines : List Line) (a : Status) → a ≡ (lines_taken lines).1 → HasTaken lines a
+taken-at lines a is = record { taken = is; refusal = ap result_err is ∙ refusal-is lines }
 
-taken-so : (lines : List Line) (a : Standing) → HasTaken lines a → (lines_items lines, a) ≡ lines_taken lines
+taken-so : (lines : List Line) (a : Status) → HasTaken lines a → (lines_items lines, a) ≡ lines_taken lines
 taken-so lines a h = λ i. (sym (items-are lines) i, h.taken i)
 
 pub none-taken : HasTaken [] (Ok beginning)
-none-taken = stands-at [] (Ok beginning) refl
+none-taken = taken-at [] (Ok beginning) refl
 
 -- one line more
-more-taken : (lines : List Line) (text : Line) (a : Standing) → HasTaken lines a → lines_taken (lines ++ text ∷ []) ≡ after_items (lines_items lines) (line_behind [] a text)
-more-taken lines text a h = search (rules, fold-append, taken-so, line-behind)
+more-taken : (lines : List Line) (text : Line) (a : Status) → HasTaken lines a → lines_taken (lines ++ text ∷ []) ≡ after_items (lines_items lines) (line_following [] a text)
+more-taken lines text a h = search (rules, fold-append, taken-so, line-following)
 
-pub line-taken : (lines : List Line) (text : Line) (out next : List Item) (a b : Standing) → (next, b) ≡ line_behind out a text → HasTaken lines a → HasTaken (lines ++ text ∷ []) b
+pub line-taken : (lines : List Line) (text : Line) (out next : List Item) (a b : Status) → (next, b) ≡ line_following out a text → HasTaken lines a → HasTaken (lines ++ text ∷ []) b
 line-taken lines text out next a b is h =
-    stands-at (lines ++ text ∷ []) b (ap (λ (p : Progress). p.1) (is ∙ line-behind out a text) ∙ sym (ap (λ (p : Progress). p.1) (more-taken lines text a h)))
+    taken-at (lines ++ text ∷ []) b (ap (λ (p : Progress). p.1) (is ∙ line-following out a text) ∙ sym (ap (λ (p : Progress). p.1) (more-taken lines text a h)))
 
-pub line-grows : (lines : List Line) (text : Line) (out next : List Item) (a b : Standing) → (next, b) ≡ line_behind out a text → HasTaken lines a →
+pub line-grows : (lines : List Line) (text : Line) (out next : List Item) (a b : Status) → (next, b) ≡ line_following out a text → HasTaken lines a →
     GrowsAlike (lines_items lines) (lines_items (lines ++ text ∷ [])) out next
-line-grows lines text out next a b is h = search (rules, items-are, more-taken, line-behind)
+line-grows lines text out next a b is h = search (rules, items-are, more-taken, line-following)
 
 -- after a refusal nothing is taken
 pub refusal-stays : (lines : List Line) (out : List Item) (refused : Refused) → fold line_after (out, Err refused) lines ≡ (out, Err refused)
@@ -78,29 +78,29 @@ pub refusal-lasts : (lines later : List Line) (refused : Refused) → HasTaken l
 refusal-lasts lines later refused h = search (rules, fold-append, taken-so, refusal-stays)
 
 -- the end
-whole-taken : (lines : List Line) (a : Standing) → HasTaken lines a → assembled_lines lines ≡ after_items (lines_items lines) (end_behind [] a)
-whole-taken lines a h = sym (whole-is lines) ∙ ap (λ (p : Progress). end_behind p.0 p.1) (sym (taken-so lines a h)) ∙ end-behind (lines_items lines) a
+whole-taken : (lines : List Line) (a : Status) → HasTaken lines a → assembled_lines lines ≡ after_items (lines_items lines) (end_following [] a)
+whole-taken lines a h = sym (whole-is lines) ∙ ap (λ (p : Progress). end_following p.0 p.1) (sym (taken-so lines a h)) ∙ end-following (lines_items lines) a
 
-pub end-taken : (lines : List Line) (out : List Item) (a : Standing) (ended : Ended) → ended ≡ end_behind out a → HasTaken lines a → ended.1 ≡ (assembled_lines lines).1
-end-taken lines out a ended is h = ap (λ (p : Ended). p.1) (is ∙ end-behind out a) ∙ sym (ap (λ (p : Ended). p.1) (whole-taken lines a h))
+pub end-taken : (lines : List Line) (out : List Item) (a : Status) (ended : Ended) → ended ≡ end_following out a → HasTaken lines a → ended.1 ≡ (assembled_lines lines).1
+end-taken lines out a ended is h = ap (λ (p : Ended). p.1) (is ∙ end-following out a) ∙ sym (ap (λ (p : Ended). p.1) (whole-taken lines a h))
 
-pub end-grows : (lines : List Line) (out : List Item) (a : Standing) (ended : Ended) → ended ≡ end_behind out a → HasTaken lines a →
+pub end-grows : (lines : List Line) (out : List Item) (a : Status) (ended : Ended) → ended ≡ end_following out a → HasTaken lines a →
     GrowsAlike (lines_items lines) (assembled_lines lines).0 out ended.0
-end-grows lines out a ended h1 h2 = search (rules, whole-taken, end-behind)
+end-grows lines out a ended h1 h2 = search (rules, whole-taken, end-following)
 
 -- the same of what is defined
-pub one-more-taken : (lines : List Line) (text : Line) (out : List Item) (a : Standing) → HasTaken lines a → HasTaken (lines ++ text ∷ []) (line_behind out a text).1
-one-more-taken lines text out a h = line-taken lines text out (line_behind out a text).0 a (line_behind out a text).1 refl h
+pub one-more-taken : (lines : List Line) (text : Line) (out : List Item) (a : Status) → HasTaken lines a → HasTaken (lines ++ text ∷ []) (line_following out a text).1
+one-more-taken lines text out a h = line-taken lines text out (line_following out a text).0 a (line_following out a text).1 refl h
 
-pub one-more-grows : (lines : List Line) (text : Line) (out : List Item) (a : Standing) → HasTaken lines a →
-    GrowsAlike (lines_items lines) (lines_items (lines ++ text ∷ [])) out (line_behind out a text).0
-one-more-grows lines text out a h = line-grows lines text out (line_behind out a text).0 a (line_behind out a text).1 refl h
+pub one-more-grows : (lines : List Line) (text : Line) (out : List Item) (a : Status) → HasTaken lines a →
+    GrowsAlike (lines_items lines) (lines_items (lines ++ text ∷ [])) out (line_following out a text).0
+one-more-grows lines text out a h = line-grows lines text out (line_following out a text).0 a (line_following out a text).1 refl h
 
-pub taken-ends : (lines : List Line) (out : List Item) (a : Standing) → HasTaken lines a → (end_behind out a).1 ≡ (assembled_lines lines).1
-taken-ends lines out a h = end-taken lines out a (end_behind out a) refl h
+pub taken-ends : (lines : List Line) (out : List Item) (a : Status) → HasTaken lines a → (end_following out a).1 ≡ (assembled_lines lines).1
+taken-ends lines out a h = end-taken lines out a (end_following out a) refl h
 
-pub taken-grows : (lines : List Line) (out : List Item) (a : Standing) → HasTaken lines a → GrowsAlike (lines_items lines) (assembled_lines lines).0 out (end_behind out a).0
-taken-grows lines out a h = end-grows lines out a (end_behind out a) refl h
+pub taken-grows : (lines : List Line) (out : List Item) (a : Status) → HasTaken lines a → GrowsAlike (lines_items lines) (assembled_lines lines).0 out (end_following out a).0
+taken-grows lines out a h = end-grows lines out a (end_following out a) refl h
 
 -- ---- a source
 

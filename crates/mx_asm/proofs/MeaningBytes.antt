@@ -2,9 +2,9 @@
 use Rattle.std.proofs.Common.{◌≡◌, ℕ, zero, suc, ◌+◌, ◌-◌, ◌*◌, ◌/◌, ◌%◌, ◌^◌, ◌<◌, ◌≤◌, List, [], ◌∷◌, ◌++◌, length, map, Bool, true, false, cond, arith, refl, sym, ◌∙◌, ap, bit_xor, replicate, min, ◌==◌, ◌&&◌, nat_le, nat_lt, rules, ◌||◌}
 use Rattle.mx_asm.proofs.Words.{xor_zero_r, xor_zero_l, length-replicate, cond_both, eqb-true, nat_tests, AreBytes, bytes-append, bytes-zeros, tetras_of, take_item, take_items, Item, Load, from_place, placed, placed-append, from-append, placed-zeros, pages_of, lowered, raised, covered, covering, tetra_count, located, told_line, lined, common_steps, ltb-false, Piece, pages_below, is_covered, with_lines, Head, byte_items}
 use Rattle.mx_mmo.specs.Meaning.{lined as lined_with}
-use Rattle.mx_asm.specs.Emission.{line_behind}
+use Rattle.mx_asm.specs.Emission.{line_number_after}
 use Rattle.mx_asm.proofs.MeaningMemory.{pages-alike, HaveBytes, append-pages, pages-run, tetras-run, many-pages, same-numbers}
-use Rattle.mx_asm.proofs.MeaningStates.{State, stands, count_of, limited, Takes, lines_with, line_after, takes-both, takes-none, after_tetras, takes-tetras}
+use Rattle.mx_asm.proofs.MeaningStates.{State, loading_at, count_of, limited, Takes, lines_with, line_after, takes-both, takes-none, after_tetras, takes-tetras}
 
 -- ---- the items of bytes that a statement places, and what follows them
 
@@ -61,7 +61,7 @@ takes-same n items s t u e h = record { taken = h.taken ∙ e }
 abbrev pub at_lambda : State → ℕ → State
 at_lambda s a = record s { lambda = a }
 
-load-same : (n : ℕ) (s : State) (b t : ℕ) → s.lambda / 4 ≡ b / 4 → take_item (stands n s) (Load t) ≡ take_item (stands n (at_lambda s b)) (Load t)
+load-same : (n : ℕ) (s : State) (b t : ℕ) → s.lambda / 4 ≡ b / 4 → take_item (loading_at n s) (Load t) ≡ take_item (loading_at n (at_lambda s b)) (Load t)
 load-same n s b t e = grind (arith, nat_tests)
 
 pub loads-same : (n : ℕ) (s : State) (b : ℕ) (ts : List ℕ) → s.lambda / 4 ≡ b / 4 → 0 < length ts → take_items (map Load ts) (limited n s) ≡ take_items (map Load ts) (limited n (at_lambda s b))
@@ -90,7 +90,7 @@ pub lines-are : (k a line q : ℕ) (lines : ℕ → ℕ) → 0 < line → line +
 lines-are zero a line q lines some few = let none : (nat_le (a / 4) (q / 4) && nat_lt (q / 4) (a / 4 + 0)) ≡ false = grind (arith, nat_tests) in sym (ap (λ b. cond b (line + (q / 4 - a / 4)) (lines q)) none)
 lines-are (suc k) a line q lines some few = search (rules, lines-are k (a + 4) (line + 1) q (lined_with lines a line) (omega arith) (omega (arith, few)))
 
-pub line-after : (k line : ℕ) → line ≤ 2 ^ 32 - 1 → line_after line k ≡ line_behind line k
+pub line-after : (k line : ℕ) → line ≤ 2 ^ 32 - 1 → line_after line k ≡ line_number_after line k
 line-after zero line few = cond_both (line == 0) _ _ (λ x. line ≡ x) (λ e. eqb-true line 0 e) (λ _. omega (arith, few))
 line-after (suc k) line few = on (line == 0) (line-after k (min (line + 1) (2 ^ 32 - 1)) (omega arith))
   where
@@ -98,7 +98,7 @@ line-after (suc k) line few = on (line == 0) (line-after k (min (line + 1) (2 ^ 
     none zero = refl
     none (suc k) = none k
 
-    on : (b : Bool) → line_after (min (line + 1) (2 ^ 32 - 1)) k ≡ line_behind (min (line + 1) (2 ^ 32 - 1)) k → line_after (cond b 0 (min (line + 1) (2 ^ 32 - 1))) k ≡ cond b 0 (min (line + suc k) (2 ^ 32 - 1))
+    on : (b : Bool) → line_after (min (line + 1) (2 ^ 32 - 1)) k ≡ line_number_after (min (line + 1) (2 ^ 32 - 1)) k → line_after (cond b 0 (min (line + 1) (2 ^ 32 - 1))) k ≡ cond b 0 (min (line + suc k) (2 ^ 32 - 1))
     on true rest = none k
     on false rest =
         let other : (min (line + 1) (2 ^ 32 - 1) == 0) ≡ false = grind (arith, nat_tests) in
@@ -120,7 +120,7 @@ after_bytes s line start (b ∷ bytes) = record {
   placements = s.placements ++ from_place start (b ∷ bytes);
   lines = with_lines s.lines (piece_at line start (b ∷ bytes));
   lambda = raised (start + length (b ∷ bytes));
-  line = line_behind (told_line line) (tetra_count start (length (b ∷ bytes)));
+  line = line_number_after (told_line line) (tetra_count start (length (b ∷ bytes)));
 }
 
 -- ---- the lines

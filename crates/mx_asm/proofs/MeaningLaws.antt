@@ -4,7 +4,7 @@ use Rattle.mx_asm.proofs.Words.{result_err, AllByRecursion, PagesFull, nothing, 
 use Rattle.mx_line.specs.Source.{items_from as line_items}
 use Rattle.mx_asm.proofs.EndLaw.{both-none}
 use Rattle.mx_asm.proofs.MeaningMemory.{same-pages, more-count, append-pages, append-more}
-use Rattle.mx_asm.proofs.MeaningStates.{stands, count_of, limited, take-append}
+use Rattle.mx_asm.proofs.MeaningStates.{loading_at, count_of, limited, take-append}
 use Rattle.mx_asm.proofs.MeaningStatements.{IsSteady, faultless, after_sights, takes-sights, first_state, first-have, opened, no-pages}
 use Rattle.mx_asm.proofs.MeaningPlaces.{fixed-to, fixed-pages, pages-of-sights}
 use Rattle.mx_asm.proofs.MeaningWhole.{emission-means}
@@ -46,7 +46,7 @@ module _ (n : ℕ) (big : 2 ^ 51 ≤ n) (later : List Sight) (none : first_fault
       let pages = pages-are in
       ap result_err taken ∙ on (nat_le (count_of n (after_sights first_state [] later)) 65536) ∙ (λ i. cond (nat_le (pages_below n (pages i)) 65536) None (Some PagesFull))
     where
-      on : (b : Bool) → result_err (cond b (Ok (stands n (after_sights first_state [] later))) (Err PagesFull)) ≡ cond b None (Some PagesFull)
+      on : (b : Bool) → result_err (cond b (Ok (loading_at n (after_sights first_state [] later))) (Err PagesFull)) ≡ cond b None (Some PagesFull)
       on true = refl
       on false = refl
 

@@ -28,13 +28,13 @@ items-same xs ys n (u ∷ us) l = grind (arith, far-same, items-same xs ys (n + 
 -- ---- the statements of lines
 
 -- what statements come after an entry, and after those of items
-abbrev behind : Entry → List StatementTree → List StatementTree
-behind (Err refused) rest = []
-behind (Ok s) rest = rest
+abbrev following : Entry → List StatementTree → List StatementTree
+following (Err refused) rest = []
+following (Ok s) rest = rest
 
 abbrev continued : List Item → List StatementTree → List StatementTree
 continued [] more = more
-continued (statement line label op operands ∷ items) more = behind (entry_of (statement line label op operands)) (continued items more)
+continued (statement line label op operands ∷ items) more = following (entry_of (statement line label op operands)) (continued items more)
 continued (faulty line why ∷ items) more = []
 continued (too_far line ∷ items) more = []
 
@@ -98,10 +98,10 @@ one-line all n line = cond_both (is_too_far all n) _ _ (λ x. AllByRecursion (Is
 room-before : (xs ys : List Sight) → has_room (outlined (xs ++ ys)) ≡ true → has_room (outlined xs) ≡ true
 room-before xs ys h = search (rules, no-room)
 
-refusal-behind : (front earlier later : List Sight) → has_room (outlined (earlier ++ front)) ≡ true → page_refusal_from earlier (front ++ later) ≡ page_refusal_from (earlier ++ front) later
+refusal-after : (front earlier later : List Sight) → has_room (outlined (earlier ++ front)) ≡ true → page_refusal_from earlier (front ++ later) ≡ page_refusal_from (earlier ++ front) later
 unfolding page_refusal_from
-refusal-behind [] earlier later room = ap (λ ss. page_refusal_from ss later) (sym (append-nil earlier))
-refusal-behind (s ∷ front) earlier later room = grind (arith, append_assoc, room-before, refusal-behind front (earlier ++ s ∷ []) later)
+refusal-after [] earlier later room = ap (λ ss. page_refusal_from ss later) (sym (append-nil earlier))
+refusal-after (s ∷ front) earlier later room = grind (arith, append_assoc, room-before, refusal-after front (earlier ++ s ∷ []) later)
 
 refusal-at : (n : ℕ) (front earlier later : List Sight) → AllByRecursion (λ (s : Sight). s.statement.line ≡ n) front → has_room (outlined earlier) ≡ true → has_room (outlined (earlier ++ front)) ≡ false →
     page_refusal_from earlier (front ++ later) ≡ Some n
@@ -136,6 +136,6 @@ line-is-refused lines later line some full =
     let whole : accepted_in (lines_entries (lines ++ line ∷ later)) ≡ front ++ (one.tail ++ more.tail) =
     ap (λ ls. accepted_in (lines_entries ls)) (sym (append_assoc lines (line ∷ []) later)) ∙ more.more ∙ ap (λ ss. ss ++ more.tail) one.more ∙ append_assoc front one.tail more.tail in
     ap page_refusal whole
-    ∙ refusal-behind front [] (one.tail ++ more.tail) room
+    ∙ refusal-after front [] (one.tail ++ more.tail) room
     ∙ refusal-at n one.tail front more.tail one.hold room none
     ∙ ap Some (let turned : n ≡ length lines + 1 = omega arith in turned)

@@ -115,11 +115,11 @@ placed-pages s line q waits p on = search (rules, bytes-pages, fixes-pages)
 last-on : (P : Wait → Type 0) (d : ℕ) (ss : List Sight) → AllByRecursion P (references ss) → AllByRecursion P (references (from_last d ss))
 unfolding references from_last
 last-on P d [] h = h
-last-on P d (s ∷ later) h = by (list_any (λ (t : Sight). is_local d t.statement.label) later) (last-on P d later (behind (waits_in (outline s)) h))
+last-on P d (s ∷ later) h = by (list_any (λ (t : Sight). is_local d t.statement.label) later) (last-on P d later (following (waits_in (outline s)) h))
   where
-    behind : (xs : List Wait) → AllByRecursion P (xs ++ references later) → AllByRecursion P (references later)
-    behind [] h = h
-    behind (x ∷ xs) h = behind xs h.1
+    following : (xs : List Wait) → AllByRecursion P (xs ++ references later) → AllByRecursion P (references later)
+    following [] h = h
+    following (x ∷ xs) h = following xs h.1
 
     by : (b : Bool) → AllByRecursion P (references (from_last d later)) → AllByRecursion P (references (cond b (from_last d later) (s ∷ later)))
     by true rest = rest

@@ -196,13 +196,13 @@ pub record IsFaultless (earlier : List Sight) (t : Sight) : Type 0 where
 pub faultless : (earlier : List Sight) (t : Sight) → statement_fault earlier t ≡ None → IsFaultless earlier t
 faultless earlier t h = on (outline t) refl h
   where
-    behind : (p : Placed) (f : Option AsmFault) → outline t ≡ Ok p → label_fault t.known.names t.statement.label ≡ f → fault_after earlier t p f ≡ None → IsFaultless earlier t
-    behind p (Some fault) e f h = absurd (cc)
-    behind p None e f h = record { placed_as = p; outlined = e; label = f; fixed = h }
+    following : (p : Placed) (f : Option AsmFault) → outline t ≡ Ok p → label_fault t.known.names t.statement.label ≡ f → fault_after earlier t p f ≡ None → IsFaultless earlier t
+    following p (Some fault) e f h = absurd (cc)
+    following p None e f h = record { placed_as = p; outlined = e; label = f; fixed = h }
 
     on : (r : Answer Placed) → outline t ≡ r → fault_with earlier t r ≡ None → IsFaultless earlier t
     on (Err fault) e h = absurd (cc)
-    on (Ok p) e h = behind p (label_fault t.known.names t.statement.label) e refl h
+    on (Ok p) e h = following p (label_fault t.known.names t.statement.label) e refl h
 
 items-given : (h : Head) (line : ℕ) (p : Placed) (waits : List Wait) → refusal_of (fixes line (awaited_value p.label) waits) ≡ None → statement_items h line p waits ≡ Ok (result_unwrap_or (statement_items h line p waits) [])
 items-given h line p waits h1 = grind (arith, nat_tests)

@@ -1,4 +1,4 @@
--- What stands once items were loaded, by the bytes that they placed, and one tetra more.
+-- What there is once items were loaded, by the bytes that they placed, and one tetra more.
 use Rattle.std.proofs.Common.{◌≡◌, ℕ, zero, suc, ◌+◌, ◌*◌, ◌/◌, ◌%◌, ◌^◌, ◌<◌, ◌≤◌, List, [], ◌∷◌, ◌++◌, length, map, true, false, not, cond, arith, refl, sym, ◌∙◌, ap, bit_xor, subst, Result, Ok, Err, append_assoc, ◌==◌, nat_le}
 use Rattle.mx_asm.proofs.Words.{cond_both, xor_of_8, nat_tests, tetra_from_bytes, with_tetra, AreBytes, four-fit, Image, tetras_of, Loading, Meaningless, BadPlace, paged, image_with_tetra, join, next_line, after_load, with_name, take_item, take_items, Item, Load, from_place, placed, placed-append, from-append, octa_in, pages_of, pages_below, common_steps}
 use Rattle.mx_word.specs.Octas.{with_page}
@@ -24,15 +24,15 @@ image_at n ps lines = record {
   global = λ k. 0;
 }
 
-abbrev pub stands : ℕ → State → Loading
-stands n s = record { image = image_at n s.placements s.lines; lambda = s.lambda; line = s.line; selected = true; named = with_name (λ k. false) 0 }
+abbrev pub loading_at : ℕ → State → Loading
+loading_at n s = record { image = image_at n s.placements s.lines; lambda = s.lambda; line = s.line; selected = true; named = with_name (λ k. false) 0 }
 
 abbrev pub count_of : ℕ → State → ℕ
 count_of n s = pages_below n (pages_of s.placements)
 
--- what stands, unless there are too many pages
+-- what is loaded, unless there are too many pages
 abbrev pub limited : ℕ → State → Result Loading Meaningless
-limited n s = unless_full (count_of n s) (stands n s)
+limited n s = unless_full (count_of n s) (loading_at n s)
 
 -- items lead from one state to another
 pub record Takes (n : ℕ) (items : List Item) (s t : State) : Type 0 where
@@ -60,7 +60,7 @@ takes-none n s = record { taken = take-none (limited n s) }
 
 -- where there is room, what the items do counts
 pub takes-few : (n : ℕ) (items : List Item) (s t : State) → AreMore (pages_of t.placements) (pages_of s.placements) →
-    (count_of n s ≤ 65536 → take_items items (Ok (stands n s)) ≡ limited n t) → Takes n items s t
+    (count_of n s ≤ 65536 → take_items items (Ok (loading_at n s)) ≡ limited n t) → Takes n items s t
 takes-few n items s t more h = grind (arith, nat_tests, more-count)
 
 -- ---- one tetra
@@ -100,7 +100,7 @@ after_tetra s b c d e = record {
 }
 
 after-unless : (n : ℕ) (s t : State) → t.lambda ≡ (4 * (s.lambda / 4) + 4) % 2 ^ 64 → t.line ≡ next_line s.line → t.lines ≡ noted_lines s.lines s.lambda s.line →
-    after_load (stands n s) (unless_full (count_of n t) (image_at n t.placements s.lines)) ≡ limited n t
+    after_load (loading_at n s) (unless_full (count_of n t) (image_at n t.placements s.lines)) ≡ limited n t
 after-unless n s t lambda line lines = grind (arith, nat_tests)
 
 pub takes-tetra : (n b c d e : ℕ) (s : State) → 2 ^ 51 ≤ n → s.lambda % 4 ≡ 0 → s.lambda < 0x6000_0000_0000_0000 → AreBytes (b ∷ c ∷ d ∷ e ∷ []) → HaveBytes (placed s.placements) →
@@ -108,7 +108,7 @@ pub takes-tetra : (n b c d e : ℕ) (s : State) → 2 ^ 51 ≤ n → s.lambda % 
 takes-tetra n b c d e s big m l are have =
     takes-few n _ s (after_tetra s b c d e) (append-more s.placements (four s.lambda b c d e)) (λ few.
     take-none _
-    ∙ ap (after_load (stands n s)) (tetra-joined n s.lambda b c d e s.placements s.lines big m l are have few)
+    ∙ ap (after_load (loading_at n s)) (tetra-joined n s.lambda b c d e s.placements s.lines big m l are have few)
     ∙ after-unless n s (after_tetra s b c d e) (omega (arith, m, l)) refl refl)
 
 -- ---- bytes are bytes

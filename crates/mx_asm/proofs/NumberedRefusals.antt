@@ -1,8 +1,8 @@
--- A refusal has a fault with a number above 0: by the definitions none is for want of memory.
+-- A refusal has a fault with a number above 0: by the definitions none is that memory runs out.
 use Rattle.std.proofs.Common.{◌≡◌, ◌≢◌, ◌<◌, ℕ, ◌+◌, List, [], ◌∷◌, fold, Option, None, Some, Result, Ok, Err, refl, ap, sym, ◌∙◌, arith, IfErr, rules}
 use Rattle.mx_line.specs.Source.{Item as Listed, items_of}
 use Rattle.mx_asm.specs.Faults.{IsTold, fault_number, no_memory}
-use Rattle.mx_asm.specs.OnePass.{standing_after}
+use Rattle.mx_asm.specs.OnePass.{status_after}
 use Rattle.mx_line.specs.Lines.{lines_of}
 use Rattle.mx_stmt.specs.Faults as statements
 use Rattle.mx_stmt.specs.declared.faults.StmtFault.{StmtFault}
@@ -11,7 +11,7 @@ use Rattle.mx_asm.proofs.ReadEntries.{Says, said}
 use Rattle.mx_asm.proofs.InTurn.{source-refused}
 use Rattle.mx_asm.proofs.EndLaw.{whole-is}
 use Rattle.mx_asm.proofs.OnePassLaw.{refusal-is}
-use Rattle.mx_asm.proofs.Words.{result_err, Value, Wait, Item, Naming, Label, Placed, Answer, StatementTree, encoding, no_targets, AsmFault, Refused, Head, statement_items, fixes, Entry, Fields, statement_in, entry_with, entry_of, entries_of, line_entries, Assembly, Standing, Progress, Ended, Labelled, Taken, beginning, labelled, taken_label, taken_with, statement_taken, entry_taken, after_entry, and_entries, entries_taken, count_fault, counted, line_unless, line_behind, end_behind, refusal, Line, lines_refusal, line_after, lines_taken, one_pass, nat_tests}
+use Rattle.mx_asm.proofs.Words.{result_err, Value, Wait, Item, Naming, Label, Placed, Answer, StatementTree, encoding, no_targets, AsmFault, Refused, Head, statement_items, fixes, Entry, Fields, statement_in, entry_with, entry_of, entries_of, line_entries, Assembly, Status, Progress, Ended, Labelled, Taken, beginning, labelled, taken_label, taken_with, statement_taken, entry_taken, after_entry, and_entries, entries_taken, count_fault, counted, line_unless, line_following, end_following, refusal, Line, lines_refusal, line_after, lines_taken, one_pass, nat_tests}
 
 -- a refusal has a number above 0
 unfoldable HasNumber : {A : Type 0} → Result A Refused → Type 0
@@ -89,16 +89,16 @@ unless-number : (f : Option Refused) (out : List Item) (a : Assembly) (text : Li
 unless-number (Some r) out a text h = err-has Assembly r (h r refl)
 unless-number None out a text h = entries-number (items_of (a.lines + 1) text) out (counted a text)
 
-behind-number : (out : List Item) (s : Standing) (text : List ℕ) → HasNumber s → HasNumber (line_behind out s text).1
-behind-number out s text h = grind (arith, unless-number, count-number)
+following-number : (out : List Item) (s : Status) (text : List ℕ) → HasNumber s → HasNumber (line_following out s text).1
+following-number out s text h = grind (arith, unless-number, count-number)
 
 lines-number : (lines : List Line) (p : Progress) → HasNumber p.1 → HasNumber (fold line_after p lines).1
 lines-number [] p h = h
-lines-number (line ∷ lines) p h = lines-number lines (line_after p line) (behind-number p.0 p.1 line h)
+lines-number (line ∷ lines) p h = lines-number lines (line_after p line) (following-number p.0 p.1 line h)
 
 -- ---- the end
 
-end-number : (out : List Item) (s : Standing) → HasNumber s → HasNumber (end_behind out s).1
+end-number : (out : List Item) (s : Status) → HasNumber s → HasNumber (end_following out s).1
 unfolding HasNumber
 end-number out s h = grind (arith, nat_tests)
 
@@ -111,7 +111,7 @@ err-number x r h is = search rules
 all-number : (lines : List Line) → HasNumber (lines_taken lines).1
 all-number lines = lines-number lines ([], Ok beginning) (ok-number beginning)
 
-of-refusal : (s : Standing) (r : Refused) → result_err s ≡ Some r → s ≡ Err r
+of-refusal : (s : Status) (r : Refused) → result_err s ≡ Some r → s ≡ Err r
 of-refusal s r is = grind arith
 
 pub lines-refused : (lines : List Line) (r : Refused) → lines_refusal lines ≡ Some r → 0 < fault_number r.fault
@@ -124,7 +124,7 @@ source-numbered source r is =
 
 -- ---- what the calls answer
 
--- a refusal that has a number where it is not want of memory
+-- a refusal that has a number where it is not that memory ran out
 told-by : (line from : ℕ) (fault : AsmFault) → (record { line = line; fault = fault; from_line = from } ≢ no_memory → 0 < fault_number fault) → IsTold (record { line = line; fault = fault; from_line = from })
 told-by line from fault h = search rules
 
@@ -133,7 +133,7 @@ told r h = told-by r.line r.from_line r.fault h
 
 -- what the statements of a line are refused with
 pub statements-told : (result : Result (Unit {0}) Refused) (out next : List Item) (a b : Assembly) (line : ℕ) (text : List ℕ) →
-    (result ≢ Err no_memory → (next, standing_after result b) ≡ entries_taken (line_entries line text) out a) → IfErr result IsTold
+    (result ≢ Err no_memory → (next, status_after result b) ≡ entries_taken (line_entries line text) out a) → IfErr result IsTold
 statements-told (Ok u) out next a b line text h = tt
 statements-told (Err r) out next a b line text h =
     told r (λ other. err-number (entries_taken (line_entries line text) out a).1 r (entries-number (items_of line text) out a)

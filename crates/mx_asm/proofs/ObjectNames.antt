@@ -134,17 +134,17 @@ tellable-kept left k s p of e none h =
       words = words-kept k s p h.words of.statement e none;
     }
 
-tellable-behind : (statements : List StatementTree) (k : Known) (earlier : List Sight) → first_fault earlier (sights_from k statements) ≡ None → AllByRecursion IsOfBytes statements → IsTellable (length statements) k →
+tellable-after : (statements : List StatementTree) (k : Known) (earlier : List Sight) → first_fault earlier (sights_from k statements) ≡ None → AllByRecursion IsOfBytes statements → IsTellable (length statements) k →
     IsTellable 0 (fold known_after k statements)
 unfolding sights_from first_fault
-tellable-behind [] k earlier none of h = h
-tellable-behind (s ∷ later) k earlier none of h =
+tellable-after [] k earlier none of h = h
+tellable-after (s ∷ later) k earlier none of h =
     let here : Sight = record { known = k; statement = s } in
     let parts = both-none (statement_fault earlier here) (first_fault (earlier ++ here ∷ []) (sights_from (known_after k s) later)) none in
     let is = faultless earlier here parts.0 in
-    tellable-behind later (known_after k s) (earlier ++ here ∷ []) parts.1 of.1 (tellable-kept (length later) k s is.placed_as of.0 is.outlined is.label h)
+    tellable-after later (known_after k s) (earlier ++ here ∷ []) parts.1 of.1 (tellable-kept (length later) k s is.placed_as of.0 is.outlined is.label h)
 
 -- what is known at the end of fewer than 2^32 statements of bytes without a fault
 pub tellable-end : (statements : List StatementTree) → first_fault [] (sights_from nothing_known statements) ≡ None → AllByRecursion IsOfBytes statements → length statements < 2 ^ 32 →
     IsTellable 0 (fold known_after nothing_known statements)
-tellable-end statements none of few = tellable-behind statements nothing_known [] none of (tellable-start (length statements) few)
+tellable-end statements none of few = tellable-after statements nothing_known [] none of (tellable-start (length statements) few)

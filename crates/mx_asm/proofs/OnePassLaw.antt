@@ -1,11 +1,11 @@
 -- The lines of a source in one pass come to what the two passes say.
 use Rattle.std.proofs.Common.{◌≡◌, ℕ, ◌+◌, ◌^◌, Bool, true, false, cond, nat_lt, List, [], ◌∷◌, ◌++◌, fold, length, Option, None, Some, Result, Ok, Err, refl, rules, ◌-◌, take, ap, sym, ◌∙◌, subst, arith, append_assoc, length-append, sum_by, ◌≢◌, OnOk, OnErr, IfErr}
-use Rattle.mx_asm.proofs.Words.{Item, Placed, Label, Answer, SourceTooLong, Refused, refused, Entry, line_entries, Assembly, Taken, Progress, Labelled, taken_items, taken_label, taken_with, entry_taken, after_entry, and_entries, entries_taken, line_unless, Line, line_after, result_err, sum_by-append, take-append_seam, is_too_far, size_up_to, statement, too_far, items_of, StatementTree, entries_of, statements_in, refusal_in, nothing_known, sights_from, opening, first_head, first_fault, entries_refusal, beginning, lines_entries, lines_items, lines_taken, nat_tests, Cut, cuts_from, list_with, holds_statement, Standing, is_open, line_behind, opened}
+use Rattle.mx_asm.proofs.Words.{Item, Placed, Label, Answer, SourceTooLong, Refused, refused, Entry, line_entries, Assembly, Taken, Progress, Labelled, taken_items, taken_label, taken_with, entry_taken, after_entry, and_entries, entries_taken, line_unless, Line, line_after, result_err, sum_by-append, take-append_seam, is_too_far, size_up_to, statement, too_far, items_of, StatementTree, entries_of, statements_in, refusal_in, nothing_known, sights_from, opening, first_head, first_fault, entries_refusal, beginning, lines_entries, lines_items, lines_taken, nat_tests, Cut, cuts_from, list_with, holds_statement, Status, is_open, line_following, opened}
 use Rattle.mx_line.specs.Source.{Item as Listed, before as listed_before, items_from as line_items}
 use Rattle.mx_asm.specs.Faults.{no_memory}
-use Rattle.mx_asm.specs.OnePass.{Tried, standing, standing_after}
+use Rattle.mx_asm.specs.OnePass.{Tried, status_after, status_unless}
 use Rattle.mx_asm.proofs.OpenWaits.{open_waits}
-use Rattle.mx_asm.proofs.OneStatement.{standing_at, AreLabels, outcome, entries_outcome, entries-are}
+use Rattle.mx_asm.proofs.OneStatement.{status_at, AreLabels, outcome, entries_outcome, entries-are}
 
 -- ---- lines that are taken one after another: their entries are
 
@@ -35,8 +35,8 @@ with-counted n m a line label r = search (rules, label-counted)
 entry-counted : (n m : ℕ) (a : Assembly) (e : Entry) → entry_taken (counting n m a) e ≡ counted_taken n m (entry_taken a e)
 entry-counted n m a e = search (rules, with-counted)
 
-behind-counted : (n m : ℕ) (out : List Item) (t : Taken) → after_entry out (counted_taken n m t) ≡ counted_progress n m (after_entry out t)
-behind-counted n m out t = search rules
+after-counted : (n m : ℕ) (out : List Item) (t : Taken) → after_entry out (counted_taken n m t) ≡ counted_progress n m (after_entry out t)
+after-counted n m out t = search rules
 
 and-counted : (n m : ℕ) (more : List Item → Assembly → Progress) → ((out : List Item) (a : Assembly) → more out (counting n m a) ≡ counted_progress n m (more out a)) →
     (p : Progress) → and_entries more (counted_progress n m p) ≡ counted_progress n m (and_entries more p)
@@ -45,7 +45,7 @@ and-counted n m more h p = search rules
 pub entries-counted : (n m : ℕ) (entries : List Entry) (out : List Item) (a : Assembly) → entries_taken entries out (counting n m a) ≡ counted_progress n m (entries_taken entries out a)
 unfolding entries_taken
 entries-counted n m [] out a = refl
-entries-counted n m (e ∷ entries) out a = search (rules, entry-counted, behind-counted, and-counted, entries-counted n m entries)
+entries-counted n m (e ∷ entries) out a = search (rules, entry-counted, after-counted, and-counted, entries-counted n m entries)
 
 -- entries after entries
 and-assoc : (first second : List Item → Assembly → Progress) (p : Progress) → and_entries (λ out a. and_entries second (first out a)) p ≡ and_entries second (and_entries first p)
@@ -154,7 +154,7 @@ no-labels full = refl
 abbrev pub lines_outcome : List StatementTree → Option Refused → Progress
 lines_outcome statements refusal = entries_outcome nothing_known first_head [] 0 opening statements refusal
 
-begun : (line : Line) (lines : List Line) → fold line_after ([], Ok beginning) (line ∷ lines) ≡ fold line_after (opening, Ok (counting 0 0 (standing_at nothing_known first_head [] 0))) (line ∷ lines)
+begun : (line : Line) (lines : List Line) → fold line_after ([], Ok beginning) (line ∷ lines) ≡ fold line_after (opening, Ok (counting 0 0 (status_at nothing_known first_head [] 0))) (line ∷ lines)
 unfolding open_waits
 begun line lines = refl
 
@@ -163,7 +163,7 @@ pub some-lines : (line : Line) (lines : List Line) →
 some-lines line lines =
     let listed : Same (lines_entries (line ∷ lines)) (entries_after 0 0 (line ∷ lines)) = are-listed (line ∷ lines) [] (line ∷ lines) refl in
     begun line lines
-    ∙ lines-are (line ∷ lines) 0 0 opening (standing_at nothing_known first_head [] 0)
+    ∙ lines-are (line ∷ lines) 0 0 opening (status_at nothing_known first_head [] 0)
     ∙ ap (counted_progress (lines_after 0 (line ∷ lines)) (size_after 0 (line ∷ lines)))
     (entries-are (entries_after 0 0 (line ∷ lines)) nothing_known first_head [] 0 opening no-labels
     ∙ (λ i. lines_outcome (sym listed.0 i) (sym listed.1 i)))
@@ -189,7 +189,7 @@ no-statement text at found cut first is list none = cc
 
 -- ---- after a line the opening is there
 
-IfOpen : Standing → Type 0
+IfOpen : Status → Type 0
 IfOpen (Err refused) = Unit {0}
 IfOpen (Ok a) = a.opened ≡ true
 
@@ -201,23 +201,23 @@ unless-open : (f : Option Refused) (out : List Item) (a : Assembly) (text : List
 unfolding IfOpen
 unless-open f out a text = search (rules, IfOpen, entries-counted, counted-open)
 
-behind-open : (out : List Item) (s : Standing) (text : List ℕ) → IfOpen (line_behind out s text).1
+after-open : (out : List Item) (s : Status) (text : List ℕ) → IfOpen (line_following out s text).1
 unfolding IfOpen
-behind-open out s text = search (rules, unless-open)
+after-open out s text = search (rules, unless-open)
 
-is-open : (b : Standing) (a : Assembly) → b ≡ Ok a → IfOpen b → is_open b ≡ true
+is-open : (b : Status) (a : Assembly) → b ≡ Ok a → IfOpen b → is_open b ≡ true
 unfolding IfOpen
 is-open b a is h = search rules
 
-pub line-open : (out next : List Item) (s b : Standing) (a : Assembly) (text : List ℕ) → (next, b) ≡ line_behind out s text → b ≡ Ok a → is_open b ≡ true
-line-open out next s b a text is ok = is-open b a ok (subst (λ p. IfOpen p.1) (sym is) (behind-open out s text))
+pub line-open : (out next : List Item) (s b : Status) (a : Assembly) (text : List ℕ) → (next, b) ≡ line_following out s text → b ≡ Ok a → is_open b ≡ true
+line-open out next s b a text is ok = is-open b a ok (subst (λ p. IfOpen p.1) (sym is) (after-open out s text))
 
-pub answer-open : (r : Result (Unit {0}) Refused) (out next : List Item) (s : Standing) (a : Assembly) (o : Option Refused) (text : List ℕ) → o ≡ None →
-    (r ≢ Err no_memory → (next, standing_after r a) ≡ line_behind out s text) → OnOk r (is_open (standing a o) ≡ true)
+pub answer-open : (r : Result (Unit {0}) Refused) (out next : List Item) (s : Status) (a : Assembly) (o : Option Refused) (text : List ℕ) → o ≡ None →
+    (r ≢ Err no_memory → (next, status_after r a) ≡ line_following out s text) → OnOk r (is_open (status_unless a o) ≡ true)
 answer-open (Ok u) out next s a o text none h = rw none (line-open out next s (Ok a) a text (h (λ e. cc)) refl)
 answer-open (Err r) out next s a o text none h = tt
 
 -- one that answers within an `Ok` was not refused before
-pub open-before : (X : Type 0) (s : Standing) (tried : Tried) (answer : Result (Unit {0}) Refused) → tried ≡ Ok answer → IfErr s (λ (r : Refused). tried ≡ Err r) → OnErr s X
+pub open-before : (X : Type 0) (s : Status) (tried : Tried) (answer : Result (Unit {0}) Refused) → tried ≡ Ok answer → IfErr s (λ (r : Refused). tried ≡ Err r) → OnErr s X
 open-before X (Ok a) tried answer is h = tt
 open-before X (Err r) tried answer is h = absurd (cc)

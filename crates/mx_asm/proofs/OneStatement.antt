@@ -1,6 +1,6 @@
 -- One statement in one pass, and entries one after another, as the two passes have them.
 use Rattle.std.proofs.Common.{◌≡◌, ℕ, Bool, true, false, cond, nat_lt, List, [], ◌∷◌, ◌++◌, length, Option, None, Some, is_some, Result, Ok, Err, refl, ap, sym, ◌∙◌, slice_set, ◌||◌, bytes_eq, rules, fold, append_assoc, append-nil, arith}
-use Rattle.mx_asm.proofs.Words.{result_unwrap_or, list_any-append, Value, Wait, Item, predefined_value, NameFault, Twice, Predefined, NameTooLong, NameTable, Naming, complete_form, value_in, define_answer, with_symbol, waits_for, waits_for_others, value-inserted, not-some, Label, Name, Local, Effect, Placed, Answer, Known, no_targets, symbol_form, StatementTree, encoding, AsmFault, Refused, Head, Sight, outline, waits_in, with_label, with_effect, known_behind, known_with, known_after, fixes, awaited_value, waiting_for, waiting_at, statement_items, statement_head, sight_items, sight_head, refusal_of, name_refusal, name_fault, label_fault, fault_after, fault_with, statement_fault, Assembly, Taken, naming_of, labelled, with_symbol_label, symbol_defined, with_local, taken_items, taken_label, taken_with, statement_taken, Entry, statements_in, refusal_in, sights_from, items_from, first_fault, first_of, Progress, after_entry, and_entries, entries_taken, accepted}
+use Rattle.mx_asm.proofs.Words.{result_unwrap_or, list_any-append, Value, Wait, Item, predefined_value, NameFault, Twice, Predefined, NameTooLong, NameTable, Naming, complete_form, value_in, define_answer, with_symbol, waits_for, waits_for_others, value-inserted, not-some, Label, Name, Local, Effect, Placed, Answer, Known, no_targets, symbol_form, StatementTree, encoding, AsmFault, Refused, Head, Sight, outline, waits_in, with_label, with_effect, known_following, known_with, known_after, fixes, awaited_value, waiting_for, waiting_at, statement_items, statement_head, sight_items, sight_head, refusal_of, name_refusal, name_fault, label_fault, fault_after, fault_with, statement_fault, Assembly, Taken, naming_of, labelled, with_symbol_label, symbol_defined, with_local, taken_items, taken_label, taken_with, statement_taken, Entry, statements_in, refusal_in, sights_from, items_from, first_fault, first_of, Progress, after_entry, and_entries, entries_taken, accepted}
 use Rattle.mx_word.specs.declared.waits.Awaited.TheVariants as awaited
 use Rattle.mx_asm.proofs.OpenWaits.{or-false, settled_by, any_settles, open_waits, open-unlabelled, open-named, open-local, named-waits, local-waits}
 use Rattle.mx_asm.proofs.StatementForms.{HasLabel, encoding-label}
@@ -8,8 +8,8 @@ use Rattle.mx_asm.proofs.StatementForms.{HasLabel, encoding-label}
 -- ---- one statement in one pass, as the two passes have it
 
 -- what the assembler carries after these statements
-abbrev pub standing_at : Known → Head → List Sight → ℕ → Assembly
-standing_at k h before l = record { known = k; waiting = open_waits before; head = h; locals = l; lines = 0; size = 0; opened = true }
+abbrev pub status_at : Known → Head → List Sight → ℕ → Assembly
+status_at k h before l = record { known = k; waiting = open_waits before; head = h; locals = l; lines = 0; size = 0; opened = true }
 
 -- the symbols are the labels of the statements
 abbrev pub AreLabels : NameTable → List Sight → Type 0
@@ -57,18 +57,18 @@ module _ (k : Known) (h : Head) (before : List Sight) (l : ℕ) (st : StatementT
   -- the references that wait, and the names, are those of the two passes
   settled : (p : Placed) (n : Naming) (waits : List Wait) → waits ≡ waiting_at before here →
       n ≡ record { names = with_label k.names st.label p.label; waiting = open_waits after } →
-      taken_label (standing_at k h before l) st.line p (Ok (n, waits)) ≡ stepped (fault_after before here p None)
+      taken_label (status_at k h before l) st.line p (Ok (n, waits)) ≡ stepped (fault_after before here p None)
       (result_unwrap_or (statement_items h st.line p (waiting_at before here)) [])
-      (standing_at (known_behind k st p) (statement_head h st.line p (waiting_at before here)) after (with_local l p.effect))
+      (status_at (known_following k st p) (statement_head h st.line p (waiting_at before here)) after (with_local l p.effect))
   settled p n waits ws ns = grind (arith, items-by)
 
   -- what a statement with this fault of its label comes to
   abbrev Comes : Placed → Option Label → Option Value → List Wait → Type 0
   Comes p label value waits =
-      taken_label (standing_at k h before l) st.line p (labelled (naming_of (standing_at k h before l)) label value waits)
+      taken_label (status_at k h before l) st.line p (labelled (naming_of (status_at k h before l)) label value waits)
       ≡ stepped (fault_after before here p (label_fault k.names label))
       (result_unwrap_or (statement_items h st.line p (waiting_at before here)) [])
-      (standing_at (known_behind k st p) (statement_head h st.line p (waiting_at before here)) after (with_local l p.effect))
+      (status_at (known_following k st p) (statement_head h st.line p (waiting_at before here)) after (with_local l p.effect))
 
   unlabelled-comes : (p : Placed) → st.label ≡ None → p.label ≡ None → outline here ≡ Ok p → Comes p None None p.waits
   unlabelled-comes p label value is =
@@ -86,31 +86,31 @@ module _ (k : Known) (h : Head) (before : List Sight) (l : ℕ) (st : StatementT
     form = complete_form k.names.prefix text
 
     defined-comes : (u : Unit {0}) → is_some (value_in form k.names.symbols) ≡ false →
-        taken_label (standing_at k h before l) st.line p (symbol_defined (naming_of (standing_at k h before l)) form value p.waits (Ok u))
+        taken_label (status_at k h before l) st.line p (symbol_defined (naming_of (status_at k h before l)) form value p.waits (Ok u))
         ≡ stepped (fault_after before here p None)
         (result_unwrap_or (statement_items h st.line p (waiting_at before here)) [])
-        (standing_at (known_behind k st p) (statement_head h st.line p (waiting_at before here)) after (with_local l p.effect))
+        (status_at (known_following k st p) (statement_head h st.line p (waiting_at before here)) after (with_local l p.effect))
     defined-comes u new =
         settled p (record { names = with_symbol k.names form value; waiting = waits_for_others (awaited.Name form) (open_waits before ++ p.waits) }) (waits_for (awaited.Name form) (open_waits before ++ p.waits))
         (ap (λ r. waits_for (awaited.Name form) (open_waits before ++ waits_in r)) (sym is) ∙ named-waits form before here (labels form ∙ new) ∙ ap (waiting_for before here) (sym label))
         (λ i. record { names = with_label k.names (sym label i) (sym is_value i); waiting = sym (open-named before here text label ∙ ap (λ r. waits_for_others (awaited.Name form) (open_waits before ++ waits_in r)) is) i })
 
     answered-comes : (full : List ℕ) (answer : Result (Unit {0}) NameFault) → symbol_form k.names text ≡ Ok full → define_answer k.names full ≡ answer →
-        taken_label (standing_at k h before l) st.line p (symbol_defined (naming_of (standing_at k h before l)) full value p.waits answer)
+        taken_label (status_at k h before l) st.line p (symbol_defined (naming_of (status_at k h before l)) full value p.waits answer)
         ≡ stepped (fault_after before here p (name_refusal answer))
         (result_unwrap_or (statement_items h st.line p (waiting_at before here)) [])
-        (standing_at (known_behind k st p) (statement_head h st.line p (waiting_at before here)) after (with_local l p.effect))
+        (status_at (known_following k st p) (statement_head h st.line p (waiting_at before here)) after (with_local l p.effect))
     answered-comes full (Err fault) form_is told = refl
     answered-comes full (Ok u) form_is told =
         let same = form-is k.names text full form_is in
-        ap (λ f. taken_label (standing_at k h before l) st.line p (symbol_defined (naming_of (standing_at k h before l)) f value p.waits (Ok u))) same
+        ap (λ f. taken_label (status_at k h before l) st.line p (symbol_defined (naming_of (status_at k h before l)) f value p.waits (Ok u))) same
         ∙ defined-comes u (ap (λ f. is_some (value_in f k.names.symbols)) (sym same) ∙ absent k.names full u told)
 
     formed-comes : (r : Result (List ℕ) NameFault) → symbol_form k.names text ≡ r →
-        taken_label (standing_at k h before l) st.line p (with_symbol_label (naming_of (standing_at k h before l)) value p.waits r)
+        taken_label (status_at k h before l) st.line p (with_symbol_label (naming_of (status_at k h before l)) value p.waits r)
         ≡ stepped (fault_after before here p (name_fault k.names r))
         (result_unwrap_or (statement_items h st.line p (waiting_at before here)) [])
-        (standing_at (known_behind k st p) (statement_head h st.line p (waiting_at before here)) after (with_local l p.effect))
+        (status_at (known_following k st p) (statement_head h st.line p (waiting_at before here)) after (with_local l p.effect))
     formed-comes (Err fault) is = refl
     formed-comes (Ok full) is = answered-comes full (define_answer k.names full) is refl
 
@@ -125,13 +125,13 @@ module _ (k : Known) (h : Head) (before : List Sight) (l : ℕ) (st : StatementT
   placed-comes p label value has e v is labels = absurd has
 
   step-with : (r : Answer Placed) → outline here ≡ r → AreLabels k.names before →
-      taken_with (standing_at k h before l) st.line st.label r
-      ≡ stepped (fault_with before here r) (sight_items h before here r) (standing_at (known_with k st r) (sight_head h before here r) after (sight_local l r))
+      taken_with (status_at k h before l) st.line st.label r
+      ≡ stepped (fault_with before here r) (sight_items h before here r) (status_at (known_with k st r) (sight_head h before here r) after (sight_local l r))
   step-with r is labels = grind (arith, placed-comes, encoding-label)
 
   pub one-statement : AreLabels k.names before →
-      statement_taken (standing_at k h before l) st
-      ≡ stepped (statement_fault before here) (sight_items h before here (outline here)) (standing_at (known_after k st) (sight_head h before here (outline here)) after (sight_local l (outline here)))
+      statement_taken (status_at k h before l) st
+      ≡ stepped (statement_fault before here) (sight_items h before here (outline here)) (status_at (known_after k st) (sight_head h before here (outline here)) after (sight_local l (outline here)))
   unfolding known_after
   one-statement labels = simp (step-with)
 
@@ -181,7 +181,7 @@ unfoldable pub locals_from : ℕ → List Sight → ℕ
 locals_from l [] = l
 locals_from l (s ∷ later) = locals_from (sight_local l (outline s)) later
 
--- a refusal, or what stands
+-- a refusal, or an assembly
 abbrev pub outcome : List Item → Option Refused → Assembly → Progress
 outcome out (Some refused) a = (out, Err refused)
 outcome out None a = (out, Ok a)
@@ -191,11 +191,11 @@ abbrev pub entries_outcome : Known → Head → List Sight → ℕ → List Item
 entries_outcome k h before l out statements refusal =
     let sights = sights_from k statements in
     outcome (out ++ items_from h before (accepted before sights)) (first_of (first_fault before sights) refusal)
-    (standing_at (fold known_after k statements) (head_from h before sights) (before ++ sights) (locals_from l sights))
+    (status_at (fold known_after k statements) (head_from h before sights) (before ++ sights) (locals_from l sights))
 
-nothing-more : (k : Known) (h : Head) (before : List Sight) (l : ℕ) (out : List Item) → (out, Ok (standing_at k h before l)) ≡ entries_outcome k h before l out [] None
+nothing-more : (k : Known) (h : Head) (before : List Sight) (l : ℕ) (out : List Item) → (out, Ok (status_at k h before l)) ≡ entries_outcome k h before l out [] None
 unfolding sights_from items_from accepted first_fault head_from locals_from
-nothing-more k h before l out = λ i. (sym (append-nil out) i, Ok (standing_at k h (sym (append-nil before) i) l))
+nothing-more k h before l out = λ i. (sym (append-nil out) i, Ok (status_at k h (sym (append-nil before) i) l))
 
 refused-here : (k : Known) (h : Head) (before : List Sight) (l : ℕ) (out : List Item) (r : Refused) → (out, Err r) ≡ entries_outcome k h before l out [] (Some r)
 unfolding sights_from items_from accepted first_fault
@@ -219,14 +219,14 @@ module _ (k : Known) (h : Head) (before : List Sight) (l : ℕ) (out : List Item
 step-outcome : (k : Known) (h : Head) (before : List Sight) (l : ℕ) (out : List Item) (st : StatementTree) (entries : List Entry) (fault : Option Refused) →
     statement_fault before (record { known = k; statement = st }) ≡ fault →
     (statement_fault before (record { known = k; statement = st }) ≡ None →
-    entries_taken entries (out ++ sight_items h before (s k h before l out st [] None) (outline (s k h before l out st [] None))) (standing_at (known_after k st) (sight_head h before (s k h before l out st [] None) (outline (s k h before l out st [] None))) (before ++ s k h before l out st [] None ∷ []) (sight_local l (outline (s k h before l out st [] None))))
+    entries_taken entries (out ++ sight_items h before (s k h before l out st [] None) (outline (s k h before l out st [] None))) (status_at (known_after k st) (sight_head h before (s k h before l out st [] None) (outline (s k h before l out st [] None))) (before ++ s k h before l out st [] None ∷ []) (sight_local l (outline (s k h before l out st [] None))))
     ≡ rest k h before l out st (statements_in entries) (refusal_in entries)) →
-    and_entries (entries_taken entries) (after_entry out (stepped fault (sight_items h before (s k h before l out st [] None) (outline (s k h before l out st [] None))) (standing_at (known_after k st) (sight_head h before (s k h before l out st [] None) (outline (s k h before l out st [] None))) (before ++ s k h before l out st [] None ∷ []) (sight_local l (outline (s k h before l out st [] None))))))
+    and_entries (entries_taken entries) (after_entry out (stepped fault (sight_items h before (s k h before l out st [] None) (outline (s k h before l out st [] None))) (status_at (known_after k st) (sight_head h before (s k h before l out st [] None) (outline (s k h before l out st [] None))) (before ++ s k h before l out st [] None ∷ []) (sight_local l (outline (s k h before l out st [] None))))))
     ≡ entries_outcome k h before l out (st ∷ statements_in entries) (refusal_in entries)
 step-outcome k h before l out st entries fault is more = grind (arith, refused-first, more-first)
 
 pub entries-are : (entries : List Entry) (k : Known) (h : Head) (before : List Sight) (l : ℕ) (out : List Item) → AreLabels k.names before →
-    entries_taken entries out (standing_at k h before l) ≡ entries_outcome k h before l out (statements_in entries) (refusal_in entries)
+    entries_taken entries out (status_at k h before l) ≡ entries_outcome k h before l out (statements_in entries) (refusal_in entries)
 unfolding entries_taken
 entries-are [] k h before l out labels = nothing-more k h before l out
 entries-are (Err r ∷ entries) k h before l out labels = refused-here k h before l out r

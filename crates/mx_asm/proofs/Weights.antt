@@ -39,9 +39,9 @@ operand-most e = grind (arith, nat_tests)
 byte-weight : (b : ℕ) → b < 2 ^ 8 → operand_weight (number b) ≡ 8
 byte-weight b l = grind (arith, nat_tests)
 
-string-weighs : (bytes behind : List ℕ) → AreBytes (bytes ++ behind) → total (map number bytes) ≡ 8 * length bytes
-string-weighs [] behind l = refl
-string-weighs (b ∷ bytes) behind l = omega (arith, byte-weight b l.0, sum_by-cons operand_weight (number b) (map number bytes), string-weighs bytes behind l.1)
+string-weighs : (bytes following : List ℕ) → AreBytes (bytes ++ following) → total (map number bytes) ≡ 8 * length bytes
+string-weighs [] following l = refl
+string-weighs (b ∷ bytes) following l = omega (arith, byte-weight b l.0, sum_by-cons operand_weight (number b) (map number bytes), string-weighs bytes following l.1)
 
 -- Each byte adds at most 14: a byte of a string is an operand of 8, and another operand of 28 has a byte and a comma.
 operand-weighs : {part : List ℕ} {fs : List Tree} → Operand part fs → AreBytes part → total fs ≤ 14 * length part + 14

@@ -37,7 +37,7 @@ pub use Rattle.mx_line.specs.declared.faults.LineFault.{LineFault}
 pub use Rattle.mx_line.specs.declared.spans.Span.{Span}
 pub use Rattle.mx_names.specs.Gregs.{lowest_of, with_greg}
 pub use Rattle.mx_mmo.specs.Image.{Image}
-pub use Rattle.mx_mmo.specs.Meaning.{BadPlace, Loading, Meaningless, PagesFull, after_load, far_place, image_in, image_with_tetra, is_below, join, join_octa, meaning, next_line, noted, nothing, paged, take_item, take_items, tetras_before, tetras_behind, then_join, value_at, with_globals, with_image, with_name, with_page}
+pub use Rattle.mx_mmo.specs.Meaning.{BadPlace, Loading, Meaningless, PagesFull, after_load, far_place, image_in, image_with_tetra, is_below, join, join_octa, meaning, next_line, noted, nothing, paged, take_item, take_items, tetras_before, tetras_following, then_join, value_at, with_globals, with_image, with_name, with_page}
 pub use Rattle.mx_mmo.specs.Reading.{tetras_of}
 pub use Rattle.mx_mmo.specs.Spelling.{bytes_of, ending, loaded, written}
 pub use Rattle.mx_mmo.specs.Tetras.{address, lop, wide_lop}
@@ -81,7 +81,7 @@ pub use Rattle.mx_stmt.specs.declared.placed.Effect.{Effect}
 pub use Rattle.mx_stmt.specs.declared.placed.Placed.{Placed}
 pub use Rattle.mx_stmt.specs.declared.statement.Label.{Label}
 pub use Rattle.mx_stmt.specs.declared.statement.Label.TheVariants.{Local, Name}
-pub use Rattle.mx_word.proofs.Ranges.{bytes-append, bytes-behind, bytes-front, bytes-zeros}
+pub use Rattle.mx_word.proofs.Ranges.{bytes-after, bytes-append, bytes-front, bytes-zeros}
 pub use Rattle.mx_word.proofs.Tetras.{eight-bytes, eight-fit, four-fit, octa-back, tetra-back, tetra-sum}
 pub use Rattle.mx_word.specs.Octas.{byte_in, byte_of, bytes_with_tetra, in_half, tetra_byte, with_tetra}
 pub use Rattle.mx_word.specs.Ranges.{AreBytes, AreOctas}
@@ -107,14 +107,14 @@ unfoldable pub use Rattle.mx_asm.specs.Fixes.{fixes, from_last}
 pub use Rattle.mx_asm.specs.Fronts.{GrowsAlike, IsFront}
 pub use Rattle.mx_asm.specs.Image.{image, image_with, is_covered, octa_from, octa_in, page_count, pages_of, symbols_of, with_lines}
 unfoldable pub use Rattle.mx_asm.specs.Image.{pages_below, placements}
-pub use Rattle.mx_asm.specs.OnePass.{Assembly, Ended, Labelled, Progress, Standing, Taken, and_entries, assembled, assembly_fault, beginning, after_entry, count_fault, counted, end_behind, ended, ended_main, ended_waits, entry_taken, is_open, labelled, last_number, line_behind, line_taken, line_unless, main_fault, naming_of, opened, statement_taken, symbol_defined, with_symbol_label, taken_items, taken_label, taken_with, with_local, with_opening, with_waits}
+pub use Rattle.mx_asm.specs.OnePass.{Assembly, Ended, Labelled, Progress, Status, Taken, and_entries, assembled, assembly_fault, beginning, after_entry, count_fault, counted, end_following, ended, ended_main, ended_waits, entry_taken, is_open, labelled, last_number, line_following, line_taken, line_unless, main_fault, naming_of, opened, statement_taken, symbol_defined, with_symbol_label, taken_items, taken_label, taken_with, with_local, with_opening, with_waits}
 unfoldable pub use Rattle.mx_asm.specs.OnePass.{entries_taken}
 pub use Rattle.mx_asm.specs.Pages.{AreAccepted, accepted_in, has_room, loaded_image, page_fault, page_refusal, run_refusal, run_refusal_with}
 unfoldable pub use Rattle.mx_asm.specs.Pages.{outlined, page_refusal_from}
 pub use Rattle.mx_asm.specs.Refusal.{at_line, end_fault, end_refusal, entries_refusal, fault_after, fault_with, first_of, label_fault, last_fault, last_line, local_in, local_of, name_fault, name_refusal, refusal, refusal_of, statement_fault, trie_limit, undefined}
 unfoldable pub use Rattle.mx_asm.specs.Refusal.{first_fault, first_undefined, locals, unreferenced}
 pub use Rattle.mx_asm.specs.Statements.{HasOctas, IsStatement}
-pub use Rattle.mx_asm.specs.TwoPass.{Piece, Sight, final_known, is_local, known_behind, known_with, nothing_known, outline, piece_with, pieces, pure_number, referent, sights_of, targets, waits_in, with_effect, with_label}
+pub use Rattle.mx_asm.specs.TwoPass.{Piece, Sight, final_known, is_local, known_following, known_with, nothing_known, outline, piece_with, pieces, pure_number, referent, sights_of, targets, waits_in, with_effect, with_label}
 unfoldable pub use Rattle.mx_asm.specs.TwoPass.{known_after, next_local, pieces_of, references, sights_from}
 pub use Rattle.mx_asm.specs.Whole.{HasTaken, Line, accepted_with, assembled_lines, assembled_source, assembled_with, entries_items, line_after, lines_entries, lines_items, lines_refusal, lines_taken, one_pass}
 unfoldable pub use Rattle.mx_asm.specs.Whole.{accepted}

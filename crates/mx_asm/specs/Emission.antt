@@ -1,5 +1,5 @@
 -- The items of the object of a source: those of each statement, with zero for each reference and a fix record where its
--- label stands, and then the end. (MMIXware, MMIXAL, "Binary MMO output".)
+-- label is, and then the end. (MMIXware, MMIXAL, "Binary MMO output".)
 use Rattle.std.specs.Prelude.{ℕ, ◌+◌, ◌-◌, ◌*◌, ◌/◌, ◌%◌, ◌^◌, ◌==◌, min, nat_lt, if◌then◌else◌, List, [], ◌∷◌, ◌++◌, length, map, replicate, codes, Option, None, Some, Result, Ok, Err}
 use Rattle.std.specs.Result.{result_unwrap_or}
 use Rattle.mx_word.specs.declared.symbols.Value.{Value}
@@ -79,8 +79,8 @@ abbrev pub lined : ℕ → ℕ → List Item
 lined in_force line = if in_force == told_line line then [] else Line (told_line line) ∷ []
 
 -- the line in force after this many tetras: 0 stays, and none passes 2^32 - 1
-abbrev pub line_behind : ℕ → ℕ → ℕ
-line_behind line tetras = if line == 0 then 0 else min (line + tetras) (2 ^ 32 - 1)
+abbrev pub line_number_after : ℕ → ℕ → ℕ
+line_number_after line tetras = if line == 0 then 0 else min (line + tetras) (2 ^ 32 - 1)
 
 -- the items of bytes of a line that are placed from an address on
 abbrev pub byte_items : Head → ℕ → ℕ → List ℕ → List Item
@@ -92,7 +92,7 @@ abbrev pub head_at_bytes : Head → ℕ → ℕ → List ℕ → Head
 head_at_bytes h line start [] = h
 head_at_bytes h line start (b ∷ bytes) = record {
   lambda = raised (start + length (b ∷ bytes));
-  line = line_behind (told_line line) (tetra_count start (length (b ∷ bytes)));
+  line = line_number_after (told_line line) (tetra_count start (length (b ∷ bytes)));
 }
 
 -- ---- a statement

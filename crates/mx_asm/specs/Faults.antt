@@ -24,8 +24,8 @@ fault_number SourceTooLong = 88
 fault_number FutureNotMultiple = 89
 fault_number OutOfMemory = 0
 
--- whether a fault is found before a statement has changed anything: that of a reference which waited for its label is not, nor is want
--- of memory
+-- whether a fault is found before a statement has changed anything: that of a reference which waited for its label is not, nor is that
+-- memory ran out
 abbrev pub is_early : AsmFault → Bool
 is_early FutureRegister = false
 is_early FutureTooFar = false

@@ -73,7 +73,7 @@ with_fix line from (Err fault) later = Err (refused_from line fault from)
 with_fix line from (Ok fix) (Err refused) = Err refused
 with_fix line from (Ok fix) (Ok fixes) = Ok (fix ∷ fixes)
 
--- the records of references to the label of a line, in the order of their making, or the first refusal
+-- the records of references to the label of a line, in the order in which they were made, or the first refusal
 unfoldable pub fixes : ℕ → Value → List Wait → Result (List Item) Refused
 fixes line value [] = Ok []
 fixes line value (wait ∷ waits) = with_fix line wait.line (fix_of value wait) (fixes line value waits)

@@ -13,3 +13,4 @@ pub mod Statements
 pub mod Pages
 pub mod Fitting
 pub mod Locals
+pub mod Laws

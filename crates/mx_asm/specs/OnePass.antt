@@ -46,11 +46,11 @@ pub record Assembly : Type 0 where
   pub opened : Bool
 
 -- an assembly, or the refusal that ended it
-abbrev pub Standing : Type 0
-Standing = Result Assembly Refused
+abbrev pub Status : Type 0
+Status = Result Assembly Refused
 
--- whether it stands, and has added the opening
-abbrev pub is_open : Standing → Bool
+-- whether nothing is refused, and the opening was added
+abbrev pub is_open : Status → Bool
 is_open (Err refused) = false
 is_open (Ok a) = a.opened
 
@@ -143,7 +143,7 @@ entry_taken a (Ok s) = statement_taken a s
 
 -- the items so far, and what follows them
 abbrev pub Progress : Type 0
-Progress = List Item × Standing
+Progress = List Item × Status
 
 abbrev pub after_entry : List Item → Taken → Progress
 after_entry out (Err refused) = (out, Err refused)
@@ -189,9 +189,9 @@ with_opening false out = out ++ opening
 abbrev pub opened : Assembly → Assembly
 opened a = record a { opened = true }
 
-abbrev pub line_behind : List Item → Standing → List ℕ → Progress
-line_behind out (Err refused) text = (out, Err refused)
-line_behind out (Ok a) text = line_taken (with_opening a.opened out) (opened a) text
+abbrev pub line_following : List Item → Status → List ℕ → Progress
+line_following out (Err refused) text = (out, Err refused)
+line_following out (Ok a) text = line_taken (with_opening a.opened out) (opened a) text
 
 -- ---- the end
 
@@ -229,9 +229,9 @@ ended_waits out a None = ended_main out a (assembly_fault a)
 abbrev pub ended : List Item → Assembly → Ended
 ended out a = ended_waits out a (first_of a.waiting)
 
-abbrev pub end_behind : List Item → Standing → Ended
-end_behind out (Err refused) = (out, Err refused)
-end_behind out (Ok a) = ended (with_opening a.opened out) a
+abbrev pub end_following : List Item → Status → Ended
+end_following out (Err refused) = (out, Err refused)
+end_following out (Ok a) = ended (with_opening a.opened out) a
 
 -- what calls answer, with what they leave
 abbrev pub waits_taken : Awaited → Naming → Labelled
@@ -245,9 +245,9 @@ abbrev pub taken_after : Result (List Item) Refused → Assembly → Taken
 taken_after (Ok items) a = Ok (items, a)
 taken_after (Err refused) a = Err refused
 
-abbrev pub standing_after : Result (Unit {0}) Refused → Assembly → Standing
-standing_after (Ok u) a = Ok a
-standing_after (Err refused) a = Err refused
+abbrev pub status_after : Result (Unit {0}) Refused → Assembly → Status
+status_after (Ok u) a = Ok a
+status_after (Err refused) a = Err refused
 
 -- Unless there was no memory, the names and the references that a label took away are these.
 abbrev pub Labels : Result (List Wait) AsmFault → Naming → Labelled → Type 0
@@ -261,21 +261,21 @@ abbrev pub line_answer : Tried → Result (Unit {0}) Refused
 line_answer (Ok answer) = answer
 line_answer (Err refused) = Err refused
 
--- Unless there was no memory, the items and what stands after a line that was answered so are those of `line_behind`.
-abbrev pub TakesLine : Result (Unit {0}) Refused → List Item → List Item → Standing → Standing → List ℕ → Type 0
-TakesLine answer old new before after text = answer ≢ Err no_memory → (new, after) ≡ line_behind old before text
+-- Unless there was no memory, the items and the status after a line that was answered so are those of `line_following`.
+abbrev pub TakesLine : Result (Unit {0}) Refused → List Item → List Item → Status → Status → List ℕ → Type 0
+TakesLine answer old new before after text = answer ≢ Err no_memory → (new, after) ≡ line_following old before text
 
--- what stands after a line that is line_answer so, as long as a refusal ends the source
-abbrev pub standing_with : Result (Unit {0}) Refused → Standing → Standing
-standing_with (Ok u) a = a
-standing_with (Err refused) a = Err refused
+-- the status after a line that is answered so, as long as a refusal ends the source
+abbrev pub status_with : Result (Unit {0}) Refused → Status → Status
+status_with (Ok u) a = a
+status_with (Err refused) a = Err refused
 
 -- The same of a line that may leave all as it was.
-abbrev pub TriesLine : Tried → List Item → List Item → Standing → Standing → List ℕ → Type 0
+abbrev pub TriesLine : Tried → List Item → List Item → Status → Status → List ℕ → Type 0
 TriesLine result old new before after text =
-    TakesLine (line_answer result) old new before (standing_with (line_answer result) after) text
+    TakesLine (line_answer result) old new before (status_with (line_answer result) after) text
 
--- the assembly stands as long as nothing is refused
-abbrev pub standing : Assembly → Option Refused → Standing
-standing a None = Ok a
-standing a (Some refused) = Err refused
+-- the assembly, as long as nothing is refused
+abbrev pub status_unless : Assembly → Option Refused → Status
+status_unless a None = Ok a
+status_unless a (Some refused) = Err refused

@@ -77,7 +77,7 @@ abbrev pub undefined : Awaited → AsmFault
 undefined (awaited.Name full) = UndefinedSymbol
 undefined (awaited.Local d) = UndefinedLocal
 
--- the first of these references that stands for nothing
+-- the first of these references that means nothing
 unfoldable pub unreferenced : NameTable → List Sight → List Wait → Option Refused
 unreferenced final later [] = None
 unreferenced final later (wait ∷ waits) =

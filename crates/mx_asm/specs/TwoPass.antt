@@ -1,5 +1,5 @@
 -- The two-pass meaning of the statements of a source. The first pass tells what is known at each statement and what every
--- name stands for at the end. The second places the bytes, with every label known.
+-- name means at the end. The second places the bytes, with every label known.
 -- (MMIXware, MMIXAL: `@`, labels, PREFIX, local labels, GREG and future references.)
 use Rattle.std.specs.Prelude.{ℕ, ◌==◌, Bool, false, List, [], ◌∷◌, ◌++◌, fold, slice_set, Option, None, Some, Ok, Err, if◌then◌else◌}
 use Rattle.mx_word.specs.declared.symbols.Value.{Value}
@@ -34,12 +34,12 @@ with_effect k (effect.Greg reg value) = record k { gregs = with_greg k.gregs reg
 with_effect k (effect.Local reg) = k
 
 -- what is known after a statement that is placed
-abbrev pub known_behind : Known → StatementTree → Placed → Known
-known_behind k s p = with_effect (record { names = with_label k.names s.label p.label; at = p.after; gregs = k.gregs }) p.effect
+abbrev pub known_following : Known → StatementTree → Placed → Known
+known_following k s p = with_effect (record { names = with_label k.names s.label p.label; at = p.after; gregs = k.gregs }) p.effect
 
 abbrev pub known_with : Known → StatementTree → Answer Placed → Known
 known_with k s (Err fault) = k
-known_with k s (Ok p) = known_behind k s p
+known_with k s (Ok p) = known_following k s p
 
 -- what is known after a statement; where its references lead makes no difference
 unfoldable pub known_after : Known → StatementTree → Known
@@ -97,7 +97,7 @@ unfoldable pub next_local : ℕ → List Sight → Option Value
 next_local d [] = None
 next_local d (s ∷ later) = if is_local d s.statement.label then value_in (outline s) else next_local d later
 
--- what a reference stands for: the value of its name at the end, or of the next label dH on a later statement
+-- what a reference means: the value of its name at the end, or of the next label dH on a later statement
 abbrev pub referent : NameTable → List Sight → Awaited → Option Value
 referent final later (awaited.Name full) = value_of_name final full
 referent final later (awaited.Local d) = next_local d later

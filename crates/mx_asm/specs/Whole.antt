@@ -11,7 +11,7 @@ use Rattle.mx_asm.specs.Entries.{Entry, entries_of, statements_in}
 use Rattle.mx_asm.specs.TwoPass.{Sight, sights_of, final_known}
 use Rattle.mx_asm.specs.Emission.{opening, first_head, items_from, closing, padded_trie}
 use Rattle.mx_asm.specs.Refusal.{statement_fault, entries_refusal, end_refusal, last_line, first_of}
-use Rattle.mx_asm.specs.OnePass.{Standing, Progress, Ended, beginning, line_behind, end_behind}
+use Rattle.mx_asm.specs.OnePass.{Status, Progress, Ended, beginning, line_following, end_following}
 
 abbrev pub Line : Type 0
 Line = List ℕ
@@ -71,22 +71,22 @@ assembled_source source = assembled_lines (lines_of source)
 -- ---- the same in one pass
 
 abbrev pub line_after : Progress → Line → Progress
-line_after progress line = line_behind progress.0 progress.1 line
+line_after progress line = line_following progress.0 progress.1 line
 
--- what stands once these lines were taken, one after another
+-- what there is once these lines were taken, one after another
 abbrev pub lines_taken : List Line → Progress
 lines_taken lines = fold line_after ([], Ok beginning) lines
 
 abbrev pub one_pass : List Line → Ended
-one_pass lines = end_behind (lines_taken lines).0 (lines_taken lines).1
+one_pass lines = end_following (lines_taken lines).0 (lines_taken lines).1
 
--- What stands once an assembler has taken these lines, one after another: it is refused as they are.
-pub record HasTaken (lines : List Line) (a : Standing) : Type 0 where
+-- The status once an assembler has taken these lines, one after another: it is refused as they are.
+pub record HasTaken (lines : List Line) (a : Status) : Type 0 where
   pub taken : a ≡ (lines_taken lines).1
   pub refusal : result_err a ≡ lines_refusal lines
 
 -- what holds of any lines that an assembler has taken
-abbrev pub OnTaken : Standing → (List Line → Type 0) → Type 0
+abbrev pub OnTaken : Status → (List Line → Type 0) → Type 0
 OnTaken a P = (lines : List Line) → HasTaken lines a → P lines
 
 -- a list grows by the items of one more line after these, or by those of the end

@@ -31,11 +31,11 @@ pub struct Assembler {
 impl Model for Assembler {
     ghost use Rattle.std.specs.Option.{IfSome};
     ghost use Rattle.mx_asm.specs.Faults.{IsTold};
-    ghost use Rattle.mx_asm.specs.OnePass.{Standing, standing};
+    ghost use Rattle.mx_asm.specs.OnePass.{Status, status_unless};
 
-    ghost Value = { Standing };
+    ghost Value = { Status };
 
-    ghost view = { λ a. standing a.assembly a.refused };
+    ghost view = { λ a. status_unless a.assembly a.refused };
 
     ghost invariant = { λ a. IfSome a.refused IsTold };
 }
@@ -63,7 +63,7 @@ impl Assembler {
     #[tactic(auto, using(crate::proofs::Fitting::grown, crate::proofs::Fronts::fronts))]
     pub fn line(&mut self, text: &[u8], out: &mut Items) -> Result<(), Refused>
         ensures answer { result ≡ map_ok (λ _. tt) self.new }
-        ensures taken { result ≢ Err no_memory → (out.new, self.new) ≡ spec.line_behind out.old self.old text.now }
+        ensures taken { result ≢ Err no_memory → (out.new, self.new) ≡ spec.line_following out.old self.old text.now }
         ensures lines { OnTaken self.old
             (λ lines. result ≢ Err no_memory → HasTaken (lines ++ text.now ∷ []) self.new) }
         ensures items { OnTaken self.old
@@ -71,7 +71,7 @@ impl Assembler {
         ensures open { OnOk result (spec.is_open self.new ≡ true) }
         ensures told { IfErr result IsTold }
         ensures sparing { spec.is_open self.old ≡ true → holds_statement text.now ≡ false → result ≢ Err no_memory }
-        ensures front { IsFront out.old out.new × IsFront out.new (spec.line_behind out.old self.old text.now).0 }
+        ensures front { IsFront out.old out.new × IsFront out.new (spec.line_following out.old self.old text.now).0 }
         ensures fits { AreFit out.old → AreFit out.new }
         ensures refusal_again { OnErr self.old ((out.new ≡ out.old) × (self.new ≡ self.old)) }
     {
@@ -96,7 +96,7 @@ impl Assembler {
         ensures open { OnOk (spec.line_answer result) (spec.is_open self.new ≡ true) }
         ensures told { IfErr (spec.line_answer result) IsTold }
         ensures sparing { spec.is_open self.old ≡ true → holds_statement text.now ≡ false → spec.line_answer result ≢ Err no_memory }
-        ensures front { IsFront out.old out.new × IsFront out.new (spec.line_behind out.old self.old text.now).0 }
+        ensures front { IsFront out.old out.new × IsFront out.new (spec.line_following out.old self.old text.now).0 }
         ensures fits { AreFit out.old → AreFit out.new }
         ensures refusal_again { OnErr self.old ((out.new ≡ out.old) × (self.new ≡ self.old)) }
         ensures closed { IfErr self.old (λ refused. result ≡ Err refused) }
@@ -111,20 +111,20 @@ impl Assembler {
         tried
     }
 
-    /// Ends the source: adds the global registers to any list, where what stands stays, and gives the
+    /// Ends the source: adds the global registers to any list, which keeps what it has, and gives the
     /// symbol trie with the zeros that complete its last tetra. After a refusal every later call answers
     /// it again, and the items that were added are those of all statements, or of those before a faulty
     /// one. From `new` on, items, trie and refusal are those of two passes over all lines, and an object
     /// can be written from items and trie.
     #[tactic(auto, using(crate::proofs::Fitting::grown, crate::proofs::Fronts::fronts))]
     pub fn finish(&mut self, out: &mut Items) -> Result<Bytes, Refused>
-        ensures ended { result ≢ Err no_memory → (out.new, result) ≡ spec.end_behind out.old self.old }
+        ensures ended { result ≢ Err no_memory → (out.new, result) ≡ spec.end_following out.old self.old }
         ensures whole { OnTaken self.old (λ lines. result ≢ Err no_memory → result ≡ (assembled_lines lines).1) }
         ensures items { OnTaken self.old (λ lines. result ≢ Err no_memory → AddsEnd lines out.old out.new) }
         ensures refused { IfErr result (λ refused. self.new ≡ Err refused) }
         ensures told { IfErr result IsTold }
         ensures accepted { OnOk result (self.new ≡ map_ok spec.opened self.old) }
-        ensures front { IsFront out.old out.new × IsFront out.new (spec.end_behind out.old self.old).0 }
+        ensures front { IsFront out.old out.new × IsFront out.new (spec.end_following out.old self.old).0 }
         ensures fits { AreFit out.old → AreFit out.new }
         ensures object { OnTaken self.old
             (λ lines. AreFit (lines_items lines) → IfOk result (AreWritable (assembled_lines lines).0)) }
@@ -145,10 +145,10 @@ impl Assembler {
 
 /// Ends a source, after what is first in an object.
 fn end(assembly: &mut Assembly, out: &mut Items) -> Result<Bytes, Refused>
-    ensures ended { result ≢ Err no_memory → (out.new, result) ≡ spec.end_behind out.old (Ok assembly.old) }
+    ensures ended { result ≢ Err no_memory → (out.new, result) ≡ spec.end_following out.old (Ok assembly.old) }
     ensures opened { OnOk result (assembly.new ≡ spec.opened assembly.old) }
     ensures told { IfErr result IsTold }
-    ensures front { IsFront out.new (spec.end_behind out.old (Ok assembly.old)).0 }
+    ensures front { IsFront out.new (spec.end_following out.old (Ok assembly.old)).0 }
     ensures fits { GrowsFit out.old out.new }
     ensures trie { IfOk result IsPadded }
 {
@@ -165,11 +165,11 @@ fn take_line(
     text: &[u8],
 ) -> Result<Result<(), Refused>, Refused>
     ensures taken { let answer = spec.line_answer result in spec.TakesLine
-        answer out.old out.new (Ok assembly.old) (spec.standing_after answer assembly.new) text.now }
+        answer out.old out.new (Ok assembly.old) (spec.status_after answer assembly.new) text.now }
     ensures kept { IfOk result (λ answer. IfErr answer (λ refused. assembly.new ≡ spec.opened assembly.old)) }
     ensures sparing { assembly.old.opened ≡ true → holds_statement text.now ≡ false → spec.line_answer result ≢ Err no_memory }
     ensures told { IfErr (spec.line_answer result) IsTold }
-    ensures front { IsFront out.new (spec.line_behind out.old (Ok assembly.old) text.now).0 }
+    ensures front { IsFront out.new (spec.line_following out.old (Ok assembly.old) text.now).0 }
     ensures fits { GrowsFit out.old out.new }
 {
     assembly.open(out)?;

@@ -15,7 +15,7 @@ ghost use Rattle.mx_asm.specs.Fixes.{awaited_value};
 ghost use Rattle.mx_asm.specs.TwoPass.{with_effect};
 ghost use Rattle.mx_asm.specs.OnePass as spec;
 
-use crate::ending::{close, main_fault, make_padded_trie, undefined_fault};
+use crate::ending::{close, main_fault, make_padded_trie, make_undefined_fault};
 use crate::fixes::fix_items;
 use crate::head::Head;
 use crate::{AsmFault, Refused, labels};
@@ -32,8 +32,8 @@ const SOURCE_LIMIT: usize = 4_194_304;
 /// The most tetras of a symbol trie.
 const MOST_TETRAS: usize = 65_535;
 
-/// The names with the references that wait, the place `@`, the global registers, where the object
-/// stands, the greatest register that LOCAL named, and how much of the source there was.
+/// The names with the references that wait, the place `@`, the global registers, how far the
+/// object has come, the greatest register that LOCAL named, and how much of the source there was.
 #[derive(Drop)]
 pub(crate) struct Assembly {
     alloc: Global,
@@ -142,7 +142,7 @@ impl Assembly {
         ensures trie { IfOk result IsPadded }
     {
         if let Some(wait) = self.names.first_waiting() {
-            return Err(Refused::at(wait.line, undefined_fault(&wait.who)));
+            return Err(Refused::at(wait.line, make_undefined_fault(&wait.who)));
         }
         let last = self.lines.max(1);
         if let Some(fault) = main_fault(&self.names, self.gregs.lowest(), self.locals) {

@@ -18,7 +18,7 @@ use mx_word::{Awaited, Bytes, NoMemory, Value};
 use std::alloc::Global;
 
 /// The fault of a reference to what is never defined.
-pub(crate) fn undefined_fault(who: &Awaited) -> AsmFault
+pub(crate) fn make_undefined_fault(who: &Awaited) -> AsmFault
     ensures { result ≡ undefined who.now }
 {
     match who {

@@ -1,4 +1,4 @@
-//! The fix records of references whose label stands now.
+//! The fix records of references whose label is known now.
 
 ghost use Rattle.std.specs.Prelude.{◌≡◌, ◌≢◌, ◌+◌, ◌<◌, ◌≤◌, ◌^◌, Ok, Err, IfOk};
 ghost use Rattle.mx_mmo.specs.Valid.{Fits};

@@ -18,7 +18,7 @@ pub(crate) struct Head {
 }
 
 impl Head {
-    /// The head where the records of references to a value stand; there may be none.
+    /// The head where the records of references to a value are; there may be none.
     pub(crate) fn at_fixes(self, value: Value, waits: &[Wait]) -> Head
         ensures { result ≡ spec.head_at_fixes self value waits.now }
     {
@@ -42,7 +42,7 @@ impl Head {
         let end = start + bytes.len() as u64;
         Head {
             lambda: round_up(end),
-            line: line_behind(short_line(line), round_up(end) / 4 - start / 4),
+            line: line_number_after(short_line(line), round_up(end) / 4 - start / 4),
         }
     }
 
@@ -84,7 +84,7 @@ fn round_up(a: u64) -> u64
     (a + 3) / 4 * 4
 }
 
-/// The number that tells a line, or 0 where the line has no such number.
+/// The number that names a line, or 0 where the line has no such number.
 fn short_line(line: u32) -> u16
     ensures { result ≡ spec.told_line line }
 {
@@ -92,8 +92,8 @@ fn short_line(line: u32) -> u16
 }
 
 /// The line in force after this many tetras.
-fn line_behind(line: u16, tetras: u64) -> u32
-    ensures { result ≡ spec.line_behind line tetras }
+fn line_number_after(line: u16, tetras: u64) -> u32
+    ensures { result ≡ spec.line_number_after line tetras }
 {
     if line == 0 {
         return 0;

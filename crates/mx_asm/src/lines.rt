@@ -60,7 +60,7 @@ fn take_cut(
     line: u32,
 ) -> Result<(), Refused>
     requires { CutWithin (length text.now) cut.now }
-    ensures taken { result ≢ Err no_memory → (out.new, spec.standing_after result assembly.new) ≡
+    ensures taken { result ≢ Err no_memory → (out.new, spec.status_after result assembly.new) ≡
         spec.cut_taken line text.now cut.now out.old assembly.old }
     ensures front { IsFront out.new (spec.cut_taken line text.now cut.now out.old assembly.old).0 }
     ensures early { IfErr result (λ refused. is_early refused.fault ≡ true → assembly.new ≡ assembly.old) }
@@ -74,7 +74,7 @@ fn take_cut(
 
 /// What a line is line_answer that is refused at a place: nothing of it was taken where the fault is an
 /// early one of its first statement.
-fn refused_at(at: usize, refused: Refused) -> Result<Result<(), Refused>, Refused>
+fn refuse_at(at: usize, refused: Refused) -> Result<Result<(), Refused>, Refused>
     ensures answer { spec.line_answer result ≡ Err refused }
     ensures first { IfOk result (λ answer. (at ≡ 0) × (is_early refused.fault ≡ true)) }
 {
@@ -93,7 +93,7 @@ pub(crate) fn take_statements(
     text: &[u8],
     line: u32,
 ) -> Result<Result<(), Refused>, Refused>
-    ensures taken { spec.line_answer result ≢ Err no_memory → (out.new, spec.standing_after (spec.line_answer result) assembly.new) ≡
+    ensures taken { spec.line_answer result ≢ Err no_memory → (out.new, spec.status_after (spec.line_answer result) assembly.new) ≡
         spec.entries_taken (entries.line_entries line text.now) out.old assembly.old }
     ensures kept { IfOk result (λ answer. IfErr answer (λ refused. assembly.new ≡ assembly.old)) }
     ensures front { IsFront out.new (spec.entries_taken (entries.line_entries line text.now) out.old assembly.old).0 }
@@ -104,10 +104,10 @@ pub(crate) fn take_statements(
     'statements: loop {
         match next_statement(text, at) {
             Ok(None) => return Ok(Ok(())),
-            Err(fault) => return refused_at(at, Refused::at(line, AsmFault::Line(fault))),
+            Err(fault) => return refuse_at(at, Refused::at(line, AsmFault::Line(fault))),
             Ok(Some(cut)) => {
                 if let Err(refused) = take_cut(alloc, assembly, out, text, &cut, line) {
-                    return refused_at(at, refused);
+                    return refuse_at(at, refused);
                 }
                 at = cut.next;
             }

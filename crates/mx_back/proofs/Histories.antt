@@ -1,6 +1,5 @@
--- What notes stand for, and what calls of `back` come to.
+-- What notes represent, and what calls of `back` come to.
 use Rattle.std.proofs.Common.{◌≡◌, ℕ, zero, suc, ◌-◌, ◌≤◌, List, [], ◌∷◌, None, Some, length, take, drop, slice_get, arith, refl, sym, subst, ◌∙◌, ap}
-use Rattle.circular_buffer.specs.Buffer.{Buffer, buffer}
 use Rattle.std.proofs.lemmas.List.{length-drop}
 use Rattle.mx_core.specs.State.{State}
 use Rattle.mx_core.specs.Undoing.{StateWas, FitsState, TakesBack, state_undone}
@@ -45,38 +44,32 @@ unfolding states_before
 first-back [] n s e = absurd (cc)
 first-back (m ∷ notes) n s e = let same : m ≡ n = cc in ap (λ k. state_undone k s ∷ states_before notes (state_undone k s)) same
 
--- FOR THE CODE: the notes in their buffer
+-- FOR THE CODE: the notes that are kept, `inner`
 
-pub went-kept : (b d : Buffer StateWas) (n : StateWas) (notes : List StateWas) (s t : State) → b.items ≡ notes → b.capacity ≡ 1024 → d ≡ buffer (take b.capacity (n ∷ b.items)) b.capacity → TakesBack n t s →
-    states_before d.items t ≡ take 1024 (s ∷ states_before notes s)
-went-kept b d n notes s t e c f h =
-    ap (λ (x : Buffer StateWas). states_before x.items t) f ∙ ap (λ k. states_before (take k (n ∷ b.items)) t) c ∙ ap (λ ns. states_before (take 1024 (n ∷ ns)) t) e ∙ went_kept 1024 n notes s t h
+pub went-kept : (inner d : List StateWas) (n : StateWas) (notes : List StateWas) (s t : State) → inner ≡ notes → d ≡ take 1024 (n ∷ inner) → TakesBack n t s → states_before d t ≡ take 1024 (s ∷ states_before notes s)
+went-kept inner d n notes s t e f h = ap (λ ns. states_before ns t) f ∙ ap (λ ns. states_before (take 1024 (n ∷ ns)) t) e ∙ went_kept 1024 n notes s t h
 
-pub went-fits : (b d : Buffer StateWas) (n : StateWas) (notes : List StateWas) (s t : State) → b.items ≡ notes → b.capacity ≡ 1024 → d ≡ buffer (take b.capacity (n ∷ b.items)) b.capacity → TakesBack n t s → AreNotesOf notes s →
-    AreNotesOf d.items t
-went-fits b d n notes s t e c f h a =
-    subst (λ ns. AreNotesOf ns t) (sym (ap (λ (x : Buffer StateWas). x.items) f ∙ ap (λ k. take k (n ∷ b.items)) c ∙ ap (λ ns. take 1024 (n ∷ ns)) e)) (went_fits 1024 n notes s t h a)
+pub went-fits : (inner d : List StateWas) (n : StateWas) (notes : List StateWas) (s t : State) → inner ≡ notes → d ≡ take 1024 (n ∷ inner) → TakesBack n t s → AreNotesOf notes s → AreNotesOf d t
+went-fits inner d n notes s t e f h a = subst (λ ns. AreNotesOf ns t) (sym (f ∙ ap (λ ns. take 1024 (n ∷ ns)) e)) (went_fits 1024 n notes s t h a)
 
-pub popped-fits : (b : Buffer StateWas) (notes : List StateWas) (n : StateWas) (s : State) → b.items ≡ notes → Some n ≡ slice_get b.items 0 → AreNotesOf notes s → FitsState n s
-popped-fits b notes n s e f a = first-fits notes n s (f ∙ ap (λ ns. slice_get ns 0) e) a
+pub popped-fits : (inner notes : List StateWas) (n : StateWas) (s : State) → inner ≡ notes → Some n ≡ slice_get inner 0 → AreNotesOf notes s → FitsState n s
+popped-fits inner notes n s e f a = first-fits notes n s (f ∙ ap (λ ns. slice_get ns 0) e) a
 
-pub popped-back : (b d : Buffer StateWas) (notes : List StateWas) (n : StateWas) (s t : State) → b.items ≡ notes → Some n ≡ slice_get b.items 0 → d ≡ buffer (drop 1 b.items) b.capacity → t ≡ state_undone n s →
-    states_before notes s ≡ t ∷ states_before d.items t
-popped-back b d notes n s t e f g h =
+pub popped-back : (inner d notes : List StateWas) (n : StateWas) (s t : State) → inner ≡ notes → Some n ≡ slice_get inner 0 → d ≡ drop 1 inner → t ≡ state_undone n s → states_before notes s ≡ t ∷ states_before d t
+popped-back inner d notes n s t e f g h =
     first-back notes n s (f ∙ ap (λ ns. slice_get ns 0) e)
-    ∙ sym (ap (λ u. u ∷ states_before d.items u) h ∙ ap (λ (x : Buffer StateWas). state_undone n s ∷ states_before x.items (state_undone n s)) g ∙ ap (λ ns. state_undone n s ∷ states_before (drop 1 ns) (state_undone n s)) e)
+    ∙ sym (ap (λ u. u ∷ states_before d u) h ∙ ap (λ ns. state_undone n s ∷ states_before ns (state_undone n s)) (g ∙ ap (drop 1) e))
 
-pub popped-rest : (b d : Buffer StateWas) (notes : List StateWas) (n : StateWas) (s t : State) → b.items ≡ notes → Some n ≡ slice_get b.items 0 → d ≡ buffer (drop 1 b.items) b.capacity → t ≡ state_undone n s → AreNotesOf notes s →
-    AreNotesOf d.items t
-popped-rest b d notes n s t e f g h a =
-    subst (λ u. AreNotesOf d.items u) (sym h) (subst (λ ns. AreNotesOf ns (state_undone n s)) (sym (ap (λ (x : Buffer StateWas). x.items) g ∙ ap (drop 1) e)) (rest-fits notes n s (f ∙ ap (λ ns. slice_get ns 0) e) a))
+pub popped-rest : (inner d notes : List StateWas) (n : StateWas) (s t : State) → inner ≡ notes → Some n ≡ slice_get inner 0 → d ≡ drop 1 inner → t ≡ state_undone n s → AreNotesOf notes s → AreNotesOf d t
+popped-rest inner d notes n s t e f g h a =
+    subst (λ u. AreNotesOf d u) (sym h) (subst (λ ns. AreNotesOf ns (state_undone n s)) (sym (g ∙ ap (drop 1) e)) (rest-fits notes n s (f ∙ ap (λ ns. slice_get ns 0) e) a))
 
 none-left : (notes : List StateWas) → None ≡ slice_get notes 0 → drop 1 notes ≡ notes
 none-left [] e = refl
 none-left (n ∷ notes) e = absurd (cc)
 
-pub none-popped : (b d : Buffer StateWas) (notes : List StateWas) → b.items ≡ notes → None ≡ slice_get b.items 0 → d ≡ buffer (drop 1 b.items) b.capacity → d.items ≡ notes
-none-popped b d notes e f g = ap (λ (x : Buffer StateWas). x.items) g ∙ none-left b.items f ∙ e
+pub none-popped : (inner d notes : List StateWas) → inner ≡ notes → None ≡ slice_get inner 0 → d ≡ drop 1 inner → d ≡ notes
+none-popped inner d notes e f g = g ∙ none-left inner f ∙ e
 
 -- CALLS OF BACK
 

@@ -1,7 +1,8 @@
 -- A run whose last steps are kept, step by step.
 use Rattle.std.proofs.Common.{◌≡◌, ◌≢◌, ◌<◌, ◌≤◌, ◌+◌, ◌-◌, ℕ, zero, suc, Bool, true, false, List, [], Ok, Err, inl, inr, arith, refl, sym, subst, ◌∙◌, ap}
-use Rattle.std.specs.Prelude.{Result, ◌⊎◌}
-use Rattle.mx_host.specs.HostModel.{HostModel}
+use Rattle.std.specs.Prelude.{Option, Result, ◌⊎◌}
+use Rattle.mx_host.specs.HostModel.{HostModel, contents}
+use Rattle.mx_host.proofs.Keeping.{keeps-all}
 use Rattle.mx_plan.specs.Plan.{Comes, Stops}
 use Rattle.mx_alu.specs.declared.call.TrapCall.{TrapCall}
 use Rattle.mx_code.specs.Reasons.{number_of}
@@ -30,7 +31,7 @@ use Rattle.mx_run.proofs.PlanEnds.{left-after, run_step, turn_ended, step-end, s
 use Rattle.mx_run.proofs.Runners.{turn-told}
 use Rattle.mx_run.proofs.TurnAnswers.{call-told, went-comes, stopped-comes, called-comes}
 use Rattle.mx_back.specs.History.{AreNotesOf, Turned, stepped, kept_turn, states_kept, states_before}
-use Rattle.mx_back.specs.KeptRuns.{ComesStep, CallsTrap, LeavesLacking, FrontKept, ended_at, notes_left, kind_by, trap_kind, turn_kind, kind_at, turns_after, turns_of}
+use Rattle.mx_back.specs.KeptRuns.{ComesStep, CallsTrap, LeavesLacking, FrontKept, TakesKeptStepBetween, TakesUsualStep, ended_at, notes_left, kind_by, trap_kind, turn_kind, kind_at, turns_after, turns_of}
 
 -- ---- one step
 
@@ -148,6 +149,21 @@ usual-later s t e = went-trace (IsLater 1 s t) s t (step s) e (λ trace f. stepp
 
 pub usual-keeps : (s t : State) (m : HostModel) (now kept : List State) → (advance.Went, t) ≡ advanced s (step s) → now ≡ kept_turn stepped s kept → now ≡ kept_turn (kind_at s m) s kept
 usual-keeps s t m now kept e h = went-trace (now ≡ kept_turn (kind_at s m) s kept) s t (step s) e (λ trace f. went-keeps s t m trace now kept f h)
+
+pub usual-taken : (told : Option HostModel) (faults : ℕ) (s t : State) (earlier later : List StateWas) → TakesUsualStep s t earlier later → TakesKeptStepBetween told told faults faults s t earlier later (Ok tt)
+usual-taken told faults s t earlier later e = record {
+  told = λ h. usual-step s t (contents told) e.made;
+  over = e.over;
+  bound = usual-later s t e.made;
+  keeps = keeps-all told faults;
+  fits = e.fits;
+  kept = λ h ne. usual-keeps s t (contents told) _ _ e.made e.kept;
+  lacking = λ h o. absurd (cc);
+}
+
+-- a step after one that was not made
+pub same-step : (old new : Option HostModel) (f g : ℕ) (s u t : State) (earlier notes later : List StateWas) (r : Result (Unit {0}) End) → u ≡ s → notes ≡ earlier → TakesKeptStepBetween old new f g u t notes later r → TakesKeptStepBetween old new f g s t earlier later r
+same-step old new f g s u t earlier notes later r e h k = subst (λ x. TakesKeptStepBetween old new f g x t earlier later r) e (subst (λ ns. TakesKeptStepBetween old new f g u t ns later r) h k)
 
 -- ---- where memory was lacking
 

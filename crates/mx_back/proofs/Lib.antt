@@ -1,3 +1,4 @@
+pub mod NoteLists
 pub mod Histories
 pub mod Rows
 pub mod KeptSteps

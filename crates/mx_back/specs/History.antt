@@ -1,5 +1,6 @@
--- The states before the last steps, the newest first: those that notes stand for, and those that a run keeps.
+-- The states before the last steps, the newest first: those that notes represent, and those that a run keeps.
 use Rattle.std.specs.Prelude.{ℕ, ◌≡◌, suc, List, [], ◌∷◌, take}
+use Rattle.mx_core.specs.Kept.{Kept, state_of}
 use Rattle.mx_core.specs.State.{State}
 use Rattle.mx_core.specs.Undoing.{StateWas, FitsState, state_undone}
 use Rattle.mx_core.specs.declared.step.Step.{Step}
@@ -12,11 +13,15 @@ fault_number NothingKept = 140
 
 -- NOTES
 
--- the states that notes stand for, given the state after the last step: each note is taken back from the state that the
+-- the states that notes represent, given the state after the last step: each note is taken back from the state that the
 -- one before it in the list gives
 unfoldable pub states_before : List StateWas → State → List State
 states_before [] s = []
 states_before (n ∷ notes) s = state_undone n s ∷ states_before notes (state_undone n s)
+
+-- the same, given the machine
+abbrev pub states_noted : List StateWas → Kept → List State
+states_noted notes m = states_before notes (state_of m)
 
 -- the notes fit the machine: the newest fits its state, and each older one the state that the next newer one gives
 unfoldable pub AreNotesOf : List StateWas → State → Type 0

@@ -13,7 +13,7 @@ use Rattle.mx_run.specs.declared.end.End.TheVariants as end
 use Rattle.mx_back.specs.History.{states_kept, states_before}
 use Rattle.mx_back.specs.KeptRuns.{turns_of}
 
--- states with the lists that their register stacks stand for
+-- states with the lists that their register stacks represent
 abbrev pub as_lists : List State → List State
 as_lists states = map as_list_state states
 
@@ -24,18 +24,18 @@ IsUntouched s = s.touched ≡ false
 abbrev pub AreUntouched : List State → Type 0
 AreUntouched = AllByRecursion IsUntouched
 
--- the states that the list machine keeps after earlier ones in at most n steps from the list that a state stands for
+-- the states that the list machine keeps after earlier ones in at most n steps from the list that a state represents
 abbrev pub list_kept : Option HostModel → State → ℕ → List State → List State
 list_kept old before n earlier = states_kept (turns_of n (as_list_state before) (contents old)) (as_lists earlier)
 
--- states beside those that the list machine keeps, where its run ends and so meets nothing wild: they stand for these, and
+-- states beside those that the list machine keeps, where its run ends and so meets nothing wild: they represent these, and
 -- nothing was touched
 abbrev pub AreBeside : Course End RunWorld → List State → List State → Type 0
 AreBeside (ends end w) states kept = (as_lists states ≡ kept) × AreUntouched states
 AreBeside (meets_wild w) states kept = Unit {0}
 
 -- over a host that tells its contents, unless there was no memory, and where nothing was touched in the state before and in the
--- earlier ones, the states that the notes stand for are beside those that the list machine keeps
+-- earlier ones, the states that the notes represent are beside those that the list machine keeps
 abbrev pub KeepsAsList : Option HostModel → State → State → ℕ → End → List StateWas → List StateWas → Type 0
 KeepsAsList old before after n result earlier later =
     IsTrue (tells old) → result ≢ end.OutOfMemory → before.touched ≡ false → AreUntouched (states_before earlier before) →

@@ -4,9 +4,12 @@ use Rattle.std.specs.Prelude.{ℕ, ◌≡◌, ◌≢◌, ◌<◌, ◌⊎◌, IsT
 use Rattle.mx_host.specs.HostModel.{HostModel, tells, contents}
 use Rattle.mx_host.specs.Keeping.{Keeps}
 use Rattle.mx_plan.specs.Plan.{Stops, end_of}
+use Rattle.mx_core.specs.Kept.{Kept, state_of}
 use Rattle.mx_core.specs.State.{State}
 use Rattle.mx_core.specs.Step.{Stepped, went, calls, stopped, step}
 use Rattle.mx_core.specs.Undoing.{StateWas}
+use Rattle.mx_core.specs.Way.Stepping.{advanced}
+use Rattle.mx_core.specs.declared.step.Advance.TheVariants as advance
 use Rattle.mx_run.specs.RunPlans.{RunWorld, running, step_plan, turn_plan}
 use Rattle.mx_run.specs.Runs.{IsLater, no_flags, run}
 use Rattle.mx_run.specs.Runs as run_end
@@ -16,7 +19,7 @@ use Rattle.mx_run.specs.declared.end.End.{End}
 use Rattle.mx_run.specs.declared.end.End.TheVariants as end
 use Rattle.mx_run.specs.declared.turn_answer.TurnAnswer.{TurnAnswer}
 use Rattle.mx_run.specs.declared.turn_answer.TurnAnswer.TheVariants as answer
-use Rattle.mx_back.specs.History.{AreNotesOf, Turned, stepped, trapped, ended, kept_turn, states_kept, states_before}
+use Rattle.mx_back.specs.History.{AreNotesOf, Turned, stepped, trapped, ended, kept_turn, kept_with, states_kept, states_before}
 
 -- ---- what is kept
 
@@ -46,7 +49,7 @@ unfoldable pub turns_of : ℕ → State → HostModel → List (Turned × State)
 turns_of zero s m = []
 turns_of (suc n) s m = (kind_at s m, s) ∷ turns_after (turns_of n) (turn s m)
 
--- over a host that tells its contents, unless there was no memory, the states that the notes stand for are those that the run
+-- over a host that tells its contents, unless there was no memory, the states that the notes represent are those that the run
 -- of at most n steps keeps
 abbrev pub KeepsRun : Option HostModel → State → State → ℕ → End → List StateWas → List StateWas → Type 0
 KeepsRun old before after n result earlier later =
@@ -74,7 +77,7 @@ pub record FrontKept (n : ℕ) (start now : RunWorld) (earlier kept : List State
   pub turns : run made no_flags false start.0 start.1 ≡ run_end.ended end.Spent reached.0 reached.1
   pub left : LeavesLacking reached now (states_kept (turns_of made start.0 start.1) earlier) kept
 
--- the same holds over a host that tells its contents, of the states that the notes stand for
+-- the same holds over a host that tells its contents, of the states that the notes represent
 abbrev pub KeepsFront : Option HostModel → Option HostModel → State → State → ℕ → End → List StateWas → List StateWas → Type 0
 KeepsFront old new before after n result earlier later =
     IsTrue (tells old) → result ≡ end.OutOfMemory →
@@ -102,8 +105,8 @@ abbrev pub StepsKept : Option HostModel → Option HostModel → State → State
 StepsKept old new before after result = IsTrue (tells old) → ComesStep (before, contents old) (after, contents new) result
 
 -- what holds of it over every host: its answer, from a state over a window; one step at most; what the host keeps at every call;
--- and the notes, which fit the state and stand for what the turn keeps
-pub record TakesKeptStep (old new : Option HostModel) (faults_before faults_after : ℕ) (before after : State) (earlier later : List StateWas) (result : Result (Unit {0}) End) : Type 0 where
+-- and the notes, which fit the state and represent what the turn keeps
+pub record TakesKeptStepBetween (old new : Option HostModel) (faults_before faults_after : ℕ) (before after : State) (earlier later : List StateWas) (result : Result (Unit {0}) End) : Type 0 where
   pub told : StepsKept old new before after result
   pub over : HasWindow before
   pub bound : IsLater 1 before after
@@ -111,6 +114,18 @@ pub record TakesKeptStep (old new : Option HostModel) (faults_before faults_afte
   pub fits : AreNotesOf later after
   pub kept : KeepsTurn old before after result earlier later
   pub lacking : KeepsLacking old new before after result earlier later
+
+-- the same of a host and a machine: `told` is what the host tells, `faults` its count of faults
+abbrev pub TakesKeptStep : {H : Type 0} → (H → Option HostModel) → (H → ℕ) → H → H → Kept → Kept → List StateWas → List StateWas → Result (Unit {0}) End → Type 0
+TakesKeptStep told faults old new before after earlier later result =
+    TakesKeptStepBetween (told old) (told new) (faults old) (faults new) (state_of before) (state_of after) earlier later result
+
+-- what a usual step comes to, over any host, which it leaves as it is: it is made from a state over a window, which is kept
+pub record TakesUsualStep (before after : State) (earlier later : List StateWas) : Type 0 where
+  pub over : HasWindow before
+  pub made : (advance.Went, after) ≡ advanced before (step before)
+  pub kept : states_before later after ≡ kept_with before (states_before earlier before)
+  pub fits : AreNotesOf later after
 
 -- whether the run goes on after a turn from an address, or its end
 abbrev pub ended_at : ℕ → TurnAnswer → Result (Unit {0}) End

@@ -1,3 +1,4 @@
 pub mod History
+pub mod NoteLists
 pub mod KeptRuns
 pub mod KeptLists

@@ -2,38 +2,33 @@
 
 ghost use Rattle.std.specs.Prelude.{◌≡◌, ◌≢◌, ◌↔◌, ◌≤◌, ◌∷◌, [], false, Err, IfOk, IsTrue, OnErr, OnOk, length};
 ghost use Rattle.mx_back.specs.History as spec;
-ghost use Rattle.mx_back.specs.History.{AreNotesOf, KeepsNotes, states_before};
+ghost use Rattle.mx_back.specs.History.{AreNotesOf, KeepsNotes, kept_after, states_before, states_noted};
 ghost use Rattle.mx_core.specs.Kept.{state_of};
 ghost use Rattle.mx_core.specs.State.{State};
 ghost use Rattle.mx_core.specs.Step.{step};
-ghost use Rattle.mx_core.specs.Way.Stepping.{advanced, step_answer};
+ghost use Rattle.mx_core.specs.Way.Stepping.{HasStepped, advanced};
 
 use crate::BackFault;
-use circular_buffer::HeapCircularBuffer;
-use mx_core::{Advance, Machine, Note, Noted, Step};
+use crate::notes::Notes;
+use mx_core::{Advance, Machine, Noted, Step};
 use mx_word::NoMemory;
 use std::alloc::Global;
 use std::marker::Model;
 
-/// How many steps are kept at most.
-const MOST: usize = 1024;
-
-/// The notes of the last steps, at most 1,024 of them, the newest first. With the state of the machine they stand for
+/// The notes of the last steps, at most 1,024 of them, the newest first. With the state of the machine they represent
 /// the states before these steps.
 #[derive(Drop)]
 pub struct Back {
-    notes: HeapCircularBuffer<Note>,
+    notes: Notes,
 }
 
 impl Model for Back {
-    ghost use Rattle.std.specs.Prelude.{List, ◌≡◌};
+    ghost use Rattle.std.specs.Prelude.{List};
     ghost use Rattle.mx_core.specs.Undoing.{StateWas};
 
     ghost Value = { List StateWas };
 
-    ghost view = { λ b. b.notes.items };
-
-    ghost invariant = { λ b. b.notes.capacity ≡ 1024 };
+    ghost view = { λ b. b.notes };
 }
 
 impl Back {
@@ -45,7 +40,7 @@ impl Back {
         ensures none { IfOk result (λ b. b ≡ []) }
         ensures fits { IfOk result (λ b. (s : State) → AreNotesOf b s) }
     {
-        match HeapCircularBuffer::with_capacity(alloc, MOST) {
+        match Notes::new(alloc) {
             Ok(notes) => Ok(Back { notes }),
             Err(_) => Err(NoMemory),
         }
@@ -63,17 +58,15 @@ impl Back {
     /// goes where 1,024 were kept. It may take memory for the note.
     pub fn step(&mut self, m: &mut Machine) -> Step
         requires { AreNotesOf self.old (state_of m.old) }
-        ensures answer { result ≢ Step.OutOfMemory →
-            (result, state_of m.new) ≡ step_answer (state_of m.old) (step (state_of m.old)) }
+        ensures answer { HasStepped result m.old m.new }
         ensures memory { result ≡ Step.OutOfMemory → state_of m.new ≡ state_of m.old }
-        ensures kept { states_before self.new (state_of m.new)
-            ≡ spec.kept_after result (state_of m.old) (states_before self.old (state_of m.old)) }
+        ensures kept { states_noted self.new m.new ≡ kept_after result (state_of m.old) (states_noted self.old m.old) }
         ensures same { KeepsNotes result self.old self.new }
         ensures fits { AreNotesOf self.new (state_of m.new) }
     {
         match m.step_noted() {
             Noted::Went(trace, note) => {
-                self.notes.push_front(note);
+                self.notes.push(note);
                 Step::Went(trace)
             }
             Noted::Trap(call) => Step::Trap(call),
@@ -83,20 +76,20 @@ impl Back {
     }
 
     /// One step of the machine, where its instruction is a usual one, as the machine's `advance_noted` makes it. Whether it
-    /// was made: then the state before it is kept as by `step`, and else nothing changed. It takes no memory.
+    /// was made: then the state before it is kept as by `step`, and else nothing changed. It takes memory for the note of a
+    /// call or a return alone.
     pub fn step_if_usual(&mut self, m: &mut Machine) -> bool
         requires { AreNotesOf self.old (state_of m.old) }
         ensures made { IsTrue result →
             (Advance.Went, state_of m.new) ≡ advanced (state_of m.old) (step (state_of m.old)) }
-        ensures kept { IsTrue result → states_before self.new (state_of m.new)
-            ≡ spec.kept_with (state_of m.old) (states_before self.old (state_of m.old)) }
+        ensures kept { IsTrue result → states_noted self.new m.new ≡ spec.kept_with (state_of m.old) (states_noted self.old m.old) }
         ensures unmade { result ≡ false → state_of m.new ≡ state_of m.old }
         ensures same { result ≡ false → self.new ≡ self.old }
         ensures fits { AreNotesOf self.new (state_of m.new) }
     {
         match m.advance_noted() {
             Some(note) => {
-                self.notes.push_front(note);
+                self.notes.push(note);
                 true
             }
             None => false,
@@ -125,7 +118,7 @@ impl Back {
         ensures same { OnErr result (self.new ≡ self.old) }
         ensures fits { AreNotesOf self.new (state_of m.new) }
     {
-        let Some(note) = self.notes.pop_front() else {
+        let Some(note) = self.notes.pop() else {
             return Err(BackFault::NothingKept);
         };
         m.undo(note);

@@ -4,6 +4,7 @@
 mod back;
 mod fault;
 mod laws;
+mod notes;
 mod running;
 mod trapping;
 

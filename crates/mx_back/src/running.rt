@@ -1,6 +1,6 @@
 //! A run of the machine over a host whose last steps are kept.
 
-ghost use Rattle.std.specs.Prelude.{◌≡◌, false};
+ghost use Rattle.std.specs.Prelude.{◌≡◌, false, IsTrue};
 ghost use Rattle.mx_core.specs.Kept.{state_of};
 ghost use Rattle.mx_run.specs.AccompaniedRuns.{CarriesOutAccompanied};
 ghost use Rattle.mx_run.specs.Clauses.{IsRun};
@@ -8,7 +8,7 @@ ghost use Rattle.mx_run.specs.Runs.{no_flags};
 ghost use Rattle.mx_back.specs.History.{AreNotesOf};
 ghost use Rattle.mx_back.specs.KeptLists.{KeepsAsList};
 ghost use Rattle.mx_back.specs.KeptRuns as spec;
-ghost use Rattle.mx_back.specs.KeptRuns.{KeepsFront, KeepsRun, TakesKeptStep};
+ghost use Rattle.mx_back.specs.KeptRuns.{KeepsFront, KeepsRun, TakesKeptStep, TakesUsualStep};
 
 use crate::Back;
 use crate::trapping::trap_kept;
@@ -34,10 +34,8 @@ pub fn run_kept<H: Host>(
     back: &mut Back,
 ) -> End
     requires { AreNotesOf back.old (state_of machine.old) }
-    ensures plan { CarriesOutAccompanied (H.told host.old) (H.told host.new) (state_of machine.old) (state_of machine.new)
-        n result }
-    ensures run { IsRun (H.told host.old) (H.told host.new) (H.faults host.old) (H.faults host.new) (state_of machine.old)
-        (state_of machine.new) n no_flags false result }
+    ensures plan { CarriesOutAccompanied H.told host.old host.new machine.old machine.new n result }
+    ensures run { IsRun H.told H.faults host.old host.new machine.old machine.new n no_flags false result }
     ensures fits { AreNotesOf back.new (state_of machine.new) }
     ensures kept { KeepsRun (H.told host.old) (state_of machine.old) (state_of machine.new) n result back.old back.new }
     ensures front { KeepsFront (H.told host.old) (H.told host.new) (state_of machine.old) (state_of machine.new) n result
@@ -46,7 +44,10 @@ pub fn run_kept<H: Host>(
         back.new }
 {
     for _made in 0..n {
-        match keep_step(alloc, machine, host, back) {
+        if keep_if_usual(machine, back) {
+            continue;
+        }
+        match keep_any_step(alloc, machine, host, back) {
             Ok(()) => {}
             Err(end) => return end,
         }
@@ -54,25 +55,20 @@ pub fn run_kept<H: Host>(
     End::Spent
 }
 
-/// A step of such a run, or its end. Most are usual ones.
-#[tactic(auto, using(mx_run::proofs::Areas::windows))]
-fn keep_step<H: Host>(
-    alloc: Global,
-    machine: &mut Machine,
-    host: &mut H,
-    back: &mut Back,
-) -> Result<(), End>
+/// A usual step of such a run. Whether it was made: then the state before it is kept, and else nothing changed. Most steps
+/// are usual ones.
+#[inline(always)]
+fn keep_if_usual(machine: &mut Machine, back: &mut Back) -> bool
     requires { AreNotesOf back.old (state_of machine.old) }
-    ensures { TakesKeptStep (H.told host.old) (H.told host.new) (H.faults host.old) (H.faults host.new)
-        (state_of machine.old) (state_of machine.new) back.old back.new result }
+    ensures made { IsTrue result
+        → TakesUsualStep (state_of machine.old) (state_of machine.new) back.old back.new }
+    ensures unmade { result ≡ false → state_of machine.new ≡ state_of machine.old }
+    ensures same { result ≡ false → back.new ≡ back.old }
+    ensures fits { AreNotesOf back.new (state_of machine.new) }
 {
     machines_keep_the_invariant(machine);
     machines_are_whole(machine);
-    if back.step_if_usual(machine) {
-        Ok(())
-    } else {
-        keep_any_step(alloc, machine, host, back)
-    }
+    back.step_if_usual(machine)
 }
 
 /// A step of any kind in such a run, or a file trap, or its end.
@@ -85,8 +81,7 @@ fn keep_any_step<H: Host>(
     back: &mut Back,
 ) -> Result<(), End>
     requires { AreNotesOf back.old (state_of machine.old) }
-    ensures { TakesKeptStep (H.told host.old) (H.told host.new) (H.faults host.old) (H.faults host.new)
-        (state_of machine.old) (state_of machine.new) back.old back.new result }
+    ensures { TakesKeptStep H.told H.faults host.old host.new machine.old machine.new back.old back.new result }
 {
     machines_keep_the_invariant(machine);
     machines_are_whole(machine);

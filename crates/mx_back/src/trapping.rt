@@ -1,7 +1,7 @@
 //! A file trap in a run whose last steps are kept.
 
 ghost use Rattle.std.specs.Prelude.{◌≡◌};
-ghost use Rattle.mx_plan.specs.Clauses.{Stands};
+ghost use Rattle.mx_plan.specs.Clauses.{KeepsHost};
 ghost use Rattle.mx_core.specs.Kept.{state_of};
 ghost use Rattle.mx_core.specs.Step.{calls, step};
 ghost use Rattle.mx_run.specs.Clauses.{CarriesOutRun};
@@ -31,13 +31,13 @@ pub(crate) fn trap_kept<H: Host>(
 ) -> TurnAnswer
     requires called { step (state_of machine.old) ≡ calls call.now }
     requires noted { AreNotesOf back.old (state_of machine.old) }
-    ensures told { CarriesOutRun (H.told host.old) (H.told host.new) (state_of machine.old) (state_of machine.new)
-        TurnAnswer.OutOfMemory result turn_plan }
+    ensures told { CarriesOutRun H.told host.old host.new machine.old machine.new TurnAnswer.OutOfMemory result
+        turn_plan }
     ensures fits { AreNotesOf back.new (state_of machine.new) }
     ensures kept { states_before back.new (state_of machine.new)
         ≡ kept_turn (spec.trap_kind result) (state_of machine.old) (states_before back.old (state_of machine.old)) }
     ensures bound { IsLater 1 (state_of machine.old) (state_of machine.new) }
-    ensures stands { Stands (H.told host.old) (H.told host.new) (H.faults host.old) (H.faults host.new) }
+    ensures keeps { KeepsHost (H.told host.old) (H.told host.new) (H.faults host.old) (H.faults host.new) }
 {
     let answer = trap_turn(alloc, machine, host, call);
     forget_where(back, may_change(&answer));

@@ -3,7 +3,7 @@ use Rattle.std.proofs.Common.{◌≡◌, ◌≢◌, ℕ, List, Ok, Err, refl, �
 use Rattle.std.specs.Prelude.{Option, Result}
 use Rattle.mx_host.specs.HostModel.{HostModel, tells}
 use Rattle.mx_plan.specs.Calls.{host, need}
-use Rattle.mx_plan.specs.Clauses.{CarriesOut}
+use Rattle.mx_plan.specs.Clauses.{CarriesOutOnHost}
 use Rattle.mx_plan.specs.Plan.{bind, end_of, end_after}
 use Rattle.mx_plan.proofs.Plans.{end_bind}
 use Rattle.mx_mmo.specs.Image.{Image}
@@ -22,36 +22,36 @@ use Rattle.mx_begin.proofs.Parts.{part-lacks, part-taking, part-made, part-then,
 -- ---- an image
 
 pub image-carried : (a b : Option HostModel) (form : Form) (name : Word) (bytes text : List ℕ) (most : ℕ) (r : Result Image Outcome) → most ≡ most_pieces form → tells b ≡ tells a → text ≡ bytes → (r ≢ Err OutOfMemory → r ≡ image_in form text) →
-    CarriesOut a b (Err OutOfMemory) (Ok bytes) (file_plan most name) → CarriesOut a b (Err OutOfMemory) r (image_file_plan form name)
+    CarriesOutOnHost a b (Err OutOfMemory) (Ok bytes) (file_plan most name) → CarriesOutOnHost a b (Err OutOfMemory) r (image_file_plan form name)
 unfolding image_file_plan image_plan
 image-carried a b form name bytes text most r m e same is h =
-    part-then a b b bytes r (image_plan form) (file_plan (most_pieces form) name) e (subst (λ (n : ℕ). CarriesOut a b (Err OutOfMemory) (Ok bytes) (file_plan n name)) m h)
+    part-then a b b bytes r (image_plan form) (file_plan (most_pieces form) name) e (subst (λ (n : ℕ). CarriesOutOnHost a b (Err OutOfMemory) (Ok bytes) (file_plan n name)) m h)
     (part-made b r (image_in form bytes) (λ ne. is ne ∙ ap (image_in form) same))
 
-pub image-uncarried : (a b : Option HostModel) (form : Form) (name : Word) (most : ℕ) (outcome : Outcome) → most ≡ most_pieces form → CarriesOut a b (Err OutOfMemory) (Err outcome) (file_plan most name) →
-    CarriesOut a b (Err OutOfMemory) (Err outcome) (image_file_plan form name)
+pub image-uncarried : (a b : Option HostModel) (form : Form) (name : Word) (most : ℕ) (outcome : Outcome) → most ≡ most_pieces form → CarriesOutOnHost a b (Err OutOfMemory) (Err outcome) (file_plan most name) →
+    CarriesOutOnHost a b (Err OutOfMemory) (Err outcome) (image_file_plan form name)
 unfolding image_file_plan
 image-uncarried a b form name most outcome m h =
-    part-ends a b outcome (image_plan form) (file_plan (most_pieces form) name) (subst (λ (n : ℕ). CarriesOut a b (Err OutOfMemory) (Err outcome) (file_plan n name)) m h)
+    part-ends a b outcome (image_plan form) (file_plan (most_pieces form) name) (subst (λ (n : ℕ). CarriesOutOnHost a b (Err OutOfMemory) (Err outcome) (file_plan n name)) m h)
 
 -- ---- a machine
 
 pub begun-carried : (a b : Option HostModel) (kind : MachineKind) (words : List Word) (o : Order) (form : Form) (name : Word) (args : List Word) (image : Image) (r : Result State Outcome) → name ≡ word_at words o.file → args ≡ arguments words o → tells b ≡ tells a →
-    (r ≢ Err OutOfMemory → r ≡ started kind o.ring image args) → CarriesOut a b (Err OutOfMemory) (Ok image) (image_file_plan form name) → CarriesOut a b (Err OutOfMemory) r (begin_plan kind words o form)
+    (r ≢ Err OutOfMemory → r ≡ started kind o.ring image args) → CarriesOutOnHost a b (Err OutOfMemory) (Ok image) (image_file_plan form name) → CarriesOutOnHost a b (Err OutOfMemory) r (begin_plan kind words o form)
 unfolding begin_plan start_plan
 begun-carried a b kind words o form name args image r named all e is h =
     part-taking a b r (bind (on_ok (start_plan kind o.ring (arguments words o))) (image_file_plan form (word_at words o.file)))
-    (part-then a b b image r (start_plan kind o.ring (arguments words o)) (image_file_plan form (word_at words o.file)) e (subst (λ (n : Word). CarriesOut a b (Err OutOfMemory) (Ok image) (image_file_plan form n)) named h)
+    (part-then a b b image r (start_plan kind o.ring (arguments words o)) (image_file_plan form (word_at words o.file)) e (subst (λ (n : Word). CarriesOutOnHost a b (Err OutOfMemory) (Ok image) (image_file_plan form n)) named h)
     (part-made b r (started kind o.ring image (arguments words o)) (λ ne. is ne ∙ ap (started kind o.ring image) all)))
 
-pub begun-uncarried : (a b : Option HostModel) (kind : MachineKind) (words : List Word) (o : Order) (form : Form) (name : Word) (outcome : Outcome) → name ≡ word_at words o.file → CarriesOut a b (Err OutOfMemory) (Err outcome) (image_file_plan form name) →
-    CarriesOut a b (Err OutOfMemory) (Err outcome) (begin_plan kind words o form)
+pub begun-uncarried : (a b : Option HostModel) (kind : MachineKind) (words : List Word) (o : Order) (form : Form) (name : Word) (outcome : Outcome) → name ≡ word_at words o.file → CarriesOutOnHost a b (Err OutOfMemory) (Err outcome) (image_file_plan form name) →
+    CarriesOutOnHost a b (Err OutOfMemory) (Err outcome) (begin_plan kind words o form)
 unfolding begin_plan
 begun-uncarried a b kind words o form name outcome named h =
     part-taking a b (Err outcome) (bind (on_ok (start_plan kind o.ring (arguments words o))) (image_file_plan form (word_at words o.file)))
-    (part-ends a b outcome (start_plan kind o.ring (arguments words o)) (image_file_plan form (word_at words o.file)) (subst (λ (n : Word). CarriesOut a b (Err OutOfMemory) (Err outcome) (image_file_plan form n)) named h))
+    (part-ends a b outcome (start_plan kind o.ring (arguments words o)) (image_file_plan form (word_at words o.file)) (subst (λ (n : Word). CarriesOutOnHost a b (Err OutOfMemory) (Err outcome) (image_file_plan form n)) named h))
 
-pub begun-lacks : (a : Option HostModel) (kind : MachineKind) (words : List Word) (o : Order) (form : Form) → CarriesOut a a (Err OutOfMemory) (Err OutOfMemory) (begin_plan kind words o form)
+pub begun-lacks : (a : Option HostModel) (kind : MachineKind) (words : List Word) (o : Order) (form : Form) → CarriesOutOnHost a a (Err OutOfMemory) (Err OutOfMemory) (begin_plan kind words o form)
 unfolding begin_plan
 begun-lacks a kind words o form = part-lacks a (bind (on_ok (start_plan kind o.ring (arguments words o))) (image_file_plan form (word_at words o.file)))
 

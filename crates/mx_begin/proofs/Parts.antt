@@ -3,7 +3,7 @@ use Rattle.std.proofs.Common.{IsTrue, ◌≡◌, ◌≢◌, inl, inr, Ok, Err, r
 use Rattle.std.specs.Prelude.{Option, Result}
 use Rattle.mx_host.specs.HostModel.{HostModel, tells, contents}
 use Rattle.mx_plan.specs.Calls.{host, need}
-use Rattle.mx_plan.specs.Clauses.{CarriesOut}
+use Rattle.mx_plan.specs.Clauses.{CarriesOutOnHost}
 use Rattle.mx_plan.specs.Plan.{returns, bind, end_of, end_after, Stops, StopsAfter}
 use Rattle.mx_plan.proofs.Plans.{end_bind, end_returns, stops_first, stops_after}
 use Rattle.mx_files.specs.FilePlans.{Part, on_ok}
@@ -13,16 +13,16 @@ use Rattle.mx_begin.specs.BeginPlans.{taking}
 
 -- ---- memory that is taken
 
-pub part-lacks : {A : Type 0} (a : Option HostModel) (p : Part A) → CarriesOut a a (Err OutOfMemory) (Err OutOfMemory) (taking p)
+pub part-lacks : {A : Type 0} (a : Option HostModel) (p : Part A) → CarriesOutOnHost a a (Err OutOfMemory) (Err OutOfMemory) (taking p)
 unfolding bind need Stops host
 part-lacks a p = λ t. record { ending = λ ne. absurd (ne refl); stopping = λ e. inl refl }
 
-pub part-taking : {A : Type 0} (a b : Option HostModel) (r : Result A Outcome) (p : Part A) → CarriesOut a b (Err OutOfMemory) r p → CarriesOut a b (Err OutOfMemory) r (taking p)
+pub part-taking : {A : Type 0} (a b : Option HostModel) (r : Result A Outcome) (p : Part A) → CarriesOutOnHost a b (Err OutOfMemory) r p → CarriesOutOnHost a b (Err OutOfMemory) r (taking p)
 unfolding bind need Stops end_of host
 part-taking a b r p h = λ t. record { ending = λ ne. (h t).ending ne; stopping = λ e. inr ((h t).stopping e) }
 
 -- a value that memory alone is taken for
-pub part-made : {A : Type 0} (a : Option HostModel) (r x : Result A Outcome) → (r ≢ Err OutOfMemory → r ≡ x) → CarriesOut a a (Err OutOfMemory) r (taking (returns x))
+pub part-made : {A : Type 0} (a : Option HostModel) (r x : Result A Outcome) → (r ≢ Err OutOfMemory → r ≡ x) → CarriesOutOnHost a a (Err OutOfMemory) r (taking (returns x))
 unfolding bind need Stops end_of host
 part-made a r x is = λ t. record { ending = λ ne. ap (λ y. (y, contents a)) (is ne); stopping = λ e. inl refl }
 
@@ -31,8 +31,8 @@ part-made a r x is = λ t. record { ending = λ ne. ap (λ y. (y, contents a)) (
 tells-then : (a b : Option HostModel) → tells b ≡ tells a → IsTrue (tells a) → IsTrue (tells b)
 tells-then a b e t = subst IsTrue (sym e) t
 
-pub part-then : {A B : Type 0} (a b c : Option HostModel) (x : A) (r : Result B Outcome) (f : A → Part B) (p : Part A) → tells b ≡ tells a → CarriesOut a b (Err OutOfMemory) (Ok x) p →
-    CarriesOut b c (Err OutOfMemory) r (f x) → CarriesOut a c (Err OutOfMemory) r (bind (on_ok f) p)
+pub part-then : {A B : Type 0} (a b c : Option HostModel) (x : A) (r : Result B Outcome) (f : A → Part B) (p : Part A) → tells b ≡ tells a → CarriesOutOnHost a b (Err OutOfMemory) (Ok x) p →
+    CarriesOutOnHost b c (Err OutOfMemory) r (f x) → CarriesOutOnHost a c (Err OutOfMemory) r (bind (on_ok f) p)
 part-then {A} {B} a b c x r f p e first second = λ t.
     let is : (Ok x, contents b) ≡ end_of host p (contents a) = (first t).ending (λ o. absurd (cc)) in
     let next = second (tells-then a b e t) in
@@ -41,7 +41,7 @@ part-then {A} {B} a b c x r f p e first second = λ t.
       stopping = λ o. stops_after host (on_ok f) p (contents c) (contents a) (subst (StopsAfter host (contents c) (on_ok f)) is (next.stopping o));
     }
 
-pub part-ends : {A B : Type 0} (a b : Option HostModel) (outcome : Outcome) (f : A → Part B) (p : Part A) → CarriesOut a b (Err OutOfMemory) (Err outcome) p → CarriesOut a b (Err OutOfMemory) (Err outcome) (bind (on_ok f) p)
+pub part-ends : {A B : Type 0} (a b : Option HostModel) (outcome : Outcome) (f : A → Part B) (p : Part A) → CarriesOutOnHost a b (Err OutOfMemory) (Err outcome) p → CarriesOutOnHost a b (Err OutOfMemory) (Err outcome) (bind (on_ok f) p)
 part-ends {A} {B} a b outcome f p h = λ t. record {
   ending = λ ne.
       let is : (Err outcome, contents b) ≡ end_of host p (contents a) = (h t).ending (λ o. ne (cc)) in

@@ -1,4 +1,4 @@
--- A machine at its start, over a window and over the list that it stands for.
+-- A machine at its start, over a window and over the list that it represents.
 use Rattle.std.proofs.Common.{◌≡◌, ◌≤◌, ℕ, ◌+◌, ◌*◌, ◌||◌, List, [], ◌∷◌, length, Bool, true, false, cond, refl, ◌∙◌, Ok, Err, Some, None}
 use Rattle.std.specs.Prelude.{Option, Result}
 use Rattle.mx_mmo.specs.Image.{Image}

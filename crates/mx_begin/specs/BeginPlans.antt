@@ -10,7 +10,7 @@ use Rattle.mx_core.specs.State.{State}
 use Rattle.mx_run.specs.WildRuns.{MachineKind}
 use Rattle.mx_words.specs.declared.order.Order.{Order}
 use Rattle.mx_outcome.specs.declared.outcome.Outcome.{Outcome}
-use Rattle.mx_files.specs.Clauses.{CarriesOutPart}
+use Rattle.mx_files.specs.Clauses.{CarriesOutFilePart}
 use Rattle.mx_files.specs.FilePlans.{Part, on_ok, file_plan}
 use Rattle.mx_begin.specs.Arguments.{Word, word_at, arguments}
 use Rattle.mx_begin.specs.Begun.{image_in, most_pieces, started}
@@ -37,4 +37,4 @@ begin_plan kind words o form = taking (bind (on_ok (start_plan kind o.ring (argu
 
 -- over a host, a machine begins so, or the outcome is this
 abbrev pub Begins : {H : Type 0} → (H → Option HostModel) → H → H → Result State Outcome → MachineKind → List Word → Order → Form → Type 0
-Begins told old new result kind words o form = CarriesOutPart told old new result (begin_plan kind words o form)
+Begins told old new result kind words o form = CarriesOutFilePart told old new result (begin_plan kind words o form)

@@ -3,7 +3,7 @@
 ghost use Rattle.std.specs.Prelude.{◌≡◌, ◌≢◌, Err, IfErr, false};
 ghost use Rattle.mx_begin.specs.BeginPlans as plans;
 ghost use Rattle.mx_begin.specs.Begun as spec;
-ghost use Rattle.mx_files.specs.Clauses.{CarriesOutPart};
+ghost use Rattle.mx_files.specs.Clauses.{CarriesOutFilePart};
 ghost use Rattle.mx_files.specs.Failing.{PartFailsOnlyBy};
 ghost use Rattle.mx_load.specs.Kept.{image_of};
 ghost use Rattle.mx_outcome.specs.Kinds.{is_usage};
@@ -63,7 +63,7 @@ fn load_image(alloc: Global, bytes: &[u8]) -> Result<Image, Outcome>
 }
 
 /// The image that the bytes of a file give, or the outcome where they are refused.
-fn image_in(alloc: Global, form: Form, bytes: &[u8]) -> Result<Image, Outcome>
+pub fn image_in(alloc: Global, form: Form, bytes: &[u8]) -> Result<Image, Outcome>
     ensures image { result ≢ Err Outcome.OutOfMemory → map_ok image_of result ≡ spec.image_in form bytes.now }
     ensures no_host_fault { result ≢ Err Outcome.HostFault }
     ensures no_missing_file { result ≢ Err Outcome.NoFile }
@@ -84,7 +84,7 @@ pub fn read_image<H: Host>(
     form: Form,
     name: &[u8],
 ) -> Result<Image, Outcome>
-    ensures plan { CarriesOutPart H.told host.old host.new (map_ok image_of result)
+    ensures plan { CarriesOutFilePart H.told host.old host.new (map_ok image_of result)
         (plans.image_file_plan form name.now) }
     ensures causes { PartFailsOnlyBy H.told H.faults host.old host.new result }
 {

@@ -42,9 +42,9 @@ between : nearest_address 263 labels ≡ Some 256
 unfolding nearest_address
 between = refl
 
-behind : nearest_address 1000 labels ≡ Some 264
+following : nearest_address 1000 labels ≡ Some 264
 unfolding nearest_address
-behind = refl
+following = refl
 
 before : nearest_address 255 labels ≡ None
 unfolding nearest_address
@@ -71,9 +71,9 @@ first-of-line : earliest 6 loads ≡ Some (load 260 6 true)
 unfolding earliest
 first-of-line = refl
 
-last-line-behind : earliest 7 loads ≡ None
+last-line-after : earliest 7 loads ≡ None
 unfolding earliest
-last-line-behind = refl
+last-line-after = refl
 
 within-tetra : tells_line 258 (load 256 5 true) ≡ true
 within-tetra = refl

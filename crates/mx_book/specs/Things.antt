@@ -1,4 +1,4 @@
--- What has a value: what a name or a written place stands for.
+-- What has a value: what a name or a written place means.
 use Rattle.std.specs.Prelude.{ℕ, nat_lt, Option, None, Some, if◌then◌else◌}
 use Rattle.mx_word.specs.declared.symbols.Value.{Value}
 use Rattle.mx_word.specs.declared.symbols.Value.TheVariants.{Pure, Reg}

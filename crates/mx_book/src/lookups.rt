@@ -147,7 +147,7 @@ fn earliest(loads: &[Load], line: u32) -> Option<Load>
 /// What is looked up.
 #[tactic(auto, unfolding(crate::specs::Lookups::nearest))]
 impl Book {
-    /// What a name stands for. It may have or lack the colon that complete names begin with.
+    /// What a name means. The colon that complete names begin with may be missing.
     pub fn look_up_symbol(&self, name: &[u8]) -> Option<Value>
         ensures { result ≡ spec.symbol self.now name.now }
     {

@@ -15,7 +15,7 @@ pub enum Thing {
     Number(u64),
 }
 
-/// What a symbol with this value stands for.
+/// What a symbol with this value means.
 pub(crate) fn thing_with(value: Value) -> Thing
     ensures { result ≡ spec.thing_with value }
 {

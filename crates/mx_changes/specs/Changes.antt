@@ -27,14 +27,14 @@ next number = if nat_lt number 0xffff_ffff then number + 1 else number
 abbrev pub is_in_line : Named → ℕ → Occurrence → Bool
 is_in_line named number o = o.line == number && is_same named o.named
 
-abbrev pub behind : List ℕ → Occurrence → ℕ
-behind line o = end_of line o.from (length o.text)
+abbrev pub place_after : List ℕ → Occurrence → ℕ
+place_after line o = end_of line o.from (length o.text)
 
 -- a line from a place on, with those of the names that name this changed
 unfoldable pub changed_line : Named → List ℕ → ℕ → List ℕ → ℕ → List Occurrence → List ℕ
 changed_line named name number line done [] = part line done (length line)
 changed_line named name number line done (o ∷ names) =
-    if is_in_line named number o then part line done o.from ++ new_text o name ++ changed_line named name number line (behind line o) names
+    if is_in_line named number o then part line done o.from ++ new_text o name ++ changed_line named name number line (place_after line o) names
     else changed_line named name number line done names
 
 -- lines, of which the first has this number, each with a newline

@@ -7,7 +7,7 @@ ghost use Rattle.mx_line.specs.Lines.{lines_of};
 ghost use Rattle.mx_changes.specs.Layouts as spec;
 
 use crate::names::{front, rest_after};
-use crate::renaming::{Change, checked, next, part};
+use crate::renaming::{Change, check_change, next, part};
 use mx_json::add_string;
 use mx_line::{Cut, Span, cut_line, next_statement};
 use mx_wire::{Values, add_array, add_line_range};
@@ -134,7 +134,7 @@ fn fields(alloc: Global, line: &[u8], cut: &Cut) -> Result<Bytes, NoMemory>
 }
 
 /// A line in its columns, of which this is the first statement.
-fn laid_with(alloc: Global, line: &[u8], cut: &Cut) -> Result<Bytes, NoMemory>
+fn lay_with(alloc: Global, line: &[u8], cut: &Cut) -> Result<Bytes, NoMemory>
     requires { cut.now.next ≤ length line.now }
     ensures { IfOk result (λ text. text ≡ spec.laid_by line.now (Ok cut.now ∷ cuts_from line.now cut.now.next)) }
 {
@@ -146,12 +146,12 @@ fn laid_with(alloc: Global, line: &[u8], cut: &Cut) -> Result<Bytes, NoMemory>
 }
 
 /// A line in its columns; one that has not one statement stays as it is.
-fn laid_line(alloc: Global, line: &[u8]) -> Result<Bytes, NoMemory>
+fn lay_line(alloc: Global, line: &[u8]) -> Result<Bytes, NoMemory>
     ensures { IfOk result (λ text. text ≡ spec.laid_line line.now) }
 {
     match next_statement(line, 0) {
         Ok(None) => Bytes::copy(alloc, line),
-        Ok(Some(cut)) => laid_with(alloc, line, &cut),
+        Ok(Some(cut)) => lay_with(alloc, line, &cut),
         Err(_) => Bytes::copy(alloc, line),
     }
 }
@@ -193,7 +193,7 @@ struct Layout {
 
 /// The lines of a text in their columns.
 #[tactic(auto, using(crate::proofs::LayoutTurns::turns))]
-fn laid_out(alloc: Global, source: &[u8]) -> Result<Layout, NoMemory>
+fn lay_out(alloc: Global, source: &[u8]) -> Result<Layout, NoMemory>
     ensures text { IfOk result (λ layout. layout.text ≡ spec.laid_text source.now) }
     ensures edits { IfOk result (λ layout. layout.edits ≡ spec.edits_from 1 (lines_of source.now)) }
 {
@@ -203,7 +203,7 @@ fn laid_out(alloc: Global, source: &[u8]) -> Result<Layout, NoMemory>
     let mut number = 1u32;
     while !rest.is_empty() {
         let (line, others) = cut_line(rest);
-        let laid = laid_line(alloc, line)?;
+        let laid = lay_line(alloc, line)?;
         add_edit(alloc, &mut edits, number, line, laid.as_slice())?;
         text.extend(laid.as_slice())?;
         text.extend(b"\n")?;
@@ -223,7 +223,7 @@ fn change_by(alloc: Global, source: &[u8], layout: &Layout) -> Result<Change, No
         [_, ..] => {
             let mut edit = Bytes::new(alloc);
             add_array(&mut edit, layout.edits.as_slice())?;
-            checked(alloc, source, layout.text.as_slice(), edit)
+            check_change(alloc, source, layout.text.as_slice(), edit)
         }
     }
 }
@@ -232,6 +232,6 @@ fn change_by(alloc: Global, source: &[u8], layout: &Layout) -> Result<Change, No
 pub fn formatting_of(alloc: Global, source: &[u8]) -> Result<Change, NoMemory>
     ensures { IfOk result (λ r. spec.Formats source.now r) }
 {
-    let layout = laid_out(alloc, source)?;
+    let layout = lay_out(alloc, source)?;
     change_by(alloc, source, &layout)
 }

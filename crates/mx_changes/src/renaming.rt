@@ -61,7 +61,7 @@ fn add_new(
     done: usize,
 ) -> Result<usize, NoMemory>
     ensures text { OnOk result (text.new ≡ text.old ++ spec.part line.now done o.now.from ++ spec.new_text o.now name.now) }
-    ensures done { IfOk result (λ n. n ≡ spec.behind line.now o.now) }
+    ensures done { IfOk result (λ n. n ≡ spec.place_after line.now o.now) }
 {
     let new = new_text(alloc, o, name)?;
     text.extend(part(line, done, o.from))?;
@@ -96,7 +96,7 @@ fn add_changed_line(
 
 /// The text with the names that name this changed.
 #[tactic(auto, using(crate::proofs::ChangeTurns::lines))]
-fn changed(
+fn change_names(
     alloc: Global,
     names: &[Occurrence],
     named: &Named,
@@ -207,7 +207,7 @@ fn change_of(compared: Compared, edit: Bytes) -> Change
 }
 
 /// A change of a source into a text, if the program stays as it is.
-pub(crate) fn checked(
+pub(crate) fn check_change(
     alloc: Global,
     source: &[u8],
     text: &[u8],
@@ -230,9 +230,9 @@ fn rename_all(
 ) -> Result<Change, NoMemory>
     ensures { IfOk result (λ r. spec.IsRenamed uri.now names.now named.now name.now source.now r) }
 {
-    let text = changed(alloc, names, named, name, source)?;
+    let text = change_names(alloc, names, named, name, source)?;
     let edit = edits(alloc, uri, names, named, name, source)?;
-    checked(alloc, source, text.as_slice(), edit)
+    check_change(alloc, source, text.as_slice(), edit)
 }
 
 /// Changes a name, if there is one and it may become this, where the program stays as it is.

@@ -32,7 +32,7 @@ unfoldable pub octa_written : ℕ → List ℕ → Option ℕ
 octa_written base digits = below (2 ^ 64) (numeral_value base digits)
 
 -- VALUES: decimal digits, a minus sign and decimal digits, or `#` and hexadecimal ones, of which there is one or more.
--- The first nothing stands for a text of another form, the second for a number that is out of range.
+-- The first nothing means a text of another form, the second for a number that is out of range.
 
 abbrev pub value_written : ℕ → (ℕ → Bool) → List ℕ → Option (Option ℕ)
 value_written base kind [] = None

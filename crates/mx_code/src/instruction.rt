@@ -13,7 +13,7 @@ const NEAR_BACK: u64 = 0xffff_ffff_fffc_0000;
 const FAR_BACK: u64 = 0xffff_ffff_fc00_0000;
 
 /// A tetra as an instruction, at the address where it is or, where RESUME inserts it, as if it
-/// stood there; with the operands y and z, where RESUME gives them.
+/// were there; with the operands y and z, where RESUME gives them.
 #[derive(Clone, Copy)]
 pub struct Instruction {
     pub at: u64,

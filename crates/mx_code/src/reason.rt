@@ -29,7 +29,7 @@ pub enum Reason {
 }
 
 impl Reason {
-    /// The number that stands for the reason in messages.
+    /// The number of the reason in messages.
     pub fn number(&self) -> u16
         ensures { result ≡ spec.number_of self.now }
     {

@@ -2,7 +2,7 @@
 use Rattle.std.proofs.Common.{◌≢◌, ℕ, Bool, true, false, cond, Option, Result, Err, refl, ap, IsTrue}
 use Rattle.mx_host.specs.HostModel.{HostModel, tells, contents}
 use Rattle.mx_host.specs.Keeping.{Keeps}
-use Rattle.mx_plan.specs.Clauses.{Stands}
+use Rattle.mx_plan.specs.Clauses.{KeepsHost}
 use Rattle.mx_plan.specs.Plan.{Comes, Stops, end_of}
 use Rattle.mx_plan.specs.Wild.{Course, ends, meets_wild, world_of, course, carried}
 use Rattle.mx_plan.specs.Calls.{host}
@@ -85,7 +85,7 @@ pub session-streams : (v w : SessionWorld) (r : SessionEnd) (p : SessionPlan Ses
 session-streams v w OutOfMemory p c = streams-stop p w v (c.stopping refl)
 session-streams v w end p c = ended-streams v w OutOfMemory end p c (λ e. absurd (cc))
 
-pub keeps-by : (old new : Option HostModel) (earlier later : ℕ) → Stands old new earlier later → (IsTrue (tells old) → KeepsStreams (contents old) (contents new)) → Keeps old new earlier later
+pub keeps-by : (old new : Option HostModel) (earlier later : ℕ) → KeepsHost old new earlier later → (IsTrue (tells old) → KeepsStreams (contents old) (contents new)) → Keeps old new earlier later
 keeps-by old new earlier later h k = record {
   telling = h.0;
   counting = h.1;

@@ -5,7 +5,7 @@ use Rattle.mx_plan.specs.Plan.{bind, end_of, Comes, IsRest}
 use Rattle.mx_plan.specs.Calls.{host, HostPlan}
 use Rattle.mx_plan.proofs.Plans.{rest_after}
 use Rattle.std.specs.Prelude.{Option}
-use Rattle.mx_con.specs.Clauses.{Talks}
+use Rattle.mx_con.specs.Clauses.{DoesOnHost}
 use Rattle.mx_con.specs.LinePlans.{on_ok, grown_plan, LineRead, after_growing, reading_plan}
 use Rattle.mx_con.specs.declared.end.SessionEnd.{SessionEnd}
 use Rattle.mx_con.specs.declared.end.SessionEnd.TheVariants.{Limit, OutOfMemory}
@@ -27,7 +27,7 @@ as-bound : (n : ℕ) (got : List ℕ) (v start : HostModel) (whole : HostPlan Li
 as-bound n got v start whole l r = subst (λ p. IsRest host p v whole start) (reading-more n got l) r
 
 pub line-more : {Host : Type 0} (says : Host → Option HostModel) (faults : Host → ℕ) (a b c : Host) (n k : ℕ) (got next : List ℕ) (whole : HostPlan LineRead) → 0 < n →
-    Leaves host says faults a b (contents (says a)) (contents (says b)) (reading_plan n got) whole → Talks says faults b c (Ok (true, next, k)) (grown_plan (n - 1) got) → k + 1 ≡ n →
+    Leaves host says faults a b (contents (says a)) (contents (says b)) (reading_plan n got) whole → DoesOnHost says faults b c (Ok (true, next, k)) (grown_plan (n - 1) got) → k + 1 ≡ n →
     Leaves host says faults a c (contents (says a)) (contents (says c)) (reading_plan k next) whole
 line-more says faults a b c n k got next whole l h w e =
     let same : n - 1 ≡ k = omega (arith, e) in

@@ -8,7 +8,7 @@ use Rattle.mx_run.specs.FlagMaps.{has_flag, IsNextFlagged}
 use Rattle.mx_run.specs.Runs.{FlagsOf}
 use Rattle.mx_run.specs.declared.flags.Flags.{Flags}
 use Rattle.mx_con.specs.ConsoleTexts.{flag_text}
-use Rattle.mx_con.specs.Clauses.{Talks}
+use Rattle.mx_con.specs.Clauses.{DoesOnHost}
 use Rattle.mx_con.specs.LinePlans.{line_plan, lines_plan}
 use Rattle.mx_con.specs.Replies.{octas_after, flag_lines, tetra_count}
 use Rattle.mx_show.specs.Subjects.{shown_line}
@@ -31,20 +31,20 @@ abbrev pub LinesLeft : {Host : Type 0} → (Host → Option HostModel) → (Host
 LinesLeft says faults a b lines whole = Leaves host says faults a b (contents (says a)) (contents (says b)) (lines_plan lines) whole
 
 -- a line is written, and those after it are left; or it ends the session; or none is left
-next-line : {Host : Type 0} (says : Host → Option HostModel) (faults : Host → ℕ) (a b c : Host) (lines behind : List (List ℕ)) (line : List ℕ) (whole : HostPlan (Result (Unit {0}) SessionEnd)) →
-    lines ≡ line ∷ behind → LinesLeft says faults a b lines whole → Talks says faults b c (Ok tt) (line_plan line) → LinesLeft says faults a c behind whole
+next-line : {Host : Type 0} (says : Host → Option HostModel) (faults : Host → ℕ) (a b c : Host) (lines following : List (List ℕ)) (line : List ℕ) (whole : HostPlan (Result (Unit {0}) SessionEnd)) →
+    lines ≡ line ∷ following → LinesLeft says faults a b lines whole → DoesOnHost says faults b c (Ok tt) (line_plan line) → LinesLeft says faults a c following whole
 unfolding lines_plan
-next-line says faults a b c lines behind line whole e h w =
-    left-next host says faults a b c _ _ _ tt (λ u. lines_plan behind) (line_plan line) whole (subst (λ ls. LinesLeft says faults a b ls whole) e h) w
+next-line says faults a b c lines following line whole e h w =
+    left-next host says faults a b c _ _ _ tt (λ u. lines_plan following) (line_plan line) whole (subst (λ ls. LinesLeft says faults a b ls whole) e h) w
 
-line-over : {Host : Type 0} (says : Host → Option HostModel) (faults : Host → ℕ) (a b c : Host) (end : SessionEnd) (lines behind : List (List ℕ)) (line : List ℕ) (whole : HostPlan (Result (Unit {0}) SessionEnd)) →
-    lines ≡ line ∷ behind → LinesLeft says faults a b lines whole → Talks says faults b c (Err end) (line_plan line) → Talks says faults a c (Err end) whole
+line-over : {Host : Type 0} (says : Host → Option HostModel) (faults : Host → ℕ) (a b c : Host) (end : SessionEnd) (lines following : List (List ℕ)) (line : List ℕ) (whole : HostPlan (Result (Unit {0}) SessionEnd)) →
+    lines ≡ line ∷ following → LinesLeft says faults a b lines whole → DoesOnHost says faults b c (Err end) (line_plan line) → DoesOnHost says faults a c (Err end) whole
 unfolding lines_plan
-line-over says faults a b c end lines behind line whole e h w =
-    left-over host says faults a b c _ _ _ end (λ (u : Unit {0}). lines_plan behind) (line_plan line) whole (subst (λ ls. LinesLeft says faults a b ls whole) e h) w
+line-over says faults a b c end lines following line whole e h w =
+    left-over host says faults a b c _ _ _ end (λ (u : Unit {0}). lines_plan following) (line_plan line) whole (subst (λ ls. LinesLeft says faults a b ls whole) e h) w
 
 no-lines : {Host : Type 0} (says : Host → Option HostModel) (faults : Host → ℕ) (a b : Host) (lines : List (List ℕ)) (whole : HostPlan (Result (Unit {0}) SessionEnd)) →
-    lines ≡ [] → LinesLeft says faults a b lines whole → Talks says faults a b (Ok tt) whole
+    lines ≡ [] → LinesLeft says faults a b lines whole → DoesOnHost says faults a b (Ok tt) whole
 unfolding lines_plan
 no-lines says faults a b lines whole e h =
     left-answer host says faults a b _ _ (Ok tt) whole (λ o. absurd (cc)) (λ o. absurd (cc)) (subst (λ ls. LinesLeft says faults a b ls whole) e h)
@@ -55,20 +55,20 @@ unfolding octas_after
 octas-begin says faults a s form at n = let e : n - 0 ≡ n = omega arith in rw e (left-all host says faults a _ (lines_plan (octas_from s form at 1 n)))
 
 pub octas-more : {Host : Type 0} (says : Host → Option HostModel) (faults : Host → ℕ) (a b c : Host) (s : State) (form : Form) (at n i : ℕ) (whole : HostPlan (Result (Unit {0}) SessionEnd)) → i < n →
-    LinesLeft says faults a b (octas_from s form at (i + 1) (n - i)) whole → Talks says faults b c (Ok tt) (line_plan (shown_line s (Memory (at + 8 * (i + 1))) form)) →
+    LinesLeft says faults a b (octas_from s form at (i + 1) (n - i)) whole → DoesOnHost says faults b c (Ok tt) (line_plan (shown_line s (Memory (at + 8 * (i + 1))) form)) →
     LinesLeft says faults a c (octas_from s form at (i + 1 + 1) (n - (i + 1))) whole
 octas-more says faults a b c s form at n i whole l h w = next-line says faults a b c _ _ _ whole (octas-next s form at n i l) h w
 
 pub octas-ended : {Host : Type 0} (says : Host → Option HostModel) (faults : Host → ℕ) (a b c : Host) (s : State) (form : Form) (at n i : ℕ) (end : SessionEnd) (whole : HostPlan (Result (Unit {0}) SessionEnd)) → i < n →
-    LinesLeft says faults a b (octas_from s form at (i + 1) (n - i)) whole → Talks says faults b c (Err end) (line_plan (shown_line s (Memory (at + 8 * (i + 1))) form)) →
-    Talks says faults a c (Err end) whole
+    LinesLeft says faults a b (octas_from s form at (i + 1) (n - i)) whole → DoesOnHost says faults b c (Err end) (line_plan (shown_line s (Memory (at + 8 * (i + 1))) form)) →
+    DoesOnHost says faults a c (Err end) whole
 octas-ended says faults a b c s form at n i end whole l h w = line-over says faults a b c end _ _ _ whole (octas-next s form at n i l) h w
 
 no-octas : (s : State) (form : Form) (at i n : ℕ) → n ≡ 0 → octas_from s form at i n ≡ []
 no-octas s form at i n e = rw e refl
 
 pub octas-done : {Host : Type 0} (says : Host → Option HostModel) (faults : Host → ℕ) (a b : Host) (s : State) (form : Form) (at n i : ℕ) (whole : HostPlan (Result (Unit {0}) SessionEnd)) → n ≤ i →
-    LinesLeft says faults a b (octas_from s form at (i + 1) (n - i)) whole → Talks says faults a b (Ok tt) whole
+    LinesLeft says faults a b (octas_from s form at (i + 1) (n - i)) whole → DoesOnHost says faults a b (Ok tt) whole
 octas-done says faults a b s form at n i whole l h = no-lines says faults a b _ whole (no-octas s form at (i + 1) (n - i) (omega arith)) h
 
 -- ---- flags: tetras without flags have no line
@@ -105,17 +105,17 @@ flags-next f t a fl h most =
     ∙ ap (λ line. line ∷ flag_lines f (q + 1) (tetra_count - (q + 1))) (ap (λ p. flag_text p (f q)) same ∙ ap (flag_text a) h.2)
 
 pub flags-more : {Host : Type 0} (says : Host → Option HostModel) (faults : Host → ℕ) (x y z : Host) (f : FlagsOf) (t a : ℕ) (fl : Flags) (whole : HostPlan (Result (Unit {0}) SessionEnd)) →
-    IsNextFlagged f (4 * t) (Some (a, fl)) → a < 2 ^ 64 → LinesLeft says faults x y (flag_lines f t (tetra_count - t)) whole → Talks says faults y z (Ok tt) (line_plan (flag_text a fl)) →
+    IsNextFlagged f (4 * t) (Some (a, fl)) → a < 2 ^ 64 → LinesLeft says faults x y (flag_lines f t (tetra_count - t)) whole → DoesOnHost says faults y z (Ok tt) (line_plan (flag_text a fl)) →
     LinesLeft says faults x z (flag_lines f (a / 4 + 1) (tetra_count - (a / 4 + 1))) whole
 flags-more says faults x y z f t a fl whole h most r w = next-line says faults x y z _ _ _ whole (flags-next f t a fl h most) r w
 
 pub flags-ended : {Host : Type 0} (says : Host → Option HostModel) (faults : Host → ℕ) (x y z : Host) (f : FlagsOf) (t a : ℕ) (fl : Flags) (end : SessionEnd) (whole : HostPlan (Result (Unit {0}) SessionEnd)) →
-    IsNextFlagged f (4 * t) (Some (a, fl)) → a < 2 ^ 64 → LinesLeft says faults x y (flag_lines f t (tetra_count - t)) whole → Talks says faults y z (Err end) (line_plan (flag_text a fl)) →
-    Talks says faults x z (Err end) whole
+    IsNextFlagged f (4 * t) (Some (a, fl)) → a < 2 ^ 64 → LinesLeft says faults x y (flag_lines f t (tetra_count - t)) whole → DoesOnHost says faults y z (Err end) (line_plan (flag_text a fl)) →
+    DoesOnHost says faults x z (Err end) whole
 flags-ended says faults x y z f t a fl end whole h most r w = line-over says faults x y z end _ _ _ whole (flags-next f t a fl h most) r w
 
 pub flags-none : {Host : Type 0} (says : Host → Option HostModel) (faults : Host → ℕ) (x y : Host) (f : FlagsOf) (t n : ℕ) (whole : HostPlan (Result (Unit {0}) SessionEnd)) →
-    IsNextFlagged f (4 * t) None → LinesLeft says faults x y (flag_lines f t n) whole → Talks says faults x y (Ok tt) whole
+    IsNextFlagged f (4 * t) None → LinesLeft says faults x y (flag_lines f t n) whole → DoesOnHost says faults x y (Ok tt) whole
 flags-none says faults x y f t n whole h r = no-lines says faults x y _ whole (all-bare f t n (λ q l. h q (omega arith))) r
 
 no-flags : (f : FlagsOf) (t n : ℕ) → n ≡ 0 → flag_lines f t n ≡ []
@@ -123,5 +123,5 @@ unfolding flag_lines
 no-flags f t n e = rw e refl
 
 pub flags-done : {Host : Type 0} (says : Host → Option HostModel) (faults : Host → ℕ) (x y : Host) (f : FlagsOf) (t : ℕ) (whole : HostPlan (Result (Unit {0}) SessionEnd)) →
-    tetra_count ≤ t → LinesLeft says faults x y (flag_lines f t (tetra_count - t)) whole → Talks says faults x y (Ok tt) whole
+    tetra_count ≤ t → LinesLeft says faults x y (flag_lines f t (tetra_count - t)) whole → DoesOnHost says faults x y (Ok tt) whole
 flags-done says faults x y f t whole l r = no-lines says faults x y _ whole (no-flags f t (tetra_count - t) (omega arith)) r

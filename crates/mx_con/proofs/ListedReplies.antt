@@ -36,7 +36,7 @@ use Rattle.mx_con.specs.Judgement.{bad_text, bad_if, first_bad, is_outside, subj
 use Rattle.mx_con.specs.LinePlans.{line_plan, lines_plan}
 use Rattle.mx_con.specs.Replies.{Reply, reply, reply_in, reply_to, with_note, with_subject, changed_reply, octas_after, shown_after}
 use Rattle.mx_con.specs.Session.{session_goes}
-use Rattle.mx_con.specs.SessionPlans.{replying, SessionWorld, Part, conversing, on_host, reply_plan, judge_plan, showing, refused, answered_plan}
+use Rattle.mx_con.specs.SessionPlans.{replying, SessionWorld, Part, conversing, host_in_session, reply_plan, judge_plan, showing, refused, answered_plan}
 use Rattle.mx_con.specs.SessionPlans as plans
 use Rattle.mx_con.specs.declared.end.SessionEnd.{SessionEnd}
 use Rattle.mx_con.specs.declared.judgement.Bad.{Bad}
@@ -212,14 +212,14 @@ pub listed-showing : (shown : Option ℕ) (p : Part (Unit {0})) (w : SessionWorl
 listed-showing shown p w h = listed-then (λ (u : Unit {0}). returns (Ok shown)) p w h (λ x v u. listed-returns (Ok shown) v u)
 
 pub listed-refused : (shown : Option ℕ) (bad : Bad) (s : State) (m : HostModel) (f : FlagsOf) → IsUntouched ((s, m), f) → Listed (refused shown bad) ((s, m), f)
-listed-refused shown bad s m f u = listed-showing shown (on_host (line_plan (bad_text bad))) ((s, m), f) (listed-host (line_plan (bad_text bad)) s m f u)
+listed-refused shown bad s m f u = listed-showing shown (host_in_session (line_plan (bad_text bad))) ((s, m), f) (listed-host (line_plan (bad_text bad)) s m f u)
 
 -- the lines of a reply, beside those of another
 abbrev lines-of : Reply → HostModel → Course (Result (Option ℕ) SessionEnd) SessionWorld
 lines-of r m = course (session_goes list_machine) (plans.replied (r.shown, r.lines)) ((r.state, m), r.flags)
 
 listed-replied : (r : Reply) (m : HostModel) → r.state.touched ≡ false → Listed (plans.replied (r.shown, r.lines)) ((r.state, m), r.flags)
-listed-replied r m u = listed-showing r.shown (on_host (lines_plan r.lines)) ((r.state, m), r.flags) (listed-host (lines_plan r.lines) r.state m r.flags u)
+listed-replied r m u = listed-showing r.shown (host_in_session (lines_plan r.lines)) ((r.state, m), r.flags) (listed-host (lines_plan r.lines) r.state m r.flags u)
 
 abbrev lines-end : Reply → HostModel → Result (Option ℕ) SessionEnd × SessionWorld
 lines-end r m = end_of conversing (plans.replied (r.shown, r.lines)) ((r.state, m), r.flags)

@@ -25,7 +25,7 @@ use Rattle.mx_con.specs.Clauses.{IsUntouched, GoesAsList}
 use Rattle.mx_con.specs.ConsoleTexts.{break_text}
 use Rattle.mx_con.specs.LinePlans.{line_plan}
 use Rattle.mx_con.specs.Session.{keeping_flags, session_goes}
-use Rattle.mx_con.specs.SessionPlans.{SessionWorld, Part, conversing, on_host, turn_made, count_plan, place_plan, trace_plan, traced_plan, after_turn, turn_at, turned_plan, stepped_plan, going, broke_plan, break_plan, after_end}
+use Rattle.mx_con.specs.SessionPlans.{SessionWorld, Part, conversing, host_in_session, turn_made, count_plan, place_plan, trace_plan, traced_plan, after_turn, turn_at, turned_plan, stepped_plan, going, broke_plan, break_plan, after_end}
 use Rattle.mx_con.specs.declared.end.SessionEnd.{SessionEnd}
 use Rattle.mx_con.specs.declared.end.SessionEnd.TheVariants.{Halted, Stopped, Spent, OutOfMemory}
 use Rattle.mx_con.proofs.HeldSessions.{streams-end}
@@ -38,8 +38,8 @@ use Rattle.mx_con.proofs.SessionBoth.{Listed, listed-returns, listed-host, liste
 listed-traced : (trace : Trace) (s : State) (m : HostModel) (f : FlagsOf) → Outside trace.writes → IsUntouched ((s, m), f) → Listed (traced_plan trace) ((s, m), f)
 unfolding traced_plan trace_plan bind end_of course conversing
 listed-traced trace s m f o u =
-    let last = end_of conversing (on_host (line_plan (trace_text trace s))) ((s, m), f) in
-    subst (λ (text : List ℕ). GoesAsList (course (session_goes list_machine) (on_host (line_plan text)) ((as_list_state s, m), f)) last.0 last.1) (sym (same-trace trace s o))
+    let last = end_of conversing (host_in_session (line_plan (trace_text trace s))) ((s, m), f) in
+    subst (λ (text : List ℕ). GoesAsList (course (session_goes list_machine) (host_in_session (line_plan text)) ((as_list_state s, m), f)) last.0 last.1) (sym (same-trace trace s o))
     (listed-host (line_plan (trace_text trace s)) s m f u)
 
 -- an answer after a part

@@ -22,7 +22,7 @@ use Rattle.mx_show.specs.Texts.{state_text}
 use Rattle.mx_con.specs.Judgement.{bad_text, subject_bad, more_bad, go_to_bad, flag_bad, command_bad, command_wild}
 use Rattle.mx_con.specs.LinePlans.{on_ok, line_plan, lines_plan}
 use Rattle.mx_con.specs.Replies.{reply, reply_to, noted_if, shown_after, octas_after, flag_lines, tetra_count, with_breaks, with_trace}
-use Rattle.mx_con.specs.SessionPlans.{SessionWorld, Part, conversing, on_host, reply_plan, judge_plan, showing, judged, answered_plan}
+use Rattle.mx_con.specs.SessionPlans.{SessionWorld, Part, conversing, host_in_session, reply_plan, judge_plan, showing, judged, answered_plan}
 use Rattle.mx_show.specs.Subjects.{subject_wild, subject_changed, shown_line, octa_shown}
 use Rattle.mx_con.specs.declared.end.SessionEnd.{SessionEnd}
 use Rattle.mx_con.specs.declared.end.SessionEnd.TheVariants.{OutOfMemory}
@@ -47,7 +47,7 @@ pub refused-comes : (shown : Option ℕ) (command : Command) (bad : Bad) (s : St
     Comes host m n (Err OutOfMemory) r (line_plan (bad_text bad)) → Comes conversing ((s, m), f) ((s, n), f) (Err OutOfMemory) (map_ok (λ u. shown) r) (answered_plan shown command)
 unfolding answered_plan judge_plan bind end_of Stops conversing
 refused-comes shown command bad s m n f r e c =
-    let line = on_host (line_plan (bad_text bad)) in
+    let line = host_in_session (line_plan (bad_text bad)) in
     let h = shows shown line ((s, m), f) ((s, n), f) r (host-comes (line_plan (bad_text bad)) s m n f (Err OutOfMemory) r c) in
     record {
       ending = λ ne. h.ending ne ∙ sym (ap (λ (b : Option Bad). end_of conversing (judged shown command b) ((s, m), f)) e);
@@ -57,7 +57,7 @@ refused-comes shown command bad s m n f r e c =
 lacks-judged : (shown : Option ℕ) (command : Command) (w : SessionWorld) (bad : Option Bad) → Stops conversing w (judged shown command bad) w
 unfolding reply_plan bind Stops conversing
 lacks-judged shown command w (Some bad) =
-    stops_first conversing (on_ok (λ (u : Unit {0}). returns (Ok shown))) (on_host (line_plan (bad_text bad))) w w
+    stops_first conversing (on_ok (λ (u : Unit {0}). returns (Ok shown))) (host_in_session (line_plan (bad_text bad))) w w
     (stops_on_host (line_plan (bad_text bad)) w.0.0 w.0.1 w.0.1 w.1 (line-lacks (bad_text bad) w.0.1 w.0.1 refl))
 lacks-judged shown command w None = inl refl
 
@@ -73,11 +73,11 @@ pub replied-comes : (shown after : Option ℕ) (command : Command) (ls : List (L
     Comes conversing ((s, m), f) ((t, n), g) (Err OutOfMemory) (map_ok (λ u. after) r) (answered_plan shown command)
 unfolding answered_plan judge_plan reply_plan bind end_of Stops conversing
 replied-comes shown after command ls s t m n f g r e d c =
-    let h = shows after (on_host (lines_plan ls)) ((t, m), g) ((t, n), g) r (host-comes (lines_plan ls) t m n g (Err OutOfMemory) r c) in
+    let h = shows after (host_in_session (lines_plan ls)) ((t, m), g) ((t, n), g) r (host-comes (lines_plan ls) t m n g (Err OutOfMemory) r c) in
     record {
-      ending = λ ne. h.ending ne ∙ sym (ap (λ (b : Option Bad). end_of conversing (judged shown command b) ((s, m), f)) e ∙ ap (λ x. end_of conversing (showing x.shown (on_host (lines_plan x.lines))) ((x.state, m), x.flags)) d);
+      ending = λ ne. h.ending ne ∙ sym (ap (λ (b : Option Bad). end_of conversing (judged shown command b) ((s, m), f)) e ∙ ap (λ x. end_of conversing (showing x.shown (host_in_session (lines_plan x.lines))) ((x.state, m), x.flags)) d);
       stopping = λ o. inr (subst (λ (b : Option Bad). Stops conversing ((t, n), g) (judged shown command b) ((s, m), f)) (sym e)
-          (inr (subst (λ x. Stops conversing ((t, n), g) (showing x.shown (on_host (lines_plan x.lines))) ((x.state, m), x.flags)) (sym d) (h.stopping o))));
+          (inr (subst (λ x. Stops conversing ((t, n), g) (showing x.shown (host_in_session (lines_plan x.lines))) ((x.state, m), x.flags)) (sym d) (h.stopping o))));
     }
 
 -- ---- each command

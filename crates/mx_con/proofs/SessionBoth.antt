@@ -12,10 +12,10 @@ use Rattle.mx_core.specs.Bounds.{as_list_state}
 use Rattle.mx_core.specs.State.{State}
 use Rattle.mx_run.specs.Runs.{FlagsOf}
 use Rattle.mx_run.specs.WildRuns.{list_machine}
-use Rattle.mx_con.specs.Clauses.{as_list_world, IsUntouched, WritesOn, GoesAsList, SitsBoth, RestsBoth}
+use Rattle.mx_con.specs.Clauses.{as_list_world, IsUntouched, WritesOn, GoesAsList, ConversesBoth, RestsBoth}
 use Rattle.mx_con.specs.LinePlans.{on_ok}
 use Rattle.mx_con.specs.Session.{session_goes}
-use Rattle.mx_con.specs.SessionPlans.{SessionWorld, SessionPlan, Part, conversing, on_host}
+use Rattle.mx_con.specs.SessionPlans.{SessionWorld, SessionPlan, Part, conversing, host_in_session}
 use Rattle.mx_con.specs.declared.end.SessionEnd.{SessionEnd}
 use Rattle.mx_con.specs.declared.end.SessionEnd.TheVariants.{OutOfMemory}
 use Rattle.mx_con.proofs.HeldSessions.{streams-end, part-streams}
@@ -35,9 +35,9 @@ pub listed-returns : {A : Type 0} (a : A) (w : SessionWorld) → IsUntouched w �
 unfolding course end_of
 listed-returns a w u = (refl, (refl, u))
 
-pub listed-host : {A : Type 0} (p : HostPlan A) (s : State) (m : HostModel) (f : FlagsOf) → IsUntouched ((s, m), f) → Listed (on_host p) ((s, m), f)
+pub listed-host : {A : Type 0} (p : HostPlan A) (s : State) (m : HostModel) (f : FlagsOf) → IsUntouched ((s, m), f) → Listed (host_in_session p) ((s, m), f)
 listed-host {A} p s m f u =
-    subst (λ (t : A × SessionWorld). GoesAsList (course (session_goes list_machine) (on_host p) ((as_list_state s, m), f)) t.0 t.1) (sym (end_on_host p s m f))
+    subst (λ (t : A × SessionWorld). GoesAsList (course (session_goes list_machine) (host_in_session p) ((as_list_state s, m), f)) t.0 t.1) (sym (end_on_host p s m f))
     (subst (λ (c : Course A SessionWorld). GoesAsList c (end_of host p m).0 ((s, (end_of host p m).1), f)) (sym (course_on_host list_machine p (as_list_state s) m f)) (refl, (refl, u)))
 
 -- what follows
@@ -67,7 +67,7 @@ pub listed-then : {A B : Type 0} (f : A → Part B) (p : Part A) (w : SessionWor
 listed-then f p w h next = listed-bind (on_ok f) p w h (λ u. listed-ok f (end_of conversing p w).0 (end_of conversing p w).1 u (λ x. next x (end_of conversing p w).1 u))
 
 -- what the code knows of a plan over the window, where the plan goes alike, is what is asked of it over both
-pub listed-both : {A : Type 0} (p : SessionPlan A) (none r : A) (v w : SessionWorld) → (IsUntouched v → Listed p v) → Comes conversing v w none r p → SitsBoth v w none r p
+pub listed-both : {A : Type 0} (p : SessionPlan A) (none r : A) (v w : SessionWorld) → (IsUntouched v → Listed p v) → Comes conversing v w none r p → ConversesBoth v w none r p
 listed-both {A} p none r v w h c = record {
   window = c;
   list = λ u ne. subst (λ (t : A × SessionWorld). GoesAsList (course (session_goes list_machine) p (as_list_world v)) t.0 t.1) (sym (c.ending ne)) (h u);
@@ -75,8 +75,8 @@ listed-both {A} p none r v w h c = record {
 
 -- ---- parts over both machines
 
-pub then-both : {A B : Type 0} (f : A → Part B) (p : Part A) (x : A) (v w u : SessionWorld) (r : Result B SessionEnd) → SitsBoth v w (Err OutOfMemory) (Ok x) p → SitsBoth w u (Err OutOfMemory) r (f x) →
-    SitsBoth v u (Err OutOfMemory) r (bind (on_ok f) p)
+pub then-both : {A B : Type 0} (f : A → Part B) (p : Part A) (x : A) (v w u : SessionWorld) (r : Result B SessionEnd) → ConversesBoth v w (Err OutOfMemory) (Ok x) p → ConversesBoth w u (Err OutOfMemory) r (f x) →
+    ConversesBoth v u (Err OutOfMemory) r (bind (on_ok f) p)
 then-both f p x v w u r h n =
     both-then conversing (session_goes list_machine) as_list_world IsUntouched WritesOn (on_ok f) p (Ok x) (Err OutOfMemory) (Err OutOfMemory) r v w u (λ e. absurd (cc)) (writes (f x) w u r n.window) h n
 
@@ -86,22 +86,22 @@ pub all-both : {A : Type 0} (p : SessionPlan A) (w : SessionWorld) → RestsBoth
 all-both p w = record { window = record { ending = refl; stopping = λ v h. h }; list = λ u. alike u refl }
 
 -- the next part of it is done
-pub rest-next : {A B : Type 0} (f : A → Part B) (p : Part A) (x : A) (v w start : SessionWorld) (whole : Part B) → RestsBoth (bind (on_ok f) p) v whole start → SitsBoth v w (Err OutOfMemory) (Ok x) p →
+pub rest-next : {A B : Type 0} (f : A → Part B) (p : Part A) (x : A) (v w start : SessionWorld) (whole : Part B) → RestsBoth (bind (on_ok f) p) v whole start → ConversesBoth v w (Err OutOfMemory) (Ok x) p →
     RestsBoth (f x) w whole start
 rest-next f p x v w start whole r h =
     rest-both conversing (session_goes list_machine) as_list_world IsUntouched WritesOn (on_ok f) p (Ok x) (Err OutOfMemory) v w start whole (λ e. absurd (cc)) (writes p v w (Ok x) h.window) h r
 
-pub done-both : {A : Type 0} (r : Result A SessionEnd) (w : SessionWorld) → r ≢ Err OutOfMemory → SitsBoth w w (Err OutOfMemory) r (returns r)
+pub done-both : {A : Type 0} (r : Result A SessionEnd) (w : SessionWorld) → r ≢ Err OutOfMemory → ConversesBoth w w (Err OutOfMemory) r (returns r)
 done-both r w ne = listed-both (returns r) (Err OutOfMemory) r w w (listed-returns r w) (returned conversing r w ne)
 
 -- an answer is left
-pub rest-answer : {A : Type 0} (r : Result A SessionEnd) (w start : SessionWorld) (whole : Part A) → r ≢ Err OutOfMemory → RestsBoth (returns r) w whole start → SitsBoth start w (Err OutOfMemory) r whole
+pub rest-answer : {A : Type 0} (r : Result A SessionEnd) (w start : SessionWorld) (whole : Part A) → r ≢ Err OutOfMemory → RestsBoth (returns r) w whole start → ConversesBoth start w (Err OutOfMemory) r whole
 rest-answer r w start whole ne l =
     whole-both conversing (session_goes list_machine) as_list_world IsUntouched WritesOn (returns r) whole (Err OutOfMemory) r w w start (λ v h. h) (done-both r w ne) l
 
 -- or ends the session
-pub rest-over : {A B : Type 0} (f : A → Part B) (p : Part A) (end : SessionEnd) (v w start : SessionWorld) (whole : Part B) → RestsBoth (bind (on_ok f) p) v whole start → SitsBoth v w (Err OutOfMemory) (Err end) p →
-    SitsBoth start w (Err OutOfMemory) (Err end) whole
+pub rest-over : {A B : Type 0} (f : A → Part B) (p : Part A) (end : SessionEnd) (v w start : SessionWorld) (whole : Part B) → RestsBoth (bind (on_ok f) p) v whole start → ConversesBoth v w (Err OutOfMemory) (Err end) p →
+    ConversesBoth start w (Err OutOfMemory) (Err end) whole
 rest-over f p end v w start whole r h = record {
   window = rest-ended conversing f p end v w start whole r.window h.window;
   list = λ u ne. (rest-answer (Err end) w start whole ne
@@ -109,5 +109,5 @@ rest-over f p end v w start whole r h = record {
 }
 
 -- a part that ends the session, whatever would follow
-pub over-both : {A B : Type 0} (f : A → Part B) (p : Part A) (end : SessionEnd) (v w : SessionWorld) → SitsBoth v w (Err OutOfMemory) (Err end) p → SitsBoth v w (Err OutOfMemory) (Err end) (bind (on_ok f) p)
+pub over-both : {A B : Type 0} (f : A → Part B) (p : Part A) (end : SessionEnd) (v w : SessionWorld) → ConversesBoth v w (Err OutOfMemory) (Err end) p → ConversesBoth v w (Err OutOfMemory) (Err end) (bind (on_ok f) p)
 over-both f p end v w h = rest-over f p end v w v (bind (on_ok f) p) (all-both (bind (on_ok f) p) v) h

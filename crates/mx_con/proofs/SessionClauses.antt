@@ -3,7 +3,7 @@ use Rattle.std.proofs.Common.{◌≡◌, ◌≢◌, ℕ, Option, ◌∙◌, ap, 
 use Rattle.mx_word.specs.Lists.{IsFront}
 use Rattle.mx_host.specs.HostModel.{HostModel, tells, contents}
 use Rattle.mx_host.specs.Keeping.{Keeps}
-use Rattle.mx_plan.specs.Clauses.{Stands}
+use Rattle.mx_plan.specs.Clauses.{KeepsHost}
 use Rattle.mx_plan.specs.Plan.{Comes}
 use Rattle.mx_plan.specs.Wild.{ends}
 use Rattle.mx_core.specs.State.{State}
@@ -27,7 +27,7 @@ session-begun steps s t f g m n end c e =
     subst (λ r. IsFront n.output (session_output r)) (session-end steps s f m) (output-front (session_plan steps) ((t, n), g) ((s, m), f) (c.stopping e))
 
 pub session-keeps : (old new : Option HostModel) (earlier later steps : ℕ) (s t : State) (f g : FlagsOf) (end : SessionEnd) →
-    (IsTrue (tells old) → Comes conversing ((s, contents old), f) ((t, contents new), g) OutOfMemory end (session_plan steps)) → Stands old new earlier later → Keeps old new earlier later
+    (IsTrue (tells old) → Comes conversing ((s, contents old), f) ((t, contents new), g) OutOfMemory end (session_plan steps)) → KeepsHost old new earlier later → Keeps old new earlier later
 session-keeps old new earlier later steps s t f g end c h =
     keeps-by old new earlier later h (λ u. session-streams ((s, contents old), f) ((t, contents new), g) end (session_plan steps) (c u))
 

@@ -10,24 +10,24 @@ use Rattle.mx_run.specs.RunPlans.{turning, looking, RunWorld, RunPlan, running, 
 use Rattle.mx_run.specs.Runs.{FlagsOf}
 use Rattle.mx_run.specs.WildRuns.{MachineKind, window_machine}
 use Rattle.mx_con.specs.Session.{keeping_flags, session_goes, session_ended, session}
-use Rattle.mx_con.specs.SessionPlans.{SessionCall, of_run, SessionSays, SessionWorld, SessionPlan, conversing, beside_machine, on_host, session_plan}
+use Rattle.mx_con.specs.SessionPlans.{SessionCall, of_run, SessionSays, SessionWorld, SessionPlan, conversing, beside_machine, host_in_session, session_plan}
 
 -- ---- over the host alone
 
-pub end_on_host : {A : Type 0} (p : HostPlan A) (s : State) (m : HostModel) (f : FlagsOf) → end_of conversing (on_host p) ((s, m), f) ≡ beside_machine ((s, m), f) (end_of host p m)
-unfolding on_host end_of conversing
+pub end_on_host : {A : Type 0} (p : HostPlan A) (s : State) (m : HostModel) (f : FlagsOf) → end_of conversing (host_in_session p) ((s, m), f) ≡ beside_machine ((s, m), f) (end_of host p m)
+unfolding host_in_session end_of conversing
 end_on_host (returns a) s m f = refl
 end_on_host (calls o k) s m f = end_on_host (k (host.act o m).0) s (host.act o m).1 f
 
-pub stops_on_host : {A : Type 0} (p : HostPlan A) (s : State) (m n : HostModel) (f : FlagsOf) → Stops host n p m → Stops conversing ((s, n), f) (on_host p) ((s, m), f)
-unfolding on_host Stops conversing
+pub stops_on_host : {A : Type 0} (p : HostPlan A) (s : State) (m n : HostModel) (f : FlagsOf) → Stops host n p m → Stops conversing ((s, n), f) (host_in_session p) ((s, m), f)
+unfolding host_in_session Stops conversing
 stops_on_host (returns a) s m n f h = absurd h
 stops_on_host (calls o k) s m n f (inl e) = inl (refl, (refl, e))
 stops_on_host (calls o k) s m n f (inr h) = inr (stops_on_host (k (host.act o m).0) s (host.act o m).1 n f h)
 
 pub course_on_host : {A : Type 0} (kind : MachineKind) (p : HostPlan A) (s : State) (m : HostModel) (f : FlagsOf) →
-    course (session_goes kind) (on_host p) ((s, m), f) ≡ ends (end_of host p m).0 ((s, (end_of host p m).1), f)
-unfolding on_host course end_of conversing
+    course (session_goes kind) (host_in_session p) ((s, m), f) ≡ ends (end_of host p m).0 ((s, (end_of host p m).1), f)
+unfolding host_in_session course end_of conversing
 course_on_host kind (returns a) s m f = refl
 course_on_host kind (calls o k) s m f = course_on_host kind (k (host.act o m).0) s (host.act o m).1 f
 

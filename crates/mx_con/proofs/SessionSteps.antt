@@ -13,12 +13,12 @@ use Rattle.mx_show.specs.Texts.{state_text}
 use Rattle.mx_con.specs.Judgement.{bad_text}
 use Rattle.mx_con.specs.LinePlans.{text_plan, line_plan, lines_plan, LineRead, prompt, reading_plan, asking_plan}
 use Rattle.mx_con.specs.Replies.{flag_lines, tetra_count}
-use Rattle.mx_con.specs.SessionPlans.{SessionWorld, Part, conversing, on_host, stepped_plan, answered_plan, command_plan, with_left, lines_of_session, most_input, end_of_session, session_plan}
+use Rattle.mx_con.specs.SessionPlans.{SessionWorld, Part, conversing, host_in_session, stepped_plan, answered_plan, command_plan, with_left, lines_of_session, most_input, end_of_session, session_plan}
 use Rattle.mx_con.specs.declared.dialog.Dialog.{Dialog}
 use Rattle.mx_con.specs.declared.end.SessionEnd.{SessionEnd}
 use Rattle.mx_con.specs.declared.end.SessionEnd.TheVariants.{Quit, Limit, OutOfMemory}
 use Rattle.mx_con.specs.declared.judgement.Bad.TheVariants.{UnknownCommand}
-use Rattle.mx_con.specs.Clauses.{Proceeds}
+use Rattle.mx_con.specs.Clauses.{DoesPlan}
 use Rattle.mx_con.proofs.Parts.{part-so}
 use Rattle.mx_con.proofs.Rests.{then-comes, part-ends, returned}
 use Rattle.mx_con.proofs.ReplyPlans.{shows, state-comes, flags-comes}
@@ -43,7 +43,7 @@ pub unknown-comes : (steps : ℕ) (shown : Option ℕ) (s : State) (m n : HostMo
     Comes conversing ((s, m), f) ((s, n), f) (Err OutOfMemory) (map_ok (λ u. shown) r) (command_plan steps shown None)
 unfolding command_plan
 unknown-comes steps shown s m n f r c =
-    shows shown (on_host (line_plan (bad_text UnknownCommand))) ((s, m), f) ((s, n), f) r (host-comes (line_plan (bad_text UnknownCommand)) s m n f (Err OutOfMemory) r c)
+    shows shown (host_in_session (line_plan (bad_text UnknownCommand))) ((s, m), f) ((s, n), f) r (host-comes (line_plan (bad_text UnknownCommand)) s m n f (Err OutOfMemory) r c)
 
 pub step-comes : (steps : ℕ) (shown : Option ℕ) (v w : SessionWorld) (r : Result (Unit {0}) SessionEnd) → Comes conversing v w (Err OutOfMemory) r (stepped_plan steps) →
     Comes conversing v w (Err OutOfMemory) (map_ok (λ u. shown) r) (command_plan steps shown (Some command.Step))
@@ -80,7 +80,7 @@ answered-comes steps shown v w r command.Quit i c = absurd i
 answered-comes steps shown v w r command i c = c
 
 pub answered-part : {Host : Type 0} {says : Host → Option HostModel} {faults : Host → ℕ} {a b : Host} {v w : SessionWorld} {r : Result (Option ℕ) SessionEnd} (steps : ℕ) (shown : Option ℕ) (command : Command) → IsAnswered command →
-    Proceeds conversing says faults a b v w r (answered_plan shown command) → Proceeds conversing says faults a b v w r (command_plan steps shown (Some command))
+    DoesPlan conversing says faults a b v w r (answered_plan shown command) → DoesPlan conversing says faults a b v w r (command_plan steps shown (Some command))
 answered-part {v = v} {w = w} {r = r} steps shown command i h = part-so h (λ c. answered-comes steps shown v w r command i c)
 
 -- ---- a session

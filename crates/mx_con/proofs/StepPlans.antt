@@ -7,7 +7,7 @@ use Rattle.mx_plan.specs.Calls.{host, HostPlan}
 use Rattle.mx_plan.specs.Wild.{Course, ends, meets_wild, then_on, course, GoesAs, alike}
 use Rattle.mx_plan.proofs.Plans.{stops_first}
 use Rattle.mx_plan.proofs.WildLaws.{EndsSo}
-use Rattle.mx_plan.specs.Clauses.{Stands}
+use Rattle.mx_plan.specs.Clauses.{KeepsHost}
 use Rattle.mx_core.specs.Bounds.{as_list_state}
 use Rattle.mx_core.specs.State.{State}
 use Rattle.mx_code.specs.declared.trace.Trace.{Trace}
@@ -25,12 +25,12 @@ use Rattle.mx_con.specs.ConsoleTexts.{break_text}
 use Rattle.mx_show.specs.Texts.{trace_text}
 use Rattle.mx_con.specs.LinePlans.{on_ok, line_plan}
 use Rattle.mx_con.specs.Session.{keeping_flags, session_goes}
-use Rattle.mx_con.specs.SessionPlans.{SessionWorld, Part, conversing, beside_machine, beside_flags, on_host, turn_made, run_made, count_plan, place_plan, trace_plan, traced_plan, after_turn, turn_at, turned_plan, stepped_plan, going, broke_plan, break_plan, after_end, one_run_plan, run_on, runs_plan, continued_plan}
+use Rattle.mx_con.specs.SessionPlans.{SessionWorld, Part, conversing, beside_machine, beside_flags, host_in_session, turn_made, run_made, count_plan, place_plan, trace_plan, traced_plan, after_turn, turn_at, turned_plan, stepped_plan, going, broke_plan, break_plan, after_end, one_run_plan, run_on, runs_plan, continued_plan}
 use Rattle.mx_con.specs.declared.end.SessionEnd.{SessionEnd}
 use Rattle.mx_con.specs.declared.end.SessionEnd.TheVariants.{Halted, Stopped, Spent, OutOfMemory}
-use Rattle.mx_con.specs.Clauses.{IsPart, Proceeds, Talks, GoesAsList, SitsBoth, RestsBoth}
+use Rattle.mx_con.specs.Clauses.{DoesSessionPart, DoesPlan, DoesOnHost, GoesAsList, ConversesBoth, RestsBoth}
 use Rattle.mx_con.proofs.ListedRuns.{listed-end}
-use Rattle.mx_con.proofs.Parts.{IsLeft, part-behind, part-with, part-over, part-alone, all-left, next-left, over-left, answer-left}
+use Rattle.mx_con.proofs.Parts.{IsLeft, part-after, part-with, part-over, part-alone, all-left, next-left, over-left, answer-left}
 use Rattle.mx_con.proofs.QuietTraces.{EndOutside, run-outside}
 use Rattle.mx_con.proofs.Rests.{bind-comes, then-comes, part-ends, returned}
 use Rattle.mx_con.proofs.SessionBoth.{writes, listed-both, rest-next, rest-over, rest-answer}
@@ -38,7 +38,7 @@ use Rattle.mx_con.proofs.SessionCourses.{end_on_host, stops_on_host}
 
 -- ---- over the host alone
 
-pub host-comes : {A : Type 0} (p : HostPlan A) (s : State) (m n : HostModel) (f : FlagsOf) (none r : A) → Comes host m n none r p → Comes conversing ((s, m), f) ((s, n), f) none r (on_host p)
+pub host-comes : {A : Type 0} (p : HostPlan A) (s : State) (m n : HostModel) (f : FlagsOf) (none r : A) → Comes host m n none r p → Comes conversing ((s, m), f) ((s, n), f) none r (host_in_session p)
 host-comes {A} p s m n f none r c = record {
   ending = λ ne. ap (λ (t : A × HostModel). beside_machine ((s, m), f) t) (c.ending ne) ∙ sym (end_on_host p s m f);
   stopping = λ e. stops_on_host p s m n f (c.stopping e);
@@ -77,19 +77,19 @@ goes-on-so more p v w c =
     then-comes conversing (λ (u : Unit {0}). returns (Ok more)) p tt v w w (Ok more) (c.ending (λ e. absurd (cc))) (returned conversing (Ok more) w (λ e. absurd (cc)))
 
 pub broke-ended : {Host : Type 0} {says : Host → Option HostModel} {faults : Host → ℕ} {a b : Host} (kind : BreakKind) (at : ℕ) (traced : Option Trace) (v w : SessionWorld) →
-    Proceeds conversing says faults a b v w (Ok tt) (break_plan kind at traced) → Proceeds conversing says faults a b v w (Ok false) (after_end (ending.Broke kind at traced))
+    DoesPlan conversing says faults a b v w (Ok tt) (break_plan kind at traced) → DoesPlan conversing says faults a b v w (Ok false) (after_end (ending.Broke kind at traced))
 broke-ended kind at traced v w h = part-with (λ (u : Unit {0}). false) (Ok tt) h (λ c. goes-on-so false (break_plan kind at traced) v w c)
 
 pub broke-over : {Host : Type 0} {says : Host → Option HostModel} {faults : Host → ℕ} {a b : Host} (kind : BreakKind) (at : ℕ) (traced : Option Trace) (v w : SessionWorld) (end : SessionEnd) →
-    Proceeds conversing says faults a b v w (Err end) (break_plan kind at traced) → Proceeds conversing says faults a b v w (Err end) (after_end (ending.Broke kind at traced))
+    DoesPlan conversing says faults a b v w (Err end) (break_plan kind at traced) → DoesPlan conversing says faults a b v w (Err end) (after_end (ending.Broke kind at traced))
 broke-over kind at traced v w end h = part-over end h (λ c. part-ends conversing (λ (u : Unit {0}). returns (Ok false)) (break_plan kind at traced) end v w c)
 
-pub traced-ended : {Host : Type 0} {says : Host → Option HostModel} {faults : Host → ℕ} {a b : Host} (trace : Trace) (s : State) (f : FlagsOf) → Talks says faults a b (Ok tt) (line_plan (trace_text trace s)) →
-    Proceeds conversing says faults a b ((s, contents (says a)), f) ((s, contents (says b)), f) (Ok true) (after_end (ending.Traced trace))
+pub traced-ended : {Host : Type 0} {says : Host → Option HostModel} {faults : Host → ℕ} {a b : Host} (trace : Trace) (s : State) (f : FlagsOf) → DoesOnHost says faults a b (Ok tt) (line_plan (trace_text trace s)) →
+    DoesPlan conversing says faults a b ((s, contents (says a)), f) ((s, contents (says b)), f) (Ok true) (after_end (ending.Traced trace))
 traced-ended trace s f h = part-with (λ (u : Unit {0}). true) (Ok tt) h (λ c. goes-on-so true (traced_plan trace) _ _ (traced-comes trace s _ _ f (Ok tt) c))
 
-pub traced-over : {Host : Type 0} {says : Host → Option HostModel} {faults : Host → ℕ} {a b : Host} (trace : Trace) (s : State) (f : FlagsOf) (end : SessionEnd) → Talks says faults a b (Err end) (line_plan (trace_text trace s)) →
-    Proceeds conversing says faults a b ((s, contents (says a)), f) ((s, contents (says b)), f) (Err end) (after_end (ending.Traced trace))
+pub traced-over : {Host : Type 0} {says : Host → Option HostModel} {faults : Host → ℕ} {a b : Host} (trace : Trace) (s : State) (f : FlagsOf) (end : SessionEnd) → DoesOnHost says faults a b (Err end) (line_plan (trace_text trace s)) →
+    DoesPlan conversing says faults a b ((s, contents (says a)), f) ((s, contents (says b)), f) (Err end) (after_end (ending.Traced trace))
 traced-over trace s f end h = part-over end h (λ c. part-ends conversing (λ (u : Unit {0}). returns (Ok true)) (traced_plan trace) end _ _ (traced-comes trace s _ _ f (Err end) c))
 
 pub halted-ended : (status : ℕ) (w : SessionWorld) → Comes conversing w w (Err OutOfMemory) (Err (Halted status)) (after_end (ending.Halted status))
@@ -155,7 +155,7 @@ run-listed (meets_wild v) end t k u f r o h c ne = writes (after_end end) ((t, k
 
 one-run-both : (steps n : ℕ) (pass : Bool) (f : FlagsOf) (end : End) (s t : State) (m k u : HostModel) (r : Result Bool SessionEnd) → n ≡ steps - s.steps →
     runs.RunsBoth (s, m) (t, k) ending.OutOfMemory end (run_plan n f pass) → Finishes end t k u f r → (end ≡ ending.OutOfMemory → r ≡ Err OutOfMemory) → (end ≡ ending.OutOfMemory → u ≡ k) →
-    SitsBoth ((s, m), f) ((t, u), f) (Err OutOfMemory) r (one_run_plan steps pass)
+    ConversesBoth ((s, m), f) ((t, u), f) (Err OutOfMemory) r (one_run_plan steps pass)
 unfolding one_run_plan count_plan run_made bind course run_by conversing
 one-run-both steps n pass f end s t m k u r e h c lacked same = record {
   window = one-run-comes steps n pass f end s t m k u r e h.window c lacked same;
@@ -167,24 +167,24 @@ one-run-both steps n pass f end s t m k u r e h c lacked same = record {
 
 one-run-made : (steps n : ℕ) (pass : Bool) (f g : FlagsOf) (end : End) (s t : State) (m k u : HostModel) (r : Result Bool SessionEnd) → n ≡ steps - s.steps → g ≡ f →
     runs.RunsBoth (s, m) (t, k) ending.OutOfMemory end (run_plan n f pass) → Finishes end t k u g r → (end ≡ ending.OutOfMemory → r ≡ Err OutOfMemory) → (end ≡ ending.OutOfMemory → u ≡ k) →
-    SitsBoth ((s, m), f) ((t, u), g) (Err OutOfMemory) r (one_run_plan steps pass)
+    ConversesBoth ((s, m), f) ((t, u), g) (Err OutOfMemory) r (one_run_plan steps pass)
 one-run-made steps n pass f g end s t m k u r e fl h c lacked same = rw fl (one-run-both steps n pass f end s t m k u r e h (subst (λ x. Finishes end t k u x r) fl c) lacked same)
 
 pub one-run-part : {Host : Type 0} (says : Host → Option HostModel) (faults : Host → ℕ) (a b c : Host) (steps n : ℕ) (pass : Bool) (f g : FlagsOf) (end : End) (s t : State) (r : Result Bool SessionEnd) → n ≡ steps - s.steps →
-    g ≡ f → Stands (says a) (says b) (faults a) (faults b) → (IsTrue (tells (says a)) → runs.RunsBoth (s, contents (says a)) (t, contents (says b)) ending.OutOfMemory end (run_plan n f pass)) →
-    (end ≢ ending.OutOfMemory → Proceeds conversing says faults b c ((t, contents (says b)), g) ((t, contents (says c)), g) r (after_end end)) →
+    g ≡ f → KeepsHost (says a) (says b) (faults a) (faults b) → (IsTrue (tells (says a)) → runs.RunsBoth (s, contents (says a)) (t, contents (says b)) ending.OutOfMemory end (run_plan n f pass)) →
+    (end ≢ ending.OutOfMemory → DoesPlan conversing says faults b c ((t, contents (says b)), g) ((t, contents (says c)), g) r (after_end end)) →
     (end ≡ ending.OutOfMemory → r ≡ Err OutOfMemory) → (end ≡ ending.OutOfMemory → c ≡ b) →
-    IsPart says faults a c r (SitsBoth ((s, contents (says a)), f) ((t, contents (says c)), g) (Err OutOfMemory) r (one_run_plan steps pass))
+    DoesSessionPart says faults a c r (ConversesBoth ((s, contents (says a)), f) ((t, contents (says c)), g) (Err OutOfMemory) r (one_run_plan steps pass))
 one-run-part {Host} says faults a b c steps n pass f g end s t r e fl h run k lacked same = by (wanting end)
   where
-    made : IsTrue (tells (says a)) → SitsBoth ((s, contents (says a)), f) ((t, contents (says c)), g) (Err OutOfMemory) r (one_run_plan steps pass)
+    made : IsTrue (tells (says a)) → ConversesBoth ((s, contents (says a)), f) ((t, contents (says c)), g) (Err OutOfMemory) r (one_run_plan steps pass)
     made v =
         one-run-made steps n pass f g end s t (contents (says a)) (contents (says b)) (contents (says c)) r e fl (run v)
         (λ ne. (k ne).told (subst IsTrue (sym h.0) v)) lacked (λ o. ap (λ (x : Host). contents (says x)) (same o))
 
-    by : (end ≡ ending.OutOfMemory) ⊎ (end ≢ ending.OutOfMemory) → IsPart says faults a c r (SitsBoth ((s, contents (says a)), f) ((t, contents (says c)), g) (Err OutOfMemory) r (one_run_plan steps pass))
-    by (inl o) = part-alone (subst (λ (x : Host). Stands (says a) (says x) (faults a) (faults x)) (sym (same o)) h) (λ x. let lost = lacked o in absurd (cc)) made
-    by (inr ne) = part-behind h (k ne) (λ x. x) (λ v x. made v)
+    by : (end ≡ ending.OutOfMemory) ⊎ (end ≢ ending.OutOfMemory) → DoesSessionPart says faults a c r (ConversesBoth ((s, contents (says a)), f) ((t, contents (says c)), g) (Err OutOfMemory) r (one_run_plan steps pass))
+    by (inl o) = part-alone (subst (λ (x : Host). KeepsHost (says a) (says x) (faults a) (faults x)) (sym (same o)) h) (λ x. let lost = lacked o in absurd (cc)) made
+    by (inr ne) = part-after h (k ne) (λ x. x) (λ v x. made v)
 
 -- ---- one step
 
@@ -288,7 +288,7 @@ one-and-more start v n i steps pass whole l h = subst (λ p. RestsBoth p v whole
 
 -- the next run is made, and they go on; or pause; or end the session
 abbrev OneRun : {Host : Type 0} → (Host → Option HostModel) → (Host → ℕ) → Host → Host → SessionWorld → SessionWorld → ℕ → Bool → Result Bool SessionEnd → Type 0
-OneRun says faults b c v w steps pass r = IsPart says faults b c r (SitsBoth v w (Err OutOfMemory) r (one_run_plan steps pass))
+OneRun says faults b c v w steps pass r = DoesSessionPart says faults b c r (ConversesBoth v w (Err OutOfMemory) r (one_run_plan steps pass))
 
 pub runs-went : {Host : Type 0} (says : Host → Option HostModel) (faults : Host → ℕ) (a b c : Host) (start v w : SessionWorld) (n i steps : ℕ) (pass : Bool) (whole : Part (Unit {0})) → i < n →
     RunsLeft says faults a b start v n i steps pass whole → OneRun says faults b c v w steps pass (Ok true) → RunsLeft says faults a c start w n (i + 1) steps false whole
@@ -297,7 +297,7 @@ runs-went says faults a b c start v w n i steps pass whole l h k =
 
 pub runs-paused : {Host : Type 0} (says : Host → Option HostModel) (faults : Host → ℕ) (a b c : Host) (start v w : SessionWorld) (n i steps : ℕ) (pass : Bool) (whole : Part (Unit {0})) → i < n →
     RunsLeft says faults a b start v n i steps pass whole → OneRun says faults b c v w steps pass (Ok false) →
-    IsPart {A = Unit {0}} says faults a c (Ok tt) (SitsBoth start w (Err OutOfMemory) (Ok tt) whole)
+    DoesSessionPart {A = Unit {0}} says faults a c (Ok tt) (ConversesBoth start w (Err OutOfMemory) (Ok tt) whole)
 runs-paused says faults a b c start v w n i steps pass whole l h k =
     answer-left (λ o. absurd (cc))
     (next-left h k (λ r o. rest-next (run_on (runs_plan (n - (i + 1)) steps false)) (one_run_plan steps pass) false v w start whole (one-and-more start v n i steps pass whole l r) o))
@@ -305,12 +305,12 @@ runs-paused says faults a b c start v w n i steps pass whole l h k =
 
 pub runs-over : {Host : Type 0} (says : Host → Option HostModel) (faults : Host → ℕ) (a b c : Host) (start v w : SessionWorld) (n i steps : ℕ) (pass : Bool) (end : SessionEnd) (whole : Part (Unit {0})) → i < n →
     RunsLeft says faults a b start v n i steps pass whole → OneRun says faults b c v w steps pass (Err end) →
-    IsPart {A = Unit {0}} says faults a c (Err end) (SitsBoth start w (Err OutOfMemory) (Err end) whole)
+    DoesSessionPart {A = Unit {0}} says faults a c (Err end) (ConversesBoth start w (Err OutOfMemory) (Err end) whole)
 runs-over says faults a b c start v w n i steps pass end whole l h k =
     over-left end h k (λ r o. rest-over (run_on (runs_plan (n - (i + 1)) steps false)) (one_run_plan steps pass) end v w start whole (one-and-more start v n i steps pass whole l r) o)
 
 pub runs-spent : {Host : Type 0} (says : Host → Option HostModel) (faults : Host → ℕ) (a b : Host) (start w : SessionWorld) (n i steps : ℕ) (pass : Bool) (whole : Part (Unit {0})) → n ≤ i →
-    RunsLeft says faults a b start w n i steps pass whole → IsPart {A = Unit {0}} says faults a b (Err Spent) (SitsBoth start w (Err OutOfMemory) (Err Spent) whole)
+    RunsLeft says faults a b start w n i steps pass whole → DoesSessionPart {A = Unit {0}} says faults a b (Err Spent) (ConversesBoth start w (Err OutOfMemory) (Err Spent) whole)
 unfolding runs_plan
 runs-spent says faults a b start w n i steps pass whole l h =
     let none : n - i ≡ 0 = omega arith in

@@ -1,5 +1,5 @@
--- Plans, whatever their calls answer: the bytes of the console's input that they take, and that they answer no want of memory where
--- no call lacked it.
+-- Plans, whatever their calls answer: the bytes of the console's input that they take, and that they do not answer that memory ran out
+-- where no call lacked it.
 use Rattle.std.proofs.Common.{◌≡◌, ℕ, zero, suc, ◌≤◌, ◌+◌, ◌-◌, ◌==◌, List, [], ◌∷◌, ◌++◌, length, Bool, true, false, cond, None, Some, Ok, Err, le_refl, refl, subst, arith}
 use Rattle.std.specs.Prelude.{Option, Result, ◌&&◌}
 use Rattle.std.proofs.lemmas.Bool.{and_parts}
@@ -23,7 +23,7 @@ use Rattle.mx_con.specs.ConsoleTexts.{break_text}
 use Rattle.mx_show.specs.Texts.{ended}
 use Rattle.mx_con.specs.Judgement.{bad_text}
 use Rattle.mx_con.specs.LinePlans.{on_ok, written, text_plan, line_plan, lines_plan, byte_of, byte_plan, Growing, last_line, after_byte, grown_plan, LineRead, after_growing, reading_plan, prompt, asking_plan, without_return}
-use Rattle.mx_con.specs.SessionPlans.{SessionCall, of_host, of_turn, of_run, SessionSays, SessionPlan, Part, on_host, turn_made, run_made, reply_plan, count_plan, place_plan, trace_plan, judge_plan, traced_plan, after_turn, turn_at, turned_plan, stepped_plan, going, broke_plan, break_plan, after_end, one_run_plan, run_on, runs_plan, continued_plan, showing, judged, answered_plan, command_plan, with_left, line_done, one_line_plan, lines_of_session, most_input, end_of_session, session_plan}
+use Rattle.mx_con.specs.SessionPlans.{SessionCall, of_host, of_turn, of_run, SessionSays, SessionPlan, Part, host_in_session, turn_made, run_made, reply_plan, count_plan, place_plan, trace_plan, judge_plan, traced_plan, after_turn, turn_at, turned_plan, stepped_plan, going, broke_plan, break_plan, after_end, one_run_plan, run_on, runs_plan, continued_plan, showing, judged, answered_plan, command_plan, with_left, line_done, one_line_plan, lines_of_session, most_input, end_of_session, session_plan}
 use Rattle.mx_con.specs.Taking.{Takes, TakesAtMost}
 use Rattle.mx_con.specs.Told.{is_end_told}
 use Rattle.mx_con.specs.declared.dialog.Dialog.{Dialog}
@@ -91,8 +91,8 @@ of_a_host = record { may = CanSay; bytes = taken 258; told = is_host_told }
 abbrev of_a_session : Answering SessionCall SessionSays
 of_a_session = record { may = MaySay; bytes = took; told = is_say_told }
 
-walks-on-host : {A : Type 0} (Post : A → ℕ → Bool → Type 0) (p : HostPlan A) (n : ℕ) (b : Bool) → Walks of_a_host Post n b p → Walks of_a_session Post n b (on_host p)
-unfolding Walks on_host
+walks-on-host : {A : Type 0} (Post : A → ℕ → Bool → Type 0) (p : HostPlan A) (n : ℕ) (b : Bool) → Walks of_a_host Post n b p → Walks of_a_session Post n b (host_in_session p)
+unfolding Walks host_in_session
 walks-on-host Post (returns a) n b h = h
 walks-on-host Post (calls o k) n b h = λ r m. ((h r m).0, walks-on-host Post (k r) (n - taken 258 o r) (b && is_host_told o r) (h r m).1)
 
@@ -196,15 +196,15 @@ unfolding need Walks bind
 added-walks true got left x n b l = (l, λ e. refl)
 added-walks false got left x n b l = λ u m. (omega arith, (omega (arith, l), λ e. refl))
 
-behind-byte : (left n : ℕ) (b : Bool) (got : List ℕ) (r : Result (Option ℕ) SessionEnd) → Spared (spare_byte left) r n b → Grows left n b (after_byte left got r)
+after-byte : (left n : ℕ) (b : Bool) (got : List ℕ) (r : Result (Option ℕ) SessionEnd) → Spared (spare_byte left) r n b → Grows left n b (after_byte left got r)
 unfolding Walks
-behind-byte left n b got (Ok None) h = last-walks got left n b h.0
-behind-byte left n b got (Ok (Some x)) h = added-walks (x == 10) got left x n b h.0
-behind-byte left n b got (Err end) h = (omega arith, h.1)
+after-byte left n b got (Ok None) h = last-walks got left n b h.0
+after-byte left n b got (Ok (Some x)) h = added-walks (x == 10) got left x n b h.0
+after-byte left n b got (Err end) h = (omega arith, h.1)
 
 grown-walks : (left n : ℕ) (b : Bool) (got : List ℕ) → suc left ≤ n → Grows left n b (grown_plan left got)
 unfolding grown_plan
-grown-walks left n b got l = walks-bind of_a_host (Spared (spare_byte left)) (Spared (spare_grown left)) (after_byte left got) byte_plan n b (byte-walks left n b l) (λ r m c g. behind-byte left m c got r g)
+grown-walks left n b got l = walks-bind of_a_host (Spared (spare_byte left)) (Spared (spare_grown left)) (after_byte left got) byte_plan n b (byte-walks left n b l) (λ r m c g. after-byte left m c got r g)
 
 abbrev spare_line : LineRead → ℕ
 spare_line (Ok (got, left)) = left
@@ -213,18 +213,18 @@ spare_line (Err end) = 0
 abbrev Reads : ℕ → Bool → HostPlan LineRead → Type 0
 Reads n b p = Walks of_a_host (Spared spare_line) n b p
 
-behind-growing : (left : ℕ) → ((got : List ℕ) (n : ℕ) (b : Bool) → left ≤ n → Reads n b (reading_plan left got)) → (n : ℕ) (b : Bool) (r : Growing) → Spared (spare_grown left) r n b → Reads n b (on_ok (after_growing (reading_plan left)) r)
+after-growing : (left : ℕ) → ((got : List ℕ) (n : ℕ) (b : Bool) → left ≤ n → Reads n b (reading_plan left got)) → (n : ℕ) (b : Bool) (r : Growing) → Spared (spare_grown left) r n b → Reads n b (on_ok (after_growing (reading_plan left)) r)
 unfolding Walks
-behind-growing left more n b (Ok (true, got, few)) h = more got n b h.0
-behind-growing left more n b (Ok (false, got, few)) h = (h.0, λ e. refl)
-behind-growing left more n b (Err end) h = (omega arith, h.1)
+after-growing left more n b (Ok (true, got, few)) h = more got n b h.0
+after-growing left more n b (Ok (false, got, few)) h = (h.0, λ e. refl)
+after-growing left more n b (Err end) h = (omega arith, h.1)
 
 reading-walks : (left n : ℕ) (b : Bool) (got : List ℕ) → left ≤ n → Reads n b (reading_plan left got)
 unfolding reading_plan Walks
 reading-walks zero n b got l = (omega arith, λ e. refl)
 reading-walks (suc left) n b got l =
     walks-bind of_a_host (Spared (spare_grown left)) (Spared spare_line) (on_ok (after_growing (reading_plan left))) (grown_plan left got) n b (grown-walks left n b got l)
-    (λ r m c g. behind-growing left (λ h i d j. reading-walks left i d h j) m c r g)
+    (λ r m c g. after-growing left (λ h i d j. reading-walks left i d h j) m c r g)
 
 asking-walks : (left n : ℕ) (b : Bool) → left ≤ n → Reads n b (asking_plan left)
 unfolding asking_plan
@@ -236,7 +236,7 @@ asking-walks left n b l =
 abbrev Spends : {A : Type 0} → Part A → Type 0
 Spends p = Free of_a_session p
 
-written-line : (line : List ℕ) → Spends (on_host (line_plan line))
+written-line : (line : List ℕ) → Spends (host_in_session (line_plan line))
 written-line line k n b l = walks-on-host (Spared (λ r. k)) (line_plan line) n b (free-line line k n b l)
 
 traced-walks : (trace : Trace) → Spends (traced_plan trace)
@@ -311,10 +311,10 @@ showing-walks shown p h = free-then of_a_session (λ u. returns (Ok shown)) p h 
 
 judged-walks : (shown : Option ℕ) (command : Command) (bad : Option Bad) → Spends (judged shown command bad)
 unfolding reply_plan Walks bind
-judged-walks shown command (Some bad) k n b l = showing-walks shown (on_host (line_plan (bad_text bad))) (written-line (bad_text bad)) k n b l
+judged-walks shown command (Some bad) k n b l = showing-walks shown (host_in_session (line_plan (bad_text bad))) (written-line (bad_text bad)) k n b l
 judged-walks shown command None k n b l = λ r m. (
   omega arith,
-  showing-walks r.0 (on_host (lines_plan r.1)) (λ i j c h. walks-on-host (Spared (λ u. i)) (lines_plan r.1) j c (free-lines r.1 i j c h)) k (n - 0) (b && true) (omega (arith, l)),
+  showing-walks r.0 (host_in_session (lines_plan r.1)) (λ i j c h. walks-on-host (Spared (λ u. i)) (lines_plan r.1) j c (free-lines r.1 i j c h)) k (n - 0) (b && true) (omega (arith, l)),
 )
 
 answered-walks : (shown : Option ℕ) (command : Command) → Spends (answered_plan shown command)
@@ -323,7 +323,7 @@ answered-walks shown command k n b l = λ bad m. (omega arith, judged-walks show
 
 command-walks : (steps : ℕ) (shown : Option ℕ) (line : Option Command) → Spends (command_plan steps shown line)
 unfolding command_plan
-command-walks steps shown None = showing-walks shown (on_host (line_plan (bad_text UnknownCommand))) (written-line (bad_text UnknownCommand))
+command-walks steps shown None = showing-walks shown (host_in_session (line_plan (bad_text UnknownCommand))) (written-line (bad_text UnknownCommand))
 command-walks steps shown (Some Step) = showing-walks shown (stepped_plan steps) (stepped-walks steps)
 command-walks steps shown (Some Continue) = showing-walks shown (continued_plan steps) (continued-walks steps)
 command-walks steps shown (Some QuitCommand) = free-answer {A = Option ℕ} of_a_session (Err Quit) refl
@@ -348,7 +348,7 @@ done-walks steps shown line n b l =
 one-line-walks : (steps : ℕ) (d : Dialog) (n : ℕ) (b : Bool) → d.left ≤ n → Talking n b (one_line_plan steps d)
 unfolding one_line_plan
 one-line-walks steps d n b l =
-    then-walks of_a_session spare_line spare_dialog (line_done steps d.shown) (on_host (asking_plan d.left)) n b (λ end. omega arith)
+    then-walks of_a_session spare_line spare_dialog (line_done steps d.shown) (host_in_session (asking_plan d.left)) n b (λ end. omega arith)
     (walks-on-host (Spared spare_line) (asking_plan d.left) n b (asking-walks d.left n b l)) (λ line m c i. done-walks steps d.shown line m c i)
 
 lines-walk : (most steps : ℕ) (d : Dialog) (n : ℕ) (b : Bool) → d.left ≤ n → Talking n b (lines_of_session most steps d)
@@ -383,7 +383,7 @@ walks-take Post (calls other k) n b h = λ r. let all : n - 0 ≡ n = omega arit
 pub session-takes : (steps : ℕ) → TakesAtMost most_input (session_plan steps)
 session-takes steps = walks-take EndsTold (session_plan steps) most_input true (session-walks steps)
 
--- where a call answers what it may, and no want of memory
+-- where a call answers what it may, and not that memory ran out
 abbrev pub SessionTold : (o : SessionCall) → SessionSays o → Type 0
 SessionTold o r = MaySay o r × (is_say_told o r ≡ true)
 

@@ -7,7 +7,7 @@ use Rattle.mx_word.specs.Results.{map_ok}
 use Rattle.mx_host.specs.HostModel.{HostModel, tells, contents}
 use Rattle.mx_host.specs.Keeping.{OnlyByFailure}
 use Rattle.mx_plan.specs.Calls.{host, HostPlan}
-use Rattle.mx_plan.specs.Clauses.{Stands}
+use Rattle.mx_plan.specs.Clauses.{CarriesOut, KeepsHost}
 use Rattle.mx_plan.specs.Plan.{Plan, Acts, Comes}
 use Rattle.mx_plan.specs.Wild.{Course, ends, GoesAs, ComesBoth, IsRestBoth}
 use Rattle.mx_plan.specs.Wild as wild
@@ -29,42 +29,45 @@ use Rattle.mx_con.specs.declared.end.SessionEnd.TheVariants.{HostFault, OutOfMem
 abbrev pub world_of : Running → Option HostModel → SessionWorld
 world_of r told = ((state_of r.machine, contents told), flags_at r.flags)
 
--- Over a host that tells its contents, the plan is carried out: unless the answer is `none`, which is that of no memory, the
--- answer, the machine, the flags and the contents are its end; where it is, the calls that were completed stay, and of one
--- that lacked memory what it leaves then; nothing else changed.
-abbrev pub CarriesOutSession : {A : Type 0} → Option HostModel → Option HostModel → Running → Running → A → A → SessionPlan A → Type 0
-CarriesOutSession old new r s none result plan =
-    IsTrue (tells old) → Comes conversing (world_of r old) (world_of s new) none result plan
+-- a call carries out a plan over a runner and a host: the machine, the host and the flags
+abbrev pub CarriesOutOnRunner : {Host A : Type 0} → (Host → Option HostModel) → Host → Host → Running → Running → A → A → SessionPlan A → Type 0
+CarriesOutOnRunner says old new r s none result plan =
+    CarriesOut conversing (says old) (world_of r (says old)) (world_of s (says new)) none result plan
 
 -- ---- PARTS of a session
 
 -- A part is done, or it ends the session. Over a host that tells its contents this is `Told` of it. Over every host, as long as the
--- slots of the console lead to the streams, it ends the session with a fault of the host only by a call that failed; and what stands
--- of a host stands.
-pub record IsPart {Host A : Type 0} (says : Host → Option HostModel) (faults : Host → ℕ) (old new : Host) (result : Result A SessionEnd) (Told : Type 0) : Type 0 where
+-- slots of the console lead to the streams, it ends the session with a fault of the host only by a call that failed; and what
+-- is kept of a host is kept.
+pub record DoesSessionPart {Host A : Type 0} (says : Host → Option HostModel) (faults : Host → ℕ) (old new : Host) (result : Result A SessionEnd) (Told : Type 0) : Type 0 where
   pub told : IsTrue (tells (says old)) → Told
   pub cause : OnlyByFailure (says old) (Err HostFault) result (faults old) (faults new)
-  pub stands : Stands (says old) (says new) (faults old) (faults new)
+  pub keeps : KeepsHost (says old) (says new) (faults old) (faults new)
 
--- its plan is carried out, from the world `first` to `last`, as `CarriesOut` says it
-abbrev pub Proceeds : {O : Type 0} {R : O → Type 0} {W Host A : Type 0} → Acts O R W → (Host → Option HostModel) → (Host → ℕ) → Host → Host → W → W →
+-- what is told of it is that it carries out its plan, from the world `first` to `last`: `told` is then `CarriesOut` of that
+abbrev pub DoesPlan : {O : Type 0} {R : O → Type 0} {W Host A : Type 0} → Acts O R W → (Host → Option HostModel) → (Host → ℕ) → Host → Host → W → W →
     Result A SessionEnd → Plan O R (Result A SessionEnd) → Type 0
-Proceeds d says faults old new first last result plan = IsPart says faults old new result (Comes d first last (Err OutOfMemory) result plan)
+DoesPlan d says faults old new first last result plan = DoesSessionPart says faults old new result (Comes d first last (Err OutOfMemory) result plan)
 
 -- over the host alone
-abbrev pub Talks : {Host A : Type 0} → (Host → Option HostModel) → (Host → ℕ) → Host → Host → Result A SessionEnd → HostPlan (Result A SessionEnd) → Type 0
-Talks says faults old new result plan = Proceeds host says faults old new (contents (says old)) (contents (says new)) result plan
+abbrev pub DoesOnHost : {Host A : Type 0} → (Host → Option HostModel) → (Host → ℕ) → Host → Host → Result A SessionEnd → HostPlan (Result A SessionEnd) → Type 0
+DoesOnHost says faults old new result plan = DoesPlan host says faults old new (contents (says old)) (contents (says new)) result plan
 
 -- over the machine, the flags and the host
-abbrev pub Converses : {Host A : Type 0} → (Host → Option HostModel) → (Host → ℕ) → Host → Host → Running → Running → Result A SessionEnd → Part A → Type 0
-Converses says faults old new r s result plan =
-    Proceeds conversing says faults old new (world_of r (says old)) (world_of s (says new)) result plan
+abbrev pub DoesOnRunner : {Host A : Type 0} → (Host → Option HostModel) → (Host → ℕ) → Host → Host → Running → Running → Result A SessionEnd → Part A → Type 0
+DoesOnRunner says faults old new r s result plan =
+    DoesPlan conversing says faults old new (world_of r (says old)) (world_of s (says new)) result plan
 
 -- the reply to a command that makes no step; `shown` and `after` are the address of the octa that was shown last, before and after
-abbrev pub Responds : {Host : Type 0} → (Host → Option HostModel) → (Host → ℕ) → Host → Host → Running → Running → Option ℕ → Option ℕ →
+abbrev pub Obeys : {Host : Type 0} → (Host → Option HostModel) → (Host → ℕ) → Host → Host → Running → Running → Option ℕ → Option ℕ →
     Result (Unit {0}) SessionEnd → Command → Type 0
-Responds says faults old new r s shown after result command =
-    Converses says faults old new r s (map_ok (λ u. after) result) (answered_plan shown command)
+Obeys says faults old new r s shown after result command =
+    DoesOnRunner says faults old new r s (map_ok (λ u. after) result) (answered_plan shown command)
+
+-- the reply to one that shows no octa
+abbrev pub ObeysSilently : {Host : Type 0} → (Host → Option HostModel) → (Host → ℕ) → Host → Host → Running → Running →
+    Result (Unit {0}) SessionEnd → Command → Type 0
+ObeysSilently says faults old new r s result command = (shown : Option ℕ) → Obeys says faults old new r s shown shown result command
 
 -- the count of steps is as it was, or has grown and is at most this many; the same holds over every host, and out of memory too
 pub record StepsWithin (steps : ℕ) (s t : State) : Type 0 where
@@ -77,11 +80,11 @@ abbrev pub session_output : Course SessionEnd SessionWorld → List ℕ
 session_output c = (wild.world_of c).0.1.output
 
 -- over a host that tells its contents, the end and what it leaves are those of the session f, unless there was no memory
-abbrev pub EndsAsSession : Option HostModel → Option HostModel → Running → Running → SessionEnd →
+abbrev pub EndsAsSession : {Host : Type 0} → (Host → Option HostModel) → Host → Host → Running → Running → SessionEnd →
     (State → FlagsOf → HostModel → Course SessionEnd SessionWorld) → Type 0
-EndsAsSession old new r s result f =
-    IsTrue (tells old) → result ≢ OutOfMemory →
-    ends result (world_of s new) ≡ f (state_of r.machine) (flags_at r.flags) (contents old)
+EndsAsSession says old new r s result f =
+    IsTrue (tells (says old)) → result ≢ OutOfMemory →
+    ends result (world_of s (says new)) ≡ f (state_of r.machine) (flags_at r.flags) (contents (says old))
 
 -- over a host that tells its contents, where there was no memory, what standard output then holds is a front of what the
 -- session f gives it
@@ -108,20 +111,20 @@ abbrev pub GoesAsList : {A : Type 0} → Course A SessionWorld → A → Session
 GoesAsList c r w = GoesAs as_list_world IsUntouched WritesOn c r w
 
 -- what comes of a plan of a session over both machines, and what is left of one
-abbrev pub SitsBoth : {A : Type 0} → SessionWorld → SessionWorld → A → A → SessionPlan A → Type 0
-SitsBoth old new none result plan = ComesBoth conversing (session_goes list_machine) as_list_world IsUntouched WritesOn old new none result plan
+abbrev pub ConversesBoth : {A : Type 0} → SessionWorld → SessionWorld → A → A → SessionPlan A → Type 0
+ConversesBoth old new none result plan = ComesBoth conversing (session_goes list_machine) as_list_world IsUntouched WritesOn old new none result plan
 
 abbrev pub RestsBoth : {A : Type 0} → SessionPlan A → SessionWorld → SessionPlan A → SessionWorld → Type 0
 RestsBoth rest now whole start = IsRestBoth conversing (session_goes list_machine) as_list_world IsUntouched WritesOn rest now whole start
 
 -- a part over both machines, the flags and the host
-abbrev pub Sits : {Host A : Type 0} → (Host → Option HostModel) → (Host → ℕ) → Host → Host → Running → Running → Result A SessionEnd → Part A → Type 0
-Sits says faults old new r s result plan =
-    IsPart says faults old new result (SitsBoth (world_of r (says old)) (world_of s (says new)) (Err OutOfMemory) result plan)
+abbrev pub DoesOnBoth : {Host A : Type 0} → (Host → Option HostModel) → (Host → ℕ) → Host → Host → Running → Running → Result A SessionEnd → Part A → Type 0
+DoesOnBoth says faults old new r s result plan =
+    DoesSessionPart says faults old new result (ConversesBoth (world_of r (says old)) (world_of s (says new)) (Err OutOfMemory) result plan)
 
 -- the same of a whole session
-abbrev pub EndsAsListSession : Option HostModel → Option HostModel → Running → Running → SessionEnd →
+abbrev pub EndsAsListSession : {Host : Type 0} → (Host → Option HostModel) → Host → Host → Running → Running → SessionEnd →
     (State → FlagsOf → HostModel → Course SessionEnd SessionWorld) → Type 0
-EndsAsListSession old new r s result f =
-    IsTrue (tells old) → result ≢ OutOfMemory → (state_of r.machine).touched ≡ false →
-    GoesAsList (f (as_list_state (state_of r.machine)) (flags_at r.flags) (contents old)) result (world_of s new)
+EndsAsListSession says old new r s result f =
+    IsTrue (tells (says old)) → result ≢ OutOfMemory → (state_of r.machine).touched ≡ false →
+    GoesAsList (f (as_list_state (state_of r.machine)) (flags_at r.flags) (contents (says old))) result (world_of s (says new))

@@ -100,9 +100,9 @@ abbrev pub Part : Type 0 → Type 0
 Part A = SessionPlan (Result A SessionEnd)
 
 -- a plan of the host; and each other call as a plan
-unfoldable pub on_host : {A : Type 0} → HostPlan A → SessionPlan A
-on_host (returns a) = returns a
-on_host (calls o k) = calls (of_host o) (λ r. on_host (k r))
+unfoldable pub host_in_session : {A : Type 0} → HostPlan A → SessionPlan A
+host_in_session (returns a) = returns a
+host_in_session (calls o k) = calls (of_host o) (λ r. host_in_session (k r))
 
 unfoldable pub turn_made : SessionPlan TurnAnswer
 turn_made = calls of_turn (λ answer. returns answer)
@@ -129,7 +129,7 @@ judge_plan shown command = calls (judging shown command) (λ bad. returns bad)
 
 -- the line of a step that was made
 unfoldable pub traced_plan : Trace → Part (Unit {0})
-traced_plan trace = bind (λ text. on_host (line_plan text)) (trace_plan trace)
+traced_plan trace = bind (λ text. host_in_session (line_plan text)) (trace_plan trace)
 
 abbrev pub after_turn : ℕ → TurnAnswer → Part (Unit {0})
 after_turn pc (answer.Went trace) = traced_plan trace
@@ -156,7 +156,7 @@ abbrev pub going : Bool → Part (Unit {0}) → Part Bool
 going more p = bind (on_ok (λ u. returns (Ok more))) p
 
 abbrev pub broke_plan : BreakKind → ℕ → Part (Unit {0})
-broke_plan kind at = on_host (line_plan (break_text kind at))
+broke_plan kind at = host_in_session (line_plan (break_text kind at))
 
 abbrev pub break_plan : BreakKind → ℕ → Option Trace → Part (Unit {0})
 break_plan kind at None = broke_plan kind at
@@ -193,10 +193,10 @@ abbrev pub showing : Option ℕ → Part (Unit {0}) → Part (Option ℕ)
 showing shown p = bind (on_ok (λ u. returns (Ok shown))) p
 
 abbrev pub refused : Option ℕ → Bad → Part (Option ℕ)
-refused shown bad = showing shown (on_host (line_plan (bad_text bad)))
+refused shown bad = showing shown (host_in_session (line_plan (bad_text bad)))
 
 abbrev pub replied : Option ℕ × List (List ℕ) → Part (Option ℕ)
-replied r = showing r.0 (on_host (lines_plan r.1))
+replied r = showing r.0 (host_in_session (lines_plan r.1))
 
 -- a bad command changes nothing
 abbrev pub judged : Option ℕ → Command → Option Bad → Part (Option ℕ)
@@ -225,7 +225,7 @@ line_done steps shown line =
     bind (on_ok (λ s. returns (Ok (with_left line.1 s)))) (command_plan steps shown (command_of (without_return line.0)))
 
 unfoldable pub one_line_plan : ℕ → Dialog → Part Dialog
-one_line_plan steps d = bind (on_ok (line_done steps d.shown)) (on_host (asking_plan d.left))
+one_line_plan steps d = bind (on_ok (line_done steps d.shown)) (host_in_session (asking_plan d.left))
 
 -- at most this many lines: each takes a byte of the input or ends the session
 unfoldable pub lines_of_session : ℕ → ℕ → Dialog → Part Dialog

@@ -2,7 +2,7 @@
 
 ghost use Rattle.std.specs.Prelude.{◌≡◌, ◌≢◌, [], ◌<◌, ◌+◌, ◌-◌, ◌==◌, Err, Ok, true, false};
 ghost use Rattle.mx_word.specs.Results.{map_ok};
-ghost use Rattle.mx_con.specs.Clauses.{Talks};
+ghost use Rattle.mx_con.specs.Clauses.{DoesOnHost};
 ghost use Rattle.mx_con.specs.LinePlans as spec;
 
 use crate::SessionEnd;
@@ -29,7 +29,7 @@ fn end_of(fault: HostFault) -> SessionEnd
 /// Writes a text by one call.
 #[tactic(auto, using(mx_plan::proofs::Plans::plans), unfolding(crate::specs::LinePlans::text_plan))]
 pub(crate) fn write_text<H: Host>(host: &mut H, text: &[u8]) -> Result<(), SessionEnd>
-    ensures { Talks H.told H.faults host.old host.new result (spec.text_plan text.now) }
+    ensures { DoesOnHost H.told H.faults host.old host.new result (spec.text_plan text.now) }
 {
     match write(host, OUTPUT, text) {
         Ok(()) => Ok(()),
@@ -40,7 +40,7 @@ pub(crate) fn write_text<H: Host>(host: &mut H, text: &[u8]) -> Result<(), Sessi
 /// Writes a line and its newline by one call.
 #[tactic(auto, using(mx_plan::proofs::Plans::plans, mx_plan::proofs::Plans::needs), unfolding(crate::specs::LinePlans::line_plan))]
 pub(crate) fn write_line<H: Host>(host: &mut H, line: Bytes) -> Result<(), SessionEnd>
-    ensures { Talks H.told H.faults host.old host.new result (spec.line_plan line) }
+    ensures { DoesOnHost H.told H.faults host.old host.new result (spec.line_plan line) }
 {
     let mut line = line;
     match line.push(b'\n') {
@@ -52,7 +52,7 @@ pub(crate) fn write_line<H: Host>(host: &mut H, line: Bytes) -> Result<(), Sessi
 /// The next byte of the console's input; None at its end.
 #[tactic(auto, using(crate::proofs::LineReads::bytes, mx_plan::proofs::Plans::plans), unfolding(crate::specs::LinePlans::byte_plan))]
 fn read_byte<H: Host>(host: &mut H) -> Result<Option<u8>, SessionEnd>
-    ensures { Talks H.told H.faults host.old host.new result spec.byte_plan }
+    ensures { DoesOnHost H.told H.faults host.old host.new result spec.byte_plan }
 {
     let mut byte = [0u8; 1];
     match read(host, INPUT, &mut byte) {
@@ -70,7 +70,7 @@ fn read_into_line<H: Host>(
     left: &mut u64,
 ) -> Result<bool, SessionEnd>
     requires { 0 < left.old }
-    ensures part { Talks H.told H.faults host.old host.new (map_ok (λ more. (more, line.new, left.new)) result)
+    ensures part { DoesOnHost H.told H.faults host.old host.new (map_ok (λ more. (more, line.new, left.new)) result)
         (spec.grown_plan (left.old - 1) line.old) }
     ensures fewer { result ≡ Ok true → left.new + 1 ≡ left.old }
 {
@@ -117,7 +117,7 @@ pub(crate) fn read_line<H: Host>(
     host: &mut H,
     left: &mut u64,
 ) -> Result<Bytes, SessionEnd>
-    ensures { Talks H.told H.faults host.old host.new (map_ok (λ text. (text, left.new)) result)
+    ensures { DoesOnHost H.told H.faults host.old host.new (map_ok (λ text. (text, left.new)) result)
         (spec.reading_plan left.old []) }
 {
     let mut line = Bytes::new(alloc);

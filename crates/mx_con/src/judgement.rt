@@ -22,7 +22,7 @@ pub enum Bad {
 }
 
 impl Bad {
-    /// The line that tells it.
+    /// The line that prints it.
     pub(crate) fn message(self) -> &'static str
         ensures { result.now ≡ spec.bad_text self }
     {

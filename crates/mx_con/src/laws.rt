@@ -14,7 +14,7 @@ ghost use Rattle.mx_con.specs.Taking.{TakesAtMost};
 ghost use Rattle.mx_con.specs.Told.{is_told};
 
 /// A session ends as the program, the machine, its bounds, the user or the host make it end, or meets
-/// something wild; by its definition it is never out of memory. So that answer, which is free, stands for
+/// something wild; by its definition it is never out of memory. So that answer, which is free, means
 /// nothing else.
 #[tactic(auto, using(crate::proofs::ToldSessions::telling))]
 pub fn sessions_end_by_themselves()
@@ -22,7 +22,7 @@ pub fn sessions_end_by_themselves()
         is_told (session kind steps s f m) ≡ true }
 {}
 
-/// A session is what its plan comes to. Where a plan over such calls stops for want of memory, it only
+/// A session is what its plan comes to. Where a plan over such calls stops because memory runs out, it only
 /// added to standard output, and what is there is a front of what would be there at its end; the
 /// slots of the tool lead where they led.
 #[tactic(auto, using(crate::proofs::HeldSessions::laws, crate::proofs::SessionCourses::courses))]

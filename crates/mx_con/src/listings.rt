@@ -3,11 +3,12 @@
 ghost use Rattle.std.specs.Prelude.{◌<◌, ◌+◌, ◌*◌, ◌^◌};
 ghost use Rattle.mx_core.specs.Kept.{state_of};
 ghost use Rattle.mx_run.specs.FlagMaps.{flags_at};
-ghost use Rattle.mx_con.specs.Clauses.{Talks};
+ghost use Rattle.mx_con.specs.Clauses.{DoesOnHost};
 ghost use Rattle.mx_con.specs.LinePlans.{line_plan, lines_plan};
 ghost use Rattle.mx_con.specs.ConsoleTexts.{flag_text};
-ghost use Rattle.mx_show.specs.Subjects as subjects;
+ghost use Rattle.mx_show.specs.Subjects.{shown_line};
 ghost use Rattle.mx_con.specs.Replies as spec;
+ghost use Rattle.mx_con.specs.Replies.{flag_lines, tetra_count};
 
 use crate::SessionEnd;
 use crate::host_lines::write_line;
@@ -30,7 +31,7 @@ pub(crate) fn write_octas<H: Host>(
     n: u64,
 ) -> Result<(), SessionEnd>
     requires { a + 8 * n < 2 ^ 63 }
-    ensures { Talks H.told H.faults host.old host.new result
+    ensures { DoesOnHost H.told H.faults host.old host.new result
         (lines_plan (spec.octas_after (state_of machine.now) form a n)) }
 {
     for turn in 0..n {
@@ -52,8 +53,8 @@ fn write_octa<H: Host>(
     a: u64,
 ) -> Result<(), SessionEnd>
     requires { a < 2 ^ 63 }
-    ensures { Talks H.told H.faults host.old host.new result
-        (line_plan (subjects.shown_line (state_of machine.now) (Subject.Memory a) form)) }
+    ensures { DoesOnHost H.told H.faults host.old host.new result
+        (line_plan (shown_line (state_of machine.now) (Subject.Memory a) form)) }
 {
     write_line(
         host,
@@ -67,8 +68,8 @@ pub(crate) fn write_flags<H: Host>(
     runner: &Runner,
     host: &mut H,
 ) -> Result<(), SessionEnd>
-    ensures { Talks H.told H.faults host.old host.new result
-        (lines_plan (spec.flag_lines (flags_at runner.now.flags) 0 spec.tetra_count)) }
+    ensures { DoesOnHost H.told H.faults host.old host.new result
+        (lines_plan (flag_lines (flags_at runner.now.flags) 0 tetra_count)) }
 {
     let mut tetra: u64 = 0;
     while tetra < 1 << 62 {
@@ -86,7 +87,7 @@ pub(crate) fn write_flags<H: Host>(
 /// Writes the line of a tetra with flags.
 #[tactic(auto, using(crate::proofs::LineEnds::lacking))]
 fn write_flag<H: Host>(alloc: Global, host: &mut H, a: u64, flags: Flags) -> Result<(), SessionEnd>
-    ensures part { Talks H.told H.faults host.old host.new result (line_plan (flag_text a flags)) }
+    ensures part { DoesOnHost H.told H.faults host.old host.new result (line_plan (flag_text a flags)) }
     ensures address { a < 2 ^ 64 }
 {
     write_line(host, flag_line(alloc, a, flags)?)

@@ -1,14 +1,15 @@
 //! Commands that make no step.
 
-ghost use Rattle.std.specs.Prelude.{◌≡◌, ℕ, Option, None, Some};
+ghost use Rattle.std.specs.Prelude.{◌≡◌, None, Some};
 ghost use Rattle.mx_core.specs.Kept.{state_of};
 ghost use Rattle.mx_word.specs.Segments.{is_in_stack_segment};
-ghost use Rattle.mx_con.specs.Clauses.{Responds, Talks};
+ghost use Rattle.mx_con.specs.Clauses.{DoesOnHost, Obeys, ObeysSilently};
 ghost use Rattle.mx_show.specs.Texts.{state_text};
 ghost use Rattle.mx_con.specs.Judgement as judgement;
 ghost use Rattle.mx_con.specs.LinePlans.{line_plan};
 ghost use Rattle.mx_con.specs.Replies as replies;
 ghost use Rattle.mx_show.specs.Subjects as subjects;
+ghost use Rattle.mx_show.specs.Subjects.{shown_line};
 
 use crate::SessionEnd;
 use crate::changes::{change, go_on_at, note_if, set_breaks, set_trace};
@@ -27,7 +28,7 @@ use std::alloc::Global;
 /// Writes why a line is bad.
 #[tactic(auto, using(crate::proofs::LineEnds::lacking))]
 pub(crate) fn refuse<H: Host>(alloc: Global, host: &mut H, bad: Bad) -> Result<(), SessionEnd>
-    ensures { Talks H.told H.faults host.old host.new result (line_plan (judgement.bad_text bad)) }
+    ensures { DoesOnHost H.told H.faults host.old host.new result (line_plan (judgement.bad_text bad)) }
 {
     write_line(host, Bytes::copy(alloc, bad.message().as_bytes())?)
 }
@@ -39,7 +40,7 @@ pub(crate) fn show_state<H: Host>(
     machine: &Machine,
     host: &mut H,
 ) -> Result<(), SessionEnd>
-    ensures { Talks H.told H.faults host.old host.new result (line_plan (state_text (state_of machine.now))) }
+    ensures { DoesOnHost H.told H.faults host.old host.new result (line_plan (state_text (state_of machine.now))) }
 {
     write_text(host, state_line(alloc, machine)?.as_slice())
 }
@@ -54,7 +55,7 @@ pub(crate) fn show<H: Host>(
     subject: Subject,
     form: Form,
 ) -> Result<(), SessionEnd>
-    ensures part { Responds H.told H.faults host.old host.new runner.old runner.new shown.old shown.new result
+    ensures part { Obeys H.told H.faults host.old host.new runner.old runner.new shown.old shown.new result
         (Command.Show subject form) }
     ensures same_steps { (state_of runner.new.machine).steps ≡ (state_of runner.old.machine).steps }
 {
@@ -76,8 +77,8 @@ fn show_sound<H: Host>(
     form: Form,
 ) -> Result<(), SessionEnd>
     requires { subjects.IsSound subject }
-    ensures part { Talks H.told H.faults host.old host.new result
-        (line_plan (subjects.shown_line (state_of runner.new.machine) subject form)) }
+    ensures part { DoesOnHost H.told H.faults host.old host.new result
+        (line_plan (shown_line (state_of runner.new.machine) subject form)) }
     ensures noted { state_of runner.new.machine
         ≡ replies.noted_if (subjects.subject_wild subject) (state_of runner.old.machine) }
     ensures flags { runner.new.flags ≡ runner.old.flags }
@@ -120,7 +121,7 @@ pub(crate) fn change_subject<H: Host>(
     subject: Subject,
     value: Option<u64>,
 ) -> Result<(), SessionEnd>
-    ensures part { Responds H.told H.faults host.old host.new runner.old runner.new shown.old shown.new result
+    ensures part { Obeys H.told H.faults host.old host.new runner.old runner.new shown.old shown.new result
         (Command.Change subject value) }
     ensures same_steps { (state_of runner.new.machine).steps ≡ (state_of runner.old.machine).steps }
 {
@@ -145,7 +146,7 @@ fn change_sound<H: Host>(
 ) -> Result<(), SessionEnd>
     requires sound { subjects.IsSound subject }
     requires good { judgement.subject_bad (state_of runner.old.machine) subject ≡ None }
-    ensures part { Responds H.told H.faults host.old host.new runner.old runner.new shown.old shown.new result
+    ensures part { Obeys H.told H.faults host.old host.new runner.old runner.new shown.old shown.new result
         (Command.Change subject (Some value)) }
     ensures same_steps { (state_of runner.new.machine).steps ≡ (state_of runner.old.machine).steps }
 {
@@ -165,7 +166,7 @@ pub(crate) fn show_more<H: Host>(
     n: Option<u64>,
     form: Form,
 ) -> Result<(), SessionEnd>
-    ensures part { Responds H.told H.faults host.old host.new runner.old runner.new shown.old shown.new result
+    ensures part { Obeys H.told H.faults host.old host.new runner.old runner.new shown.old shown.new result
         (Command.ShowMore n form) }
     ensures same_steps { (state_of runner.new.machine).steps ≡ (state_of runner.old.machine).steps }
 {
@@ -189,7 +190,7 @@ fn show_octas<H: Host>(
     form: Form,
 ) -> Result<(), SessionEnd>
     requires { judgement.more_bad shown.old (Some n) ≡ None }
-    ensures part { Responds H.told H.faults host.old host.new runner.old runner.new shown.old shown.new result
+    ensures part { Obeys H.told H.faults host.old host.new runner.old runner.new shown.old shown.new result
         (Command.ShowMore (Some n) form) }
     ensures same_steps { (state_of runner.new.machine).steps ≡ (state_of runner.old.machine).steps }
 {
@@ -210,8 +211,7 @@ pub(crate) fn go_to<H: Host>(
     host: &mut H,
     a: u64,
 ) -> Result<(), SessionEnd>
-    ensures part { (shown : Option ℕ) → Responds H.told H.faults host.old host.new runner.old runner.new
-        shown shown result (Command.GoTo a) }
+    ensures part { ObeysSilently H.told H.faults host.old host.new runner.old runner.new result (Command.GoTo a) }
     ensures same_steps { (state_of runner.new.machine).steps ≡ (state_of runner.old.machine).steps }
 {
     if let Some(bad) = go_to_bad(a) {
@@ -231,8 +231,8 @@ pub(crate) fn set_tetra_breaks<H: Host>(
     breaks: Breaks,
     a: u64,
 ) -> Result<(), SessionEnd>
-    ensures part { (shown : Option ℕ) → Responds H.told H.faults host.old host.new runner.old runner.new
-        shown shown result (Command.Break breaks a) }
+    ensures part { ObeysSilently H.told H.faults host.old host.new runner.old runner.new result
+        (Command.Break breaks a) }
     ensures same_steps { (state_of runner.new.machine).steps ≡ (state_of runner.old.machine).steps }
 {
     if let Some(bad) = flag_bad(a) {
@@ -250,8 +250,7 @@ pub(crate) fn trace_tetra<H: Host>(
     host: &mut H,
     a: u64,
 ) -> Result<(), SessionEnd>
-    ensures part { (shown : Option ℕ) → Responds H.told H.faults host.old host.new runner.old runner.new
-        shown shown result (Command.Trace a) }
+    ensures part { ObeysSilently H.told H.faults host.old host.new runner.old runner.new result (Command.Trace a) }
     ensures same_steps { (state_of runner.new.machine).steps ≡ (state_of runner.old.machine).steps }
 {
     if let Some(bad) = flag_bad(a) {
@@ -269,8 +268,7 @@ pub(crate) fn untrace_tetra<H: Host>(
     host: &mut H,
     a: u64,
 ) -> Result<(), SessionEnd>
-    ensures part { (shown : Option ℕ) → Responds H.told H.faults host.old host.new runner.old runner.new
-        shown shown result (Command.Untrace a) }
+    ensures part { ObeysSilently H.told H.faults host.old host.new runner.old runner.new result (Command.Untrace a) }
     ensures same_steps { (state_of runner.new.machine).steps ≡ (state_of runner.old.machine).steps }
 {
     if let Some(bad) = flag_bad(a) {

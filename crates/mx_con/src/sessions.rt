@@ -5,11 +5,12 @@ ghost use Rattle.mx_host.specs.Keeping.{OnlyByFailure, Keeps};
 ghost use Rattle.mx_word.specs.Results.{map_ok};
 ghost use Rattle.mx_core.specs.Kept.{state_of};
 ghost use Rattle.mx_run.specs.WildRuns.{window_machine, list_machine, HasWindow};
-ghost use Rattle.mx_con.specs.Clauses.{CarriesOutSession, EndsAsListSession, EndsAsSession, EndsFront};
-ghost use Rattle.mx_con.specs.Clauses.{Sits, StepsWithin, Talks};
+ghost use Rattle.mx_con.specs.Clauses.{CarriesOutOnRunner, EndsAsListSession, EndsAsSession, EndsFront};
+ghost use Rattle.mx_con.specs.Clauses.{DoesOnBoth, DoesOnHost, StepsWithin};
 ghost use Rattle.mx_con.specs.LinePlans.{asking_plan};
 ghost use Rattle.mx_con.specs.Session as spec;
 ghost use Rattle.mx_con.specs.SessionPlans as plans;
+ghost use Rattle.mx_con.specs.SessionPlans.{session_plan};
 
 use crate::SessionEnd;
 use crate::dialog::Dialog;
@@ -40,13 +41,13 @@ const MOST_INPUT: u64 = 1 << 32;
 /// standard output is a front of what the session writes.
 #[tactic(auto, using(crate::proofs::SessionClauses::sessions))]
 pub fn session<H: Host>(alloc: Global, runner: &mut Runner, host: &mut H, steps: u64) -> SessionEnd
-    ensures plan { CarriesOutSession (H.told host.old) (H.told host.new) runner.old runner.new
-        SessionEnd.OutOfMemory result (plans.session_plan steps) }
-    ensures told { EndsAsSession (H.told host.old) (H.told host.new) runner.old runner.new result
+    ensures plan { CarriesOutOnRunner H.told host.old host.new runner.old runner.new SessionEnd.OutOfMemory result
+        (session_plan steps) }
+    ensures told { EndsAsSession H.told host.old host.new runner.old runner.new result
         (λ s f m. spec.session window_machine steps s f m) }
     ensures front { EndsFront (H.told host.old) (H.told host.new) runner.old result
         (λ s f m. spec.session window_machine steps s f m) }
-    ensures listed { EndsAsListSession (H.told host.old) (H.told host.new) runner.old runner.new result
+    ensures listed { EndsAsListSession H.told host.old host.new runner.old runner.new result
         (λ s f m. spec.session list_machine steps s f m) }
     ensures bound { StepsWithin steps (state_of runner.old.machine) (state_of runner.new.machine) }
     ensures cause { OnlyByFailure (H.told host.old) SessionEnd.HostFault result (H.faults host.old) (H.faults host.new) }
@@ -71,7 +72,7 @@ fn all_lines<H: Host>(
     dialog: &mut Dialog,
     steps: u64,
 ) -> Result<(), SessionEnd>
-    ensures part { Sits H.told H.faults host.old host.new runner.old runner.new (map_ok (λ u. dialog.new) result)
+    ensures part { DoesOnBoth H.told H.faults host.old host.new runner.old runner.new (map_ok (λ u. dialog.new) result)
         (plans.lines_of_session (plans.most_input + 1) steps dialog.old) }
     ensures bound { StepsWithin steps (state_of runner.old.machine) (state_of runner.new.machine) }
 {
@@ -93,7 +94,7 @@ fn one_line<H: Host>(
     dialog: &mut Dialog,
     steps: u64,
 ) -> Result<(), SessionEnd>
-    ensures part { Sits H.told H.faults host.old host.new runner.old runner.new (map_ok (λ u. dialog.new) result)
+    ensures part { DoesOnBoth H.told H.faults host.old host.new runner.old runner.new (map_ok (λ u. dialog.new) result)
         (plans.one_line_plan steps dialog.old) }
     ensures bound { StepsWithin steps (state_of runner.old.machine) (state_of runner.new.machine) }
 {
@@ -110,7 +111,7 @@ fn one_line<H: Host>(
 /// Writes the prompt and reads a line.
 #[tactic(auto, using(crate::proofs::SessionSteps::asking))]
 fn ask<H: Host>(alloc: Global, host: &mut H, left: &mut u64) -> Result<Bytes, SessionEnd>
-    ensures { Talks H.told H.faults host.old host.new (map_ok (λ text. (text, left.new)) result)
+    ensures { DoesOnHost H.told H.faults host.old host.new (map_ok (λ text. (text, left.new)) result)
         (asking_plan left.old) }
 {
     match write_text(host, b"mmix> ") {
@@ -130,7 +131,7 @@ fn obey_line<H: Host>(
     command: Option<Command>,
 ) -> Result<(), SessionEnd>
     requires { HasWindow (state_of runner.old.machine) }
-    ensures part { Sits H.told H.faults host.old host.new runner.old runner.new (map_ok (λ u. shown.new) result)
+    ensures part { DoesOnBoth H.told H.faults host.old host.new runner.old runner.new (map_ok (λ u. shown.new) result)
         (plans.command_plan steps shown.old command) }
     ensures bound { StepsWithin steps (state_of runner.old.machine) (state_of runner.new.machine) }
 {

@@ -2,11 +2,12 @@
 
 ghost use Rattle.std.specs.Prelude.{◌≡◌, ◌≢◌, ◌-◌, Err, Some};
 ghost use Rattle.mx_core.specs.Kept.{state_of};
-ghost use Rattle.mx_con.specs.Clauses.{Converses, Sits, StepsWithin, Talks};
+ghost use Rattle.mx_con.specs.Clauses.{DoesOnBoth, DoesOnHost, DoesOnRunner, StepsWithin};
 ghost use Rattle.mx_con.specs.ConsoleTexts.{break_text};
 ghost use Rattle.mx_show.specs.Texts.{trace_text};
 ghost use Rattle.mx_con.specs.LinePlans.{line_plan};
 ghost use Rattle.mx_con.specs.SessionPlans as plans;
+ghost use Rattle.mx_con.specs.SessionPlans.{after_end};
 
 use crate::SessionEnd;
 use crate::host_lines::{write_line, write_text};
@@ -33,7 +34,7 @@ pub(crate) fn step_once<H: Host>(
     host: &mut H,
     steps: u64,
 ) -> Result<(), SessionEnd>
-    ensures part { Converses H.told H.faults host.old host.new runner.old runner.new result
+    ensures part { DoesOnRunner H.told H.faults host.old host.new runner.old runner.new result
         (plans.stepped_plan steps) }
     ensures bound { StepsWithin steps (state_of runner.old.machine) (state_of runner.new.machine) }
 {
@@ -60,7 +61,7 @@ fn write_trace<H: Host>(
     host: &mut H,
     trace: &Trace,
 ) -> Result<(), SessionEnd>
-    ensures { Talks H.told H.faults host.old host.new result
+    ensures { DoesOnHost H.told H.faults host.old host.new result
         (line_plan (trace_text trace.now (state_of machine.now))) }
 {
     write_text(host, trace_line(alloc, trace, machine)?.as_slice())
@@ -74,7 +75,7 @@ pub(crate) fn go_on<H: Host>(
     host: &mut H,
     steps: u64,
 ) -> Result<(), SessionEnd>
-    ensures part { Sits H.told H.faults host.old host.new runner.old runner.new result
+    ensures part { DoesOnBoth H.told H.faults host.old host.new runner.old runner.new result
         (plans.continued_plan steps) }
     ensures bound { StepsWithin steps (state_of runner.old.machine) (state_of runner.new.machine) }
 {
@@ -99,7 +100,7 @@ fn run_once<H: Host>(
     steps: u64,
     pass: bool,
 ) -> Result<bool, SessionEnd>
-    ensures part { Sits H.told H.faults host.old host.new runner.old runner.new result
+    ensures part { DoesOnBoth H.told H.faults host.old host.new runner.old runner.new result
         (plans.one_run_plan steps pass) }
     ensures bound { StepsWithin steps (state_of runner.old.machine) (state_of runner.new.machine) }
 {
@@ -118,7 +119,7 @@ fn end_run<H: Host>(
     end: End,
 ) -> Result<bool, SessionEnd>
     ensures part { end ≢ End.OutOfMemory →
-        Converses H.told H.faults host.old host.new runner.now runner.now result (plans.after_end end) }
+        DoesOnRunner H.told H.faults host.old host.new runner.now runner.now result (after_end end) }
     ensures lacked { end ≡ End.OutOfMemory → result ≡ Err SessionEnd.OutOfMemory }
     ensures uncalled { end ≡ End.OutOfMemory → host.new ≡ host.old }
 {
@@ -149,7 +150,7 @@ fn write_break<H: Host>(
     at: u64,
     traced: Option<Trace>,
 ) -> Result<(), SessionEnd>
-    ensures { Converses H.told H.faults host.old host.new runner.now runner.now result
+    ensures { DoesOnRunner H.told H.faults host.old host.new runner.now runner.now result
         (plans.break_plan kind at traced) }
 {
     match traced {
@@ -167,7 +168,7 @@ fn write_traced_break<H: Host>(
     at: u64,
     trace: Trace,
 ) -> Result<(), SessionEnd>
-    ensures { Converses H.told H.faults host.old host.new runner.now runner.now result
+    ensures { DoesOnRunner H.told H.faults host.old host.new runner.now runner.now result
         (plans.break_plan kind at (Some trace)) }
 {
     match write_trace(alloc, runner.machine(), host, &trace) {
@@ -183,7 +184,7 @@ fn write_break_line<H: Host>(
     kind: BreakKind,
     at: u64,
 ) -> Result<(), SessionEnd>
-    ensures { Talks H.told H.faults host.old host.new result (line_plan (break_text kind at)) }
+    ensures { DoesOnHost H.told H.faults host.old host.new result (line_plan (break_text kind at)) }
 {
     write_line(host, break_line(alloc, kind, at)?)
 }

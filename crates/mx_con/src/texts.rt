@@ -1,4 +1,4 @@
-//! The lines that tell a break and the flags of a tetra, without their ends.
+//! The lines that print a break and the flags of a tetra, without their ends.
 
 ghost use Rattle.std.specs.Prelude.{◌≡◌, ◌++◌, ◌<◌, IfOk, OnOk};
 ghost use Rattle.mx_con.specs.ConsoleTexts as spec;

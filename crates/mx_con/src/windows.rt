@@ -7,7 +7,7 @@ ghost use Rattle.mx_run.specs.WildRuns.{HasWindow};
 use mx_core::{machines_are_whole, machines_keep_the_invariant};
 use mx_run::Runner;
 
-/// Tells that a runner's machine is one over a window of octas. It does nothing.
+/// States that a runner's machine is one over a window of octas. It does nothing.
 #[tactic(auto, using(crate::proofs::ListedSessions::windows))]
 #[inline(always)]
 pub(crate) fn know_window(runner: &Runner)
@@ -17,7 +17,7 @@ pub(crate) fn know_window(runner: &Runner)
     machines_are_whole(runner.machine());
 }
 
-/// Tells that a runner's count of steps is an octa. It does nothing.
+/// States that a runner's count of steps is an octa. It does nothing.
 #[inline(always)]
 pub(crate) fn know_count(runner: &Runner)
     ensures { (state_of runner.now.machine).steps < 2 ^ 64 }

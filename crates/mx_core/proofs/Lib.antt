@@ -9,6 +9,7 @@ pub mod StepCounts
 pub mod StepMarks
 pub mod Choices
 pub mod UsualSteps
+mod Traced
 mod Placed
 mod KeptSteps
 mod Walks

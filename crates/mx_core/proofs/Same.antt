@@ -1,4 +1,4 @@
--- The list does the same as the window that it stands for, where nothing is wild.
+-- The list does the same as the window that it represents, where nothing is wild.
 pub mod Effects
 pub mod Refusals
 pub mod Steps

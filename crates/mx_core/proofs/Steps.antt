@@ -53,6 +53,10 @@ done-ok : (s t : State) (refused : Option Reason) (done : State) → (Ok tt, t) 
 done-ok s t None done e = (refl, ap (λ (p : Left). p.1) e)
 done-ok s t (Some reason) done e = let f = ap (λ (p : Left). p.0) e in absurd (cc)
 
+-- where it leads
+pub done-pc : (s t : State) → (Ok tt, t) ≡ left s (outcome s (deed_at s (fetched s))) → t.pc ≡ (after s (deed_at s (fetched s))).pc
+done-pc s t e = let ok = done-ok s t (deed_at s (fetched s)).refused (state_done s (deed_at s (fetched s))) e in ap (λ (u : State). u.pc) ok.1
+
 done-err : (s t : State) (refused : Option Reason) (done : State) (reason : Reason) → (Err (Stopped reason), t) ≡ left s (unless_refused refused done) → (refused ≡ Some reason) × (t ≡ s)
 done-err s t None done reason e = let f = ap (λ (p : Left). p.0) e in absurd (cc)
 done-err s t (Some other) done reason e = let f = ap (λ (p : Left). p.0) e in (cc, ap (λ (p : Left). p.1) e)

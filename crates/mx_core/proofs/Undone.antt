@@ -3,5 +3,6 @@ pub mod Memory
 pub mod Stacks
 pub mod Steps
 pub mod Usual
+pub mod Calls
 pub mod Notes
 pub mod Works

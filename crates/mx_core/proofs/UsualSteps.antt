@@ -21,7 +21,7 @@ trap-refused : (s t : State) (i : Instruction) → (Ok tt, t) ≡ left s (outcom
 unfolding form_fault
 trap-refused s t i e = let f = ap (λ (p : Left). p.0) e in absurd (cc)
 
-no-trap : (o : Operation) (s t : State) (i : Instruction) → (Ok tt, t) ≡ left s (outcome s (deed_for o s i)) → o ≢ op.Trap
+pub no-trap : (o : Operation) (s t : State) (i : Instruction) → (Ok tt, t) ≡ left s (outcome s (deed_for o s i)) → o ≢ op.Trap
 no-trap op.Trap s t i e = trap-refused s t i e
 no-trap o s t i e = λ x. absurd (cc)
 

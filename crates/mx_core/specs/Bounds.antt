@@ -1,4 +1,4 @@
--- What holds of the machine at all times, and the list machine that it stands for.
+-- What holds of the machine at all times, and the list machine that it represents.
 use Rattle.std.specs.Prelude.{◌≡◌, ◌≤◌, ◌%◌, false, length}
 use Rattle.mx_ring.specs.Bounds.{IsRing}
 use Rattle.mx_ring.specs.Stack.{windowed, as_listed, spilled_count}
@@ -15,7 +15,7 @@ pub record IsMachine (s : State) (w : Window) : Type 0 where
   pub specials : length s.special ≡ 32
   pub address : s.pc % 4 ≡ 0
 
--- the state with the list that the register stack stands for
+-- the state with the list that the register stack represents
 abbrev pub as_list_state : State → State
 as_list_state s = record s { stack = as_listed s.stack }
 

@@ -168,7 +168,7 @@ resumed s i =
     if not (xyz_of i == 0) then plain_deed s i None (going_to i i.at) (Some Illegal)
     else inserted s i (insertion (special_register s rX) (special_register s rW) (locals s) (global_start s))
 
--- what an instruction is to do; a trap is never carried out as it stands, and is not wild
+-- what an instruction is to do; a trap is never carried out as it is, and is not wild
 abbrev pub deed_for : Operation → State → Instruction → Deed
 deed_for op.Resume s i = resumed s i
 deed_for operation s i = deed_of operation s i

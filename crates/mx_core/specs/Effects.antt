@@ -234,7 +234,7 @@ effect_of op.Put s i = putting i (x_of i) (put_of (x_of i) (z_operand s i) (glob
 effect_of op.Trip s i = record (going_on i) { trip = Some (record { handler = 0; y = y_operand s i; z = z_operand s i }) }
 effect_of op.Nothing s i = going_on i
 effect_of op.Synchronize s i = going_on i
--- these are refused, or never carried out as they stand
+-- these are refused, or never carried out as they are
 effect_of op.Float s i = going_on i
 effect_of op.Privileged s i = going_on i
 effect_of op.Trap s i = going_on i

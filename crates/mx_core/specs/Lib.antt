@@ -14,3 +14,4 @@ pub mod Undoing
 pub mod Kept
 pub mod MachineSpace
 pub mod Way
+pub mod Laws

@@ -17,7 +17,7 @@ pub record State : Type 0 where
   pub page_count : ℕ
   -- the registers $0 to $255 and the hidden ones; a window has the stack area too
   pub stack : Stack
-  -- the special registers by their codes; 0 stands for rC, rO, rS, rG and rL, which the other parts tell
+  -- the special registers by their codes; 0 in place of rC, rO, rS, rG and rL, which the other parts tell
   pub special : List ℕ
   -- the number of hidden octas below which saved frames lie
   pub mark : ℕ

@@ -8,10 +8,11 @@ use Rattle.mx_registers.specs.Registers.{is_marginal}
 use Rattle.mx_ring.specs.Stack.{Stack, listed, windowed, visible, local_count, cut_to, in_stack_area, stack_index, stack_address}
 use Rattle.mx_ring.specs.Window.{Window}
 use Rattle.mx_ring.specs.declared.notes.RingWork.TheVariants as work
-use Rattle.mx_code.specs.SpecialRegisters.{rJ}
+use Rattle.mx_code.specs.SpecialRegisters.{rH, rJ, rR}
 use Rattle.mx_core.specs.Deeds.{Deed}
 use Rattle.mx_core.specs.Effects.{Store, Move, stays, pushes, pops, saves, unsaves, cuts, moves_globals}
 use Rattle.mx_core.specs.State.{State, with_value_in, with_special}
+pub use Rattle.mx_core.specs.declared.overwritten.CallWas.{CallWas}
 pub use Rattle.mx_core.specs.declared.overwritten.OctaWas.{OctaWas}
 pub use Rattle.mx_core.specs.declared.overwritten.UsualWas.{UsualWas}
 use Rattle.mx_core.specs.declared.overwritten.Overwritten.{Overwritten}
@@ -31,10 +32,12 @@ pub record WholeWas : Type 0 where
   pub memory : Option OctaWas
   pub ring : RingWas
 
--- The note of a step. A usual one overwrites but the next address and the steps, and a register, L, rJ or an octa.
+-- The note of a step. A usual one overwrites but the next address and the steps, and a register, L, rJ or an octa, or a
+-- register with rH and rR; a call of few registers overwrites a part of the register stack, rJ and the mark, too.
 pub data StateWas : Type 0 where
   whole : WholeWas → StateWas
   usual : UsualWas → StateWas
+  called : CallWas → StateWas
 
 -- BACK
 
@@ -66,21 +69,32 @@ whole_undone n s = record (memory_undone n.memory s) {
   steps = n.steps;
 }
 
--- the register, L, rJ or the octa is what it was
+-- the register, L, rJ, the octa, or the register with rH and rR, is what it was
 abbrev pub overwritten_undone : Overwritten → State → State
 overwritten_undone was.Nothing s = s
 overwritten_undone (was.Register k x) s = with_value_in s k x
 overwritten_undone (was.Locals l) s = record s { stack = cut_to s.stack l }
 overwritten_undone (was.Link x) s = with_special s rJ x
 overwritten_undone (was.Octa a x) s = record s { octas = stored_at s.octas a x }
+overwritten_undone (was.Results k x h r) s = with_special (with_special (with_value_in s k x) rR r) rH h
 
 abbrev pub usual_undone : UsualWas → State → State
 usual_undone n s = record (overwritten_undone n.overwritten s) { pc = n.pc; steps = n.steps }
+
+-- a call or a return is taken back
+abbrev pub call_undone : CallWas → State → State
+call_undone n s = record (with_special s rJ n.link) {
+  pc = n.pc;
+  stack = stack_undone n.ring s.stack;
+  mark = n.mark;
+  steps = n.steps;
+}
 
 -- the state before, told by the note from the state after
 unfoldable pub state_undone : StateWas → State → State
 state_undone (whole n) s = whole_undone n s
 state_undone (usual n) s = usual_undone n s
+state_undone (called n) s = call_undone n s
 
 -- WHAT A STEP NOTES
 
@@ -144,18 +158,26 @@ pub record FitsWhole (n : WholeWas) (s : State) : Type 0 where
 -- the register is local or global, no fewer are local, or the octa's page is there
 abbrev pub OverwrittenFits : Overwritten → State → Type 0
 OverwrittenFits was.Nothing s = Unit {0}
-OverwrittenFits (was.Register k x) s = is_marginal (visible s.stack) k ≡ false
-OverwrittenFits (was.Locals l) s = l ≤ local_count s.stack
+OverwrittenFits (was.Register k x) s = (k < 256) × (is_marginal (visible s.stack) k ≡ false)
+OverwrittenFits (was.Locals l) s = (l < 256) × (l ≤ local_count s.stack)
 OverwrittenFits (was.Link x) s = Unit {0}
 OverwrittenFits (was.Octa a x) s = (a < 2 ^ 63) × (s.pages (a / 4096) ≡ true)
+OverwrittenFits (was.Results k x h r) s = (k < 256) × (is_marginal (visible s.stack) k ≡ false)
 
 pub record FitsUsual (n : UsualWas) (s : State) : Type 0 where
   pub pc : n.pc % 4 ≡ 0
   pub overwritten : OverwrittenFits n.overwritten s
 
+-- as long as nothing was touched, the saved frames are spilled
+pub record FitsCall (n : CallWas) (s : State) : Type 0 where
+  pub pc : n.pc % 4 ≡ 0
+  pub ring : StackFits n.ring s.stack
+  pub mark : s.touched ≡ false → n.mark ≤ n.ring.spilled
+
 abbrev pub FitsState : StateWas → State → Type 0
 FitsState (whole n) s = FitsWhole n s
 FitsState (usual n) s = FitsUsual n s
+FitsState (called n) s = FitsCall n s
 
 -- a note takes a state back to the one before
 pub record TakesBack (n : StateWas) (after before : State) : Type 0 where

@@ -1,4 +1,4 @@
-//! Steps along the page of instructions that memory keeps. An instruction is told by its number there, and the machine's own
+//! Steps along the page of instructions that memory keeps. An instruction is known by its number there, and the machine's own
 //! address is set only once such steps end: until then it is that of an earlier one.
 
 ghost use Rattle.std.specs.Prelude.{◌≡◌, ◌≢◌, ◌<◌, ◌+◌, ◌*◌, ◌/◌, ◌%◌, ◌^◌, ℕ, IfSome};

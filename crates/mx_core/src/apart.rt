@@ -187,7 +187,7 @@ impl Machine {
         ensures code { KeepsPlace self.old self.new }
     {
         let (y, z) = (self.y_operand(i), self.z_operand(i));
-        match plain_answer(i.code(), y, z, self.extra()) {
+        match plain_answer::<0>(i.code(), y, z, self.extra()) {
             Some(a) => self.set_answer(i.x(), &a),
             None => false,
         }
@@ -226,10 +226,15 @@ impl Machine {
         self.store_if_near(a, part_of_store(how), convert_stored(how, x, i.x()))
     }
 
-    /// STB to STCO below Stack_Segment, where the page is near and no sign is lost.
+    /// STB to STCO below Stack_Segment, where the page is near and no sign is lost. Each caller has its own, by a number, so that
+    /// it is inlined there.
     #[tactic(auto)]
     #[inline(always)]
-    pub(crate) fn store_if_usual(&mut self, how: Storing, i: &Instruction) -> bool
+    pub(crate) fn store_if_usual<const CALLER: usize>(
+        &mut self,
+        how: Storing,
+        i: &Instruction,
+    ) -> bool
         ensures made { MakesWhereTold (λ s. outcome s (deed_of (Operation.Store how) s i.now)) result self.old self.new }
         ensures stores { IsTrue result →
             StoresBelow (state_of self.old) (state_of self.new) (data_address (state_of self.old) i.now) }

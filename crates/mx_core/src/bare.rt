@@ -1,13 +1,12 @@
 //! A machine that has no memory of its own, at the start of a program; and the exchange of memory.
 
 ghost use Rattle.std.specs.Prelude.{◌≡◌, ◌≤◌, ◌+◌, [], ◌∷◌, ℕ, IfOk, List, false, length, slice_index};
-ghost use Rattle.mx_ring.specs.RegisterList.{list_at_start};
-ghost use Rattle.mx_ring.specs.Stack.{listed, set_overfills, windowed, with_register};
+ghost use Rattle.mx_ring.specs.Stack.{set_overfills, windowed, with_register};
 ghost use Rattle.mx_ring.specs.Window.{window_at_start};
 ghost use Rattle.mx_code.specs.SpecialRegisters.{rA};
 ghost use Rattle.mx_core.specs.Bare as spec;
 ghost use Rattle.mx_core.specs.Bare.{bare_registers, shared_in, shared_of, window_with, with_shared};
-ghost use Rattle.mx_core.specs.Bounds.{as_list_state};
+ghost use Rattle.mx_core.specs.Laws.{StartsAsList};
 ghost use Rattle.mx_core.specs.Kept.{state_of};
 
 use crate::Machine;
@@ -60,6 +59,16 @@ impl Machine {
         ensures memory { shared_in memory.new ≡ shared_of (state_of self.old) }
     {
         self.memory.exchange(memory);
+    }
+
+    /// Exchanges the machine's memory with that of another machine. Nothing else changes in either of them. It takes no
+    /// memory, and the same time for any memory.
+    #[tactic(auto, unfolding(crate::specs::Kept::state_of))]
+    pub fn exchange_memory(&mut self, other: &mut Machine)
+        ensures here { state_of self.new ≡ with_shared (shared_of (state_of other.old)) (state_of self.old) }
+        ensures there { state_of other.new ≡ with_shared (shared_of (state_of self.old)) (state_of other.old) }
+    {
+        self.memory.exchange(&mut other.memory);
     }
 }
 
@@ -145,10 +154,9 @@ fn special_at_start() -> [u64; 32]
     special
 }
 
-/// Over the list that the window at the start stands for, the machine with no memory starts as that list.
+/// Over the list that the window at the start represents, the machine with no memory starts as that list.
 #[tactic(auto, using(crate::proofs::BareStarts::starting))]
 pub fn bare_machines_start_as_lists()
     ensures { (g first second size : ℕ) (globals : List ℕ)
-        → spec.bare g globals first second (listed list_at_start)
-        ≡ as_list_state (spec.bare g globals first second (windowed (window_at_start size))) }
+        → StartsAsList g globals first second size }
 {}

@@ -11,7 +11,7 @@ ghost use Rattle.mx_core.specs.State.{State};
 use crate::Machine;
 use mx_ring::Ring;
 
-/// Tells the bounds that each ring keeps. It does nothing: it reads no number of the ring, since what is read here is
+/// States the bounds that each ring keeps. It does nothing: it reads no number of the ring, since what is read here is
 /// read again at each step.
 #[inline(always)]
 pub(crate) fn know_bounds(ring: &Ring)
@@ -32,7 +32,7 @@ pub fn machines_keep_the_invariant(machine: &Machine)
     let _ = machine.memory.pages();
 }
 
-/// Tells how many special registers there are. It does nothing.
+/// States how many special registers there are. It does nothing.
 #[inline(always)]
 fn know_count(special: &[u64; 32])
     ensures { length special.now ≡ 32 }
@@ -51,7 +51,7 @@ pub fn machines_hold_octas(machine: &Machine)
     know_octa(machine.steps);
 }
 
-/// Tells that the count of steps is below 2^64. It does nothing.
+/// States that the count of steps is below 2^64. It does nothing.
 #[tactic(auto, unfolding(crate::specs::Kept::state_of))]
 #[inline(always)]
 pub(crate) fn know_steps(machine: &Machine)
@@ -60,14 +60,14 @@ pub(crate) fn know_steps(machine: &Machine)
     know_octa(machine.steps);
 }
 
-/// Tells that each item of a slice of octas is below 2^64. It does nothing.
+/// States that each item of a slice of octas is below 2^64. It does nothing.
 fn know_octas(octas: &[u64])
     ensures { (i : ℕ) → slice_index octas.now i < 2 ^ 64 }
 {
     let _octas = octas;
 }
 
-/// Tells that an octa is below 2^64. It does nothing.
+/// States that an octa is below 2^64. It does nothing.
 fn know_octa(octa: u64)
     ensures { octa < 2 ^ 64 }
 {}

@@ -1,7 +1,7 @@
 //! Instructions that give $X a value and do nothing else.
 
 ghost use Rattle.std.specs.Prelude.{◌≡◌, IsTrue};
-ghost use Rattle.mx_core.specs.Way.Calls.{CarriesOut, Makes, answer_outcome};
+ghost use Rattle.mx_core.specs.Way.Calls.{Makes, Performs, answer_outcome};
 ghost use Rattle.mx_core.specs.Effects as spec;
 ghost use Rattle.mx_code.specs.Instructions.{code_of, instruction, operation_in};
 ghost use Rattle.mx_core.specs.Kept.{state_of};
@@ -18,7 +18,7 @@ impl Machine {
     #[inline(always)]
     pub(crate) fn compute(&mut self, i: &Instruction) -> Result<(), Stop>
         requires { operation_in i.now ≡ Operation.Compute }
-        ensures { CarriesOut Operation.Compute i.now result self.old self.new }
+        ensures { Performs Operation.Compute i.now result self.old self.new }
     {
         let (y, z) = (self.y_operand(i), self.z_operand(i));
         match lone_result(i.code(), y, z, self.extra()) {
@@ -45,7 +45,7 @@ impl Machine {
     #[inline(always)]
     pub(crate) fn negate(&mut self, i: &Instruction) -> Result<(), Stop>
         requires { operation_in i.now ≡ Operation.Negate }
-        ensures { CarriesOut Operation.Negate i.now result self.old self.new }
+        ensures { Performs Operation.Negate i.now result self.old self.new }
     {
         let (y, z) = (u64::from(i.y()), self.z_operand(i));
         match lone_result(i.code(), y, z, self.extra()) {
@@ -71,7 +71,7 @@ impl Machine {
     #[inline(always)]
     pub(crate) fn set_wyde(&mut self, i: &Instruction) -> Result<(), Stop>
         requires { operation_in i.now ≡ Operation.Wyde }
-        ensures { CarriesOut Operation.Wyde i.now result self.old self.new }
+        ensures { Performs Operation.Wyde i.now result self.old self.new }
     {
         let value = match i.given {
             None => wyde(i.code(), self.x_register(i), wyde_value(i)),
@@ -85,7 +85,7 @@ impl Machine {
     #[inline(always)]
     pub(crate) fn conditional_set(&mut self, i: &Instruction) -> Result<(), Stop>
         requires { operation_in i.now ≡ Operation.ConditionalSet }
-        ensures { CarriesOut Operation.ConditionalSet i.now result self.old self.new }
+        ensures { Performs Operation.ConditionalSet i.now result self.old self.new }
     {
         let value = if is_condition_met(i, self.y_operand(i)) {
             self.z_operand(i)
@@ -100,7 +100,7 @@ impl Machine {
     #[inline(always)]
     pub(crate) fn zero_or_set(&mut self, i: &Instruction) -> Result<(), Stop>
         requires { operation_in i.now ≡ Operation.ZeroOrSet }
-        ensures { CarriesOut Operation.ZeroOrSet i.now result self.old self.new }
+        ensures { Performs Operation.ZeroOrSet i.now result self.old self.new }
     {
         let value = if is_condition_met(i, self.y_operand(i)) {
             self.z_operand(i)
@@ -114,7 +114,7 @@ impl Machine {
     #[tactic(auto, using(crate::proofs::Results::Outcomes::address_outcome))]
     #[inline(always)]
     pub(crate) fn get_address(&mut self, i: &Instruction) -> Result<(), Stop>
-        ensures { CarriesOut Operation.Address i.now result self.old self.new }
+        ensures { Performs Operation.Address i.now result self.old self.new }
     {
         self.settle(i, i.near_address(), i.next())
     }
@@ -123,7 +123,7 @@ impl Machine {
     #[tactic(auto, using(crate::proofs::Results::Outcomes::go_outcome))]
     #[inline(always)]
     pub(crate) fn go(&mut self, i: &Instruction) -> Result<(), Stop>
-        ensures { CarriesOut Operation.Go i.now result self.old self.new }
+        ensures { Performs Operation.Go i.now result self.old self.new }
     {
         self.settle(i, i.next(), self.data_address(i))
     }

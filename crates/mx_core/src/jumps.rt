@@ -2,7 +2,7 @@
 
 ghost use Rattle.std.specs.Prelude.{◌≡◌};
 ghost use Rattle.mx_core.specs.Way.Calls as spec;
-ghost use Rattle.mx_core.specs.Way.Calls.{CarriesOut, Makes};
+ghost use Rattle.mx_core.specs.Way.Calls.{Makes, Performs};
 ghost use Rattle.mx_code.specs.Instructions.{operation_in};
 ghost use Rattle.mx_core.specs.Kept.{state_of};
 ghost use Rattle.mx_core.specs.Way.KeptPage.{KeepsPlace};
@@ -18,7 +18,7 @@ impl Machine {
     #[inline(always)]
     pub(crate) fn branch(&mut self, i: &Instruction) -> Result<(), Stop>
         requires { operation_in i.now ≡ Operation.Branch }
-        ensures { CarriesOut Operation.Branch i.now result self.old self.new }
+        ensures { Performs Operation.Branch i.now result self.old self.new }
     {
         let address = if is_condition_met(i, self.x_register(i)) {
             i.near_address()
@@ -33,7 +33,7 @@ impl Machine {
     #[tactic(auto, using(crate::proofs::Results::Others::jump_outcome))]
     #[inline(always)]
     pub(crate) fn jump(&mut self, i: &Instruction) -> Result<(), Stop>
-        ensures { CarriesOut Operation.Jump i.now result self.old self.new }
+        ensures { Performs Operation.Jump i.now result self.old self.new }
     {
         self.go_to(i.far_address());
         Ok(())
@@ -43,7 +43,7 @@ impl Machine {
     #[tactic(auto, using(crate::proofs::Results::Others::push_jump_outcome))]
     #[inline(always)]
     pub(crate) fn push_jump(&mut self, i: &Instruction) -> Result<(), Stop>
-        ensures { CarriesOut Operation.PushJump i.now result self.old self.new }
+        ensures { Performs Operation.PushJump i.now result self.old self.new }
     {
         self.push_to(i, i.near_address())
     }
@@ -52,14 +52,14 @@ impl Machine {
     #[tactic(auto, using(crate::proofs::Results::Others::push_go_outcome))]
     #[inline(always)]
     pub(crate) fn push_go(&mut self, i: &Instruction) -> Result<(), Stop>
-        ensures { CarriesOut Operation.PushGo i.now result self.old self.new }
+        ensures { Performs Operation.PushGo i.now result self.old self.new }
     {
         self.push_to(i, self.data_address(i))
     }
 
     /// Registers are hidden, and the machine goes to an address.
     #[inline(always)]
-    fn push_to(&mut self, i: &Instruction, address: u64) -> Result<(), Stop>
+    pub(crate) fn push_to(&mut self, i: &Instruction, address: u64) -> Result<(), Stop>
         ensures { Makes (λ s. spec.push_outcome s i.now address) result self.old self.new }
     {
         match self.push(i.x()) {
@@ -89,7 +89,7 @@ impl Machine {
     #[tactic(auto, using(crate::proofs::Results::Others::pop_outcome_is))]
     #[inline(always)]
     pub(crate) fn pop(&mut self, i: &Instruction) -> Result<(), Stop>
-        ensures { CarriesOut Operation.Pop i.now result self.old self.new }
+        ensures { Performs Operation.Pop i.now result self.old self.new }
     {
         let address = self.special(RJ).wrapping_add(4 * i.yz());
         match self.pop_registers(i.x()) {

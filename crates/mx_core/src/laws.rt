@@ -1,5 +1,5 @@
 //! What holds of the machine over its definitions alone. A machine over a window and the one over the
-//! list that its register stack stands for go the same way: what a program sees does not depend on
+//! list that its register stack represents go the same way: what a program sees does not depend on
 //! what was spilled, as long as nothing looks at rS or at the memory of the register stack.
 
 ghost use Rattle.std.specs.Prelude.{◌≡◌, ◌<◌, ◌≤◌, ◌^◌, ◌||◌, ◌==◌, ℕ, false, Ok};
@@ -7,6 +7,7 @@ ghost use Rattle.mx_core.specs.Bounds.{IsMachine, as_list_state, as_list_step};
 ghost use Rattle.mx_core.specs.Deeds.{applied, with_destination};
 ghost use Rattle.mx_core.specs.Effects.{Effect, moves_frames, specials_saved};
 ghost use Rattle.mx_code.specs.declared.instruction.Instruction.{Instruction};
+ghost use Rattle.mx_core.specs.Laws.{GoesAsList, GoesOrFailsAsList, HasFrameAddress, HaveSameList, StepAlike};
 ghost use Rattle.mx_core.specs.Machines.{IsOverWindow};
 ghost use Rattle.mx_core.specs.UserChanges.{register_changed, special_changed, octa_changed, at_address};
 ghost use Rattle.mx_core.specs.State.{State, global_start, special_register, octa};
@@ -16,12 +17,10 @@ ghost use Rattle.mx_core.specs.Wild.{IsQuiet, is_wild};
 ghost use Rattle.mx_code.specs.declared.operation.Operation.{Operation};
 ghost use Rattle.mx_code.specs.declared.trace.Trace.{Trace};
 ghost use Rattle.mx_ring.specs.Laws.{SaveIsUndone};
-ghost use Rattle.mx_ring.specs.Stack.{visible, register, hidden_count, in_stack_area, stack_address};
-ghost use Rattle.mx_ring.specs.Stack.{save_overfills, saved, frame_top};
+ghost use Rattle.mx_ring.specs.Stack.{visible, register, hidden_count, in_stack_area, save_overfills};
 ghost use Rattle.mx_ring.specs.Window.{Window};
 ghost use Rattle.mx_code.specs.SpecialRegisters.{rS};
 ghost use Rattle.mx_alu.specs.declared.call.TrapCall.{TrapCall};
-ghost use Rattle.mx_word.specs.Results.{map_ok};
 
 /// Both read the same: registers, G and L, special registers other than rS, and memory outside the
 /// stack area.
@@ -35,14 +34,14 @@ pub fn lists_read_the_same()
 {}
 
 /// A step that is not wild, where nothing was touched, has the same answer and the same trace, and
-/// leaves the list that the next state stands for. It is wild for the one where it is for the other. So
+/// leaves the list that the next state represents. It is wild for the one where it is for the other. So
 /// it reads no octa of the stack area that no list has: those from rS on.
 pub fn steps_go_as_lists()
     ensures step { (s : State) (w : Window) → IsMachine s w → IsQuiet s
         → step (as_list_state s) ≡ as_list_step (step s) }
     ensures wild { (s : State) (w : Window) → IsMachine s w → is_wild (as_list_state s) ≡ is_wild s }
     ensures unread { (s t : State) (w x : Window) → IsMachine s w → IsMachine t x → IsQuiet s → IsQuiet t
-        → as_list_state s ≡ as_list_state t → as_list_step (step s) ≡ as_list_step (step t) }
+        → HaveSameList s t → StepAlike s t }
 {}
 
 /// A step, wild or not, leaves a machine over a window, or gives a call with a tetra. Saved frames are
@@ -67,7 +66,7 @@ pub fn marks_move_with_frames()
 /// list.
 pub fn frames_come_back()
     ensures address { (s : State) (x : ℕ) → IsOverWindow s → global_start s ≤ x → x < 256
-        → register (saved s.stack x (specials_saved s)) x ≡ stack_address (frame_top s.stack) }
+        → HasFrameAddress s x }
     ensures frame { (s : State) (x : ℕ) → IsOverWindow s → save_overfills s.stack ≡ false
         → SaveIsUndone s.stack x (specials_saved s) }
 {}
@@ -75,11 +74,11 @@ pub fn frames_come_back()
 /// What a user changes outside the stack area does the same to both.
 pub fn changes_go_as_lists()
     ensures register { (s : State) (w : Window) (k value : ℕ) → IsMachine s w
-        → register_changed (as_list_state s) k value ≡ map_ok as_list_state (register_changed s k value) }
+        → GoesOrFailsAsList (λ t. register_changed t k value) s }
     ensures special { (s : State) (w : Window) (code value : ℕ) → IsMachine s w
-        → special_changed (as_list_state s) code value ≡ map_ok as_list_state (special_changed s code value) }
+        → GoesOrFailsAsList (λ t. special_changed t code value) s }
     ensures octa { (s : State) (a x : ℕ) → in_stack_area a ≡ false
-        → octa_changed (as_list_state s) a x ≡ map_ok as_list_state (octa_changed s a x) }
+        → GoesOrFailsAsList (λ t. octa_changed t a x) s }
     ensures address { (s : State) (a : ℕ) → at_address (as_list_state s) a ≡ as_list_state (at_address s a) }
 {}
 
@@ -97,15 +96,15 @@ pub fn changes_keep_machines()
 /// What a file trap changes does the same to both.
 pub fn traps_go_as_lists()
     ensures trapped { (s : State) (w : Window) (call : TrapCall) (value : ℕ) → IsMachine s w
-        → trapped (as_list_state s) call value ≡ as_list_state (trapped s call value) }
+        → GoesAsList (λ t. trapped t call value) s }
     ensures halted { (s : State) → halted (as_list_state s) ≡ as_list_state (halted s) }
     ensures touch { (s : State) → with_touch (as_list_state s) ≡ as_list_state (with_touch s) }
 {}
 
 /// What a file trap changes leaves a machine.
 pub fn traps_keep_machines()
-    ensures trapped { (s : State) (call : TrapCall) (value : ℕ) → IsOverWindow s → call.word < 2 ^ 32
-        → value < 2 ^ 64 → IsOverWindow (trapped s call value) }
+    ensures trapped { (s : State) (c : TrapCall) (x : ℕ) → IsOverWindow s → c.word < 2 ^ 32 → x < 2 ^ 64
+        → IsOverWindow (trapped s c x) }
     ensures halted { (s : State) → IsOverWindow s → IsOverWindow (halted s) }
     ensures touch { (s : State) → IsOverWindow s → IsOverWindow (with_touch s) }
 {}

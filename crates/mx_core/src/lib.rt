@@ -21,6 +21,7 @@ mod overwritten;
 mod perform;
 mod plain;
 mod puts;
+mod rare_noting;
 mod resume;
 mod search;
 mod sight;
@@ -35,6 +36,7 @@ mod undoing;
 mod usual;
 mod usual_codes;
 mod usual_noting;
+mod usual_tracing;
 mod values;
 mod works;
 

@@ -1,7 +1,7 @@
 //! Loads.
 
 ghost use Rattle.std.specs.Prelude.{◌≡◌, ◌<◌, ◌≤◌, ◌+◌, ◌%◌, ◌^◌};
-ghost use Rattle.mx_core.specs.Way.Calls.{CarriesOut};
+ghost use Rattle.mx_core.specs.Way.Calls.{Performs};
 ghost use Rattle.mx_core.specs.Effects.{data_address};
 ghost use Rattle.mx_code.specs.Instructions.{operands_given};
 ghost use Rattle.mx_core.specs.Kept.{state_of};
@@ -17,7 +17,7 @@ impl Machine {
     #[tactic(auto, using(crate::proofs::Results::Loads::load_below))]
     #[inline(always)]
     pub(crate) fn load(&mut self, how: Loading, i: &Instruction) -> Result<(), Stop>
-        ensures { CarriesOut (Operation.Load how) i.now result self.old self.new }
+        ensures { Performs (Operation.Load how) i.now result self.old self.new }
     {
         let (y, z) = (self.y_operand(i), self.z_operand(i));
         let a = y.wrapping_add(z);
@@ -32,7 +32,7 @@ impl Machine {
     #[inline(never)]
     fn load_apart(&mut self, how: Loading, at: u64, word: u32, y: u64, z: u64) -> Told
         requires { 0x6000_0000_0000_0000 ≤ (y + z) % 2 ^ 64 }
-        ensures { CarriesOut (Operation.Load how) (operands_given at word y z) (answer_in result) self.old self.new }
+        ensures { Performs (Operation.Load how) (operands_given at word y z) (answer_in result) self.old self.new }
     {
         let given = Some((y, z));
         let i = Instruction { at, word, given };
@@ -44,7 +44,7 @@ impl Machine {
     fn load_above(&mut self, how: Loading, i: &Instruction, a: u64) -> Result<(), Stop>
         requires address { a ≡ data_address (state_of self.old) i.now }
         requires least { 0x6000_0000_0000_0000 ≤ a }
-        ensures { CarriesOut (Operation.Load how) i.now result self.old self.new }
+        ensures { Performs (Operation.Load how) i.now result self.old self.new }
     {
         if a >= 1 << 63 {
             return Err(Stop::Stopped(Reason::Negative));
@@ -67,7 +67,7 @@ impl Machine {
         requires address { a ≡ data_address (state_of self.old) i.now }
         requires least { 0x6000_0000_0000_0000 ≤ a }
         requires most { a < 2 ^ 63 }
-        ensures { CarriesOut (Operation.Load how) i.now result self.old self.new }
+        ensures { Performs (Operation.Load how) i.now result self.old self.new }
     {
         match self.set(i.x(), self.x_register(i)) {
             Ok(()) => {

@@ -48,7 +48,7 @@ impl Model for Machine {
 
 #[tactic(auto)]
 impl Machine {
-    /// Tells the bounds that the register stack keeps. It does nothing.
+    /// States the bounds that the register stack keeps. It does nothing.
     #[inline(always)]
     pub(crate) fn know_ring(&self)
         ensures { IsRing self.now.ring }

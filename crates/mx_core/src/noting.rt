@@ -7,14 +7,14 @@ ghost use Rattle.mx_code.specs.Instructions.{operation_in};
 ghost use Rattle.mx_core.specs.Kept.{state_of};
 ghost use Rattle.mx_core.specs.Way.Noting as spec;
 ghost use Rattle.mx_core.specs.Way.Noting.{IfWent, TellsDeed, step_of};
-ghost use Rattle.mx_core.specs.Step.{fetched, step};
-ghost use Rattle.mx_core.specs.Way.Stepping.{step_answer};
+ghost use Rattle.mx_core.specs.Step.{fetched};
+ghost use Rattle.mx_core.specs.Way.Stepping.{HasStepped};
 ghost use Rattle.mx_core.specs.Undoing as undoing;
 ghost use Rattle.mx_core.specs.Undoing.{TakesBack};
 
 use crate::bounds::machines_hold_octas;
 use crate::machine::is_in_stack_area;
-use crate::overwritten::{OctaWas, UsualWas};
+use crate::overwritten::{CallWas, OctaWas, UsualWas};
 use crate::sight::Sight;
 use crate::undoing::machines_are_paged;
 use crate::{Machine, Reason, Step, Touch, Trace};
@@ -41,11 +41,12 @@ impl Model for Note {
     ghost view = { note_in };
 }
 
-/// What a step of any kind may have overwritten, or the little that a usual one did.
+/// What a step of any kind may have overwritten, or the little that a usual one did, or a call of few registers.
 #[derive(Drop)]
 pub(crate) enum Was {
     Whole(Box<WholeNote>),
     Usual(UsualWas),
+    Call(Box<CallWas>),
 }
 
 /// What a step of any kind may have overwritten.
@@ -85,8 +86,7 @@ pub enum Noted {
 impl Machine {
     /// One step, as `step` makes it, and a note by which it is taken back. It may take memory for the note.
     pub fn step_noted(&mut self) -> Noted
-        ensures answer { step_of result ≢ Step.OutOfMemory →
-            (step_of result, state_of self.new) ≡ step_answer (state_of self.old) (step (state_of self.old)) }
+        ensures answer { HasStepped (step_of result) self.old self.new }
         ensures memory { step_of result ≡ Step.OutOfMemory → state_of self.new ≡ state_of self.old }
         ensures back { IfWent result (λ note. TakesBack note (state_of self.new) (state_of self.old)) }
     {
@@ -97,8 +97,7 @@ impl Machine {
 
     /// One step and its note. The page of its instruction is not kept.
     fn step_with_note(&mut self) -> Noted
-        ensures answer { step_of result ≢ Step.OutOfMemory →
-            (step_of result, state_of self.new) ≡ step_answer (state_of self.old) (step (state_of self.old)) }
+        ensures answer { HasStepped (step_of result) self.old self.new }
         ensures memory { step_of result ≡ Step.OutOfMemory → state_of self.new ≡ state_of self.old }
         ensures back { IfWent result (λ note. TakesBack note (state_of self.new) (state_of self.old)) }
     {
@@ -118,8 +117,7 @@ impl Machine {
         requires fetched { i.now ≡ fetched (state_of self.old) }
         requires range { (state_of self.old).pc < 2 ^ 63 }
         requires no_trap { operation_in i.now ≢ Operation.Trap }
-        ensures answer { step_of result ≢ Step.OutOfMemory →
-            (step_of result, state_of self.new) ≡ step_answer (state_of self.old) (step (state_of self.old)) }
+        ensures answer { HasStepped (step_of result) self.old self.new }
         ensures memory { step_of result ≡ Step.OutOfMemory → state_of self.new ≡ state_of self.old }
         ensures back { IfWent result (λ note. TakesBack note (state_of self.new) (state_of self.old)) }
     {
@@ -136,7 +134,7 @@ impl Machine {
         }
     }
 
-    /// What an instruction may overwrite, or nothing where memory is lacking.
+    /// What an instruction may overwrite, or nothing where memory runs out.
     #[tactic(auto, using(crate::proofs::Undone::Notes::tells))]
     fn note(&mut self, i: &Instruction) -> Option<Note>
         ensures note { IfSome result (λ n.
@@ -233,7 +231,7 @@ impl Machine {
     }
 }
 
-/// The note of a step, or nothing where memory is lacking.
+/// The note of a step, or nothing where memory runs out.
 #[inline(always)]
 fn into_note(alloc: Global, whole: WholeNote) -> Option<Note>
     ensures { IfSome result (λ n. n ≡ undoing.whole whole) }

@@ -42,7 +42,7 @@ impl Machine {
         }
     }
 
-    /// The address that the operands tell together.
+    /// The address that the operands give together.
     #[inline(always)]
     pub(crate) fn data_address(&self, i: &Instruction) -> u64
         ensures { result ≡ spec.data_address (state_of self.now) i.now }

@@ -1,6 +1,6 @@
 //! One instruction, by its operation.
 ghost use Rattle.std.specs.Prelude.{◌≡◌, false};
-ghost use Rattle.mx_core.specs.Way.Calls.{CarriesOut, CarriesOutWithMemory, KeepsOnErr, LacksMemoryOnlyWhere};
+ghost use Rattle.mx_core.specs.Way.Calls.{KeepsOnErr, LacksMemoryOnlyWhere, Performs, PerformsWithMemory};
 ghost use Rattle.mx_core.specs.Deeds.{deed_of};
 ghost use Rattle.mx_code.specs.Instructions.{operation_in};
 ghost use Rattle.mx_core.specs.Kept.{state_of};
@@ -16,7 +16,7 @@ impl Machine {
     #[tactic(auto, using(crate::proofs::Results::Unchanged::unchanged))]
     #[inline(always)]
     pub(crate) fn perform(&mut self, i: &Instruction) -> Result<(), Stop>
-        ensures answer { CarriesOutWithMemory (operation_in i.now) i.now result self.old self.new }
+        ensures answer { PerformsWithMemory (operation_in i.now) i.now result self.old self.new }
         ensures err { KeepsOnErr result self.old self.new }
         ensures lacks_memory { LacksMemoryOnlyWhere
             (needs_page (state_of self.old) (deed_of (operation_in i.now) (state_of self.old) i.now)) result }
@@ -33,9 +33,9 @@ impl Machine {
     /// Errors: the stops of the instruction; then nothing changed.
     #[tactic(auto, using(crate::proofs::Results::Others::stops))]
     #[inline(always)]
-    fn perform_without_store(&mut self, i: &Instruction) -> Result<(), Stop>
+    pub(crate) fn perform_without_store(&mut self, i: &Instruction) -> Result<(), Stop>
         requires { may_store (operation_in i.now) ≡ false }
-        ensures { CarriesOut (operation_in i.now) i.now result self.old self.new }
+        ensures { Performs (operation_in i.now) i.now result self.old self.new }
     {
         match i.operation() {
             Operation::Compute => self.compute(i),

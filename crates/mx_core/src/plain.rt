@@ -7,10 +7,15 @@ ghost use Rattle.mx_alu.specs.Arithmetic as rows;
 use mx_alu::{Answer, Extra};
 
 /// What MULU gives; what DIV gives of numbers that are not negative, and DIVU of rD 0, where the divisor is not 0. Nothing
-/// in other cases and for other codes.
+/// in other cases and for other codes. Each caller has its own, by a number, so that it is inlined there.
 #[tactic(auto, using(crate::proofs::Results::Quotients::coded))]
 #[inline(always)]
-pub(crate) fn plain_answer(code: u8, y: u64, z: u64, extra: Extra) -> Option<Answer>
+pub(crate) fn plain_answer<const CALLER: usize>(
+    code: u8,
+    y: u64,
+    z: u64,
+    extra: Extra,
+) -> Option<Answer>
     ensures answer { IfSome result (λ a. a ≡ spec.alu code y z extra) }
     ensures event { IfSome result (λ a. a.event ≡ None) }
 {

@@ -39,7 +39,7 @@ impl Machine {
         }
     }
 
-    /// An inserted instruction, as if it stood at an address. A register that it sets is local or global.
+    /// An inserted instruction, as if it were at an address. A register that it sets is local or global.
     fn perform_inserted(&mut self, kind: Kind, at: u64, word: u32) -> Result<(), Stop>
         requires { kind ≡ kinds.Set → sets_marginal (state_of self.old) (spec.instruction at word) ≡ false }
         ensures answer { MakesWithMemory (λ s. outcome s (deeds.performed kind s at word)) result self.old self.new }

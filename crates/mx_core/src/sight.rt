@@ -34,7 +34,8 @@ impl Machine {
 
     /// What an instruction does, told by its operation.
     #[tactic(auto, using(crate::proofs::Results::Sights::load_sight, crate::proofs::Results::Sights::store_sight, crate::proofs::Results::Sights::quiet_sight))]
-    fn sight_by_operation(&self, i: &Instruction) -> Sight
+    #[inline(always)]
+    pub(crate) fn sight_by_operation(&self, i: &Instruction) -> Sight
         ensures value { is_swap (operation_in i.now) ≡ false →
             result ≡ sight_of (deed_of (operation_in i.now) (state_of self.now) i.now) }
         ensures apart { is_swap (operation_in i.now) ≡ false → is_exchange result ≡ false }
@@ -79,7 +80,7 @@ impl Machine {
     {
         let (rx, rw) = (self.special(RX), self.special(RW));
         match inserted(rx, rw, self.l(), self.g()) {
-            Insert::Perform { kind, at, word } => self.inserted_sight(kind, at, word),
+            Insert::Perform { kind, at, word } => self.find_inserted_sight(kind, at, word),
             _ => Sight {
                 dest: None,
                 reads: None,
@@ -90,7 +91,7 @@ impl Machine {
 
     /// What an inserted instruction does.
     #[tactic(auto, using(crate::proofs::Results::Foretold::set_foretold))]
-    fn inserted_sight(&self, kind: Kind, at: u64, word: u32) -> Sight
+    fn find_inserted_sight(&self, kind: Kind, at: u64, word: u32) -> Sight
         ensures { Foretells (state_of self.now) (deeds.performed kind (state_of self.now) at word) result }
     {
         match kind {

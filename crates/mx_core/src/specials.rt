@@ -3,7 +3,7 @@
 ghost use Rattle.std.specs.Prelude.{◌≡◌, ◌≤◌, ◌<◌, ◌^◌, ◌==◌, ◌||◌, IfOk, nat_lt, not};
 ghost use Rattle.mx_ring.specs.Stack.{stack_index, unsave_refused};
 ghost use Rattle.mx_core.specs.Way.Calls as spec;
-ghost use Rattle.mx_core.specs.Way.Calls.{CarriesOut, Makes, unless};
+ghost use Rattle.mx_core.specs.Way.Calls.{Makes, Performs, frame_back, unless};
 ghost use Rattle.mx_core.specs.Effects.{specials_back, specials_saved};
 ghost use Rattle.mx_core.specs.Deeds.{with_specials};
 ghost use Rattle.mx_code.specs.Instructions.{x_of, y_of};
@@ -35,7 +35,7 @@ impl Machine {
     #[tactic(auto, using(crate::proofs::Results::Others::get_outcome_is))]
     #[inline(always)]
     pub(crate) fn get_special(&mut self, i: &Instruction) -> Result<(), Stop>
-        ensures { CarriesOut Operation.Get i.now result self.old self.new }
+        ensures { Performs Operation.Get i.now result self.old self.new }
     {
         if i.y() != 0 || i.z() > 31 {
             return Err(Stop::Stopped(Reason::Illegal));
@@ -53,7 +53,7 @@ impl Machine {
     /// PUT.
     #[tactic(auto, using(crate::proofs::Results::Puts::put_outcome_is))]
     pub(crate) fn put_special(&mut self, i: &Instruction) -> Result<(), Stop>
-        ensures { CarriesOut Operation.Put i.now result self.old self.new }
+        ensures { Performs Operation.Put i.now result self.old self.new }
     {
         if has_bad_special(i) {
             return Err(Stop::Stopped(Reason::Illegal));
@@ -73,7 +73,7 @@ impl Machine {
     /// SYNC.
     #[tactic(auto, using(crate::proofs::Results::Others::sync_outcome_is))]
     pub(crate) fn synchronize(&mut self, i: &Instruction) -> Result<(), Stop>
-        ensures { CarriesOut Operation.Synchronize i.now result self.old self.new }
+        ensures { Performs Operation.Synchronize i.now result self.old self.new }
     {
         let xyz = i.xyz();
         if xyz > 7 {
@@ -90,7 +90,7 @@ impl Machine {
     #[tactic(auto, using(crate::proofs::Results::Others::nothing_outcome))]
     #[inline(always)]
     pub(crate) fn do_nothing(&mut self, i: &Instruction) -> Result<(), Stop>
-        ensures { CarriesOut Operation.Nothing i.now result self.old self.new }
+        ensures { Performs Operation.Nothing i.now result self.old self.new }
     {
         self.go_to(i.next());
         Ok(())
@@ -99,7 +99,7 @@ impl Machine {
     /// TRIP.
     #[tactic(auto, using(crate::proofs::Results::Others::trip_outcome_is))]
     pub(crate) fn trip_at_once(&mut self, i: &Instruction) -> Result<(), Stop>
-        ensures { CarriesOut Operation.Trip i.now result self.old self.new }
+        ensures { Performs Operation.Trip i.now result self.old self.new }
     {
         if self.tetra(0) == 0 {
             return Err(Stop::Stopped(Reason::UnhandledTrip));
@@ -112,7 +112,7 @@ impl Machine {
     /// SAVE.
     #[tactic(auto, using(crate::proofs::Results::Others::save_outcome_is))]
     pub(crate) fn save(&mut self, i: &Instruction) -> Result<(), Stop>
-        ensures { CarriesOut Operation.Save i.now result self.old self.new }
+        ensures { Performs Operation.Save i.now result self.old self.new }
     {
         if i.yz() != 0 || i.x() < self.g() {
             return Err(Stop::Stopped(Reason::Illegal));
@@ -168,7 +168,7 @@ impl Machine {
     /// UNSAVE.
     #[tactic(auto, using(crate::proofs::Results::Others::unsave_outcome_is))]
     pub(crate) fn unsave(&mut self, i: &Instruction) -> Result<(), Stop>
-        ensures { CarriesOut Operation.Unsave i.now result self.old self.new }
+        ensures { Performs Operation.Unsave i.now result self.old self.new }
     {
         if has_x_or_y(i) {
             return Err(Stop::Stopped(Reason::Illegal));
@@ -196,7 +196,7 @@ impl Machine {
     /// The frame whose last octa holds an address is brought back.
     fn bring_back(&mut self, a: u64) -> Result<(), Stop>
         ensures { Makes (λ s. unless (unsave_refused s.stack a) reasons.BadFrame
-            (spec.frame_back s (stack_index a))) result self.old self.new }
+            (frame_back s (stack_index a))) result self.old self.new }
     {
         match self.bring_registers_back(a) {
             Ok(saved) => {

@@ -9,7 +9,7 @@ ghost use Rattle.mx_core.specs.Step as spec;
 ghost use Rattle.mx_code.specs.Told.{answer_in};
 ghost use Rattle.mx_core.specs.Walks.{Goes};
 ghost use Rattle.mx_core.specs.Way.KeptPage.{IsHere, address_in};
-ghost use Rattle.mx_core.specs.Way.Stepping.{advanced, needs_page, step_answer, step_needs_page};
+ghost use Rattle.mx_core.specs.Way.Stepping.{HasAdvanced, HasStepped, needs_page, step_needs_page};
 
 use crate::along::Next;
 use crate::bounds::{know_steps, machines_keep_the_invariant};
@@ -49,8 +49,18 @@ pub struct Advanced {
 impl Machine {
     /// One step. It takes memory only for a store to a page that is not there.
     pub fn step(&mut self) -> Step
-        ensures answer { result ≢ Step.OutOfMemory →
-            (result, state_of self.new) ≡ step_answer (state_of self.old) (spec.step (state_of self.old)) }
+        ensures answer { HasStepped result self.old self.new }
+        ensures memory { result ≡ Step.OutOfMemory → state_of self.new ≡ state_of self.old }
+        ensures lacks_memory { result ≡ Step.OutOfMemory → IsTrue (step_needs_page (state_of self.old)) }
+    {
+        let answer = self.step_with_trace();
+        self.keep_code();
+        answer
+    }
+
+    /// One step. The page of its instruction is not kept.
+    fn step_with_trace(&mut self) -> Step
+        ensures answer { HasStepped result self.old self.new }
         ensures memory { result ≡ Step.OutOfMemory → state_of self.new ≡ state_of self.old }
         ensures lacks_memory { result ≡ Step.OutOfMemory → IsTrue (step_needs_page (state_of self.old)) }
     {
@@ -82,8 +92,7 @@ impl Machine {
         requires fetched { i.now ≡ spec.fetched (state_of self.old) }
         requires range { (state_of self.old).pc < 2 ^ 63 }
         requires no_trap { operation_in i.now ≢ Operation.Trap }
-        ensures answer { result ≢ Step.OutOfMemory →
-            (result, state_of self.new) ≡ step_answer (state_of self.old) (spec.step (state_of self.old)) }
+        ensures answer { HasStepped result self.old self.new }
         ensures memory { result ≡ Step.OutOfMemory → state_of self.new ≡ state_of self.old }
         ensures lacks_memory { result ≡ Step.OutOfMemory →
             IsTrue (needs_page (state_of self.old) (deed_at (state_of self.old) i.now)) }
@@ -108,8 +117,7 @@ impl Machine {
 
     /// One step without its trace. It takes memory only for a store to a page that is not there.
     pub fn advance(&mut self) -> Advance
-        ensures answer { result ≢ Advance.OutOfMemory →
-            (result, state_of self.new) ≡ advanced (state_of self.old) (spec.step (state_of self.old)) }
+        ensures answer { HasAdvanced result self.old self.new }
         ensures memory { result ≡ Advance.OutOfMemory → state_of self.new ≡ state_of self.old }
         ensures lacks_memory { result ≡ Advance.OutOfMemory → IsTrue (step_needs_page (state_of self.old)) }
     {
@@ -124,8 +132,7 @@ impl Machine {
         ensures most { result.made ≤ n }
         ensures all { result.last ≡ Advance.Went → result.made ≡ n }
         ensures fewer { result.last ≢ Advance.Went → result.made < n }
-        ensures last { result.last ≢ Advance.Went → result.last ≢ Advance.OutOfMemory →
-            (result.last, state_of self.new) ≡ advanced (state_of self.new) (spec.step (state_of self.new)) }
+        ensures last { result.last ≢ Advance.Went → HasAdvanced result.last self.new self.new }
         ensures lacks_memory { result.last ≡ Advance.OutOfMemory → IsTrue (step_needs_page (state_of self.new)) }
     {
         let mut left = n;
@@ -151,9 +158,9 @@ impl Machine {
     }
 
     /// At most `n` steps on the page of instructions that is kept, up to the first that is no usual one or leads
-    /// elsewhere. How many of the `n` are left.
-    #[inline(always)]
-    fn make_usual_ones(&mut self, n: u64) -> u64
+    /// elsewhere. How many of the `n` are left. It is a call, which several processors make for each turn of one step.
+    #[inline(never)]
+    pub fn make_usual_ones(&mut self, n: u64) -> u64
         ensures goes { Goes (n - result) (state_of self.old) (state_of self.new) }
         ensures most { result ≤ n }
     {
@@ -202,8 +209,7 @@ impl Machine {
     /// One step without its trace, after which the page of its instruction is kept.
     #[inline(always)]
     fn advance_and_keep(&mut self) -> Advance
-        ensures answer { result ≢ Advance.OutOfMemory →
-            (result, state_of self.new) ≡ advanced (state_of self.old) (spec.step (state_of self.old)) }
+        ensures answer { HasAdvanced result self.old self.new }
         ensures memory { result ≡ Advance.OutOfMemory → state_of self.new ≡ state_of self.old }
         ensures lacks_memory { result ≡ Advance.OutOfMemory → IsTrue (step_needs_page (state_of self.old)) }
     {
@@ -215,8 +221,7 @@ impl Machine {
     /// One step without its trace, for each address and each instruction.
     #[inline(never)]
     fn advance_general(&mut self) -> Advance
-        ensures answer { result ≢ Advance.OutOfMemory →
-            (result, state_of self.new) ≡ advanced (state_of self.old) (spec.step (state_of self.old)) }
+        ensures answer { HasAdvanced result self.old self.new }
         ensures memory { result ≡ Advance.OutOfMemory → state_of self.new ≡ state_of self.old }
         ensures lacks_memory { result ≡ Advance.OutOfMemory → IsTrue (step_needs_page (state_of self.old)) }
     {
@@ -237,8 +242,7 @@ impl Machine {
         requires fetched { i.now ≡ spec.fetched (state_of self.old) }
         requires range { (state_of self.old).pc < 2 ^ 63 }
         requires no_trap { operation_in i.now ≢ Operation.Trap }
-        ensures answer { result ≢ Advance.OutOfMemory →
-            (result, state_of self.new) ≡ advanced (state_of self.old) (spec.step (state_of self.old)) }
+        ensures answer { HasAdvanced result self.old self.new }
         ensures memory { result ≡ Advance.OutOfMemory → state_of self.new ≡ state_of self.old }
         ensures lacks_memory { result ≡ Advance.OutOfMemory →
             IsTrue (needs_page (state_of self.old) (deed_at (state_of self.old) i.now)) }

@@ -1,7 +1,7 @@
 //! Stores, and the exchange of an octa.
 
 ghost use Rattle.std.specs.Prelude.{◌≡◌, ◌<◌, ◌^◌, Err, Some};
-ghost use Rattle.mx_core.specs.Way.Calls.{KeepsOnErr, LacksMemoryOnlyWhere, MakesWithMemory, CarriesOutWithMemory};
+ghost use Rattle.mx_core.specs.Way.Calls.{KeepsOnErr, LacksMemoryOnlyWhere, MakesWithMemory, PerformsWithMemory, makes_page, store_settled};
 ghost use Rattle.mx_core.specs.Way.Calls as spec;
 ghost use Rattle.mx_code.specs.LoadsAndStores.{stored_event};
 ghost use Rattle.mx_alu.specs.declared.decision.Trip.TheVariants as trips;
@@ -25,7 +25,7 @@ impl Machine {
     #[tactic(auto, using(crate::proofs::Results::Stores::store_outcome_is, crate::proofs::Results::Plain::store_as_plain))]
     #[inline(always)]
     pub(crate) fn store_register(&mut self, how: Storing, i: &Instruction) -> Result<(), Stop>
-        ensures answer { CarriesOutWithMemory (Operation.Store how) i.now result self.old self.new }
+        ensures answer { PerformsWithMemory (Operation.Store how) i.now result self.old self.new }
         ensures err { KeepsOnErr result self.old self.new }
         ensures lacks_memory { LacksMemoryOnlyWhere
             (needs_page (state_of self.old) (deed_of (Operation.Store how) (state_of self.old) i.now)) result }
@@ -53,11 +53,11 @@ impl Machine {
     fn store_apart(&mut self, how: Storing, at: u64, word: u32, a: u64, x: u64) -> Told
         requires address { a < 2 ^ 63 }
         requires event { stored_event how x ≡ Some event.Overflow }
-        ensures answer { MakesWithMemory (λ s. spec.store_settled s (instruction at word) how a x)
+        ensures answer { MakesWithMemory (λ s. store_settled s (instruction at word) how a x)
             (answer_in result) self.old self.new }
         ensures err { KeepsOnErr (answer_in result) self.old self.new }
-        ensures lacks_memory { LacksMemoryOnlyWhere (spec.makes_page (state_of self.old) a
-            (spec.store_settled (state_of self.old) (instruction at word) how a x)) (answer_in result) }
+        ensures lacks_memory { LacksMemoryOnlyWhere (makes_page (state_of self.old) a
+            (store_settled (state_of self.old) (instruction at word) how a x)) (answer_in result) }
     {
         Told::from_result(self.store_overflowing(how, &Instruction::new(at, word), a, x))
     }
@@ -72,10 +72,10 @@ impl Machine {
     ) -> Result<(), Stop>
         requires address { a < 2 ^ 63 }
         requires event { stored_event how x ≡ Some event.Overflow }
-        ensures answer { MakesWithMemory (λ s. spec.store_settled s i.now how a x) result self.old self.new }
+        ensures answer { MakesWithMemory (λ s. store_settled s i.now how a x) result self.old self.new }
         ensures err { KeepsOnErr result self.old self.new }
-        ensures lacks_memory { LacksMemoryOnlyWhere (spec.makes_page (state_of self.old) a
-            (spec.store_settled (state_of self.old) i.now how a x)) result }
+        ensures lacks_memory { LacksMemoryOnlyWhere (makes_page (state_of self.old) a
+            (store_settled (state_of self.old) i.now how a x)) result }
     {
         noted_events_stay_in_18_bits();
         match decide(self.ra(), Event::Overflow) {
@@ -99,7 +99,7 @@ impl Machine {
         ensures answer { MakesWithMemory (λ s. spec.overflow_decided s i.now how a x (trips.Noted status)) result
             self.old self.new }
         ensures err { KeepsOnErr result self.old self.new }
-        ensures lacks_memory { LacksMemoryOnlyWhere (spec.makes_page (state_of self.old) a
+        ensures lacks_memory { LacksMemoryOnlyWhere (makes_page (state_of self.old) a
             (spec.overflow_decided (state_of self.old) i.now how a x (trips.Noted status))) result }
     {
         match self.store(a, part_of_store(how), convert_stored(how, x, i.x())) {
@@ -127,7 +127,7 @@ impl Machine {
         ensures answer { MakesWithMemory (λ s. spec.overflow_decided s i.now how a x (trips.Taken handler)) result
             self.old self.new }
         ensures err { KeepsOnErr result self.old self.new }
-        ensures lacks_memory { LacksMemoryOnlyWhere (spec.makes_page (state_of self.old) a
+        ensures lacks_memory { LacksMemoryOnlyWhere (makes_page (state_of self.old) a
             (spec.overflow_decided (state_of self.old) i.now how a x (trips.Taken handler))) result }
     {
         if self.tetra(handler) == 0 {

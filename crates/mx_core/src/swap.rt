@@ -3,7 +3,7 @@
 ghost use Rattle.std.specs.Prelude.{◌≡◌, ◌<◌, ◌^◌, false, true};
 ghost use Rattle.mx_ring.specs.Stack.{in_stack_area};
 ghost use Rattle.mx_core.specs.Way.Calls as spec;
-ghost use Rattle.mx_core.specs.Way.Calls.{CarriesOutWithMemory, KeepsOnErr, LacksMemoryOnlyWhere, Makes, MakesWithMemory};
+ghost use Rattle.mx_core.specs.Way.Calls.{KeepsOnErr, LacksMemoryOnlyWhere, Makes, MakesWithMemory, PerformsWithMemory};
 ghost use Rattle.mx_core.specs.Deeds.{deed_of};
 ghost use Rattle.mx_core.specs.Effects.{data_address};
 ghost use Rattle.mx_core.specs.Kept.{state_of};
@@ -23,7 +23,7 @@ impl Machine {
     /// Errors: the stops of CSWAP, and out of memory; then nothing changed.
     #[tactic(auto, using(crate::proofs::Results::Swaps::swap_negative, crate::proofs::Results::Swaps::swap_outside))]
     pub(crate) fn swap(&mut self, i: &Instruction) -> Result<(), Stop>
-        ensures answer { CarriesOutWithMemory Operation.CompareAndSwap i.now result self.old self.new }
+        ensures answer { PerformsWithMemory Operation.CompareAndSwap i.now result self.old self.new }
         ensures err { KeepsOnErr result self.old self.new }
         ensures lacks_memory { LacksMemoryOnlyWhere
             (needs_page (state_of self.old) (deed_of Operation.CompareAndSwap (state_of self.old) i.now)) result }
@@ -84,7 +84,7 @@ impl Machine {
         requires address { a ≡ data_address (state_of self.old) i.now }
         requires inside { in_stack_area a ≡ true }
         requires below { a < 2 ^ 63 }
-        ensures answer { CarriesOutWithMemory Operation.CompareAndSwap i.now result self.old self.new }
+        ensures answer { PerformsWithMemory Operation.CompareAndSwap i.now result self.old self.new }
         ensures err { KeepsOnErr result self.old self.new }
         ensures lacks_memory { LacksMemoryOnlyWhere false result }
     {

@@ -7,18 +7,19 @@ ghost use Rattle.mx_ring.specs.Stack.{visible, windowed};
 ghost use Rattle.mx_ring.specs.Window.{Window};
 ghost use Rattle.mx_core.specs.Kept.{state_of};
 ghost use Rattle.mx_core.specs.Machines.{IsOverWindow};
-ghost use Rattle.mx_core.specs.State.{State, with_value_in};
+ghost use Rattle.mx_code.specs.SpecialRegisters.{rH, rR};
+ghost use Rattle.mx_core.specs.State.{State, with_special, with_value_in};
 ghost use Rattle.mx_core.specs.Step.{went, step};
-ghost use Rattle.mx_core.specs.Undoing.{FitsState, FitsUsual, FitsWhole, IsPaged, MayStore, OverwrittenFits, TakesBack};
-ghost use Rattle.mx_core.specs.Undoing.{noted, overwritten_undone, state_undone, usual_undone, whole_undone};
+ghost use Rattle.mx_core.specs.Undoing.{FitsCall, FitsState, FitsUsual, FitsWhole, IsPaged, MayStore, OverwrittenFits, TakesBack};
+ghost use Rattle.mx_core.specs.Undoing.{call_undone, noted, overwritten_undone, state_undone, usual_undone, whole_undone};
 ghost use Rattle.mx_core.specs.Wild.{deed};
 ghost use Rattle.mx_code.specs.declared.trace.Trace.{Trace};
 
 use crate::noting::{Was, WholeNote};
-use crate::overwritten::{Overwritten, UsualWas};
+use crate::overwritten::{CallWas, Overwritten, UsualWas};
 use crate::{Machine, Note};
 use mx_mem::Memory;
-use mx_ops::codes::RJ;
+use mx_ops::codes::{RH, RJ, RR};
 
 impl Machine {
     /// Takes the last step back, by its note, where nothing else changed since: registers and hidden ones, the octas of
@@ -31,6 +32,7 @@ impl Machine {
         match note.was {
             Was::Whole(whole) => self.undo_whole(Box::into_inner(whole)),
             Was::Usual(was) => self.undo_usual(was),
+            Was::Call(was) => self.undo_call(Box::into_inner(was)),
         }
     }
 
@@ -45,7 +47,7 @@ impl Machine {
         self.steps = was.steps;
     }
 
-    /// Makes the register, L, rJ or the octa what it was.
+    /// Makes the register, L, rJ or the octa what it was, or the register with rH and rR.
     #[tactic(auto, unfolding(crate::specs::Kept::state_of))]
     fn undo_overwritten(&mut self, was: Overwritten)
         requires { OverwrittenFits was (state_of self.old) }
@@ -53,11 +55,36 @@ impl Machine {
     {
         match was {
             Overwritten::Nothing => {}
-            Overwritten::Register(k, x) => self.put_register_back(k, x),
-            Overwritten::Locals(l) => self.ring.cut_locals(l),
+            Overwritten::Register(k, x) => self.put_register_back(narrow(k), x),
+            Overwritten::Locals(l) => self.ring.cut_locals(narrow(l)),
             Overwritten::Link(x) => self.put(RJ, x),
             Overwritten::Octa(at, octa) => put_octa_back(&mut self.memory, at, octa),
+            Overwritten::Results(k, x, h, r) => self.put_results_back(narrow(k), x, h, r),
         }
+    }
+
+    /// Gives a register, which is local or global, rR and rH back what they had.
+    fn put_results_back(&mut self, k: u8, x: u64, h: u64, r: u64)
+        requires { is_marginal (visible (state_of self.old).stack) k ≡ false }
+        ensures { state_of self.new
+            ≡ with_special (with_special (with_value_in (state_of self.old) k x) rR r) rH h }
+    {
+        self.put_register_back(k, x);
+        self.put(RR, r);
+        self.put(RH, h);
+    }
+
+    /// Takes a call or a return back.
+    #[tactic(auto, unfolding(crate::specs::Kept::state_of))]
+    fn undo_call(&mut self, was: CallWas)
+        requires { FitsCall was (state_of self.old) }
+        ensures { state_of self.new ≡ call_undone was (state_of self.old) }
+    {
+        self.ring.undo_call(&was.ring);
+        self.pc = was.pc;
+        self.steps = was.steps;
+        self.mark = was.mark;
+        self.put(RJ, was.link);
     }
 
     /// Gives a register, which is local or global, back what it had.
@@ -100,6 +127,14 @@ impl Machine {
             None => {}
         }
     }
+}
+
+/// An octa below 256 as a byte.
+fn narrow(k: u64) -> u8
+    requires { k < 256 }
+    ensures { result ≡ k }
+{
+    k as u8
 }
 
 /// Puts an octa back on a page that is there.

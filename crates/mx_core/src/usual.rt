@@ -11,7 +11,7 @@ use mx_code::{Loading, extract_loaded, extract_loaded_tetra, part_of_load};
 use mx_mem::Part;
 
 /// What a usual instruction does: $X gets a value, and the machine goes on; the machine goes to the instruction that is so
-/// many tetras after it, modulo 2^64, or to the next one; what only its code tells; or it is no usual one.
+/// many tetras after it, modulo 2^64, or to the next one; what only its code says; or it is no usual one.
 pub(crate) enum Usual {
     Gives(u64),
     GoesBy(u64),

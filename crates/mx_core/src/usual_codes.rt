@@ -1,4 +1,4 @@
-//! What usual instructions do, told by their codes.
+//! What usual instructions do, known by their codes.
 
 ghost use Rattle.std.specs.Prelude.{◌≡◌};
 ghost use Rattle.mx_code.specs.Instructions.{code_of, instruction};
@@ -11,7 +11,7 @@ use crate::usual::Usual;
 use mx_code::Instruction;
 
 impl Machine {
-    /// What the instruction of a tetra does, told by its number on the page that is kept. In each case the code is a literal, so that what is done at it is settled
+    /// What the instruction of a tetra does, known by its number on the page that is kept. In each case the code is a literal, so that what is done at it is settled
     /// when the program is compiled. Cut into several functions, it would no longer become one table of jumps.
     #[inline(always)]
     pub(crate) fn usual_at(&self, index: u64, word: u32) -> Usual
@@ -130,22 +130,22 @@ impl Machine {
             0x6c => self.usual_choose_at(index, 0x6c, word),
             0x6e => self.usual_choose_at(index, 0x6e, word),
             0x6f => self.usual_choose_at(index, 0x6f, word),
-            0x70 => self.zeroed_at(index, 0x70, word),
-            0x71 => self.zeroed_at(index, 0x71, word),
-            0x72 => self.zeroed_at(index, 0x72, word),
-            0x73 => self.zeroed_at(index, 0x73, word),
-            0x74 => self.zeroed_at(index, 0x74, word),
-            0x75 => self.zeroed_at(index, 0x75, word),
-            0x76 => self.zeroed_at(index, 0x76, word),
-            0x77 => self.zeroed_at(index, 0x77, word),
-            0x78 => self.zeroed_at(index, 0x78, word),
-            0x79 => self.zeroed_at(index, 0x79, word),
-            0x7a => self.zeroed_at(index, 0x7a, word),
-            0x7b => self.zeroed_at(index, 0x7b, word),
-            0x7c => self.zeroed_at(index, 0x7c, word),
-            0x7d => self.zeroed_at(index, 0x7d, word),
-            0x7e => self.zeroed_at(index, 0x7e, word),
-            0x7f => self.zeroed_at(index, 0x7f, word),
+            0x70 => self.zero_at(index, 0x70, word),
+            0x71 => self.zero_at(index, 0x71, word),
+            0x72 => self.zero_at(index, 0x72, word),
+            0x73 => self.zero_at(index, 0x73, word),
+            0x74 => self.zero_at(index, 0x74, word),
+            0x75 => self.zero_at(index, 0x75, word),
+            0x76 => self.zero_at(index, 0x76, word),
+            0x77 => self.zero_at(index, 0x77, word),
+            0x78 => self.zero_at(index, 0x78, word),
+            0x79 => self.zero_at(index, 0x79, word),
+            0x7a => self.zero_at(index, 0x7a, word),
+            0x7b => self.zero_at(index, 0x7b, word),
+            0x7c => self.zero_at(index, 0x7c, word),
+            0x7d => self.zero_at(index, 0x7d, word),
+            0x7e => self.zero_at(index, 0x7e, word),
+            0x7f => self.zero_at(index, 0x7f, word),
             0x80 => self.usual_load_at(index, 0x80, word),
             0x81 => self.usual_load_at(index, 0x81, word),
             0x82 => self.usual_load_at(index, 0x82, word),
@@ -271,7 +271,7 @@ impl Machine {
             0xfa => Usual::Other,
             0xfb => Usual::Other,
             0xfc => Usual::Other,
-            0xfd => self.passed_at(index, 0xfd, word),
+            0xfd => self.pass_at(index, 0xfd, word),
             0xfe => self.usual_get_at(index, 0xfe, word),
             0xff => Usual::Other,
             // 0x6d. It differs from those without a frequent operation, so that no bound of the table of arms is tested.
@@ -321,12 +321,12 @@ impl Machine {
 
     /// The frequent step of ZSN to ZSEV, where the code is one of theirs.
     #[inline(always)]
-    fn zeroed_at(&self, index: u64, code: u8, word: u32) -> Usual
+    fn zero_at(&self, index: u64, code: u8, word: u32) -> Usual
         requires here { IsHere self.now index }
         requires code { code ≡ code_of (instruction index word) }
         ensures { IsUsual result (state_of self.now) (instruction (address_in self.now index) word) }
     {
-        self.zeroed(&Instruction::with_code(self.locate(index), code, word))
+        self.usual_zero(&Instruction::with_code(self.locate(index), code, word))
     }
 
     /// The frequent step of LDB to LDUNC, where the code is one of theirs.
@@ -371,12 +371,12 @@ impl Machine {
 
     /// The frequent step of SWYM, where the code is its own.
     #[inline(always)]
-    fn passed_at(&self, index: u64, code: u8, word: u32) -> Usual
+    fn pass_at(&self, index: u64, code: u8, word: u32) -> Usual
         requires here { IsHere self.now index }
         requires code { code ≡ code_of (instruction index word) }
         ensures { IsUsual result (state_of self.now) (instruction (address_in self.now index) word) }
     {
-        self.passed(&Instruction::with_code(self.locate(index), code, word))
+        self.usual_pass(&Instruction::with_code(self.locate(index), code, word))
     }
 
     /// The frequent step of GET, where the code is its own.

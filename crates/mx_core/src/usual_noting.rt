@@ -25,7 +25,7 @@ use mx_ops::codes::RJ;
 impl Machine {
     /// One step without its trace, where its instruction is a frequent one that gives a register a value, stores or goes
     /// elsewhere, and nothing is unusual about it; and a note by which it is taken back. Where there is no note nothing
-    /// changed. It takes no memory.
+    /// changed. It takes memory for the note of a call or a return alone.
     #[inline(always)]
     pub fn advance_noted(&mut self) -> Option<Note>
         ensures made { result ≢ None →
@@ -53,19 +53,20 @@ impl Machine {
         ensures kept { result ≡ None → state_of self.new ≡ state_of self.old }
     {
         let i = Instruction::new(at, word);
-        match self.usual(&i) {
-            Usual::Gives(x) => self.settle_noted(&i, x),
+        match self.usual::<0>(&i) {
+            Usual::Gives(x) => self.settle_noted(at, word, x),
             Usual::GoesBy(d) => Some(self.go_to_noted(add_tetras(at, d))),
             Usual::GoesOn => Some(self.go_to_noted(i.next())),
             Usual::Apart(_) => self.perform_apart_noted(&i),
-            Usual::Other => None,
+            Usual::Other => self.perform_rare_noted(at, word),
         }
     }
 
     /// What an instruction does, told by its operation. The loop over many steps tells it by the code: with a second
-    /// caller of that its arms would no longer be in the loop.
+    /// caller of that its arms would no longer be in the loop. For the same reason each caller of this one has its own,
+    /// by a number.
     #[inline(always)]
-    fn usual(&self, i: &Instruction) -> Usual
+    pub(crate) fn usual<const CALLER: usize>(&self, i: &Instruction) -> Usual
         ensures { IsUsual result (state_of self.now) i.now }
     {
         match i.operation() {
@@ -83,22 +84,25 @@ impl Machine {
         }
     }
 
-    /// $X gets a value, and the machine goes on.
+    /// $X gets a value, and the machine goes on. It is given words and no reference, so that the instruction need not be in
+    /// memory.
     #[inline(always)]
-    fn settle_noted(&mut self, i: &Instruction, x: u64) -> Option<Note>
-        requires at_pc { i.now.at ≡ (state_of self.old).pc }
-        requires aligned { i.now.at % 4 ≡ 0 }
-        requires low { i.now.at < 0x6000_0000_0000_0000 }
-        ensures made { result ≢ None → MakesState (λ s. settled s (x_of i.now) x (next_of i.now)) self.old self.new }
+    fn settle_noted(&mut self, at: u64, word: u32, x: u64) -> Option<Note>
+        requires at_pc { at ≡ (state_of self.old).pc }
+        requires aligned { at % 4 ≡ 0 }
+        requires low { at < 0x6000_0000_0000_0000 }
+        ensures made { result ≢ None → MakesState
+            (λ s. settled s (x_of (instruction at word)) x (next_of (instruction at word))) self.old self.new }
         ensures back { IfSome result (λ note. TakesBack note (state_of self.new) (state_of self.old)) }
         ensures kept { result ≡ None → state_of self.new ≡ state_of self.old }
     {
+        let i = Instruction::new(at, word);
         let k = i.x();
         if self.is_marginal(k) {
-            return self.grow_noted(i, x);
+            return self.grow_noted(at, word, x);
         }
-        let note = self.usual_note(Overwritten::Register(k, self.x_register(i)));
-        if self.settle_if_room(i, x) {
+        let note = self.usual_note(Overwritten::Register(widen(k), self.x_register(&i)));
+        if self.settle_if_room(&i, x) {
             Some(note)
         } else {
             None
@@ -108,21 +112,23 @@ impl Machine {
     /// $X, which is neither local nor global, becomes local and gets a value, and the machine goes on, if nothing is
     /// spilled for it.
     #[inline(never)]
-    fn grow_noted(&mut self, i: &Instruction, x: u64) -> Option<Note>
-        requires marginal { registers.is_marginal (visible (state_of self.old).stack) (x_of i.now) ≡ true }
-        requires at_pc { i.now.at ≡ (state_of self.old).pc }
-        requires aligned { i.now.at % 4 ≡ 0 }
-        requires low { i.now.at < 0x6000_0000_0000_0000 }
-        ensures made { result ≢ None → MakesState (λ s. settled s (x_of i.now) x (next_of i.now)) self.old self.new }
+    fn grow_noted(&mut self, at: u64, word: u32, x: u64) -> Option<Note>
+        requires marginal { registers.is_marginal (visible (state_of self.old).stack) (x_of (instruction at word)) ≡ true }
+        requires at_pc { at ≡ (state_of self.old).pc }
+        requires aligned { at % 4 ≡ 0 }
+        requires low { at < 0x6000_0000_0000_0000 }
+        ensures made { result ≢ None → MakesState
+            (λ s. settled s (x_of (instruction at word)) x (next_of (instruction at word))) self.old self.new }
         ensures back { IfSome result (λ note. TakesBack note (state_of self.new) (state_of self.old)) }
         ensures kept { result ≡ None → state_of self.new ≡ state_of self.old }
     {
         self.know_ring();
+        let i = Instruction::new(at, word);
         if self.may_spill(i.x()) {
             return None;
         }
-        let note = self.usual_note(Overwritten::Locals(self.l()));
-        if self.settle_if_room(i, x) {
+        let note = self.usual_note(Overwritten::Locals(widen(self.l())));
+        if self.settle_if_room(&i, x) {
             Some(note)
         } else {
             None
@@ -177,7 +183,7 @@ impl Machine {
         match self.near_octa(a) {
             Some(octa) => {
                 let note = self.usual_note(Overwritten::Octa(a, octa));
-                if self.store_if_usual(how, i) {
+                if self.store_if_usual::<0>(how, i) {
                     Some(note)
                 } else {
                     None
@@ -188,6 +194,7 @@ impl Machine {
     }
 
     /// PUT of rJ.
+    #[inline(always)]
     fn put_link_noted(&mut self, i: &Instruction) -> Option<Note>
         requires put { operation_in i.now ≡ Operation.Put }
         requires aligned { (state_of self.old).pc % 4 ≡ 0 }
@@ -203,18 +210,19 @@ impl Machine {
         }
     }
 
-    /// Whether $k is neither local nor global.
+    /// Whether $k is neither local nor global. It is told by the test that `set` makes, so that the compiler makes it once.
+    #[tactic(auto, unfolding(crate::specs::Kept::state_of))]
     #[inline(always)]
-    fn is_marginal(&self, k: u8) -> bool
+    pub(crate) fn is_marginal(&self, k: u8) -> bool
         ensures { result ≡ registers.is_marginal (visible (state_of self.now).stack) k }
     {
-        k < self.g() && self.l() <= k
+        self.ring.is_marginal(k)
     }
 
     /// The note of a usual step.
     #[tactic(auto, unfolding(crate::specs::Kept::state_of))]
     #[inline(always)]
-    fn usual_note(&self, overwritten: Overwritten) -> Note
+    pub(crate) fn usual_note(&self, overwritten: Overwritten) -> Note
         ensures { result ≡ undoing.usual (record {
           pc = (state_of self.now).pc;
           steps = (state_of self.now).steps;
@@ -231,9 +239,18 @@ impl Machine {
     }
 }
 
+/// A byte as an octa.
+#[inline(always)]
+pub(crate) fn widen(k: u8) -> u64
+    ensures value { result ≡ k }
+    ensures range { result < 256 }
+{
+    u64::from(k)
+}
+
 /// The address that is so many tetras after another one, modulo 2^64.
 #[inline(always)]
-fn add_tetras(at: u64, d: u64) -> u64
+pub(crate) fn add_tetras(at: u64, d: u64) -> u64
     ensures { result ≡ (at + 4 * d) % 2 ^ 64 }
 {
     at.wrapping_add(d.wrapping_mul(4))

@@ -1,9 +1,8 @@
 //! What usual instructions give, and where they go. Each is given with its code as a literal.
 
-ghost use Rattle.std.specs.Prelude.{◌≡◌, ◌≢◌, ◌+◌, ◌*◌, ◌%◌, ◌^◌, IfSome, IsTrue, Ok, false};
-ghost use Rattle.mx_core.specs.Way.Calls.{settled};
-ghost use Rattle.mx_core.specs.Deeds.{deed_of, onward, outcome};
-ghost use Rattle.mx_code.specs.Instructions.{far_address, near_address, next_of, operation_in, x_of, z_of};
+ghost use Rattle.std.specs.Prelude.{◌≡◌, ◌≢◌, ◌+◌, ◌*◌, ◌%◌, ◌^◌, IfSome, IsTrue, false};
+ghost use Rattle.mx_core.specs.Way.Calls.{OnlyGoes, OnlySets};
+ghost use Rattle.mx_code.specs.Instructions.{far_address, near_address, next_of, operation_in, z_of};
 ghost use Rattle.mx_code.specs.SpecialRegisters.{rC};
 ghost use Rattle.mx_core.specs.Kept.{state_of};
 ghost use Rattle.mx_core.specs.Way.UsualDeeds.{IsUsual};
@@ -23,10 +22,9 @@ impl Machine {
     /// What MUL to SRU and OR to MXOR give $X, where it is all that they give.
     #[tactic(auto, using(crate::proofs::Results::Events::compute_alone, mx_code::proofs::Tables::computes, mx_code::proofs::Tables::computes_low))]
     #[inline(always)]
-    fn computed_value(&self, i: &Instruction) -> Option<u64>
+    fn compute_value(&self, i: &Instruction) -> Option<u64>
         requires { operation_in i.now ≡ Operation.Compute }
-        ensures { IfSome result (λ x. outcome (state_of self.now) (deed_of Operation.Compute (state_of self.now) i.now)
-            ≡ settled (state_of self.now) (x_of i.now) x (next_of i.now)) }
+        ensures { IfSome result (λ x. OnlySets Operation.Compute i.now x self.now) }
     {
         lone_result(i.code(), self.y_operand(i), self.z_operand(i), self.extra())
     }
@@ -37,7 +35,7 @@ impl Machine {
         ensures { IsUsual result (state_of self.now) i.now }
     {
         match i.operation() {
-            Operation::Compute => match self.computed_value(i) {
+            Operation::Compute => match self.compute_value(i) {
                 Some(x) => Usual::Gives(x),
                 None => Usual::Other,
             },
@@ -48,10 +46,9 @@ impl Machine {
     /// What NEG and NEGU give $X, where it is all that they give.
     #[tactic(auto, using(crate::proofs::Results::Events::negate_alone, mx_code::proofs::Tables::negates, mx_code::proofs::Tables::negates_low))]
     #[inline(always)]
-    fn negated_value(&self, i: &Instruction) -> Option<u64>
+    fn negate_value(&self, i: &Instruction) -> Option<u64>
         requires { operation_in i.now ≡ Operation.Negate }
-        ensures { IfSome result (λ x. outcome (state_of self.now) (deed_of Operation.Negate (state_of self.now) i.now)
-            ≡ settled (state_of self.now) (x_of i.now) x (next_of i.now)) }
+        ensures { IfSome result (λ x. OnlySets Operation.Negate i.now x self.now) }
     {
         lone_result(i.code(), u64::from(i.y()), self.z_operand(i), self.extra())
     }
@@ -62,7 +59,7 @@ impl Machine {
         ensures { IsUsual result (state_of self.now) i.now }
     {
         match i.operation() {
-            Operation::Negate => match self.negated_value(i) {
+            Operation::Negate => match self.negate_value(i) {
                 Some(x) => Usual::Gives(x),
                 None => Usual::Other,
             },
@@ -75,8 +72,7 @@ impl Machine {
     #[inline(always)]
     fn with_wyde_value(&self, i: &Instruction) -> Option<u64>
         requires { operation_in i.now ≡ Operation.Wyde }
-        ensures { IfSome result (λ x. outcome (state_of self.now) (deed_of Operation.Wyde (state_of self.now) i.now)
-            ≡ settled (state_of self.now) (x_of i.now) x (next_of i.now)) }
+        ensures { IfSome result (λ x. OnlySets Operation.Wyde i.now x self.now) }
     {
         match i.given {
             None => Some(wyde(i.code(), self.x_register(i), wyde_value(i))),
@@ -101,10 +97,9 @@ impl Machine {
     /// What CSN to CSEV give $X.
     #[tactic(auto, using(crate::proofs::Results::Outcomes::conditional_outcome), unfolding(mx_code::specs::Operations::has_condition))]
     #[inline(always)]
-    fn chosen_value(&self, i: &Instruction) -> Option<u64>
+    fn choose_value(&self, i: &Instruction) -> Option<u64>
         requires { operation_in i.now ≡ Operation.ConditionalSet }
-        ensures { IfSome result (λ x. outcome (state_of self.now) (deed_of Operation.ConditionalSet (state_of self.now) i.now)
-            ≡ settled (state_of self.now) (x_of i.now) x (next_of i.now)) }
+        ensures { IfSome result (λ x. OnlySets Operation.ConditionalSet i.now x self.now) }
     {
         if is_condition_met(i, self.y_operand(i)) {
             Some(self.z_operand(i))
@@ -119,7 +114,7 @@ impl Machine {
         ensures { IsUsual result (state_of self.now) i.now }
     {
         match i.operation() {
-            Operation::ConditionalSet => match self.chosen_value(i) {
+            Operation::ConditionalSet => match self.choose_value(i) {
                 Some(x) => Usual::Gives(x),
                 None => Usual::Other,
             },
@@ -130,10 +125,9 @@ impl Machine {
     /// What ZSN to ZSEV give $X.
     #[tactic(auto, using(crate::proofs::Results::Outcomes::zero_outcome), unfolding(mx_code::specs::Operations::has_condition))]
     #[inline(always)]
-    fn zeroed_value(&self, i: &Instruction) -> u64
+    fn zero_value(&self, i: &Instruction) -> u64
         requires { operation_in i.now ≡ Operation.ZeroOrSet }
-        ensures { outcome (state_of self.now) (deed_of Operation.ZeroOrSet (state_of self.now) i.now)
-            ≡ settled (state_of self.now) (x_of i.now) result (next_of i.now) }
+        ensures { OnlySets Operation.ZeroOrSet i.now result self.now }
     {
         if is_condition_met(i, self.y_operand(i)) {
             self.z_operand(i)
@@ -144,11 +138,11 @@ impl Machine {
 
     /// The frequent step of ZSN to ZSEV, where the code is one of theirs.
     #[inline(always)]
-    pub(crate) fn zeroed(&self, i: &Instruction) -> Usual
+    pub(crate) fn usual_zero(&self, i: &Instruction) -> Usual
         ensures { IsUsual result (state_of self.now) i.now }
     {
         match i.operation() {
-            Operation::ZeroOrSet => Usual::Gives(self.zeroed_value(i)),
+            Operation::ZeroOrSet => Usual::Gives(self.zero_value(i)),
             _ => Usual::Other,
         }
     }
@@ -157,8 +151,7 @@ impl Machine {
     #[tactic(auto, using(crate::proofs::Results::Loads::load_below))]
     #[inline(always)]
     fn load_operand_if_near(&self, how: Loading, i: &Instruction) -> Option<u64>
-        ensures { IfSome result (λ x. outcome (state_of self.now) (deed_of (Operation.Load how) (state_of self.now) i.now)
-            ≡ settled (state_of self.now) (x_of i.now) x (next_of i.now)) }
+        ensures { IfSome result (λ x. OnlySets (Operation.Load how) i.now x self.now) }
     {
         self.load_if_near(how, self.data_address(i))
     }
@@ -192,9 +185,8 @@ impl Machine {
     /// What GET gives $X, of rB to rBB, which have the codes below 8: rH, rJ and rR are the frequent ones.
     #[tactic(auto, using(crate::proofs::Results::Gets::get_alone), unfolding(crate::specs::Kept::state_of))]
     #[inline(always)]
-    fn got_value(&self, i: &Instruction) -> Option<u64>
-        ensures value { IfSome result (λ x. outcome (state_of self.now) (deed_of Operation.Get (state_of self.now) i.now)
-            ≡ settled (state_of self.now) (x_of i.now) x (next_of i.now)) }
+    fn get_value(&self, i: &Instruction) -> Option<u64>
+        ensures value { IfSome result (λ x. OnlySets Operation.Get i.now x self.now) }
         ensures other { IfSome result (λ _. z_of i.now ≢ rC) }
     {
         if i.y() != 0 || i.z() > 7 {
@@ -209,7 +201,7 @@ impl Machine {
         ensures { IsUsual result (state_of self.now) i.now }
     {
         match i.operation() {
-            Operation::Get => match self.got_value(i) {
+            Operation::Get => match self.get_value(i) {
                 Some(x) => Usual::Gives(x),
                 None => Usual::Other,
             },
@@ -222,10 +214,8 @@ impl Machine {
     #[inline(always)]
     fn takes_branch(&self, i: &Instruction) -> bool
         requires { operation_in i.now ≡ Operation.Branch }
-        ensures taken { IsTrue result → outcome (state_of self.now) (deed_of Operation.Branch (state_of self.now) i.now)
-            ≡ Ok (onward (state_of self.now) (near_address i.now)) }
-        ensures passed { result ≡ false → outcome (state_of self.now) (deed_of Operation.Branch (state_of self.now) i.now)
-            ≡ Ok (onward (state_of self.now) (next_of i.now)) }
+        ensures taken { IsTrue result → OnlyGoes Operation.Branch i.now (near_address i.now) self.now }
+        ensures passed { result ≡ false → OnlyGoes Operation.Branch i.now (next_of i.now) self.now }
     {
         is_condition_met(i, self.x_register(i))
     }
@@ -250,7 +240,7 @@ impl Machine {
     /// The frequent step of SWYM, where the code is its own.
     #[tactic(auto, using(crate::proofs::Results::Others::nothing_outcome))]
     #[inline(always)]
-    pub(crate) fn passed(&self, i: &Instruction) -> Usual
+    pub(crate) fn usual_pass(&self, i: &Instruction) -> Usual
         ensures { IsUsual result (state_of self.now) i.now }
     {
         match i.operation() {

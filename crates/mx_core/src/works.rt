@@ -53,14 +53,14 @@ impl Machine {
     {
         let (rx, rw) = (self.special(RX), self.special(RW));
         match inserted(rx, rw, self.l(), self.g()) {
-            Insert::Perform { kind, at, word } => self.inserted_work(kind, at, word),
+            Insert::Perform { kind, at, word } => self.find_inserted_work(kind, at, word),
             _ => None,
         }
     }
 
     /// The work of an inserted instruction.
     #[tactic(auto, unfolding(crate::specs::Undoing::move_noted))]
-    fn inserted_work(&self, kind: Kind, at: u64, word: u32) -> Option<RingWork>
+    fn find_inserted_work(&self, kind: Kind, at: u64, word: u32) -> Option<RingWork>
         ensures tells { TellsWork result (deeds.performed kind (state_of self.now) at word) }
         ensures needs { IfSome result (λ work. WorkNeeds work self.now.ring) }
     {

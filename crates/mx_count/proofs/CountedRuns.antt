@@ -1,5 +1,5 @@
--- A run that is counted from no steps on, over a window and over the list that it stands for.
-use Rattle.std.proofs.Common.{◌≡◌, ◌≢◌, ℕ, Bool, false, List, [], ◌∷◌, ◌++◌, subst, sym, ap, ◌∙◌, Some, Ok, Err}
+-- A run that is counted from no steps on, over a window and over the list that it represents.
+use Rattle.std.proofs.Common.{◌≡◌, ◌≢◌, ℕ, Bool, false, List, [], ◌++◌, subst, sym, ap, ◌∙◌, refl, Some, Ok, Err}
 use Rattle.std.specs.Prelude.{Option, Result}
 use Rattle.mx_host.specs.HostModel.{HostModel, contents}
 use Rattle.mx_mmo.specs.Image.{Image}
@@ -7,83 +7,87 @@ use Rattle.mx_plan.specs.Wild.{Course, ends, meets_wild}
 use Rattle.mx_core.specs.Bounds.{as_list_state}
 use Rattle.mx_core.specs.State.{State}
 use Rattle.mx_code.specs.declared.trace.Trace.{Trace}
+use Rattle.mx_run.specs.AccompaniedRuns.{list_run}
 use Rattle.mx_run.specs.Clauses.{GoesAsList}
 use Rattle.mx_run.specs.RunPlans.{RunWorld}
 use Rattle.mx_run.specs.Runs.{Ended, ended, no_flags, run}
 use Rattle.mx_run.specs.WildRuns.{MachineKind, window_machine, list_machine}
 use Rattle.mx_run.specs.declared.end.End.{End}
-use Rattle.mx_watch.specs.Hearing.{Hears}
 use Rattle.mx_watch.specs.Traces.{traces}
 use Rattle.mx_watch.specs.WatchedRuns.{UnlessWild, list_traces}
-use Rattle.mx_watch.specs.Watching.{Watching}
-use Rattle.mx_watch.specs.declared.telling.Report.{Report}
 use Rattle.mx_words.specs.declared.order.Order.{Order}
-use Rattle.mx_begin.specs.Begun.{started}
-use Rattle.mx_files.specs.Assembling.{refused_with}
-use Rattle.mx_files.specs.Sources.{source_meaning}
-use Rattle.mx_files.specs.declared.refusal.Refusal.{Refusal}
+use Rattle.mx_begin.specs.Begun.{image_in, started}
+use Rattle.mx_begin.specs.Ends.{outcome_of}
+use Rattle.mx_begin.specs.declared.images.Form.TheVariants.{Source}
+use Rattle.mx_files.specs.Answers.{GoesAs}
 use Rattle.mx_outcome.specs.declared.outcome.Outcome.{Outcome}
 use Rattle.mx_outcome.specs.declared.outcome.Outcome.TheVariants.{OutOfMemory}
-use Rattle.mx_run.specs.AccompaniedRuns.{list_run}
-use Rattle.mx_view.specs.Loads.{loads_of}
-use Rattle.mx_count.specs.Counting.{counting_as, kept_tally}
-use Rattle.mx_count.specs.Reports.{report_of, report_text}
-use Rattle.mx_files.specs.Answers.{GoesAs}
-use Rattle.mx_count.specs.Runs.{CountAnswer, CountsBoth, CountsByKind, EndsAsReported, EndsReported, AnswerForms, counted_to, halting_after, halting_steps, image_counted, counted_run_from, mapped, meaning_counted, outcome_of, reporting, source_counted, start_counted, steps_counted}
+use Rattle.mx_count.specs.Counting.{counts_in, counts_with, kept_tally}
+use Rattle.mx_count.specs.Runs.{AnswerForms, CountAnswer, CountsBoth, CountsByKind, CountsRun, EndsAsCounted, EndsCounted, RunCounts, by_counts, by_lines, by_text, counted_run_from, counted_to, halting_after, halting_steps, image_counted, lines_in, mapped, meaning_counted, ran, run_counts, run_outcome, source_counted, start_counted, steps_counted, text_in}
+use Rattle.mx_count.specs.Sheets.{Counts, source_sheet, tallies_in}
 use Rattle.mx_count.specs.Tallies.{added, tally_in}
 use Rattle.mx_count.specs.declared.count.Counted.{Counted}
-use Rattle.mx_count.specs.declared.counts.Form.{Form}
-use Rattle.mx_count.proofs.Alone.{report-alone}
-use Rattle.mx_count.proofs.TallyLaws.{nothing-first}
+use Rattle.mx_count.specs.declared.counts.Entry.{Entry}
+use Rattle.mx_count.specs.declared.lines.CountedLines.{CountedLines}
+use Rattle.mx_count.specs.declared.lines.LineSheet.{LineSheet}
+use Rattle.mx_count.proofs.CountedTraces.{all-counted}
 
--- ---- a watcher that heard the traces of a run, and how it ended
+-- ---- the steps of a run, and how it ended
 
-pub ended-told : (w : Watching) (n at : ℕ) (s after : State) (old new : HostModel) (end : End) (text : List ℕ) →
-    text ≡ w.text (traces window_machine n s old ++ halting_steps end at) → at ≡ after.pc → ended end after new ≡ run n no_flags false s old →
-    text ≡ w.text (steps_counted window_machine n s old)
-ended-told w n at s after old new end text is place e =
-    is ∙ ap (λ a. w.text (traces window_machine n s old ++ halting_steps end a)) place
-    ∙ ap (λ (x : Ended). w.text (traces window_machine n s old ++ halting_after x)) e
+pub counted-whole : (none es new : List Entry) (n at : ℕ) (s after : State) (old host : HostModel) (end : End) → none ≡ [] → counts_with es [] ≡ counts_with none (traces window_machine n s old) →
+    ((test : ℕ → Bool) → kept_tally test new ≡ added (kept_tally test es) (tally_in test (halting_steps end at))) → at ≡ after.pc → ended end after host ≡ run n no_flags false s old →
+    counts_in new ≡ tallies_in (steps_counted window_machine n s old)
+counted-whole none es new n at s after old host end begun traced last place e =
+    all-counted none es new (traces window_machine n s old) (halting_steps end at) begun traced last
+    ∙ ap (λ a. tallies_in (traces window_machine n s old ++ halting_steps end a)) place
+    ∙ ap (λ (x : Ended). tallies_in (traces window_machine n s old ++ halting_after x)) e
 
 -- beside the list machine
-pub list-told : (w : Watching) (r : Course End RunWorld) (h : List Trace) (ws left : List Watching) (earlier kept : List Report) (at : ℕ) (after : State) (new : HostModel) (end : End) (text : List ℕ) →
-    ws ≡ w ∷ [] → ((g : List Trace) → w.full g ≡ false) → UnlessWild r (Hears h ws left earlier kept) →
-    ((v : Watching) → left ≡ v ∷ [] → text ≡ v.text (halting_steps end at)) → GoesAsList r end (after, new) → at ≡ after.pc →
-    EndsAsReported w h r end new text
-list-told w (ends last v) h ws left earlier kept at after new end text alone none hears is goes place = (
+pub counted-beside : (r : Course End RunWorld) (h : List Trace) (none es new : List Entry) (at : ℕ) (after : State) (host : HostModel) (end : End) → none ≡ [] →
+    UnlessWild r (counts_with es [] ≡ counts_with none h) → ((test : ℕ → Bool) → kept_tally test new ≡ added (kept_tally test es) (tally_in test (halting_steps end at))) →
+    GoesAsList r end (after, host) → at ≡ after.pc → EndsAsCounted h r end host (counts_in new)
+counted-beside (ends last v) h none es new at after host end begun traced ended goes place = (
   sym goes.0,
   ap (λ (x : RunWorld). x.1) (sym goes.1.0),
-  report-alone w h (halting_steps end at) ws left earlier kept text alone none hears is
-      ∙ ap (λ a. w.text (h ++ halting_steps end a)) place
-      ∙ ap (λ (x : End). w.text (h ++ halting_steps x after.pc)) (sym goes.0)
-      ∙ ap (λ (x : RunWorld). w.text (h ++ halting_steps last x.0.pc)) (sym goes.1.0),
+  all-counted none es new h (halting_steps end at) begun traced ended
+      ∙ ap (λ a. tallies_in (h ++ halting_steps end a)) place
+      ∙ ap (λ (x : End). tallies_in (h ++ halting_steps x after.pc)) (sym goes.0)
+      ∙ ap (λ (x : RunWorld). tallies_in (h ++ halting_steps last x.0.pc)) (sym goes.1.0),
 )
-list-told w (meets_wild v) h ws left earlier kept at after new end text alone none hears is goes place = goes
+counted-beside (meets_wild v) h none es new at after host end begun traced ended goes place = goes
 
 -- ---- a machine
 
-list-counted : (steps : ℕ) (w : Watching) (h : List Trace) (r : Course End RunWorld) (end : End) (outcome : Outcome) (text : List ℕ) (new : HostModel) → outcome ≡ outcome_of steps end →
-    EndsAsReported w h r end new text → GoesAs (counted_to steps (reporting w.text) h r) (record { outcome = outcome; sheet = Some text }) new
-list-counted steps w h (ends last v) end outcome text new is told =
-    ((λ i. record { outcome = (is ∙ ap (outcome_of steps) told.0) i; sheet = Some (told.2 i) }), told.1)
-list-counted steps w h (meets_wild v) end outcome text new is told = told
+list-counted : (steps : ℕ) (h : List Trace) (r : Course End RunWorld) (end : End) (outcome : Outcome) (counts : Counts) (new : HostModel) → outcome ≡ outcome_of steps end →
+    EndsAsCounted h r end new counts → GoesAs {A = RunCounts} (counted_to steps by_counts h r) (Ok (outcome, counts)) new
+list-counted steps h (ends last v) end outcome counts new is told =
+    ((λ i. Ok ((is ∙ ap (outcome_of steps) told.0) i, told.2 i)), told.1)
+list-counted steps h (meets_wild v) end outcome counts new is told = told
 
-window-counted : (steps : ℕ) (report : List Trace → List ℕ) (s after : State) (old new : HostModel) (end : End) (outcome : Outcome) (text : List ℕ) → outcome ≡ outcome_of steps end →
-    ended end after new ≡ run steps no_flags false s old → text ≡ report (steps_counted window_machine steps s old) →
-    ends (record { outcome = outcome; sheet = Some text }) new ≡ counted_run_from window_machine steps (reporting report) s old
-window-counted steps report s after old new end outcome text is e told =
-    λ i. ends (record { outcome = (is ∙ ap (λ (x : Ended). outcome_of steps x.end) e) i; sheet = Some (told i) }) (ap (λ (x : Ended). x.host) e i)
+window-counted : (steps : ℕ) (s after : State) (old new : HostModel) (end : End) (outcome : Outcome) (counts : Counts) → outcome ≡ outcome_of steps end →
+    ended end after new ≡ run steps no_flags false s old → counts ≡ tallies_in (steps_counted window_machine steps s old) →
+    ◌≡◌ {A = CountAnswer RunCounts} (ends (Ok (outcome, counts)) new) (counted_run_from window_machine steps by_counts s old)
+window-counted steps s after old new end outcome counts is e told =
+    λ i. ends (Ok ((is ∙ ap (λ (x : Ended). outcome_of steps x.end) e) i, told i)) (ap (λ (x : Ended). x.host) e i)
 
-pub machine-told : (steps : ℕ) (w : Watching) (old new : Option HostModel) (s after : State) (end : End) (outcome : Outcome) (text : List ℕ) → s.touched ≡ false → outcome ≡ outcome_of steps end →
-    EndsReported old new s after steps w (Ok (end, text)) →
-    CountsBoth old new outcome (record { outcome = outcome; sheet = Some text }) (λ m. counted_run_from window_machine steps (reporting w.text) s m)
-    (λ m. counted_run_from list_machine steps (reporting w.text) (as_list_state s) m)
-machine-told steps w old new s after end outcome text untouched is told = (
-  λ t ne. window-counted steps w.text s after (contents old) (contents new) end outcome text is (told t).0 (told t).1,
-  λ t ne. list-counted steps w (list_traces old s steps) (list_run old s steps) end outcome text (contents new) is ((told t).2 untouched),
+pub machine-told : (steps : ℕ) (old new : Option HostModel) (s after : State) (end : End) (outcome : Outcome) (es : List Entry) → s.touched ≡ false → outcome ≡ outcome_of steps end →
+    EndsCounted old new s after steps end es →
+    CountsBoth {A = RunCounts} old new outcome (Ok (outcome, counts_in es)) (λ m. counted_run_from window_machine steps by_counts s m)
+    (λ m. counted_run_from list_machine steps by_counts (as_list_state s) m)
+machine-told steps old new s after end outcome es untouched is told = (
+  λ t ne. window-counted steps s after (contents old) (contents new) end outcome (counts_in es) is (told t).0 (told t).1,
+  λ t ne. list-counted steps (list_traces old s steps) (list_run old s steps) end outcome (counts_in es) (contents new) is ((told t).2 untouched),
 )
 
 -- ---- an image
+
+-- what comes to the same
+told-as : {A : Type 0} (old new : Option HostModel) (outcome : Outcome) (result : A) (f g : MachineKind → HostModel → CountAnswer A) → ((kind : MachineKind) (m : HostModel) → f kind m ≡ g kind m) →
+    CountsByKind old new outcome result f → CountsByKind old new outcome result g
+told-as old new outcome result f g same told = (
+  λ t ne. told.0 t ne ∙ same window_machine (contents old),
+  λ t ne. subst (λ x. GoesAs x result (contents new)) (same list_machine (contents old)) (told.1 t ne),
+)
 
 module _ {A : Type 0} (old new : Option HostModel) (outcome : Outcome) (result : A) (o : Order) (arguments : List (List ℕ)) (making : AnswerForms A) where
   -- a machine starts
@@ -108,7 +112,7 @@ module _ {A : Type 0} (old new : Option HostModel) (outcome : Outcome) (result :
 
   -- ---- a source
 
-  pub meant-told : (source : List ℕ) (image : Image) → ◌≡◌ {A = Result Image Refusal} (Ok image) (source_meaning source) →
+  pub meant-told : (source : List ℕ) (image : Image) → ◌≡◌ {A = Result Image Outcome} (Ok image) (image_in Source source) →
       CountsByKind old new outcome result (λ kind m. image_counted kind o arguments making image m) →
       CountsByKind old new outcome result (λ kind m. source_counted kind o arguments making source m)
   meant-told source image e told = (
@@ -116,29 +120,36 @@ module _ {A : Type 0} (old new : Option HostModel) (outcome : Outcome) (result :
     λ t ne. subst (λ x. GoesAs x result (contents new)) (ap (λ r. meaning_counted list_machine o arguments making r (contents old)) e) (told.1 t ne),
   )
 
-  pub refused-told : (source : List ℕ) (refusal : Refusal) → new ≡ old → ◌≡◌ {A = Result Image Refusal} (Err refusal) (source_meaning source) → result ≡ making.without (refused_with refusal) →
+  pub refused-told : (source : List ℕ) (why : Outcome) → new ≡ old → outcome ≡ why → result ≡ making.without why →
+      (why ≢ OutOfMemory → ◌≡◌ {A = Result Image Outcome} (Err why) (image_in Source source)) →
       CountsByKind old new outcome result (λ kind m. source_counted kind o arguments making source m)
-  refused-told source refusal same e is = (
-    λ t ne. (λ i. ends (is i) (contents (same i))) ∙ ap (λ r. meaning_counted window_machine o arguments making r (contents old)) e,
-    λ t ne. subst (λ x. GoesAs x result (contents new)) (ap (λ r. meaning_counted list_machine o arguments making r (contents old)) e) (is, ap contents same),
+  refused-told source why same place is e = (
+    λ t ne. (λ i. ends (is i) (contents (same i))) ∙ ap (λ r. meaning_counted window_machine o arguments making r (contents old)) (e (λ none. ne (place ∙ none))),
+    λ t ne. subst (λ x. GoesAs x result (contents new)) (ap (λ r. meaning_counted list_machine o arguments making r (contents old)) (e (λ none. ne (place ∙ none)))) (is, ap contents same),
   )
 
--- ---- what is reported
+-- ---- what is made of the answers of a run is what is made of its steps
 
-from-none : (test : ℕ → Bool) (h : List Trace) → added (kept_tally test []) (tally_in test h) ≡ tally_in test h
-unfolding kept_tally
-from-none test h = nothing-first (tally_in test h)
+pub record Remakes {A B : Type 0} (f : A → B) (from : AnswerForms A) (making : AnswerForms B) : Type 0 where
+  pub without : (outcome : Outcome) → f (from.without outcome) ≡ making.without outcome
+  pub with_steps : (outcome : Outcome) (h : List Trace) → f (from.with_steps outcome h) ≡ making.with_steps outcome h
 
--- a watcher that has counted nothing yet
-pub text-from-none : (form : Form) (source : List ℕ) (w : Watching) → w ≡ counting_as form source (loads_of source) [] → w.text ≡ report_of form source
-text-from-none form source w counts =
-    ap (λ (v : Watching). v.text) counts ∙ (λ i h. report_text form source (loads_of source) (λ test. from-none test h i))
+module _ {A B : Type 0} (f : A → B) (from : AnswerForms A) (making : AnswerForms B) (same : Remakes f from making) where
+  ended-same : (steps : ℕ) (h : List Trace) (r : Course End RunWorld) → mapped f (counted_to steps from h r) ≡ counted_to steps making h r
+  ended-same steps h (ends end w) = ap (λ x. ends x w.1) (same.with_steps (outcome_of steps end) (h ++ halting_steps end w.0.pc))
+  ended-same steps h (meets_wild w) = refl
 
-pub reported-told : (old new : Option HostModel) (outcome : Outcome) (result : Counted) (o : Order) (arguments : List (List ℕ)) (image : Image) (f g : List Trace → List ℕ) → f ≡ g →
-    CountsByKind old new outcome result (λ kind m. image_counted kind o arguments (reporting f) image m) →
-    CountsByKind old new outcome result (λ kind m. image_counted kind o arguments (reporting g) image m)
-reported-told old new outcome result o arguments image f g e told =
-    subst (λ (report : List Trace → List ℕ). CountsByKind old new outcome result (λ kind m. image_counted kind o arguments (reporting report) image m)) e told
+  module _ (kind : MachineKind) (o : Order) (arguments : List (List ℕ)) where
+    start-same : (r : Result State Outcome) (m : HostModel) → mapped f (start_counted kind o.steps from r m) ≡ start_counted kind o.steps making r m
+    start-same (Err outcome) m = ap (λ x. ends x m) (same.without outcome)
+    start-same (Ok s) m = ended-same o.steps (traces kind o.steps s m) (ran kind o.steps s m)
+
+    pub image-same : (image : Image) (m : HostModel) → mapped f (image_counted kind o arguments from image m) ≡ image_counted kind o arguments making image m
+    image-same image m = start-same (started kind o.ring image arguments) m
+
+    pub meaning-same : (r : Result Image Outcome) (m : HostModel) → mapped f (meaning_counted kind o arguments from r m) ≡ meaning_counted kind o arguments making r m
+    meaning-same (Err outcome) m = ap (λ x. ends x m) (same.without outcome)
+    meaning-same (Ok image) m = image-same image m
 
 -- ---- a function of what comes of it
 
@@ -153,3 +164,38 @@ mapped-told old new before after counted result f answer enough is told = (
   λ t ne. (λ i. ends (is ne i) (contents new)) ∙ ap (mapped f) (told.0 t (enough ne)),
   λ t ne. goes-mapped f (answer list_machine (contents old)) counted result (contents new) (is ne) (told.1 t (enough ne)),
 )
+
+-- ---- the sheet of a source
+
+lines-remade : (source : List ℕ) → Remakes (lines_in source) by_counts (by_lines source)
+lines-remade source = record { without = λ outcome. refl; with_steps = λ outcome h. refl }
+
+text-remade : (source : List ℕ) → Remakes text_in (by_lines source) (by_text source)
+text-remade source = record { without = λ outcome. refl; with_steps = λ outcome h. refl }
+
+-- as data
+pub lines-told : (old new : Option HostModel) (o : Order) (arguments : List (List ℕ)) (source : List ℕ) (r : Result (Outcome × List Entry) Outcome) (result : CountedLines) →
+    (result.outcome ≢ OutOfMemory → run_outcome r ≢ OutOfMemory) → (result.outcome ≢ OutOfMemory → result ≡ lines_in source (run_counts r)) →
+    CountsRun old new r (λ kind m. source_counted kind o arguments by_counts source m) →
+    CountsByKind old new result.outcome result (λ kind m. source_counted kind o arguments (by_lines source) source m)
+lines-told old new o arguments source r result enough is told =
+    told-as old new result.outcome result (λ kind m. mapped (lines_in source) (source_counted kind o arguments by_counts source m)) (λ kind m. source_counted kind o arguments (by_lines source) source m)
+    (λ kind m. meaning-same (lines_in source) by_counts (by_lines source) (lines-remade source) kind o arguments (image_in Source source) m)
+    (mapped-told old new (run_outcome r) result.outcome (run_counts r) result (lines_in source) (λ kind m. source_counted kind o arguments by_counts source m) enough is told)
+
+-- as a text
+pub text-told : (old new : Option HostModel) (o : Order) (arguments : List (List ℕ)) (source : List ℕ) (counted : CountedLines) (result : Counted) →
+    (result.outcome ≢ OutOfMemory → counted.outcome ≢ OutOfMemory) → (result.outcome ≢ OutOfMemory → result ≡ text_in counted) →
+    CountsByKind old new counted.outcome counted (λ kind m. source_counted kind o arguments (by_lines source) source m) →
+    CountsByKind old new result.outcome result (λ kind m. source_counted kind o arguments (by_text source) source m)
+text-told old new o arguments source counted result enough is told =
+    told-as old new result.outcome result (λ kind m. mapped text_in (source_counted kind o arguments (by_lines source) source m)) (λ kind m. source_counted kind o arguments (by_text source) source m)
+    (λ kind m. meaning-same text_in (by_lines source) (by_text source) (text-remade source) kind o arguments (image_in Source source) m)
+    (mapped-told old new counted.outcome result.outcome counted result text_in (λ kind m. source_counted kind o arguments (by_lines source) source m) enough is told)
+
+-- what is made of the counts of a run
+pub lines-with : (source : List ℕ) (outcome : Outcome) (es same : List Entry) (sheet : LineSheet) (result : CountedLines) → result.outcome ≡ outcome →
+    (outcome ≢ OutOfMemory → result ≡ record { outcome = outcome; sheet = Some sheet }) → same ≡ es → sheet ≡ source_sheet source (counts_in same) → result.outcome ≢ OutOfMemory →
+    result ≡ record { outcome = outcome; sheet = Some (source_sheet source (counts_in es)) }
+lines-with source outcome es same sheet result is value there made ne =
+    value (λ e. ne (is ∙ e)) ∙ (λ i. record { outcome = outcome; sheet = Some ((made ∙ ap (λ (x : List Entry). source_sheet source (counts_in x)) there) i) })

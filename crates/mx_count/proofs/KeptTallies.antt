@@ -2,7 +2,7 @@
 use Rattle.std.proofs.Common.{◌≡◌, ◌<◌, ℕ, zero, suc, Bool, true, false, cond, List, [], ◌∷◌, ◌++◌, length, get_or, set, arith, refl, sym, ap, ◌∙◌, length-append}
 use Rattle.mx_count.specs.Counting.{IsAt, kept_tally}
 use Rattle.mx_count.specs.Tallies.{nothing, added}
-use Rattle.mx_count.specs.declared.table.Entry.{Entry}
+use Rattle.mx_count.specs.declared.counts.Entry.{Entry}
 use Rattle.mx_count.specs.declared.tally.Tally.{Tally}
 use Rattle.mx_count.proofs.TallyLaws.{nothing-more, added-assoc, added-last}
 

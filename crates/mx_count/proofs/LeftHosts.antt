@@ -1,9 +1,8 @@
 -- How what is counted leaves the host.
-use Rattle.std.proofs.Common.{◌≡◌, ◌≢◌, ℕ, List, arith, refl, sym, subst, ◌∙◌, ap, Some, Ok, Err}
-use Rattle.std.specs.Prelude.{Option, Result}
-use Rattle.mx_host.specs.HostModel.{HostModel, contents}
+use Rattle.std.proofs.Common.{◌≡◌, ℕ, List, arith, refl, subst, Ok, Err}
+use Rattle.std.specs.Prelude.{Result}
+use Rattle.mx_host.specs.HostModel.{HostModel}
 use Rattle.mx_mmo.specs.Image.{Image}
-use Rattle.mx_plan.specs.Wild.{ends}
 use Rattle.mx_core.specs.State.{State}
 use Rattle.mx_run.specs.AccompaniedRuns.{ComesAccompanied}
 use Rattle.mx_run.specs.WildRuns.{window_machine}
@@ -13,13 +12,8 @@ use Rattle.mx_run.proofs.AccompaniedRuns.{lacking-so}
 use Rattle.mx_run.proofs.FreeTurns.{none-made}
 use Rattle.mx_words.specs.declared.order.Order.{Order}
 use Rattle.mx_begin.specs.Begun.{started}
-use Rattle.mx_files.specs.declared.refusal.Refusal.{Refusal}
 use Rattle.mx_outcome.specs.declared.outcome.Outcome.{Outcome}
-use Rattle.mx_outcome.specs.declared.outcome.Outcome.TheVariants as out
 use Rattle.mx_count.specs.Leaving.{RunLeaves, StartLeaves, ImageLeaves, MeaningLeaves}
-use Rattle.mx_files.specs.Answers.{GoesAs}
-use Rattle.mx_count.specs.Runs.{CountAnswer, CountsBoth}
-use Rattle.mx_count.specs.declared.count.Counted.{Counted}
 
 -- ---- a machine
 
@@ -27,10 +21,8 @@ pub run-left : (n : ℕ) (s t : State) (m k : HostModel) (end : End) → ComesAc
 run-left n s t m k end c = record { end = end; after = t; run = c }
 
 -- no step is made
-pub left-still : (n : ℕ) (s : State) (m : HostModel) → RunLeaves n s m m
+left-still : (n : ℕ) (s : State) (m : HostModel) → RunLeaves n s m m
 left-still n s m = record { end = OutOfMemory; after = s; run = lacking-so n 0 (s, m) (s, m) (omega arith) (none-made s m) }
-
-pub ruleset still = (left-still)
 
 -- ---- what begins it
 
@@ -44,18 +36,9 @@ unstarted n (Err why) m = refl
 pub unstarted-left : (o : Order) (arguments : List (List ℕ)) (image : Image) (m : HostModel) → ImageLeaves o arguments image m m
 unstarted-left o arguments image m = unstarted o.steps (started window_machine o.ring image arguments) m
 
-pub meant-left : (o : Order) (arguments : List (List ℕ)) (r : Result Image Refusal) (image : Image) (m k : HostModel) → Ok image ≡ r → ImageLeaves o arguments image m k → MeaningLeaves o arguments r m k
-meant-left o arguments r image m k e h = subst (λ (x : Result Image Refusal). MeaningLeaves o arguments x m k) e h
+pub meant-left : (o : Order) (arguments : List (List ℕ)) (r : Result Image Outcome) (image : Image) (m k : HostModel) → Ok image ≡ r → ImageLeaves o arguments image m k → MeaningLeaves o arguments r m k
+meant-left o arguments r image m k e h = subst (λ (x : Result Image Outcome). MeaningLeaves o arguments x m k) e h
 
-pub unmeant-left : (o : Order) (arguments : List (List ℕ)) (r : Result Image Refusal) (m : HostModel) → MeaningLeaves o arguments r m m
+pub unmeant-left : (o : Order) (arguments : List (List ℕ)) (r : Result Image Outcome) (m : HostModel) → MeaningLeaves o arguments r m m
 unmeant-left o arguments (Ok image) m = unstarted-left o arguments image m
-unmeant-left o arguments (Err refusal) m = refl
-
--- ---- an outcome with its sheet
-
-pub sheet-told : (old new : Option HostModel) (why : Outcome) (text : List ℕ) (result : Counted) (f g : HostModel → CountAnswer Counted) → result.outcome ≡ why →
-    (why ≢ out.OutOfMemory → result ≡ record { outcome = why; sheet = Some text }) → CountsBoth old new why (record { outcome = why; sheet = Some text }) f g → CountsBoth old new result.outcome result f g
-sheet-told old new why text result f g same is told = (
-  λ t ne. ap (λ x. ends x (contents new)) (is (λ e. ne (same ∙ e))) ∙ told.0 t (λ e. ne (same ∙ e)),
-  λ t ne. subst (λ (x : Counted). GoesAs (g (contents old)) x (contents new)) (sym (is (λ e. ne (same ∙ e)))) (told.1 t (λ e. ne (same ∙ e))),
-)
+unmeant-left o arguments (Err outcome) m = refl

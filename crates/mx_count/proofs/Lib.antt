@@ -2,11 +2,8 @@ pub mod TallyLaws
 pub mod KeptTallies
 pub mod Summing
 pub mod SheetRows
-pub mod ToldCounts
-pub mod Alone
+pub mod CountedTraces
 pub mod CountedRuns
 pub mod LeftHosts
 pub mod TraceCounts
-pub mod ReadSheets
-pub mod TracedLines
 pub mod CountedSteps

@@ -11,7 +11,7 @@ use Rattle.mx_count.specs.Counting.{kept_tally}
 use Rattle.mx_count.specs.InTurn.{AddressTally, no_sums, sum_at, summed, tally_by, unseen_tally, with_entries, with_more, with_seen}
 use Rattle.mx_count.specs.Sheets.{is_among, line_tally}
 use Rattle.mx_count.specs.Tallies.{nothing, added}
-use Rattle.mx_count.specs.declared.table.Entry.{Entry}
+use Rattle.mx_count.specs.declared.counts.Entry.{Entry}
 use Rattle.mx_count.specs.declared.tally.Tally.{Tally}
 use Rattle.mx_word.proofs.Comparisons.{same-number}
 use Rattle.mx_count.proofs.TallyLaws.{nothing-more, nothing-first, added-assoc, moved-second}

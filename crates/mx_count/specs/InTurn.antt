@@ -6,7 +6,7 @@ use Rattle.std.specs.Ordering.{nat_cmp}
 use Rattle.std.specs.BTreeMap as tree
 use Rattle.mx_count.specs.Sheets.{LineTally}
 use Rattle.mx_count.specs.Tallies.{nothing, added}
-use Rattle.mx_count.specs.declared.table.Entry.{Entry}
+use Rattle.mx_count.specs.declared.counts.Entry.{Entry}
 use Rattle.mx_count.specs.declared.tally.Tally.{Tally}
 
 -- the tally of each address

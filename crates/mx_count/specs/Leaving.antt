@@ -7,12 +7,11 @@ use Rattle.mx_run.specs.AccompaniedRuns.{ComesAccompanied}
 use Rattle.mx_run.specs.WildRuns.{window_machine}
 use Rattle.mx_run.specs.declared.end.End.{End}
 use Rattle.mx_words.specs.declared.order.Order.{Order}
-use Rattle.mx_begin.specs.Begun.{started}
-use Rattle.mx_files.specs.Sources.{source_meaning}
-use Rattle.mx_files.specs.declared.refusal.Refusal.{Refusal}
+use Rattle.mx_begin.specs.Begun.{image_in, started}
+use Rattle.mx_begin.specs.declared.images.Form.TheVariants.{Source}
 use Rattle.mx_outcome.specs.declared.outcome.Outcome.{Outcome}
 
--- A run of at most n steps from this state left the host so: it came to its end; or it stopped for want of memory, in a step or between
+-- A run of at most n steps from this state left the host so: it came to its end; or it stopped because memory ran out, in a step or between
 -- two of them, and nothing but what was done by then changed.
 pub record RunLeaves (n : ℕ) (s : State) (old new : HostModel) : Type 0 where
   pub end : End
@@ -27,12 +26,12 @@ StartLeaves n (Ok s) old new = RunLeaves n s old new
 abbrev pub ImageLeaves : Order → List (List ℕ) → Image → HostModel → HostModel → Type 0
 ImageLeaves o arguments image old new = StartLeaves o.steps (started window_machine o.ring image arguments) old new
 
-abbrev pub MeaningLeaves : Order → List (List ℕ) → Result Image Refusal → HostModel → HostModel → Type 0
-MeaningLeaves o arguments (Err refusal) old new = new ≡ old
+abbrev pub MeaningLeaves : Order → List (List ℕ) → Result Image Outcome → HostModel → HostModel → Type 0
+MeaningLeaves o arguments (Err outcome) old new = new ≡ old
 MeaningLeaves o arguments (Ok image) old new = ImageLeaves o arguments image old new
 
 abbrev pub SourceLeaves : Order → List (List ℕ) → List ℕ → HostModel → HostModel → Type 0
-SourceLeaves o arguments source old new = MeaningLeaves o arguments (source_meaning source) old new
+SourceLeaves o arguments source old new = MeaningLeaves o arguments (image_in Source source) old new
 
 -- a host that tells its contents is left so
 abbrev pub IsLeft : Option HostModel → Option HostModel → (HostModel → HostModel → Type 0) → Type 0

@@ -17,36 +17,23 @@ use Rattle.mx_run.specs.WildRuns.{MachineKind, window_machine, list_machine, run
 use Rattle.mx_run.specs.declared.end.End.{End}
 use Rattle.mx_run.specs.declared.end.End.TheVariants as ending
 use Rattle.mx_watch.specs.Traces.{traces}
-use Rattle.mx_watch.specs.WatchedRuns.{list_traces}
-use Rattle.mx_watch.specs.Watching.{Watching}
+use Rattle.mx_watch.specs.WatchedRuns.{UnlessWild, list_traces}
 use Rattle.mx_words.specs.declared.order.Order.{Order}
-use Rattle.mx_word.specs.declared.no_memory.NoMemory.{NoMemory}
-use Rattle.mx_begin.specs.Begun.{started}
+use Rattle.mx_begin.specs.Begun.{image_in, started}
+use Rattle.mx_begin.specs.Ends.{outcome_of}
+use Rattle.mx_begin.specs.declared.images.Form.TheVariants.{Source}
 use Rattle.mx_files.specs.Answers.{GoesAs}
-use Rattle.mx_files.specs.Assembling.{refused_with}
-use Rattle.mx_files.specs.Sources.{source_meaning}
-use Rattle.mx_files.specs.declared.refusal.Refusal.{Refusal}
 use Rattle.mx_outcome.specs.declared.outcome.Outcome.{Outcome}
-use Rattle.mx_outcome.specs.declared.outcome.Outcome.TheVariants.{Done, Stopped, StepsSpent, OutOfMemory}
-use Rattle.mx_view.specs.Loads.{loads_of}
-use Rattle.mx_count.specs.Reports.{report_data, report_of}
-use Rattle.mx_count.specs.Sheets.{sheet_data}
+use Rattle.mx_outcome.specs.declared.outcome.Outcome.TheVariants.{OutOfMemory}
+use Rattle.mx_count.specs.Counting.{counts_in, counts_with}
+use Rattle.mx_count.specs.Sheets.{Counts, sheet_of, sheet_text, source_sheet, tallies_in}
 use Rattle.mx_count.specs.Tallies.{tally_in}
 use Rattle.mx_count.specs.declared.count.Counted.{Counted}
-use Rattle.mx_count.specs.declared.counts.Form.{Form}
+use Rattle.mx_count.specs.declared.counts.Entry.{Entry}
 use Rattle.mx_count.specs.declared.lines.CountedLines.{CountedLines}
 use Rattle.mx_count.specs.declared.lines.LineSheet.{LineSheet}
 
 -- ---- a machine: as the program runs it
-
--- the outcome of a run of at most this many steps; without flags a run does not break
-abbrev pub outcome_of : ℕ → End → Outcome
-outcome_of steps (ending.Halted status) = Done status
-outcome_of steps (ending.Stopped pc reason) = Stopped pc reason
-outcome_of steps (ending.Broke kind at traced) = OutOfMemory
-outcome_of steps (ending.Traced trace) = OutOfMemory
-outcome_of steps ending.Spent = StepsSpent steps
-outcome_of steps ending.OutOfMemory = OutOfMemory
 
 -- what a run of at most n steps comes to: that of the window always ends
 abbrev pub ran : MachineKind → ℕ → State → HostModel → Course End RunWorld
@@ -77,6 +64,10 @@ halting_in (meets_wild w) = []
 -- those of a run of at most n steps of the machine of a kind: its traces, and after them the step that halts
 abbrev pub steps_counted : MachineKind → ℕ → State → HostModel → List Trace
 steps_counted kind n s m = traces kind n s m ++ halting_in (ran kind n s m)
+
+-- how many they are
+abbrev pub step_count : ℕ → State → HostModel → ℕ
+step_count n s m = (tally_in (λ a. true) (steps_counted window_machine n s m)).times
 
 -- ---- what is counted
 
@@ -111,44 +102,65 @@ start_counted kind steps making (Ok s) m = counted_run_from kind steps making s 
 abbrev pub image_counted : {A : Type 0} → MachineKind → Order → List (List ℕ) → AnswerForms A → Image → HostModel → CountAnswer A
 image_counted kind o arguments making image m = start_counted kind o.steps making (started kind o.ring image arguments) m
 
--- a source is refused, or its image is run
-abbrev pub meaning_counted : {A : Type 0} → MachineKind → Order → List (List ℕ) → AnswerForms A → Result Image Refusal → HostModel → CountAnswer A
-meaning_counted kind o arguments making (Err refusal) m = ends (making.without (refused_with refusal)) m
+-- there is no image, or it is run
+abbrev pub meaning_counted : {A : Type 0} → MachineKind → Order → List (List ℕ) → AnswerForms A → Result Image Outcome → HostModel → CountAnswer A
+meaning_counted kind o arguments making (Err outcome) m = ends (making.without outcome) m
 meaning_counted kind o arguments making (Ok image) m = image_counted kind o arguments making image m
 
+-- a source is refused, or its image is run
 abbrev pub source_counted : {A : Type 0} → MachineKind → Order → List (List ℕ) → AnswerForms A → List ℕ → HostModel → CountAnswer A
-source_counted kind o arguments making source m = meaning_counted kind o arguments making (source_meaning source) m
+source_counted kind o arguments making source m = meaning_counted kind o arguments making (image_in Source source) m
 
--- ---- the sheet as a report
+-- ---- the counts of a run: the outcome where there are none, or the outcome of the run with them
 
-abbrev pub uncounted : Outcome → Counted
-uncounted outcome = record { outcome = outcome; sheet = None }
+abbrev pub RunCounts : Type 0
+RunCounts = Result (Outcome × Counts) Outcome
 
-abbrev pub reporting : (List Trace → List ℕ) → AnswerForms Counted
-reporting report = record {
-  without = λ outcome. uncounted outcome;
-  with_steps = λ outcome h. record { outcome = outcome; sheet = Some (report h) };
+abbrev pub by_counts : AnswerForms RunCounts
+by_counts = record {
+  without = λ outcome. Err outcome;
+  with_steps = λ outcome h. Ok (outcome, tallies_in h);
 }
 
--- that of a source, in one of its forms
-abbrev pub in_form : Form → List ℕ → AnswerForms Counted
-in_form form source = reporting (report_of form source)
+-- as entries keep them
+abbrev pub run_counts : Result (Outcome × List Entry) Outcome → RunCounts
+run_counts (Ok (outcome, es)) = Ok (outcome, counts_in es)
+run_counts (Err outcome) = Err outcome
 
--- ---- the sheet as data: read from a report in octas, and in words of the steps alone
+abbrev pub run_outcome : {A : Type 0} → Result (Outcome × A) Outcome → Outcome
+run_outcome (Ok (outcome, counts)) = outcome
+run_outcome (Err outcome) = outcome
 
-abbrev pub data_in : List ℕ → Option (List ℕ) → Option LineSheet
-data_in source None = None
-data_in source (Some report) = Some (report_data source report)
+-- ---- the sheet as data: each line has the tally of the steps at the tetras that it loads
 
-abbrev pub data_of : List ℕ → Counted → CountedLines
-data_of source counted = record { outcome = counted.outcome; sheet = data_in source counted.sheet }
-
--- each line has the tally of the steps at the tetras that it loads
 abbrev pub by_lines : List ℕ → AnswerForms CountedLines
 by_lines source = record {
   without = λ outcome. record { outcome = outcome; sheet = None };
-  with_steps = λ outcome h. record { outcome = outcome; sheet = Some (sheet_data source (loads_of source) (λ test. tally_in test h)) };
+  with_steps = λ outcome h. record { outcome = outcome; sheet = Some (source_sheet source (tallies_in h)) };
 }
+
+abbrev pub lines_in : List ℕ → RunCounts → CountedLines
+lines_in source (Ok (outcome, counts)) = record { outcome = outcome; sheet = Some (source_sheet source counts) }
+lines_in source (Err outcome) = record { outcome = outcome; sheet = None }
+
+-- by the outcome of a run and the entries of what was counted
+abbrev pub lines_as : List ℕ → Outcome → List Entry → CountedLines
+lines_as source outcome es = lines_in source (Ok (outcome, counts_in es))
+
+-- ---- and as a text
+
+abbrev pub by_text : List ℕ → AnswerForms Counted
+by_text source = record {
+  without = λ outcome. record { outcome = outcome; sheet = None };
+  with_steps = λ outcome h. record { outcome = outcome; sheet = Some (sheet_of source h) };
+}
+
+abbrev pub text_if : Option LineSheet → Option (List ℕ)
+text_if None = None
+text_if (Some sheet) = Some (sheet_text sheet)
+
+abbrev pub text_in : CountedLines → Counted
+text_in counted = record { outcome = counted.outcome; sheet = text_if counted.sheet }
 
 -- ---- the words of clauses: `old` and `new` are what the host told before and after
 
@@ -173,17 +185,32 @@ CountsBoth old new outcome result f g = CountsAs old new outcome result f × Cou
 abbrev pub CountsByKind : {A : Type 0} → Option HostModel → Option HostModel → Outcome → A → (MachineKind → HostModel → CountAnswer A) → Type 0
 CountsByKind old new outcome result f = CountsBoth old new outcome result (f window_machine) (f list_machine)
 
--- a run ends as this one does, and a watcher has this report on these traces and on the step that halts; where that one is wild, standard
--- output begins with what it had written
-abbrev pub EndsAsReported : Watching → List Trace → Course End RunWorld → End → HostModel → List ℕ → Type 0
-EndsAsReported w h (ends last v) end new text = (end ≡ last) × (new ≡ v.1) × (text ≡ w.text (h ++ halting_steps last v.0.pc))
-EndsAsReported w h (meets_wild v) end new text = IsFront v.1.output new.output
+-- what is counted of a run, where it is told by the kind of machine
+abbrev pub CountsRun : Option HostModel → Option HostModel → Result (Outcome × List Entry) Outcome → (MachineKind → HostModel → CountAnswer RunCounts) → Type 0
+CountsRun old new result f = CountsByKind old new (run_outcome result) (run_counts result) f
 
--- over a host that tells its contents, a run of at most n steps ends so, and a watcher has this report on its steps; and, from a state
+-- over a host that tells its contents, unless there was no memory, later entries have what earlier ones had, and the traces of the run
+-- of at most n steps
+abbrev pub CountsTraces : Option HostModel → State → ℕ → End → List Entry → List Entry → Type 0
+CountsTraces old before n result earlier later =
+    IsTrue (tells old) → result ≢ ending.OutOfMemory → counts_with later [] ≡ counts_with earlier (traces window_machine n before (contents old))
+
+-- and, from a state where nothing was touched, those of the list machine, unless that meets something wild
+abbrev pub CountsListTraces : Option HostModel → State → ℕ → End → List Entry → List Entry → Type 0
+CountsListTraces old before n result earlier later =
+    IsTrue (tells old) → result ≢ ending.OutOfMemory → before.touched ≡ false →
+    UnlessWild (list_run old before n) (counts_with later [] ≡ counts_with earlier (list_traces old before n))
+
+-- a run ends as this one does, and these are the counts of these traces and of the step that halts; where that one is wild, standard
+-- output begins with what it had written
+abbrev pub EndsAsCounted : List Trace → Course End RunWorld → End → HostModel → Counts → Type 0
+EndsAsCounted h (ends last v) end new counts = (end ≡ last) × (new ≡ v.1) × (counts ≡ tallies_in (h ++ halting_steps last v.0.pc))
+EndsAsCounted h (meets_wild v) end new counts = IsFront v.1.output new.output
+
+-- over a host that tells its contents, a run of at most n steps ends so, and these entries have the counts of its steps; and, from a state
 -- where nothing was touched, the same holds of the list machine
-abbrev pub EndsReported : Option HostModel → Option HostModel → State → State → ℕ → Watching → Result (End × List ℕ) NoMemory → Type 0
-EndsReported old new before after n w (Err e) = Unit {0}
-EndsReported old new before after n w (Ok (end, text)) =
+abbrev pub EndsCounted : Option HostModel → Option HostModel → State → State → ℕ → End → List Entry → Type 0
+EndsCounted old new before after n end es =
     IsTrue (tells old) → (ended end after (contents new) ≡ run n no_flags false before (contents old))
-    × (text ≡ w.text (steps_counted window_machine n before (contents old)))
-    × (before.touched ≡ false → EndsAsReported w (list_traces old before n) (list_run old before n) end (contents new) text)
+    × (counts_in es ≡ tallies_in (steps_counted window_machine n before (contents old)))
+    × (before.touched ≡ false → EndsAsCounted (list_traces old before n) (list_run old before n) end (contents new) (counts_in es))

@@ -1,6 +1,7 @@
 //! A source or an image that is run and counted.
 
-ghost use Rattle.std.specs.Prelude.{◌≡◌, ◌≢◌, None, Some, false};
+ghost use Rattle.std.specs.Prelude.{◌≡◌, ◌≢◌, IfOk, None, Some, false};
+ghost use Rattle.mx_begin.specs.Ends.{IsOfMachine};
 ghost use Rattle.mx_core.specs.Bounds.{as_list_state};
 ghost use Rattle.mx_core.specs.Kept.{state_of};
 ghost use Rattle.mx_host.specs.Keeping.{Keeps};
@@ -8,166 +9,153 @@ ghost use Rattle.mx_load.specs.Kept.{image_of};
 ghost use Rattle.mx_run.specs.WildRuns.{list_machine, window_machine};
 ghost use Rattle.mx_count.specs.Leaving.{ImageLeaves, IsLeft, RunLeaves, SourceLeaves};
 ghost use Rattle.mx_count.specs.Runs as spec;
-ghost use Rattle.mx_count.specs.Runs.{AreArguments, CountsBoth, CountsByKind, reporting};
+ghost use Rattle.mx_count.specs.Runs.{AreArguments, CountsBoth, CountsByKind, CountsRun, by_counts, by_lines, by_text};
+ghost use Rattle.mx_count.specs.Runs.{run_counts, run_outcome};
 
-use crate::counts::{Counts, Form};
-use crate::watched::run_counted;
-use mx_begin::start_machine;
+use crate::counts::Counts;
+use crate::lines::{CountedLines, LineSheet, make_sheet};
+use crate::sheet::format_sheet;
+use crate::walk::count_steps;
+use mx_begin::{Form, image_in, outcome_of, start_machine};
 use mx_core::Machine;
-use mx_files::{SourceFault, load_source};
 use mx_host::Host;
 use mx_load::Image;
 use mx_outcome::Outcome;
-use mx_run::End;
-use mx_watch::Watcher;
-use mx_word::Bytes;
+use mx_word::{Bytes, NoMemory};
 use mx_words::Order;
 use std::alloc::Global;
 
-/// What comes of a source that is run and counted: the outcome of the run, and its sheet. There is no sheet where no
-/// machine ran, or memory ran out.
+/// What comes of a source that is run and counted: the outcome of the run, and its sheet as a text. There is no sheet where
+/// no machine ran, or memory ran out.
 #[derive(Drop)]
 pub struct Counted {
     pub outcome: Outcome,
     pub sheet: Option<Bytes>,
 }
 
-/// An outcome without a sheet.
-fn without_sheet(outcome: Outcome) -> Counted
-    ensures { result ≡ spec.uncounted outcome }
-{
-    Counted {
-        outcome,
-        sheet: None,
-    }
-}
-
-/// An outcome with the sheet of its run; where there was no memory, without it.
-fn with_sheet(outcome: Outcome, sheet: Bytes) -> Counted
-    ensures same { result.outcome ≡ outcome }
-    ensures value { outcome ≢ Outcome.OutOfMemory → result ≡ record { outcome = outcome; sheet = Some sheet } }
-    ensures none { result.outcome ≡ Outcome.OutOfMemory → result.sheet ≡ None }
-{
-    match outcome {
-        Outcome::OutOfMemory => without_sheet(Outcome::OutOfMemory),
-        _ => Counted {
-            outcome,
-            sheet: Some(sheet),
-        },
-    }
-}
-
-/// The outcome of a run of at most this many steps, by its end. Without flags a run does not break.
-fn outcome_of(steps: u64, end: End) -> Outcome
-    ensures value { result ≡ spec.outcome_of steps end }
-    ensures no_host_fault { result ≢ Outcome.HostFault }
-    ensures no_missing_file { result ≢ Outcome.NoFile }
-{
-    match end {
-        End::Halted(status) => Outcome::Done(status),
-        End::Stopped { pc, reason } => Outcome::Stopped { pc, reason },
-        End::Spent => Outcome::StepsSpent { steps },
-        End::Broke { .. } | End::Traced(_) | End::OutOfMemory => Outcome::OutOfMemory,
-    }
-}
-
-/// Makes the steps of a machine that was started, and has them counted.
+/// Makes the steps of a machine that was started, and counts them. Answers the outcome, and the counts.
 fn count_machine<H: Host>(
     alloc: Global,
     host: &mut H,
     steps: u64,
     machine: Machine,
-    counts: Counts,
-) -> Counted
+) -> Result<(Outcome, Counts), Outcome>
     requires { (state_of machine).touched ≡ false }
-    ensures told { CountsBoth (H.told host.old) (H.told host.new) result.outcome result
-        (λ m. spec.counted_run_from window_machine steps (reporting (⟦<Counts as Watcher>⟧.meaning counts).text)
-        (state_of machine) m)
-        (λ m. spec.counted_run_from list_machine steps (reporting (⟦<Counts as Watcher>⟧.meaning counts).text)
-        (as_list_state (state_of machine)) m) }
-    ensures left { IsLeft (H.told host.old) (H.told host.new)
-        (λ m k. RunLeaves steps (state_of machine) m k) }
-    ensures none { result.outcome ≡ Outcome.OutOfMemory → result.sheet ≡ None }
-    ensures no_host_fault { result.outcome ≢ Outcome.HostFault }
-    ensures no_missing_file { result.outcome ≢ Outcome.NoFile }
+    ensures told { CountsBoth (H.told host.old) (H.told host.new) (run_outcome result) (run_counts result)
+        (λ m. spec.counted_run_from window_machine steps by_counts (state_of machine) m)
+        (λ m. spec.counted_run_from list_machine steps by_counts (as_list_state (state_of machine)) m) }
+    ensures left { IsLeft (H.told host.old) (H.told host.new) (λ m k. RunLeaves steps (state_of machine) m k) }
+    ensures machine { IsOfMachine (run_outcome result) }
     ensures keeps { Keeps (H.told host.old) (H.told host.new) (H.faults host.old) (H.faults host.new) }
 {
     let mut machine = machine;
-    match run_counted(alloc, host, &mut machine, steps, counts) {
-        Ok((end, sheet)) => with_sheet(outcome_of(steps, end), sheet),
-        Err(_) => without_sheet(Outcome::OutOfMemory),
-    }
+    let (end, counts) = count_steps(alloc, host, &mut machine, steps)?;
+    Ok((outcome_of(steps, end), counts))
 }
 
-/// Runs an image from its start, with these arguments, on the ring and for the steps of an order, and has its steps
-/// counted. The sheet is the report of what counts them.
+/// Runs an image from its start, with these arguments, on the ring and for the steps of an order, and counts its steps.
 ///
 /// Over a host that tells its contents, the outcome and all that the host then holds are those of the run, as
-/// `mmixware run` and `mmixware sim` make it, over the ring and over an unbounded list of registers; and the report is on
-/// the traces of this run. Out of memory there is no sheet, and the host is as the steps that were made leave it.
+/// `mmixware run` and `mmixware sim` make it, over the ring and over an unbounded list of registers; and the counts are
+/// those of the traces of this run, and of the step that halts.
+///
+/// Errors: the outcome where no machine starts, and out of memory; then the host is as the steps that were made leave it.
 pub fn count_image<H: Host>(
     alloc: Global,
     host: &mut H,
     order: &Order,
     image: Image,
     arguments: &[Bytes],
-    counts: Counts,
-) -> Counted
+) -> Result<(Outcome, Counts), Outcome>
     requires { AreArguments arguments.now }
-    ensures told { CountsByKind (H.told host.old) (H.told host.new) result.outcome result
-        (λ kind m. spec.image_counted kind order.now arguments.now
-        (reporting (⟦<Counts as Watcher>⟧.meaning counts).text) (image_of image) m) }
+    ensures told { CountsRun (H.told host.old) (H.told host.new) result
+        (λ kind m. spec.image_counted kind order.now arguments.now by_counts (image_of image) m) }
     ensures left { IsLeft (H.told host.old) (H.told host.new)
         (λ m k. ImageLeaves order.now arguments.now (image_of image) m k) }
-    ensures none { result.outcome ≡ Outcome.OutOfMemory → result.sheet ≡ None }
-    ensures no_host_fault { result.outcome ≢ Outcome.HostFault }
-    ensures no_missing_file { result.outcome ≢ Outcome.NoFile }
+    ensures machine { IsOfMachine (run_outcome result) }
     ensures keeps { Keeps (H.told host.old) (H.told host.new) (H.faults host.old) (H.faults host.new) }
 {
-    match start_machine(alloc, image, arguments, order.ring) {
-        Ok(machine) => count_machine(alloc, host, order.steps, machine, counts),
-        Err(outcome) => without_sheet(outcome),
-    }
+    let machine = start_machine(alloc, image, arguments, order.ring)?;
+    count_machine(alloc, host, order.steps, machine)
 }
 
-/// Runs the image of a source, and counts its steps by the lines of the source.
-fn count_meaning<H: Host>(
+/// Runs the image of a source, and counts its steps.
+///
+/// Errors: the outcome where the source is refused, and as above.
+fn count_assembled<H: Host>(
     alloc: Global,
     host: &mut H,
-    form: Form,
-    order: &Order,
-    image: Image,
-    source: &[u8],
-    arguments: &[Bytes],
-) -> Counted
-    requires { AreArguments arguments.now }
-    ensures told { CountsByKind (H.told host.old) (H.told host.new) result.outcome result
-        (λ kind m. spec.image_counted kind order.now arguments.now (spec.in_form form source.now) (image_of image) m) }
-    ensures left { IsLeft (H.told host.old) (H.told host.new)
-        (λ m k. ImageLeaves order.now arguments.now (image_of image) m k) }
-    ensures none { result.outcome ≡ Outcome.OutOfMemory → result.sheet ≡ None }
-    ensures no_host_fault { result.outcome ≢ Outcome.HostFault }
-    ensures no_missing_file { result.outcome ≢ Outcome.NoFile }
-    ensures keeps { Keeps (H.told host.old) (H.told host.new) (H.faults host.old) (H.faults host.new) }
-{
-    match Counts::with_form(alloc, form, source) {
-        Ok(counts) => count_image(alloc, host, order, image, arguments, counts),
-        Err(_) => without_sheet(Outcome::OutOfMemory),
-    }
-}
-
-/// Runs a source and counts its steps in a form, or says why it is refused.
-pub(crate) fn count_in_form<H: Host>(
-    alloc: Global,
-    host: &mut H,
-    form: Form,
     order: &Order,
     source: &[u8],
     arguments: &[Bytes],
-) -> Counted
+) -> Result<(Outcome, Counts), Outcome>
+    requires { AreArguments arguments.now }
+    ensures told { CountsRun (H.told host.old) (H.told host.new) result
+        (λ kind m. spec.source_counted kind order.now arguments.now by_counts source.now m) }
+    ensures left { IsLeft (H.told host.old) (H.told host.new)
+        (λ m k. SourceLeaves order.now arguments.now source.now m k) }
+    ensures machine { IsOfMachine (run_outcome result) }
+    ensures keeps { Keeps (H.told host.old) (H.told host.new) (H.faults host.old) (H.faults host.new) }
+{
+    let image = image_in(alloc, Form::Source, source)?;
+    count_image(alloc, host, order, image, arguments)
+}
+
+/// An outcome without a sheet.
+fn without_lines(outcome: Outcome) -> CountedLines
+    ensures { result ≡ record { outcome = outcome; sheet = None } }
+{
+    CountedLines {
+        outcome,
+        sheet: None,
+    }
+}
+
+/// An outcome with the sheet of its run; where there was no memory, without it.
+fn with_lines(outcome: Outcome, sheet: LineSheet) -> CountedLines
+    ensures same { result.outcome ≡ outcome }
+    ensures value { outcome ≢ Outcome.OutOfMemory → result ≡ record { outcome = outcome; sheet = Some sheet } }
+    ensures none { result.outcome ≡ Outcome.OutOfMemory → result.sheet ≡ None }
+{
+    match outcome {
+        Outcome::OutOfMemory => without_lines(Outcome::OutOfMemory),
+        _ => CountedLines {
+            outcome,
+            sheet: Some(sheet),
+        },
+    }
+}
+
+/// What was counted of a run of a source, line by line.
+fn lines_by(alloc: Global, source: &[u8], outcome: Outcome, counts: &Counts) -> CountedLines
+    ensures value { result.outcome ≢ Outcome.OutOfMemory →
+        result ≡ spec.lines_as source.now outcome counts.now }
+    ensures lacking { result.outcome ≢ Outcome.OutOfMemory → outcome ≢ Outcome.OutOfMemory }
+    ensures none { result.outcome ≡ Outcome.OutOfMemory → result.sheet ≡ None }
+    ensures no_host_fault { outcome ≢ Outcome.HostFault → result.outcome ≢ Outcome.HostFault }
+    ensures no_missing_file { outcome ≢ Outcome.NoFile → result.outcome ≢ Outcome.NoFile }
+{
+    match make_sheet(alloc, source, counts.as_slice()) {
+        Ok(sheet) => with_lines(outcome, sheet),
+        Err(_) => without_lines(Outcome::OutOfMemory),
+    }
+}
+
+/// Runs a source with these arguments, on the ring and for the steps of an order, and counts its steps line by line; or says
+/// why it is refused.
+///
+/// The outcome and the host are as `count_image` says, also where there is no memory. Each line has the tally of the traces
+/// of this run at the addresses that it loads. Out of memory there is no sheet.
+pub fn count_lines<H: Host>(
+    alloc: Global,
+    host: &mut H,
+    order: &Order,
+    source: &[u8],
+    arguments: &[Bytes],
+) -> CountedLines
     requires { AreArguments arguments.now }
     ensures told { CountsByKind (H.told host.old) (H.told host.new) result.outcome result
-        (λ kind m. spec.source_counted kind order.now arguments.now (spec.in_form form source.now) source.now m) }
+        (λ kind m. spec.source_counted kind order.now arguments.now (by_lines source.now) source.now m) }
     ensures left { IsLeft (H.told host.old) (H.told host.new)
         (λ m k. SourceLeaves order.now arguments.now source.now m k) }
     ensures none { result.outcome ≡ Outcome.OutOfMemory → result.sheet ≡ None }
@@ -175,18 +163,44 @@ pub(crate) fn count_in_form<H: Host>(
     ensures no_missing_file { result.outcome ≢ Outcome.NoFile }
     ensures keeps { Keeps (H.told host.old) (H.told host.new) (H.faults host.old) (H.faults host.new) }
 {
-    match load_source(alloc, source) {
-        Ok(image) => count_meaning(alloc, host, form, order, image, source, arguments),
-        Err(SourceFault::Refused(refusal)) => without_sheet(refusal.outcome()),
-        Err(SourceFault::OutOfMemory) => without_sheet(Outcome::OutOfMemory),
+    match count_assembled(alloc, host, order, source, arguments) {
+        Ok((outcome, counts)) => lines_by(alloc, source, outcome, &counts),
+        Err(outcome) => without_lines(outcome),
     }
 }
 
-/// Runs a source with these arguments, on the ring and for the steps of an order, and counts its steps; or says why it is
-/// refused.
-///
-/// The outcome and the host are as `count_image` says, also where there is no memory, and the sheet has for each line the tally of the traces of this run
-/// at the addresses that the line loads.
+/// The text of a sheet, if there is one.
+fn text_if(alloc: Global, sheet: &Option<LineSheet>) -> Result<Option<Bytes>, NoMemory>
+    ensures { IfOk result (λ text. text ≡ spec.text_if sheet.now) }
+{
+    match sheet {
+        None => Ok(None),
+        Some(sheet) => Ok(Some(format_sheet(alloc, sheet)?)),
+    }
+}
+
+/// What was counted, with its sheet as a text.
+fn text_of(alloc: Global, counted: &CountedLines) -> Counted
+    ensures value { result.outcome ≢ Outcome.OutOfMemory → result ≡ spec.text_in counted.now }
+    ensures lacking { result.outcome ≢ Outcome.OutOfMemory → counted.now.outcome ≢ Outcome.OutOfMemory }
+    ensures none { (counted.now.outcome ≡ Outcome.OutOfMemory → counted.now.sheet ≡ None) →
+        result.outcome ≡ Outcome.OutOfMemory → result.sheet ≡ None }
+    ensures no_host_fault { counted.now.outcome ≢ Outcome.HostFault → result.outcome ≢ Outcome.HostFault }
+    ensures no_missing_file { counted.now.outcome ≢ Outcome.NoFile → result.outcome ≢ Outcome.NoFile }
+{
+    match text_if(alloc, &counted.sheet) {
+        Ok(sheet) => Counted {
+            outcome: counted.outcome,
+            sheet,
+        },
+        Err(_) => Counted {
+            outcome: Outcome::OutOfMemory,
+            sheet: None,
+        },
+    }
+}
+
+/// Runs a source and counts its steps, as `count_lines` does. The sheet is a text.
 pub fn count_source<H: Host>(
     alloc: Global,
     host: &mut H,
@@ -196,7 +210,7 @@ pub fn count_source<H: Host>(
 ) -> Counted
     requires { AreArguments arguments.now }
     ensures told { CountsByKind (H.told host.old) (H.told host.new) result.outcome result
-        (λ kind m. spec.source_counted kind order.now arguments.now (spec.in_form Form.Text source.now) source.now m) }
+        (λ kind m. spec.source_counted kind order.now arguments.now (by_text source.now) source.now m) }
     ensures left { IsLeft (H.told host.old) (H.told host.new)
         (λ m k. SourceLeaves order.now arguments.now source.now m k) }
     ensures none { result.outcome ≡ Outcome.OutOfMemory → result.sheet ≡ None }
@@ -204,5 +218,6 @@ pub fn count_source<H: Host>(
     ensures no_missing_file { result.outcome ≢ Outcome.NoFile }
     ensures keeps { Keeps (H.told host.old) (H.told host.new) (H.faults host.old) (H.faults host.new) }
 {
-    count_in_form(alloc, host, Form::Text, order, source, arguments)
+    let counted = count_lines(alloc, host, order, source, arguments);
+    text_of(alloc, &counted)
 }

@@ -1,107 +1,189 @@
-//! The watcher that counts.
+//! What is counted at each address.
 
-ghost use Rattle.std.specs.Prelude.{◌≡◌, IfOk, []};
-ghost use Rattle.mx_count.specs.Counting.{counting, counting_as, kept_tally};
-ghost use Rattle.mx_count.specs.Reports.{report_text};
-ghost use Rattle.mx_view.specs.Loads.{loads_of};
+ghost use Rattle.std.specs.Prelude.{◌≡◌, ◌<◌, ◌++◌, ◌∷◌, [], ℕ, Bool, length, slice_set, if◌then◌else◌};
+ghost use Rattle.std.specs.Prelude.{IfOk, IfSome, IsTrue, OnErr, OnOk};
+ghost use Rattle.mx_count.specs.Counting.{IsAt, kept_tally};
+ghost use Rattle.mx_count.specs.Tallies as tallies;
 
-use crate::octas::octas;
-use crate::sheet::sheet;
-use crate::table::{Entry, Table};
+use crate::tally::{Tally, add_tallies, empty_tally, step_tally};
 use mx_core::Trace;
-use mx_view::{Cell, LineCells, cells_by_line};
-use mx_watch::{Watcher, Wish};
-use mx_word::{Bytes, NoMemory, Sequence};
+use mx_word::NoMemory;
 use std::alloc::Global;
+use std::collections::BTreeMap;
+use std::marker::Model;
 
-/// In which form counts are reported: the sheet as a text, or its tallies as octas.
+/// What is counted of the steps at an address.
 #[derive(Clone, Copy)]
-pub enum Form {
-    Text,
-    Octas,
+pub struct Entry {
+    pub address: u64,
+    pub tally: Tally,
 }
 
-/// A watcher of a run of a source that counts the steps at each address. Its report is the sheet of the run. It is
-/// never full.
+/// What is counted of steps, at each of their addresses.
 #[derive(Drop)]
 pub struct Counts {
-    form: Form,
-    source: Bytes,
-    loads: LineCells,
-    table: Table,
-    alloc: Global,
+    entries: Vec<Entry>,
+    /// The place of the entry of an address.
+    places: BTreeMap<u64, usize>,
+    /// The places of the entries of addresses that came last: a loop does not look them up in the map again.
+    remembered: [usize; 1024],
+}
+
+impl Model for Counts {
+    ghost use Rattle.std.specs.Prelude.{List};
+    ghost use Rattle.mx_count.specs.declared.counts.Entry.{Entry};
+
+    ghost Value = { List Entry };
+
+    ghost view = { λ c. c.entries.items };
 }
 
 impl Counts {
-    /// Counts no steps of a run of a source yet.
-    ///
-    /// Errors: out of memory.
-    pub fn new(alloc: Global, source: &[u8]) -> Result<Counts, NoMemory>
-        ensures { IfOk result (λ c. ⟦<Counts as Watcher>⟧.meaning c ≡ counting source.now (loads_of source.now) []) }
-    {
-        Counts::with_form(alloc, Form::Text, source)
-    }
-
-    /// Counts no steps yet, and reports in this form.
-    pub(crate) fn with_form(alloc: Global, form: Form, source: &[u8]) -> Result<Counts, NoMemory>
-        ensures { IfOk result (λ c. ⟦<Counts as Watcher>⟧.meaning c
-            ≡ counting_as form source.now (loads_of source.now) []) }
-    {
-        let copy = Bytes::copy(alloc, source)?;
-        let loads = cells_by_line(alloc, source)?;
-        Ok(Counts::of_loads(alloc, form, copy, loads))
-    }
-
-    /// Counts no steps yet of a source whose lines load these tetras. As octas, any lists of tetras have their tallies.
-    pub fn of_loads(alloc: Global, form: Form, source: Bytes, loads: LineCells) -> Counts
-        ensures { ⟦<Counts as Watcher>⟧.meaning result ≡ counting_as form source loads [] }
+    /// Counts no steps yet.
+    pub fn new(alloc: Global) -> Counts
+        ensures { result ≡ [] }
     {
         Counts {
-            form,
-            source,
-            loads,
-            table: Table::new(alloc),
-            alloc,
+            entries: Vec::new(alloc),
+            places: BTreeMap::new(alloc),
+            remembered: [0; 1024],
         }
+    }
+
+    /// The entries.
+    pub fn as_slice(&self) -> &[Entry]
+        ensures { result.now ≡ self.now }
+    {
+        self.entries.as_slice()
+    }
+
+    /// Counts a step.
+    ///
+    /// Errors: out of memory; then nothing is counted.
+    #[tactic(auto, using(crate::proofs::KeptTallies::counted))]
+    pub fn add_step(&mut self, t: &Trace) -> Result<(), NoMemory>
+        ensures ok { (test : ℕ → Bool) → OnOk result (kept_tally test self.new
+            ≡ tallies.added (kept_tally test self.old) (tallies.tally_if test t.now)) }
+        ensures err { (test : ℕ → Bool) → OnErr result (kept_tally test self.new ≡ kept_tally test self.old) }
+    {
+        let tally = step_tally(t);
+        let place = find_or_add(
+            &mut self.entries,
+            &mut self.places,
+            &mut self.remembered,
+            t.pc,
+        )?;
+        add_at(&mut self.entries, place, t.pc, tally)
     }
 }
 
-/// The report on what is counted of a source, whose lines load these tetras.
-fn report(
-    alloc: Global,
-    form: Form,
-    source: &[u8],
-    loads: &[Sequence<Cell>],
-    entries: &[Entry],
-) -> Result<Bytes, NoMemory>
-    ensures { IfOk result (λ text. text ≡
-        report_text form source.now loads.now (λ test. kept_tally test entries.now)) }
+/// Whether the entry of an address is at a place.
+fn is_at(entries: &Vec<Entry>, place: usize, address: u64) -> bool
+    ensures { IsTrue result → IsAt entries.now.items place address }
 {
-    match form {
-        Form::Text => sheet(alloc, source, loads, entries),
-        Form::Octas => octas(alloc, loads, entries),
+    if place >= entries.len() {
+        return false;
+    }
+    entries[place].address == address
+}
+
+/// Where the place of an address is remembered.
+fn slot_of(address: u64) -> usize
+    ensures { result < 1024 }
+{
+    (address / 4 % 1024) as usize
+}
+
+/// The place of the entry of an address, by the map.
+fn look_up(entries: &Vec<Entry>, places: &BTreeMap<u64, usize>, address: u64) -> Option<usize>
+    ensures { IfSome result (λ place. IsAt entries.now.items place address) }
+{
+    let place = match places.get(&address) {
+        Some(place) => *place,
+        None => return None,
+    };
+    if is_at(entries, place, address) {
+        Some(place)
+    } else {
+        None
     }
 }
 
-impl Watcher for Counts {
-    ghost meaning = { λ c. counting_as c.form c.source c.loads c.table };
+/// Adds an entry for an address, at which nothing is counted yet, and gives its place.
+fn add_entry(
+    entries: &mut Vec<Entry>,
+    places: &mut BTreeMap<u64, usize>,
+    address: u64,
+) -> Result<usize, NoMemory>
+    ensures ok { OnOk result (entries.new.items
+        ≡ entries.old.items ++ record { address = address; tally = tallies.nothing } ∷ []) }
+    ensures place { IfOk result (λ place. place ≡ length entries.old.items) }
+    ensures err { OnErr result (entries.new.items ≡ entries.old.items) }
+{
+    let place = entries.len();
+    let entry = Entry {
+        address,
+        tally: empty_tally(),
+    };
+    places.insert(address, place)?;
+    entries.push(entry)?;
+    Ok(place)
+}
 
-    #[tactic(auto, using(crate::proofs::ToldCounts::told))]
-    fn tell(&mut self, t: &Trace) -> Result<Wish, NoMemory> {
-        match self.table.count(t) {
-            Ok(()) => Ok(Wish::More),
-            Err(_) => Err(NoMemory),
+/// The place of the entry of an address, which is added where there is none.
+#[tactic(auto, using(crate::proofs::KeptTallies::found))]
+fn find_or_add(
+    entries: &mut Vec<Entry>,
+    places: &mut BTreeMap<u64, usize>,
+    remembered: &mut [usize; 1024],
+    address: u64,
+) -> Result<usize, NoMemory>
+    ensures same { (test : ℕ → Bool) → kept_tally test entries.new.items ≡ kept_tally test entries.old.items }
+    ensures place { IfOk result (λ place. IsAt entries.new.items place address) }
+{
+    let slot = slot_of(address);
+    let guess = remembered[slot];
+    if is_at(entries, guess, address) {
+        return Ok(guess);
+    }
+    match look_up(entries, places, address) {
+        Some(place) => {
+            remembered[slot] = place;
+            Ok(place)
         }
+        None => add_entry(entries, places, address),
     }
+}
 
-    #[tactic(auto, using(crate::proofs::ToldCounts::told))]
-    fn summary(&self) -> Result<Bytes, NoMemory> {
-        report(
-            self.alloc,
-            self.form,
-            self.source.as_slice(),
-            self.loads.as_slice(),
-            self.table.as_slice(),
-        )
-    }
+/// Adds to the tally of the entry of an address.
+#[tactic(auto, using(crate::proofs::KeptTallies::adding))]
+fn add_at(
+    entries: &mut Vec<Entry>,
+    place: usize,
+    address: u64,
+    tally: Tally,
+) -> Result<(), NoMemory>
+    requires { IsAt entries.now.items place address }
+    ensures ok { (test : ℕ → Bool) → OnOk result (kept_tally test entries.new.items ≡ tallies.added
+        (kept_tally test entries.old.items) (if test address then tally else tallies.nothing)) }
+    ensures err { OnErr result (entries.new.items ≡ entries.old.items) }
+{
+    let sum = add_tallies(entries[place].tally, tally)?;
+    set_at(
+        entries,
+        place,
+        Entry {
+            address,
+            tally: sum,
+        },
+    );
+    Ok(())
+}
+
+/// Sets the entry at a place.
+fn set_at(entries: &mut Vec<Entry>, place: usize, entry: Entry)
+    requires { place < length entries.now.items }
+    ensures { entries.new.items ≡ slice_set entries.old.items place entry }
+{
+    entries[place] = entry;
 }

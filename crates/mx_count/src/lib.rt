@@ -2,26 +2,21 @@
 #![tactic(auto)]
 
 mod count;
-mod counted;
 mod counts;
 mod laws;
 mod lines;
-mod octas;
 mod sheet;
 mod sums;
-mod table;
 mod tally;
-mod watched;
+mod walk;
 
-pub use count::{Counted, count_image, count_source};
-pub use counted::count_lines;
-pub use counts::{Counts, Form};
+pub use count::{Counted, count_image, count_lines, count_source};
+pub use counts::{Counts, Entry};
 pub use laws::{
-    all_steps_are_counted, columns_stand_apart, counted_lines_are_those_of_the_traces,
-    lines_are_sums_over_their_tetras, sheets_are_read_back, tallies_count_traces,
+    all_steps_are_counted, columns_are_apart, lines_are_sums_over_their_tetras,
+    tallies_count_traces,
 };
-pub use lines::{CountedLine, CountedLines, LineSheet, next_tally};
-pub use octas::to_octas;
-pub use sheet::add_figures;
-pub use table::Entry;
+pub use lines::{CountedLine, CountedLines, LineSheet, make_sheet};
+pub use sheet::{add_figures, format_sheet};
+pub use sums::{Sums, line_tally, sums_of, total};
 pub use tally::Tally;

@@ -2,12 +2,12 @@
 
 ghost use Rattle.std.specs.Prelude.{◌≡◌, ◌++◌, ◌∷◌, [], IfOk, OnOk, drop};
 ghost use Rattle.mx_line.specs.Lines.{lines_of};
-ghost use Rattle.mx_count.specs.Reports as spec;
-ghost use Rattle.mx_count.specs.Runs.{data_in};
-ghost use Rattle.mx_count.specs.Sheets.{line_with, tally_of_line};
+ghost use Rattle.mx_count.specs.Counting.{counts_in};
+ghost use Rattle.mx_count.specs.InTurn.{sum_at, tally_by};
+ghost use Rattle.mx_count.specs.Sheets as spec;
 
-use crate::octas::to_octas;
-use crate::sheet::next_load;
+use crate::counts::Entry;
+use crate::sums::{Sums, line_tally, sums_of, total};
 use crate::tally::Tally;
 use mx_line::cut_line;
 use mx_outcome::Outcome;
@@ -38,44 +38,15 @@ pub struct CountedLines {
     pub sheet: Option<LineSheet>,
 }
 
-/// The first of octas, and the others.
-fn next_octa(octas: &[u64]) -> (u64, &[u64])
-    ensures first { result.0 ≡ spec.first_octa octas.now }
-    ensures others { result.1.now ≡ drop 1 octas.now }
-{
-    match octas {
-        [octa, others @ ..] => (*octa, others),
-        [] => (0, &[]),
-    }
-}
-
-/// The tally of the first four octas, and the others.
-pub fn next_tally(octas: &[u64]) -> (Tally, &[u64])
-    ensures first { result.0 ≡ spec.first_tally octas.now }
-    ensures others { result.1.now ≡ spec.after_tally octas.now }
-{
-    let (times, after_times) = next_octa(octas);
-    let (away, after_away) = next_octa(after_times);
-    let (oops, after_oops) = next_octa(after_away);
-    let (mems, others) = next_octa(after_oops);
-    let tally = Tally {
-        times,
-        away,
-        oops,
-        mems,
-    };
-    (tally, others)
-}
-
 /// The tally of a line that loads these tetras, if it loads any.
 fn tally_if_loaded(cells: &[Cell], tally: Tally) -> Option<Tally>
-    ensures { result ≡ tally_of_line cells.now tally }
+    ensures { result ≡ spec.tally_of_line cells.now tally }
 {
     if cells.is_empty() { None } else { Some(tally) }
 }
 
-/// Adds a line that loads these tetras.
-fn add_line(
+/// Adds a line that loads these tetras, with their tally.
+fn add_tallied(
     alloc: Global,
     lines: &mut Sequence<CountedLine>,
     number: u32,
@@ -84,7 +55,7 @@ fn add_line(
     tally: Tally,
 ) -> Result<(), NoMemory>
     ensures { OnOk result (
-        lines.new ≡ lines.old ++ line_with number line.now cells.now tally ∷ []) }
+        lines.new ≡ lines.old ++ spec.line_with number line.now cells.now tally ∷ []) }
 {
     let text = Bytes::copy(alloc, line)?;
     lines.push(CountedLine {
@@ -94,60 +65,83 @@ fn add_line(
     })
 }
 
-/// Adds the lines of a source, which load these tetras, with these octas of their tallies.
-#[tactic(auto, using(crate::proofs::ReadSheets::lines))]
+/// Adds a line that loads these tetras.
+fn add_line(
+    alloc: Global,
+    lines: &mut Sequence<CountedLine>,
+    sums: &Sums,
+    number: u32,
+    line: &[u8],
+    cells: &[Cell],
+) -> Result<(), NoMemory>
+    ensures { OnOk result (lines.new ≡ lines.old
+        ++ spec.line_with number line.now cells.now (tally_by (sum_at sums.now) cells.now) ∷ []) }
+{
+    let tally = line_tally(alloc, sums, cells)?;
+    add_tallied(alloc, lines, number, line, cells, tally)
+}
+
+/// The tetras of the first line, and those of the others.
+fn next_load(loads: &[Sequence<Cell>]) -> (&[Cell], &[Sequence<Cell>])
+    ensures first { result.0.now ≡ spec.first_load loads.now }
+    ensures others { result.1.now ≡ drop 1 loads.now }
+{
+    match loads {
+        [cells, others @ ..] => (cells.as_slice(), others),
+        [] => (&[], &[]),
+    }
+}
+
+/// Adds the lines of a source, which load these tetras.
+#[tactic(auto, using(crate::proofs::SheetRows::lines))]
 fn add_lines(
     alloc: Global,
     lines: &mut Sequence<CountedLine>,
+    sums: &Sums,
     source: &[u8],
     loads: &[Sequence<Cell>],
-    octas: &[u64],
 ) -> Result<(), NoMemory>
     ensures { OnOk result (lines.new ≡ lines.old
-        ++ spec.lines_read 1 (lines_of source.now) loads.now octas.now) }
+        ++ spec.counted_lines (tally_by (sum_at sums.now)) 1 (lines_of source.now) loads.now) }
 {
     let mut rest = source;
     let mut left = loads;
-    let mut behind = octas;
     let mut number = 1u32;
     while !rest.is_empty() {
         let (line, others) = cut_line(rest);
         let (cells, later) = next_load(left);
-        let (tally, more) = next_tally(behind);
-        add_line(alloc, lines, number, line, cells, tally)?;
+        add_line(alloc, lines, sums, number, line, cells)?;
         number = match number.checked_add(1) {
             Some(next) => next,
             None => return Err(NoMemory),
         };
         rest = others;
         left = later;
-        behind = more;
     }
     Ok(())
 }
 
-/// The sheet of a source, by the report of a run of it.
-fn sheet_in(alloc: Global, source: &[u8], report: &[u8]) -> Result<LineSheet, NoMemory>
-    ensures { IfOk result (λ sheet. sheet ≡ spec.report_data source.now report.now) }
-{
-    let loads = cells_by_line(alloc, source)?;
-    let octas = to_octas(alloc, report)?;
-    let (total, behind) = next_tally(octas.as_slice());
-    let mut lines = Sequence::new(alloc);
-    add_lines(alloc, &mut lines, source, loads.as_slice(), behind)?;
-    Ok(LineSheet { lines, total })
-}
-
-/// The sheet of a source, if there is a report.
-pub(crate) fn sheet_if(
+/// The sheet of a source, whose lines load these tetras, by what is counted.
+#[tactic(auto, using(crate::proofs::SheetRows::whole))]
+fn sheet_with(
     alloc: Global,
     source: &[u8],
-    report: &Option<Bytes>,
-) -> Result<Option<LineSheet>, NoMemory>
-    ensures { IfOk result (λ sheet. sheet ≡ data_in source.now report.now) }
+    loads: &[Sequence<Cell>],
+    entries: &[Entry],
+) -> Result<LineSheet, NoMemory>
+    ensures { IfOk result (λ sheet. sheet ≡ spec.sheet_data source.now loads.now (counts_in entries.now)) }
 {
-    match report {
-        None => Ok(None),
-        Some(report) => Ok(Some(sheet_in(alloc, source, report.as_slice())?)),
-    }
+    let sums = sums_of(alloc, entries)?;
+    let all = total(entries)?;
+    let mut lines = Sequence::new(alloc);
+    add_lines(alloc, &mut lines, &sums, source, loads)?;
+    Ok(LineSheet { lines, total: all })
+}
+
+/// The sheet of a source, by what is counted of a run of it.
+pub fn make_sheet(alloc: Global, source: &[u8], entries: &[Entry]) -> Result<LineSheet, NoMemory>
+    ensures { IfOk result (λ sheet. sheet ≡ spec.source_sheet source.now (counts_in entries.now)) }
+{
+    let loads = cells_by_line(alloc, source)?;
+    sheet_with(alloc, source, loads.as_slice(), entries)
 }

@@ -7,7 +7,7 @@ ghost use Rattle.mx_count.specs.Counting.{kept_tally};
 ghost use Rattle.mx_count.specs.InTurn as spec;
 ghost use Rattle.mx_count.specs.Tallies as tallies;
 
-use crate::table::Entry;
+use crate::counts::Entry;
 use crate::tally::{Tally, add_tallies, empty_tally};
 use mx_view::Cell;
 use mx_word::NoMemory;
@@ -17,7 +17,7 @@ use std::marker::Model;
 
 /// The tally of each address.
 #[derive(Drop)]
-pub(crate) struct Sums {
+pub struct Sums {
     sums: BTreeMap<u64, Tally>,
 }
 
@@ -63,8 +63,8 @@ impl Sums {
     }
 }
 
-/// The tallies of all addresses.
-pub(crate) fn sums_of(alloc: Global, entries: &[Entry]) -> Result<Sums, NoMemory>
+/// The tallies of all addresses of entries.
+pub fn sums_of(alloc: Global, entries: &[Entry]) -> Result<Sums, NoMemory>
     ensures { IfOk result (λ sums. spec.sum_at sums ≡ spec.with_entries spec.no_sums entries.now) }
 {
     let mut sums = Sums {
@@ -77,7 +77,7 @@ pub(crate) fn sums_of(alloc: Global, entries: &[Entry]) -> Result<Sums, NoMemory
 }
 
 /// The tally of all entries.
-pub(crate) fn total(entries: &[Entry]) -> Result<Tally, NoMemory>
+pub fn total(entries: &[Entry]) -> Result<Tally, NoMemory>
     ensures { IfOk result (λ y. y ≡ kept_tally (λ a. true) entries.now) }
 {
     let mut sum = empty_tally();
@@ -118,7 +118,7 @@ fn add_new(
 }
 
 /// The tally of the addresses of these tetras, each once.
-pub(crate) fn line_tally(alloc: Global, sums: &Sums, cells: &[Cell]) -> Result<Tally, NoMemory>
+pub fn line_tally(alloc: Global, sums: &Sums, cells: &[Cell]) -> Result<Tally, NoMemory>
     ensures { IfOk result (λ y. y ≡ spec.tally_by (spec.sum_at sums.now) cells.now) }
 {
     let mut seen = BTreeSet::new(alloc);

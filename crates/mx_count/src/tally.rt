@@ -62,7 +62,7 @@ fn is_transfer(pc: u64, next: u64) -> bool
     ensures { result ≡ spec.is_away pc next }
 {
     match pc.checked_add(4) {
-        Some(behind) => next != behind,
+        Some(following) => next != following,
         None => true,
     }
 }

@@ -4,7 +4,7 @@ use crate::driving::{add_break, add_watch, drop_stop};
 use crate::loaded::{Loaded, Marked};
 use mx_adapter::{Answer, list_at, text_at, text_in};
 use mx_book::Book;
-use mx_panes::{line_wanted, offset_wanted, parse_reference, watched_place};
+use mx_panes::{find_watched_place, line_wanted, offset_wanted, parse_reference};
 use mx_places::{parse_condition, parse_target};
 use mx_stops::{Condition, Place};
 use mx_wire::{Values, add_array};
@@ -117,7 +117,7 @@ impl Loaded {
         self.scene().watch_row(number)
     }
 
-    /// Watches the place that a name stands for.
+    /// Watches the place that a name means.
     fn set_on_data(&mut self, wanted: &Value) -> Result<Bytes, NoMemory> {
         if !is_for_writes(wanted) {
             return self
@@ -128,7 +128,7 @@ impl Loaded {
             return self.scene().unset_row(0, b"a watch has no condition");
         }
         let name = text_in(wanted, "dataId").unwrap_or(b"");
-        match watched_place(&self.debugged.known.book, name) {
+        match find_watched_place(&self.debugged.known.book, name) {
             Some(place) => {
                 let followed = self.debugged.replay.follow(place);
                 self.set_watch(followed)
@@ -147,7 +147,7 @@ impl Loaded {
         }
     }
 
-    /// Sets all that a request wants, in place of what it has set before.
+    /// Sets all that a request asks for, in place of what it has set before.
     pub(crate) fn set_marks(&mut self, mark: Mark, message: &Value) -> Result<Answer, NoMemory> {
         self.drop_marks(mark)?;
         let mut rows = Values::new(self.alloc);

@@ -2,12 +2,27 @@
 //! watches are set one by one.
 
 ghost use Rattle.std.specs.Prelude.{◌≡◌, min, OnOk};
-ghost use Rattle.mx_debug.specs.Going.{GoesTo, GoesToLast, GoesToNext};
+ghost use Rattle.mx_debug.specs.Going.{GoesTo, GoesToLast, GoesToNext, depth_at};
 ghost use Rattle.mx_debug.specs.Sessions.{KeepsProgram, KeepsStops};
 
 use mx_debug::Session;
 use mx_stops::{Break, Condition, Place, Seen, Watch, see};
 use mx_word::{NoMemory, Sequence};
+
+/// The step that is shown.
+pub(crate) fn step_at(session: &Session) -> u64
+    ensures { result ≡ session.now.at }
+{
+    session.replay.step_number()
+}
+
+/// How many registers are hidden at the step that is shown.
+#[tactic(auto, using(mx_debug::proofs::Reaching::depths))]
+pub(crate) fn hidden_at(session: &Session) -> u64
+    ensures { result ≡ depth_at session.now }
+{
+    session.replay.depth()
+}
 
 /// Goes to step k, but not past the last one that can be reached nor past the end.
 pub(crate) fn seek(session: &mut Session, k: u64) -> Result<(), NoMemory>
@@ -144,7 +159,7 @@ pub(crate) fn drop_stop(session: &mut Session, number: u32) -> Result<(), NoMemo
 }
 
 /// What is seen of the places that are watched.
-fn watched_values(session: &Session) -> Result<Sequence<Seen>, NoMemory> {
+fn see_watched_values(session: &Session) -> Result<Sequence<Seen>, NoMemory> {
     let mut values = Sequence::new(session.known.alloc);
     for watch in session.known.stops.watches.as_slice() {
         values.push(see(session.replay.machine(), watch.place))?;
@@ -153,13 +168,15 @@ fn watched_values(session: &Session) -> Result<Sequence<Seen>, NoMemory> {
 }
 
 /// What is seen of the places that are watched one step before.
+#[tactic(auto, using(crate::proofs::Told::returning))]
 fn values_before(session: &mut Session) -> Result<Sequence<Seen>, NoMemory>
     ensures program { KeepsProgram session.old session.new }
     ensures stops { KeepsStops session.old session.new }
+    ensures place { OnOk result (session.new.at ≡ session.old.at) }
 {
     let here = session.replay.step_number();
     session.replay.go_to(here.saturating_sub(1))?;
-    let values = watched_values(session)?;
+    let values = see_watched_values(session)?;
     session.replay.go_to(here)?;
     Ok(values)
 }
@@ -193,6 +210,7 @@ fn add_watches_met(
 pub(crate) fn find_met(session: &mut Session) -> Result<Sequence<u32>, NoMemory>
     ensures program { KeepsProgram session.old session.new }
     ensures stops { KeepsStops session.old session.new }
+    ensures place { OnOk result (session.new.at ≡ session.old.at) }
 {
     let mut numbers = Sequence::new(session.known.alloc);
     add_breaks_met(session, &mut numbers)?;

@@ -1,6 +1,9 @@
 //! A program that is launched.
 
+ghost use Rattle.std.specs.Prelude.{◌≡◌};
+
 use crate::breaks::Mark;
+use crate::driving::step_at;
 use crate::outputs::Told;
 use mx_adapter::Wishes;
 use mx_debug::Session as Debugged;
@@ -67,8 +70,10 @@ impl Loaded {
     }
 
     /// The step that is shown.
-    pub(crate) fn step_number(&self) -> u64 {
-        self.debugged.replay.step_number()
+    pub(crate) fn step_number(&self) -> u64
+        ensures { result ≡ self.now.debugged.at }
+    {
+        step_at(&self.debugged)
     }
 
     /// How the run has ended at the step that is shown, or that it goes on.

@@ -1,5 +1,7 @@
 //! What a program writes: it is told as it is made, and where one goes back over it, that it is taken back.
 
+ghost use Rattle.std.specs.Prelude.{◌≡◌};
+
 use crate::loaded::Loaded;
 use mx_adapter::Outbox;
 use mx_json::{add_quoted, add_string};
@@ -73,7 +75,9 @@ fn tell_stream(
 
 impl Loaded {
     /// Counts all that was written up to the step that is shown as told.
-    pub(crate) fn note_told(&mut self) {
+    pub(crate) fn note_told(&mut self)
+        ensures { self.new.debugged ≡ self.old.debugged }
+    {
         let host = self.debugged.replay.host();
         self.told = Told {
             output: host.output().len(),
@@ -82,7 +86,9 @@ impl Loaded {
     }
 
     /// Tells what was written up to the step that is shown, or how much is taken back.
-    pub(crate) fn tell_output(&mut self, out: &mut Outbox) -> Result<(), NoMemory> {
+    pub(crate) fn tell_output(&mut self, out: &mut Outbox) -> Result<(), NoMemory>
+        ensures { self.new.debugged ≡ self.old.debugged }
+    {
         let step = self.step_number();
         let host = self.debugged.replay.host();
         let output = Stream {

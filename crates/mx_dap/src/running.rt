@@ -1,6 +1,9 @@
 //! How a run goes on and back.
 
-use crate::driving::{find_met, seek, seek_last_stop, seek_stop};
+ghost use Rattle.std.specs.Prelude.{◌≡◌, None};
+ghost use Rattle.mx_dap.specs.Leads.{LeadsAndTells, StepsBack};
+
+use crate::driving::{find_met, hidden_at, seek, seek_last_stop, seek_stop};
 use crate::loaded::Loaded;
 use crate::stops::Reason;
 use mx_adapter::{Command, Outbox, text_at};
@@ -42,32 +45,37 @@ impl Loaded {
     }
 
     /// What is to be done where the run goes on to a stop.
-    fn going_on(&self, depth: Option<u64>) -> Work {
+    fn keep_going(&self, depth: Option<u64>) -> Work {
         Work::GoOn(depth, self.pause_step())
     }
 
     /// What a request that goes forward asks for.
     fn forward(&self, command: Command) -> Work {
-        let depth = self.debugged.replay.depth();
+        let depth = hidden_at(&self.debugged);
         match command {
             _ if self.has_ended() => Work::Finish,
-            Command::Next => self.going_on(Some(depth)),
-            Command::StepOut if depth != 0 => self.going_on(Some(depth.saturating_sub(1))),
+            Command::Next => self.keep_going(Some(depth)),
+            Command::StepOut if depth != 0 => self.keep_going(Some(depth.saturating_sub(1))),
             Command::StepIn => Work::GoTo(self.step_number().saturating_add(1)),
-            _ => self.going_on(None),
+            _ => self.keep_going(None),
         }
     }
 
     /// What `stepBack` asks for: a step in the same call, or a single one.
-    fn step_back(&self, message: &Value) -> Work {
+    fn step_back(&self, message: &Value) -> Work
+        ensures { StepsBack self.now.debugged result }
+    {
         if text_at(message, "/arguments/granularity") == Some(b"instruction".as_slice()) {
             return Work::GoTo(self.step_number().saturating_sub(1));
         }
-        Work::GoBack(Some(self.debugged.replay.depth()))
+        Work::GoBack(Some(hidden_at(&self.debugged)))
     }
 
     /// What a request asks for that goes to another step.
-    pub(crate) fn work_for(&self, command: Command, message: &Value) -> Work {
+    pub(crate) fn work_for(&self, command: Command, message: &Value) -> Work
+        ensures back { command ≡ Command.StepBack → StepsBack self.now.debugged result }
+        ensures reverse { command ≡ Command.ReverseContinue → result ≡ Work.GoBack None }
+    {
         match command {
             Command::StepBack => self.step_back(message),
             Command::ReverseContinue => Work::GoBack(None),
@@ -75,28 +83,51 @@ impl Loaded {
         }
     }
 
-    /// Begins the run: it stays at the start where that is wished or a break is met, and goes on otherwise.
-    fn begin(&mut self, out: &mut Outbox) -> Result<Option<Work>, NoMemory> {
-        if self.wishes.on_entry && !self.wishes.no_debug {
-            self.tell_stop(out, Reason::Entry)?;
-            return Ok(None);
-        }
-        let met = find_met(&mut self.debugged)?;
-        if met.as_slice().is_empty() {
-            return Ok(Some(self.going_on(None)));
-        }
-        self.tell_stop(out, Reason::Entry)?;
+    /// Tells of the step that is shown.
+    #[tactic(auto, using(crate::proofs::Told::beginning))]
+    fn tell_here(&mut self, out: &mut Outbox, reason: Reason) -> Result<Option<Work>, NoMemory>
+        ensures { LeadsAndTells self.old.debugged self.new.debugged (Work.Tell reason) out.new result }
+    {
+        self.tell_stop(out, reason)?;
         Ok(None)
     }
 
+    /// Tells that the run is done.
+    #[tactic(auto, using(crate::proofs::Told::beginning))]
+    fn finish(&mut self, out: &mut Outbox) -> Result<Option<Work>, NoMemory>
+        ensures { LeadsAndTells self.old.debugged self.new.debugged Work.Finish out.new result }
+    {
+        self.tell_done(out)?;
+        Ok(None)
+    }
+
+    /// Begins the run: it stays at the start where that is wished or a break is met, and goes on otherwise.
+    #[tactic(auto, using(crate::proofs::Told::beginning))]
+    fn begin(&mut self, out: &mut Outbox) -> Result<Option<Work>, NoMemory>
+        ensures { LeadsAndTells self.old.debugged self.new.debugged Work.Begin out.new result }
+    {
+        if self.wishes.on_entry && !self.wishes.no_debug {
+            return self.tell_here(out, Reason::Entry);
+        }
+        let met = find_met(&mut self.debugged)?;
+        if met.as_slice().is_empty() {
+            return Ok(Some(self.keep_going(None)));
+        }
+        self.tell_here(out, Reason::Entry)
+    }
+
     /// Goes on by a piece, and tells of a stop.
+    #[tactic(auto, using(crate::proofs::Told::leading))]
     fn go_on(
         &mut self,
         out: &mut Outbox,
         depth: Option<u64>,
         until: u64,
-    ) -> Result<Option<Work>, NoMemory> {
-        let next = self.step_number().saturating_add(PIECE).min(until);
+    ) -> Result<Option<Work>, NoMemory>
+        ensures { LeadsAndTells self.old.debugged self.new.debugged (Work.GoOn depth until) out.new result }
+    {
+        let here = self.step_number();
+        let next = here.saturating_add(PIECE).min(until);
         let is_found = seek_stop(&mut self.debugged, depth, next)?;
         if is_found {
             self.tell_stop(out, Reason::Step)?;
@@ -110,22 +141,37 @@ impl Loaded {
         Ok(Some(Work::GoOn(depth, until)))
     }
 
-    /// Does a part of what is to be done, and gives what is left of it.
-    pub(crate) fn work(&mut self, out: &mut Outbox, work: Work) -> Result<Option<Work>, NoMemory> {
-        match work {
-            Work::Begin => return self.begin(out),
-            Work::GoOn(depth, until) => return self.go_on(out, depth, until),
-            Work::Tell(reason) => self.tell_stop(out, reason)?,
-            Work::Finish => self.tell_done(out)?,
-            Work::GoBack(depth) => {
-                seek_last_stop(&mut self.debugged, depth)?;
-                self.tell_stop(out, Reason::Step)?;
-            }
-            Work::GoTo(k) => {
-                seek(&mut self.debugged, k)?;
-                self.tell_stop(out, Reason::Step)?;
-            }
-        }
+    /// Goes back to the last stop, and tells of it.
+    #[tactic(auto, using(crate::proofs::Told::leading))]
+    fn go_back(&mut self, out: &mut Outbox, depth: Option<u64>) -> Result<Option<Work>, NoMemory>
+        ensures { LeadsAndTells self.old.debugged self.new.debugged (Work.GoBack depth) out.new result }
+    {
+        seek_last_stop(&mut self.debugged, depth)?;
+        self.tell_stop(out, Reason::Step)?;
         Ok(None)
+    }
+
+    /// Goes to a step, and tells of it.
+    #[tactic(auto, using(crate::proofs::Told::leading))]
+    fn go_to(&mut self, out: &mut Outbox, k: u64) -> Result<Option<Work>, NoMemory>
+        ensures { LeadsAndTells self.old.debugged self.new.debugged (Work.GoTo k) out.new result }
+    {
+        seek(&mut self.debugged, k)?;
+        self.tell_stop(out, Reason::Step)?;
+        Ok(None)
+    }
+
+    /// Does a part of what is to be done, and gives what is left of it.
+    pub(crate) fn work(&mut self, out: &mut Outbox, work: Work) -> Result<Option<Work>, NoMemory>
+        ensures { LeadsAndTells self.old.debugged self.new.debugged work out.new result }
+    {
+        match work {
+            Work::Begin => self.begin(out),
+            Work::Tell(reason) => self.tell_here(out, reason),
+            Work::GoOn(depth, until) => self.go_on(out, depth, until),
+            Work::GoBack(depth) => self.go_back(out, depth),
+            Work::GoTo(k) => self.go_to(out, k),
+            Work::Finish => self.finish(out),
+        }
     }
 }

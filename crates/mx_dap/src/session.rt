@@ -1,12 +1,18 @@
 //! A session: the messages that come, and the answers to them.
 
+ghost use Rattle.std.specs.Prelude.{◌≡◌, ◌≢◌, OnOk, is_some};
+ghost use Rattle.serde_json.specs.View.{view};
+ghost use Rattle.mx_adapter.specs.Early.{early};
+ghost use Rattle.mx_dap.specs.Answered.{AnswersEarly, GivesEarly, after_answer};
+
 use crate::breaks::Mark;
 use crate::loaded::Loaded;
 use crate::outputs::tell_text;
 use crate::running::Work;
 use crate::stops::Reason;
 use mx_adapter::{
-    Answer, Bodies, Command, Launch, Outbox, Request, Unread, find_lack, read_launch, read_request,
+    Answer, Bodies, Command, Launch, Outbox, Request, answer_early, make_done, make_refusal,
+    read_launch, read_message, read_request, refuse_unknown, refuse_unlaunched, say_unread,
 };
 use mx_debug::Session as Debugged;
 use mx_word::{Bytes, NoMemory};
@@ -19,11 +25,6 @@ pub enum Flow {
     Going,
     Busy,
     Ended(u8),
-}
-
-/// What the adapter offers.
-fn offers() -> &'static [u8] {
-    b"{\"supportsConfigurationDoneRequest\":true,\"supportsFunctionBreakpoints\":true,\"supportsConditionalBreakpoints\":true,\"supportsEvaluateForHovers\":true,\"supportsStepBack\":true,\"supportsExceptionInfoRequest\":true,\"supportsDataBreakpoints\":true,\"supportsReadMemoryRequest\":true,\"supportsDisassembleRequest\":true,\"supportsInstructionBreakpoints\":true,\"supportsSteppingGranularity\":true,\"supportsTerminateRequest\":true,\"supportsCancelRequest\":true,\"supportsLoadedSourcesRequest\":true,\"supportsDelayedStackTraceLoading\":true}"
 }
 
 /// A program that is to be launched or is launched, what is to be done before the next message is read, and what is to be sent.
@@ -49,24 +50,6 @@ fn is_move(command: Command) -> bool {
     )
 }
 
-/// A body, or none, where a request has nothing more to say.
-fn done(alloc: Global, body: &[u8]) -> Result<Answer, NoMemory> {
-    Ok(Answer::Done(Bytes::copy(alloc, body)?))
-}
-
-/// A refusal.
-fn refused(alloc: Global, why: &[u8]) -> Result<Answer, NoMemory> {
-    Ok(Answer::Refused(Bytes::copy(alloc, why)?))
-}
-
-/// What is said where there is no launch.
-fn reason_of(unread: Unread) -> &'static [u8] {
-    match unread {
-        Unread::Refused(why) => why.as_bytes(),
-        Unread::NoMemory => b"out of memory",
-    }
-}
-
 /// The answer to a request about a program, which may leave work to do.
 fn answer_about(
     loaded: &mut Loaded,
@@ -87,7 +70,7 @@ fn answer_about(
         Command::ReadMemory => loaded.scene().read_memory(message),
         Command::Disassemble => loaded.scene().disassemble(message),
         Command::Source => loaded.scene().source(),
-        Command::LoadedSources => loaded.scene().loaded_sources(),
+        Command::LoadedSources => loaded.scene().list_loaded_sources(),
         Command::Evaluate => {
             let evaluated = loaded.evaluate(message)?;
             if evaluated.has_moved {
@@ -95,7 +78,7 @@ fn answer_about(
             }
             Ok(evaluated.answer)
         }
-        _ => refused(loaded.alloc, b"there is no such request"),
+        _ => refuse_unknown(loaded.alloc),
     }
 }
 
@@ -109,27 +92,15 @@ fn answer_launched(
     match command {
         Command::ConfigurationDone => {
             *work = Some(Work::Begin);
-            done(loaded.alloc, b"")
+            make_done(loaded.alloc, b"")
         }
-        Command::Pause => done(loaded.alloc, b""),
+        Command::Pause => make_done(loaded.alloc, b""),
         _ if !is_move(command) => answer_about(loaded, work, command, message),
-        _ if loaded.is_done => refused(loaded.alloc, b"the run is done"),
+        _ if loaded.is_done => make_refusal(loaded.alloc, b"the run is done"),
         _ => {
             *work = Some(loaded.work_for(command, message));
-            done(loaded.alloc, b"{\"allThreadsContinued\":true}")
+            make_done(loaded.alloc, b"{\"allThreadsContinued\":true}")
         }
-    }
-}
-
-/// The answer to a request that needs no program.
-fn answer_always(alloc: Global, command: Command, message: &Value) -> Result<Answer, NoMemory> {
-    if let Some(why) = find_lack(alloc, command, message)? {
-        return Ok(Answer::Refused(why));
-    }
-    match command {
-        Command::Initialize => done(alloc, offers()),
-        Command::Threads => done(alloc, b"{\"threads\":[{\"id\":1,\"name\":\"mmix\"}]}"),
-        _ => done(alloc, b""),
     }
 }
 
@@ -155,41 +126,47 @@ impl Session {
         self.launch.take()
     }
 
-    /// The answer to a request that needs a program.
-    fn answer_loaded(&mut self, command: Command, message: &Value) -> Result<Answer, NoMemory> {
+    /// The answer to a request about the program that is launched.
+    fn answer_loaded(&mut self, command: Command, message: &Value) -> Result<Answer, NoMemory>
+        ensures { self.new.out ≡ self.old.out }
+    {
         match &mut self.loaded {
-            None => refused(self.alloc, b"no program is launched"),
-            Some(loaded) => match find_lack(self.alloc, command, message)? {
-                Some(why) => Ok(Answer::Refused(why)),
-                None => answer_launched(loaded, &mut self.work, command, message),
-            },
+            None => refuse_unlaunched(self.alloc),
+            Some(loaded) => answer_launched(loaded, &mut self.work, command, message),
         }
     }
 
     /// The answer to a request.
-    fn answer_to(&mut self, command: Command, message: &Value) -> Result<Answer, NoMemory> {
-        match command {
-            Command::Other | Command::Launch => refused(self.alloc, b"there is no such request"),
-            Command::Initialize
-            | Command::Threads
-            | Command::SetExceptionBreakpoints
-            | Command::Cancel
-            | Command::Terminate
-            | Command::Disconnect => answer_always(self.alloc, command, message),
-            _ => self.answer_loaded(command, message),
+    fn answer_to(&mut self, command: Command, message: &Value) -> Result<Answer, NoMemory>
+        ensures given { GivesEarly (early (is_some self.old.loaded) command (view message.now)) result }
+        ensures sent { self.new.out ≡ self.old.out }
+    {
+        match answer_early(self.alloc, self.loaded.is_some(), command, message)? {
+            Some(answer) => Ok(answer),
+            None => self.answer_loaded(command, message),
+        }
+    }
+
+    /// What the session does next.
+    fn next_flow(&self) -> Flow {
+        if self.work.is_some() {
+            Flow::Busy
+        } else {
+            Flow::Going
         }
     }
 
     /// What is done after the answer to a request.
-    fn after(&mut self, command: Command) -> Result<Flow, NoMemory> {
+    fn after(&mut self, command: Command) -> Result<Flow, NoMemory>
+        ensures { OnOk result (self.new.out ≡ after_answer command self.old.out) }
+    {
         match command {
             Command::Disconnect => Ok(Flow::Ended(0)),
             Command::Terminate => {
                 self.out.tell(b"terminated", b"")?;
                 Ok(Flow::Going)
             }
-            _ if self.work.is_some() => Ok(Flow::Busy),
-            _ => Ok(Flow::Going),
+            _ => Ok(self.next_flow()),
         }
     }
 
@@ -201,26 +178,41 @@ impl Session {
                 Ok(Flow::Busy)
             }
             Err((request, unread)) => {
-                self.out.refuse(&request, reason_of(unread))?;
+                self.out.refuse(&request, say_unread(unread))?;
+                Ok(Flow::Going)
+            }
+        }
+    }
+
+    /// Takes a request that is not `launch`.
+    #[tactic(auto, using(crate::proofs::Answering::answering))]
+    fn take_usual(&mut self, request: &Request, message: &Value) -> Result<Flow, NoMemory>
+        ensures { OnOk result (AnswersEarly request.now
+            (early (is_some self.old.loaded) request.now.command (view message.now))
+            self.old.out self.new.out) }
+    {
+        match self.answer_to(request.command, message) {
+            Ok(answer) => {
+                self.out.answer(request, &answer)?;
+                let flow = self.after(request.command)?;
+                Ok(flow)
+            }
+            Err(NoMemory) => {
+                self.out.refuse(request, b"out of memory")?;
                 Ok(Flow::Going)
             }
         }
     }
 
     /// Takes a request.
-    fn take_request(&mut self, request: Request, message: &Value) -> Result<Flow, NoMemory> {
-        if request.command == Command::Launch {
-            return self.take_launch_request(request, message);
-        }
-        match self.answer_to(request.command, message) {
-            Ok(answer) => {
-                self.out.answer(&request, &answer)?;
-                self.after(request.command)
-            }
-            Err(NoMemory) => {
-                self.out.refuse(&request, b"out of memory")?;
-                Ok(Flow::Going)
-            }
+    fn take_request(&mut self, request: Request, message: &Value) -> Result<Flow, NoMemory>
+        ensures { request.command ≢ Command.Launch → OnOk result (AnswersEarly request
+            (early (is_some self.old.loaded) request.command (view message.now))
+            self.old.out self.new.out) }
+    {
+        match request.command {
+            Command::Launch => self.take_launch_request(request, message),
+            _ => self.take_usual(&request, message),
         }
     }
 
@@ -244,21 +236,12 @@ impl Session {
 
     /// Takes a message, and says what the session does next.
     pub fn take(&mut self, body: &[u8]) -> Result<Flow, NoMemory> {
-        let Ok(text) = str::from_utf8(body) else {
+        let Some(message) = read_message(self.alloc, body)? else {
             return self.refuse(b"this is no JSON\n");
         };
-        match Value::from_str(self.alloc, text) {
-            Ok(message) => match read_request(self.alloc, &message)? {
-                Some(request) => self.take_request(request, &message),
-                None => self.tell_no_request(),
-            },
-            Err(e) => {
-                if e.is_memory() {
-                    Err(NoMemory)
-                } else {
-                    self.refuse(b"this is no JSON\n")
-                }
-            }
+        match read_request(self.alloc, &message)? {
+            Some(request) => self.take_request(request, &message),
+            None => self.tell_no_request(),
         }
     }
 

@@ -1,12 +1,16 @@
 //! What is told of a stop.
 
+ghost use Rattle.std.specs.Prelude.{◌≡◌, OnOk};
+ghost use Rattle.mx_debug.specs.Sessions.{KeepsProgram, KeepsStops};
+ghost use Rattle.mx_dap.specs.Stops.{TellsEnd, TellsWhere};
+
 use crate::breaks::Mark;
 use crate::driving::find_met;
 use crate::loaded::Loaded;
 use mx_adapter::{Answer, Outbox};
-use mx_json::{add_number, add_quoted, add_string};
+use mx_json::{add_number, add_string};
+use mx_panes::stop_body;
 use mx_run::End;
-use mx_text::add_decimal;
 use mx_word::{Bytes, NoMemory};
 
 /// The status of a machine that stops, and of a run whose steps are spent.
@@ -55,17 +59,6 @@ fn reason_of(mark: Option<Mark>) -> Reason {
     }
 }
 
-/// Adds numbers as a list.
-fn add_numbers(text: &mut Bytes, numbers: &[u32]) -> Result<(), NoMemory> {
-    text.extend(b"[")?;
-    let mut front = b"".as_slice();
-    for number in numbers {
-        add_number(text, front, u64::from(*number))?;
-        front = b",";
-    }
-    text.extend(b"]")
-}
-
 impl Loaded {
     /// Why the run is at a stop, where these breaks and watches are met.
     fn reason_here(&self, otherwise: Reason, met: &[u32]) -> Reason {
@@ -87,29 +80,22 @@ impl Loaded {
     }
 
     /// The text of the step that is shown: its line, what its turn changed, and why it is a stop.
-    pub(crate) fn step_text(&mut self) -> Result<Bytes, NoMemory> {
+    pub(crate) fn step_text(&mut self) -> Result<Bytes, NoMemory>
+        ensures program { KeepsProgram self.old.debugged self.new.debugged }
+        ensures stops { KeepsStops self.old.debugged self.new.debugged }
+        ensures same { OnOk result (self.new.debugged.at ≡ self.old.debugged.at) }
+    {
         let mut text = Bytes::new(self.alloc);
         self.debugged.tell(&mut text)?;
         Ok(text)
     }
 
-    /// The body of what is told of a stop.
-    fn stop_body(&mut self, reason: Reason, met: &[u32]) -> Result<Bytes, NoMemory> {
-        let said = self.step_text()?;
-        let mut body = Bytes::new(self.alloc);
-        add_quoted(&mut body, b"{\"reason\":", name_of(reason).as_bytes())?;
-        body.extend(b",\"description\":\"step ")?;
-        add_decimal(&mut body, self.step_number())?;
-        body.extend(b"\",\"threadId\":1,\"allThreadsStopped\":true")?;
-        add_string(self.alloc, &mut body, b",\"text\":", said.as_slice())?;
-        body.extend(b",\"hitBreakpointIds\":")?;
-        add_numbers(&mut body, met)?;
-        body.extend(b"}")?;
-        Ok(body)
-    }
-
     /// Tells that the run is done, with its status.
-    pub(crate) fn tell_done(&mut self, out: &mut Outbox) -> Result<(), NoMemory> {
+    #[tactic(auto, using(crate::proofs::Told::telling))]
+    pub(crate) fn tell_done(&mut self, out: &mut Outbox) -> Result<(), NoMemory>
+        ensures same { self.new.debugged ≡ self.old.debugged }
+        ensures told { OnOk result (TellsEnd out.new) }
+    {
         let status = match self.end() {
             End::Halted(status) => u64::from(status),
             End::Stopped { .. } => STOPPED,
@@ -131,19 +117,25 @@ impl Loaded {
     }
 
     /// Tells of the stop where the run is, after what it wrote on the way.
-    pub(crate) fn tell_stop(
-        &mut self,
-        out: &mut Outbox,
-        otherwise: Reason,
-    ) -> Result<(), NoMemory> {
+    #[tactic(auto, using(crate::proofs::Told::telling))]
+    pub(crate) fn tell_stop(&mut self, out: &mut Outbox, otherwise: Reason) -> Result<(), NoMemory>
+        ensures program { KeepsProgram self.old.debugged self.new.debugged }
+        ensures stops { KeepsStops self.old.debugged self.new.debugged }
+        ensures same { OnOk result (self.new.debugged.at ≡ self.old.debugged.at) }
+        ensures told { OnOk result (TellsWhere self.new.debugged.at out.new) }
+    {
         self.tell_output(out)?;
         if self.is_to_end() {
-            return self.tell_done(out);
+            self.tell_done(out)?;
+            return Ok(());
         }
         let met = find_met(&mut self.debugged)?;
-        let reason = self.reason_here(otherwise, met.as_slice());
-        let body = self.stop_body(reason, met.as_slice())?;
-        out.tell(b"stopped", body.as_slice())
+        let reason = name_of(self.reason_here(otherwise, met.as_slice())).as_bytes();
+        let said = self.step_text()?;
+        let at = self.step_number();
+        let body = stop_body(self.alloc, at, reason, said.as_slice(), met.as_slice())?;
+        out.tell(b"stopped", body.as_slice())?;
+        Ok(())
     }
 
     /// Answers `exceptionInfo`.

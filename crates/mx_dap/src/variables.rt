@@ -30,7 +30,7 @@ impl Loaded {
             3 => Ok(Some(self.scene().special_rows()?)),
             4 => {
                 self.note_calls()?;
-                Ok(Some(self.scene().hidden_rows(self.frames())?))
+                Ok(Some(self.scene().make_hidden_rows(self.frames())?))
             }
             5 => Ok(Some(self.scene().symbol_rows()?)),
             _ if reference % 8 == 1 && 9 <= reference => {

@@ -13,7 +13,7 @@ use Rattle.mx_replay.specs.Searches.{FoundAt, IsLast, IsNext}
 use Rattle.mx_stops.specs.declared.places.Place.{Place}
 use Rattle.mx_ask.specs.declared.words.Word.{Word}
 use Rattle.mx_ask.specs.declared.words.Word.TheVariants as word
-use Rattle.mx_debug.specs.Going.{GoesToLast, GoesToMaker, GoesToNext, StandsBack, StandsBefore, depth_after, depth_at, followed_after, followed_at}
+use Rattle.mx_debug.specs.Going.{ArrivesBack, ArrivesBefore, GoesToLast, GoesToMaker, GoesToNext, depth_after, depth_at, followed_after, followed_at}
 use Rattle.mx_debug.specs.Sessions.{Debugged}
 use Rattle.mx_debug.specs.Words.{Leads, LeavesCall, goes}
 use Rattle.mx_replay.specs.declared.program.Program.{Program}
@@ -94,17 +94,17 @@ pub next-led : (d : Debugged) (shallow : Option ℕ) (at there : ℕ) (found : O
     FoundAt d.program d.most d.at at found → there ≡ at → GoesToNext d shallow there
 next-led d shallow at there found n f e = record { found = found; next = n; place = subst (λ x. FoundAt d.program d.most d.at x found) (sym e) f }
 
-stands-by : (d : Debugged) (shallow : Option ℕ) (there : ℕ) (found : Option ℕ) → IsLast d.program (stops_at d.breaks d.watches shallow) (d.at - 1) found →
-    there ≡ min (unwrap_or found 0) d.at → StandsBack there found
-stands-by d shallow there None l e = omega (arith, e)
-stands-by d shallow there (Some k) l e = omega (arith, e, l.0)
+arrives-by : (d : Debugged) (shallow : Option ℕ) (there : ℕ) (found : Option ℕ) → IsLast d.program (stops_at d.breaks d.watches shallow) (d.at - 1) found →
+    there ≡ min (unwrap_or found 0) d.at → ArrivesBack there found
+arrives-by d shallow there None l e = omega (arith, e)
+arrives-by d shallow there (Some k) l e = omega (arith, e, l.0)
 
 pub last-led : (d : Debugged) (shallow : Option ℕ) (there : ℕ) (found : Option ℕ) → IsLast d.program (stops_at d.breaks d.watches shallow) (d.at - 1) found →
     there ≡ min (unwrap_or found 0) d.at → GoesToLast d shallow there
-last-led d shallow there found l e = record { found = found; last = l; place = stands-by d shallow there found l e }
+last-led d shallow there found l e = record { found = found; last = l; place = arrives-by d shallow there found l e }
 
-pub maker-led : (d : Debugged) (place : Place) (there : ℕ) (found : Option ℕ) → IsLast d.program (changes place) d.at found → StandsBefore d.at there found → GoesToMaker d place there
-maker-led d place there found l s = record { found = found; last = l; stands = s }
+pub maker-led : (d : Debugged) (place : Place) (there : ℕ) (found : Option ℕ) → IsLast d.program (changes place) d.at found → ArrivesBefore d.at there found → GoesToMaker d place there
+maker-led d place there found l s = record { found = found; last = l; arrives = s }
 
 -- on from the start
 pub run-led : (d : Debugged) (p : Program) (here at : ℕ) → p ≡ d.program → here ≤ 0 → GoesToNext (record d { program = p; at = here }) None at → GoesToNext (record d { at = 0 }) None at

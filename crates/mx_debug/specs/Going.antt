@@ -39,23 +39,23 @@ pub record GoesToNext (d : Debugged) (shallow : Option ℕ) (at : ℕ) : Type 0 
   pub place : FoundAt d.program d.most d.at at found
 
 -- to the last stop: the greatest such step before this one; where there is none, to the start
-abbrev pub StandsBack : ℕ → Option ℕ → Type 0
-StandsBack at None = at ≡ 0
-StandsBack at (Some k) = at ≡ k
+abbrev pub ArrivesBack : ℕ → Option ℕ → Type 0
+ArrivesBack at None = at ≡ 0
+ArrivesBack at (Some k) = at ≡ k
 
 pub record GoesToLast (d : Debugged) (shallow : Option ℕ) (at : ℕ) : Type 0 where
   pub found : Option ℕ
   pub last : IsLast d.program (stops_at d.breaks d.watches shallow) (d.at - 1) found
-  pub place : StandsBack at found
+  pub place : ArrivesBack at found
 
 -- To the step before the turn that made the value at a place. It is the last turn up to this step that changed what is there: a register
 -- that is followed in the register stack keeps its value while calls hide it, and a return makes that of its result. Where no turn
 -- did, the session stays.
-abbrev pub StandsBefore : ℕ → ℕ → Option ℕ → Type 0
-StandsBefore old new None = new ≡ old
-StandsBefore old new (Some k) = new ≡ k - 1
+abbrev pub ArrivesBefore : ℕ → ℕ → Option ℕ → Type 0
+ArrivesBefore old new None = new ≡ old
+ArrivesBefore old new (Some k) = new ≡ k - 1
 
 pub record GoesToMaker (d : Debugged) (place : Place) (at : ℕ) : Type 0 where
   pub found : Option ℕ
   pub last : IsLast d.program (changes place) d.at found
-  pub stands : StandsBefore d.at at found
+  pub arrives : ArrivesBefore d.at at found

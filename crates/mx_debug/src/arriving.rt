@@ -4,7 +4,7 @@ ghost use Rattle.std.specs.Prelude.{◌≡◌, ◌+◌, min, OnOk};
 ghost use Rattle.mx_replay.specs.Programs.{IsReached};
 
 use crate::known::Known;
-use crate::telling::{add_all_watched, add_reasons, add_step, watched_values};
+use crate::telling::{add_all_watched, add_reasons, add_step, see_watched_values};
 use mx_core::Trace;
 use mx_pieces::Written;
 use mx_places::add_overwritten;
@@ -38,7 +38,7 @@ fn make_last_turn(
 {
     let before = Before::of(replay.machine());
     let watches = known.stops.watches.as_slice();
-    let values = watched_values(known.alloc, replay.machine(), watches)?;
+    let values = see_watched_values(known.alloc, replay.machine(), watches)?;
     let trace = replay.step()?;
     add_step(out, replay, known, since)?;
     add_overwritten(out, replay)?;

@@ -8,7 +8,7 @@ ghost use Rattle.mx_debug.specs.Words.{Leads, LeavesCall};
 use crate::session::{Again, Session};
 use crate::telling::add_said;
 use mx_ask::{Word, add_unnamed, parse_count, parse_number};
-use mx_places::{PLACE_WANTED, known_value, note_of, parse_place, thing_of_place};
+use mx_places::{PLACE_WANTED, find_known_value, note_of, parse_place, thing_of_place};
 use mx_stops::{Place, see, value_at};
 use mx_tell::{add_thing, add_value, add_was};
 use mx_word::{Bytes, NoMemory};
@@ -149,7 +149,7 @@ impl Session {
         out.extend(b" = ")?;
         add_value(out, book, value, None)?;
         let before = see(self.replay.machine(), place);
-        add_was(out, book, thing, known_value(place, &before))?;
+        add_was(out, book, thing, find_known_value(place, &before))?;
         let note = note_of(self.known.alloc, place, &before)?;
         out.extend(note.as_slice())?;
         out.push(b'\n')

@@ -4,7 +4,7 @@ ghost use Rattle.std.specs.Prelude.{◌≡◌, ◌≢◌, ◌+◌, ◌-◌, [], 
 ghost use Rattle.mx_replay.specs.Marks.{changes};
 ghost use Rattle.mx_replay.specs.Programs.{NamesFile, step_of};
 ghost use Rattle.mx_replay.specs.Searches.{IsLast};
-ghost use Rattle.mx_debug.specs.Going.{GoesTo, GoesToLast, GoesToNext, StandsBefore};
+ghost use Rattle.mx_debug.specs.Going.{ArrivesBefore, GoesTo, GoesToLast, GoesToNext};
 ghost use Rattle.mx_debug.specs.Sessions.{KeepsProgram, KeepsStops};
 
 use crate::arriving::{arrive, arrive_back, arrive_here};
@@ -192,7 +192,7 @@ impl Session {
         ensures program { KeepsProgram self.old self.new }
         ensures stops { KeepsStops self.old self.new }
         ensures last { IfOk result (IsLast self.old.program (changes place) self.old.at) }
-        ensures place { IfOk result (StandsBefore self.old.at self.new.at) }
+        ensures place { IfOk result (ArrivesBefore self.old.at self.new.at) }
     {
         let since = Written::of(self.replay.host());
         let found = self.replay.find_maker(place)?;

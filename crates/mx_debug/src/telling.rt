@@ -3,7 +3,7 @@
 use crate::known::Known;
 use mx_core::Machine;
 use mx_pieces::{Written, add_meanwhile};
-use mx_places::{known_value, note_of, thing_of_place};
+use mx_places::{find_known_value, note_of, thing_of_place};
 use mx_replay::Replay;
 use mx_run::End;
 use mx_stops::{Seen, Watch, see};
@@ -68,7 +68,7 @@ pub(crate) fn add_reasons(out: &mut Bytes, replay: &Replay, known: &Known) -> Re
 }
 
 /// What is seen of the places that are watched.
-pub(crate) fn watched_values(
+pub(crate) fn see_watched_values(
     alloc: Global,
     machine: &Machine,
     watches: &[Watch],
@@ -99,7 +99,7 @@ fn add_if_changed(
         &known.book,
         u64::from(watch.number),
         thing_of_place(place),
-        known_value(place, old),
+        find_known_value(place, old),
         new.value,
         note.as_slice(),
     )

@@ -6,5 +6,5 @@ mod notices;
 mod telling;
 
 pub use diagnostic::{Diagnostic, Diagnostics, Severity};
-pub use notices::{published, withdrawn};
+pub use notices::{publish_faults, withdrawn};
 pub use telling::tell;

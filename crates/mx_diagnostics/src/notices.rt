@@ -140,7 +140,7 @@ fn notice(alloc: Global, uri: &[u8], told: &[Diagnostic]) -> Result<Bytes, NoMem
 }
 
 /// The notice of the faults and the warnings of a text with this name.
-pub fn published(alloc: Global, uri: &[u8], source: &[u8]) -> Result<Bytes, NoMemory>
+pub fn publish_faults(alloc: Global, uri: &[u8], source: &[u8]) -> Result<Bytes, NoMemory>
     ensures { IfOk result (λ body. body ≡ spec.notice uri.now (diagnostics.diagnostics_of source.now)) }
 {
     let told = tell(alloc, source)?;

@@ -4,7 +4,7 @@ ghost use Rattle.std.specs.Prelude.{◌≡◌, ◌<◌, ◌^◌, ◌∷◌, [], 
 ghost use Rattle.mx_core.specs.Kept.{state_of};
 ghost use Rattle.mx_core.specs.Way.Search.{IsNextBetween};
 ghost use Rattle.mx_core.specs.State.{octa};
-ghost use Rattle.mx_files.specs.Clauses.{Works};
+ghost use Rattle.mx_files.specs.Clauses.{DoesPart};
 ghost use Rattle.mx_files.specs.FilePlans.{lines_plan};
 ghost use Rattle.mx_dump.specs.Dump as spec;
 ghost use Rattle.mx_dump.specs.Shown.{IsNextShown, shown_octa};
@@ -58,7 +58,7 @@ fn put_special<H: Host>(
     code: u8,
 ) -> Result<(), Outcome>
     requires { code < 32 }
-    ensures { Works H.told H.faults host.old host.new result
+    ensures { DoesPart H.told H.faults host.old host.new result
         (lines_plan (spec.special_line (state_of machine.now) code)) }
 {
     if !is_special_shown(machine, code) {
@@ -70,7 +70,7 @@ fn put_special<H: Host>(
 
 /// Writes the lines of the special registers.
 fn put_specials<H: Host>(alloc: Global, host: &mut H, machine: &Machine) -> Result<(), Outcome>
-    ensures { Works H.told H.faults host.old host.new result
+    ensures { DoesPart H.told H.faults host.old host.new result
         (lines_plan (spec.special_lines (state_of machine.now))) }
 {
     for code in 0..32u8 {
@@ -102,7 +102,7 @@ fn put_register<H: Host>(
     machine: &Machine,
     k: u8,
 ) -> Result<(), Outcome>
-    ensures { Works H.told H.faults host.old host.new result
+    ensures { DoesPart H.told H.faults host.old host.new result
         (lines_plan (spec.register_line (state_of machine.now) k)) }
 {
     if !is_register_shown(machine, k) {
@@ -114,7 +114,7 @@ fn put_register<H: Host>(
 
 /// Writes the lines of the registers.
 fn put_registers<H: Host>(alloc: Global, host: &mut H, machine: &Machine) -> Result<(), Outcome>
-    ensures { Works H.told H.faults host.old host.new result
+    ensures { DoesPart H.told H.faults host.old host.new result
         (lines_plan (spec.register_lines (state_of machine.now))) }
 {
     for k in 0..256u16 {
@@ -134,7 +134,7 @@ fn octa_text(alloc: Global, a: u64, x: u64) -> Result<Bytes, NoMemory>
 
 /// Writes the line of an octa.
 pub fn put_octa<H: Host>(alloc: Global, host: &mut H, a: u64, x: u64) -> Result<(), Outcome>
-    ensures { Works H.told H.faults host.old host.new result (lines_plan (shown_octa a x ∷ [])) }
+    ensures { DoesPart H.told H.faults host.old host.new result (lines_plan (shown_octa a x ∷ [])) }
 {
     let line = octa_text(alloc, a, x)?;
     write_line(host, line.as_slice())
@@ -179,7 +179,7 @@ fn next_shown(machine: &Machine, from: u64) -> Option<(u64, u64)>
 
 /// Writes the lines of the octas that are shown.
 fn put_octas<H: Host>(alloc: Global, host: &mut H, machine: &Machine) -> Result<(), Outcome>
-    ensures { Works H.told H.faults host.old host.new result
+    ensures { DoesPart H.told H.faults host.old host.new result
         (lines_plan (spec.octa_lines (state_of machine.now) spec.octa_count)) }
 {
     let mut from = 0u64;
@@ -193,7 +193,7 @@ fn put_octas<H: Host>(alloc: Global, host: &mut H, machine: &Machine) -> Result<
 /// Writes the dump of a machine to the tool's standard output, up to a line that is not written: the special registers,
 /// the registers and memory.
 pub fn dump<H: Host>(alloc: Global, host: &mut H, machine: &Machine) -> Result<(), Outcome>
-    ensures { Works H.told H.faults host.old host.new result
+    ensures { DoesPart H.told H.faults host.old host.new result
         (lines_plan (spec.dump_lines (state_of machine.now))) }
 {
     put_specials(alloc, host, machine)?;

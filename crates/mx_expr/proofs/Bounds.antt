@@ -2,7 +2,7 @@
 use Rattle.std.proofs.Common.{◌≡◌, ℕ, ◌+◌, ◌-◌, ◌*◌, ◌^◌, ◌≤◌, List, [], ◌∷◌, ◌++◌, length, Bool, true, cond, Option, Some, None, Ok, refl, sym, ap, ◌∙◌, arith, append_assoc, subst, length-append, ◌==◌, ◌&&◌, nat_le}
 use Rattle.mx_expr.proofs.Words.{and_parts, eqb-true, leb-true, ExprFault, TooWide, TooDeep, EmptyString, Div, Tree, is_digit, is_hexadecimal, digit_value, Waiting, strong, parenthesis, Mode, operand, decimal, hexadecimal, slash, string, closed, State, passed_bound, too_wide, too_deep, digits_value, Constant, Before, FaultAt, div}
 use Rattle.mx_expr.specs.Spelling.Constant.{decimal as decimal_digits, hexadecimal as hexadecimal_digits}
-use Rattle.mx_expr.specs.Spelling.FaultAt.{too_wide as stands_wide, too_deep as stands_deep, empty_string as stands_empty}
+use Rattle.mx_expr.specs.Spelling.FaultAt.{too_wide as wide_there, too_deep as deep_there, empty_string as empty_there}
 use Rattle.mx_expr.proofs.Moves.{st, move}
 use Rattle.mx_expr.proofs.Partial.{Partial, partial-before}
 use Rattle.mx_expr.proofs.Holds.{Digits, Hashed, is_empty, At, Holds, Place, value-of-digit}
@@ -11,7 +11,7 @@ use Rattle.mx_expr.proofs.Steps.{digits-longer}
 -- where a bound is passed
 pub record Passed (field front : List ℕ) (f : ExprFault) : Type 0 where
   pub place : ℕ
-  pub stands : FaultAt field f place
+  pub is_there : FaultAt field f place
   pub near : place ≤ length front
   pub before_quote : f ≡ EmptyString → place + 1 ≤ length front
   pub wide : f ≡ TooWide → (d : ℕ) × (before : List ℕ) × (text : List ℕ) × Before d before × (front ≡ before ++ text) × (place ≡ length before)
@@ -28,7 +28,7 @@ deep-passed front rest d b f h e =
     subst (λ x. Passed (front ++ b ∷ rest) front x) same
     (record {
       place = length front;
-      stands = subst (λ x. FaultAt (front ++ x ∷ rest) TooDeep (length front)) (sym byte) (stands_deep front rest d h deep);
+      is_there = subst (λ x. FaultAt (front ++ x ∷ rest) TooDeep (length front)) (sym byte) (deep_there front rest d h deep);
       near = omega arith;
       before_quote = λ q. absurd (cc);
       wide = λ q. absurd (cc);
@@ -45,7 +45,7 @@ wide-passed front text f q rest es k d b n fault part p h s c e =
     subst (λ x. Passed (front ++ b ∷ rest) front x) w.1
     (record {
       place = length (text ++ f);
-      stands = subst (λ x. FaultAt x TooWide (length (text ++ f))) field (stands_wide (text ++ f) (q ++ b ∷ []) rest d n before c wide);
+      is_there = subst (λ x. FaultAt x TooWide (length (text ++ f))) field (wide_there (text ++ f) (q ++ b ∷ []) rest d n before c wide);
       near = omega (arith, ap length whole, length-append (text ++ f) q);
       before_quote = λ u. absurd (cc);
       wide = λ u. (d, text ++ f, q, before, whole, refl);
@@ -71,7 +71,7 @@ quote-passed front text rest [] es b f part p s e h =
     subst (λ x. Passed (front ++ b ∷ rest) front x) w.1
     (record {
       place = length text;
-      stands = subst (λ x. FaultAt x EmptyString (length text)) field (stands_empty text rest es p.before);
+      is_there = subst (λ x. FaultAt x EmptyString (length text)) field (empty_there text rest es p.before);
       near = omega (arith, ap length whole, length-append text (34 ∷ []));
       before_quote = λ q. omega (arith, ap length whole, length-append text (34 ∷ []));
       wide = λ q. absurd (cc);
@@ -101,7 +101,7 @@ passed-at (string true) front text part rest es done k d b f p a e = quote-passe
 passed-at mode front text part rest es done k d b f p a e = absurd (cc)
 
 pub passed : (s : State) (front rest : List ℕ) (b : ℕ) (f : ExprFault) → Holds s front → passed_bound s.mode s.depth b ≡ Some f → Passed (front ++ b ∷ rest) front f
-passed s front rest b f h e = passed-at s.mode front h.text h.part rest h.es s.done s.waiting s.depth b f (record { before = h.before; spelled = h.spelled }) h.stands e
+passed s front rest b f h e = passed-at s.mode front h.text h.part rest h.es s.done s.waiting s.depth b f (record { before = h.before; spelled = h.spelled }) h.is_there e
 
 deep-byte : (d b : ℕ) (f : ExprFault) → too_deep d b ≡ Some f → b ≡ 40
 deep-byte d b f e = let w = some-when (b == 40 && nat_le 255 d) TooDeep f e in eqb-true b 40 (and_parts (b == 40) (nat_le 255 d) w.0).0

@@ -47,7 +47,7 @@ placed : (s : State) (front : List ℕ) (h : Holds s front) → Place front h.te
 placed s front h = record { before = h.before; spelled = h.spelled }
 
 pub finish-good : (s : State) (front : List ℕ) → Holds s front → GoodList (field_end s.mode s.waiting s.done) front
-finish-good s front h = list-good s.mode front h.text h.part h.es s.done s.waiting s.depth (placed s front h) h.stands
+finish-good s front h = list-good s.mode front h.text h.part h.es s.done s.waiting s.depth (placed s front h) h.is_there
 
 -- Some spelled field begins with what was read.
 from-closed : (front text part : List ℕ) (es : List Tree) → Place front text part es → Closed part → Begins front
@@ -105,4 +105,4 @@ begun-closed closed part es done k d a text front p = (
 )
 
 pub begins : (s : State) (front : List ℕ) → Holds s front → Begins front
-begins s front h = begun-closed s.mode h.part h.es s.done s.waiting s.depth h.stands h.text front (placed s front h)
+begins s front h = begun-closed s.mode h.part h.es s.done s.waiting s.depth h.is_there h.text front (placed s front h)

@@ -75,7 +75,7 @@ end-first field t f some e h =
     let syntax : f ≡ Syntax = fault-as (field_end t.mode t.waiting t.done) field f (finish-good t field (held field t e)) h in
     record {
       place = length field;
-      stands = subst (λ x. FaultAt field x (length field)) (sym syntax) (no_list field (λ list g.
+      is_there = subst (λ x. FaultAt field x (length field)) (sym syntax) (no_list field (λ list g.
           let all : Ok list ≡ field_end t.mode t.waiting t.done = sym (spelled-free g) ∙ free-some field some ∙ ap reading_end (steps-moves start t field e) in
           absurd (cc)));
       least = λ other there g. omega (arith, (read-through field t other there e (seen g)).1);
@@ -118,7 +118,7 @@ byte-first field f q e h =
     let syntax : f ≡ Syntax = good-syntax (move q.state q.b) (q.front ++ q.b ∷ []) f (move-good q.state q.front q.b (held q.front q.state q.read)) h in
     record {
       place = length q.front;
-      stands = subst (λ x. FaultAt field x (length q.front)) (sym syntax) (subst (λ x. FaultAt x Syntax (length q.front)) (sym q.spelled)
+      is_there = subst (λ x. FaultAt field x (length q.front)) (sym syntax) (subst (λ x. FaultAt x Syntax (length q.front)) (sym q.spelled)
           (no_front q.front q.rest q.b (refused-front field q.front q.rest q.b q.state f q.read h)));
       least = λ other there g. byte-least field f q e syntax other there (seen g);
       only = λ other g. inl syntax;
@@ -171,7 +171,7 @@ bound-first field f q e h =
     let p = passed q.state q.front q.rest q.b f (held q.front q.state q.read) h in
     record {
       place = p.place;
-      stands = subst (λ x. FaultAt x f p.place) (sym q.spelled) p.stands;
+      is_there = subst (λ x. FaultAt x f p.place) (sym q.spelled) p.is_there;
       least = λ other there g. bound-least field f q e v p other there (seen g);
       only = λ other g. bound-only field f q e v p other p.place refl (seen g);
     }
@@ -199,7 +199,7 @@ one-fault field f g a b = grind arith
 -- ---- reading goes by the grammar
 
 pub not-both : (field : List ℕ) (list : List Tree) (fault : ExprFault) → IsList field list → IsFirst field fault → ⊥
-not-both field list fault h first = h.1 fault first.place first.stands
+not-both field list fault h first = h.1 fault first.place first.is_there
 
 list-as : (field : List ℕ) (list : List Tree) (r : Result (List Tree) ExprFault) → reading field ≡ r → IsList field list → r ≡ Ok list
 list-as field list (Ok found) is h = ap (λ l. Ok l) (one-list field found list (reading-ok field found is).0 h.0)

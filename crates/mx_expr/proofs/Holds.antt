@@ -82,7 +82,7 @@ pub record Holds (s : State) (front : List ℕ) : Type 0 where
   pub es : List Tree
   pub part : List ℕ
   pub before : Operands text es
-  pub stands : At s.mode s.waiting s.depth s.done es part
+  pub is_there : At s.mode s.waiting s.depth s.done es part
   pub spelled : front ≡ text ++ part
 
 abbrev pub Good : Read → List ℕ → Type 0
@@ -95,7 +95,7 @@ pub record Place (front : List ℕ) (text part : List ℕ) (es : List Tree) : Ty
   pub spelled : front ≡ text ++ part
 
 pub holds : (front text part : List ℕ) (es done : List Tree) (mode : Mode) (k : List Waiting) (d : ℕ) → Place front text part es → At mode k d done es part → Holds (st mode k d done) front
-holds front text part es done mode k d p a = record { text = text; es = es; part = part; before = p.before; stands = a; spelled = p.spelled }
+holds front text part es done mode k d p a = record { text = text; es = es; part = part; before = p.before; is_there = a; spelled = p.spelled }
 
 pub grown : (f q tail text : List ℕ) → text ≡ f ++ q → text ++ tail ≡ f ++ (q ++ tail)
 grown f q tail text e = ap (λ t. t ++ tail) e ∙ append_assoc f q tail
@@ -177,7 +177,7 @@ next-good front text part es d x [] p s =
       es = es ++ x ∷ [];
       part = [];
       before = one_more text part es (x ∷ []) p.before (expression part x (whole-sum d part x s));
-      stands = (refl, (s.before.0, refl));
+      is_there = (refl, (s.before.0, refl));
       spelled = p.spelled ∙ sym (append-nil (text ++ (part ++ 44 ∷ [])));
     }
 next-good front text part es d x (w ∷ k) p s = refl

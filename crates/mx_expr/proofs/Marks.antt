@@ -2,7 +2,7 @@
 use Rattle.std.proofs.Common.{◌≡◌, ℕ, ◌+◌, ◌-◌, ◌*◌, ◌^◌, ◌<◌, ◌≤◌, List, [], ◌∷◌, ◌++◌, length, Bool, true, false, cond, Some, None, Ok, Err, refl, sym, ap, ◌∙◌, arith, append_assoc, subst, ⊎_elim, inl, inr, ◌==◌, ◌&&◌, nat_le, fold, ◌⊎◌, rules}
 use Rattle.mx_expr.proofs.Words.{list_all, and_parts, le-leb, cases_lt, nat_tests, ExprFault, Syntax, TooWide, TooDeep, EmptyString, Tree, number, is_digit, is_hexadecimal, digit_value, Waiting, Mode, operand, digit, decimal, hash, hexadecimal, slash, string, State, with_strong, step, steps, within, start, digits_value, Constant, Operands, Spells, Before, Begins, FaultAt, no_front, no_list, common_steps}
 use Rattle.mx_expr.specs.Spelling.Constant.{decimal as decimal_digits, hexadecimal as hexadecimal_digits}
-use Rattle.mx_expr.specs.Spelling.FaultAt.{too_wide as stands_wide, too_deep as stands_deep, empty_string as stands_empty}
+use Rattle.mx_expr.specs.Spelling.FaultAt.{too_wide as wide_there, too_deep as deep_there, empty_string as empty_there}
 use Rattle.mx_expr.proofs.Moves.{st, move, moves, moves-on, moves-one, ends}
 use Rattle.mx_expr.proofs.Forward.{Headed, constant-ended, constant-headed, slash-move}
 use Rattle.mx_expr.proofs.Fields.{Wants, wants-moves, Stood, before-stood, operands-read}
@@ -215,6 +215,6 @@ pub data Seen (field : List ℕ) (other : ExprFault) (there : ℕ) : Type 0 wher
 pub seen : {field : List ℕ} {other : ExprFault} {there : ℕ} → FaultAt field other there → Seen field other there
 seen (no_front front rest b h) = front_seen front rest b refl h refl
 seen (no_list field h) = list_seen h refl
-seen (stands_wide front text rest d n b c h) = mark_seen (marked-wide front text rest d n b c h)
-seen (stands_deep front rest d b h) = mark_seen (marked-deep front rest d b h)
-seen (stands_empty front rest es h) = mark_seen (marked-empty front rest es h)
+seen (wide_there front text rest d n b c h) = mark_seen (marked-wide front text rest d n b c h)
+seen (deep_there front rest d b h) = mark_seen (marked-deep front rest d b h)
+seen (empty_there front rest es h) = mark_seen (marked-empty front rest es h)

@@ -101,7 +101,7 @@ closed-good front text part es done k d p h =
       es = es ++ map number h.bytes;
       part = [];
       before = one_more text part es (map number h.bytes) p.before (subst (λ t. Operand t (map number h.bytes)) (sym h.shape) (spelled_string h.bytes h.all));
-      stands = (h.listed, subst (λ x. Partial x d []) (sym h.nothing) (h.shallow, refl));
+      is_there = (h.listed, subst (λ x. Partial x d []) (sym h.nothing) (h.shallow, refl));
       spelled = p.spelled ∙ sym (append-nil (text ++ (part ++ 44 ∷ [])));
     }
 
@@ -165,7 +165,7 @@ moved-good closed front text part es done k d b p a = search (rules, closed-good
 pub move-good : (s : State) (front : List ℕ) (b : ℕ) → Holds s front → Good (move s b) (front ++ b ∷ [])
 move-good s front b h =
     moved-good s.mode (front ++ b ∷ []) h.text h.part h.es s.done s.waiting s.depth b
-    (record { before = h.before; spelled = grown h.text h.part (b ∷ []) front h.spelled }) h.stands
+    (record { before = h.before; spelled = grown h.text h.part (b ∷ []) front h.spelled }) h.is_there
 
 pub same-state : (s t : State) (r : Read) → r ≡ Ok s → r ≡ Ok t → s ≡ t
 same-state s t r e f = cc
@@ -181,7 +181,7 @@ reached s t front [] h e = subst (λ x. Holds x (front ++ [])) (same-state s t (
 reached s t front (b ∷ bs) h e = reached-on t front bs b (move s b) (λ u g i. reached u t (front ++ b ∷ []) bs g i) (move-good s front b h) e
 
 pub start-holds : Holds start []
-start-holds = record { text = []; es = []; part = []; before = no_operands; stands = (refl, (refl, refl)); spelled = refl }
+start-holds = record { text = []; es = []; part = []; before = no_operands; is_there = (refl, (refl, refl)); spelled = refl }
 
 pub holds-read : (front : List ℕ) (t : State) → moves start front ≡ Ok t → Holds t front
 holds-read front t e = reached start t [] front start-holds e

@@ -19,7 +19,7 @@ pub data Waiting : Type 0 where
   weak : (op : BinOp) (left : Tree) → Waiting
   parenthesis : Waiting
 
--- where reading stands
+-- how far reading has come
 pub data Mode : Type 0 where
   operand : Mode  -- a primary comes next
   whole : (e : Tree) → Mode  -- after a primary, which is joined with the strong operators before it

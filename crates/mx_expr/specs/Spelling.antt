@@ -64,7 +64,7 @@ mutual
     product : (text : List ℕ) (e : Tree) → Product text e → Sum text e
     plus : (text : List ℕ) (b : ℕ) (part : List ℕ) (op : BinOp) (l r : Tree) → Sum text l → WeakOperator b op → Product part r → Sum (text ++ b ∷ part) (binary op l r)
 
--- An operand is an expression, or a string, which stands for its bytes as separate operands.
+-- An operand is an expression, or a string, which means its bytes as separate operands.
 pub data Operand : List ℕ → List Tree → Type 0 where
   expression : (text : List ℕ) (e : Tree) → Sum text e → Operand text (e ∷ [])
   string : (bytes : List ℕ) → list_all is_no_quote bytes ≡ true → Operand (34 ∷ (bytes ++ 34 ∷ [])) (map number bytes)
@@ -103,11 +103,11 @@ pub data FaultAt : List ℕ → ExprFault → ℕ → Type 0 where
 -- The least place counts, and at one place a field that is not spelled comes before the others.
 pub record IsFirst (field : List ℕ) (fault : ExprFault) : Type 0 where
   pub place : ℕ
-  pub stands : FaultAt field fault place
+  pub is_there : FaultAt field fault place
   pub least : (other : ExprFault) (there : ℕ) → FaultAt field other there → place ≤ there
   pub only : (other : ExprFault) → FaultAt field other place → (fault ≡ Syntax) ⊎ (other ≡ fault)
 
--- no fault stands anywhere
+-- there is no fault
 abbrev pub Faultless : List ℕ → Type 0
 Faultless field = (fault : ExprFault) (place : ℕ) → FaultAt field fault place → ⊥
 

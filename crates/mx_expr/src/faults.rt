@@ -17,7 +17,7 @@ pub enum ExprFault {
     DivZero,
     /// `x//y` where x is not below y.
     FractionTooBig,
-    /// A register stands where only a pure value is taken.
+    /// There is a register where only a pure value is taken.
     PureOnly,
     /// A register plus a register.
     TwoRegisters,

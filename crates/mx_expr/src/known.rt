@@ -27,7 +27,7 @@ pub trait Known {
         requires { d ≤ 9 }
         ensures { result ≡ backs self.now d };
 
-    /// The place, which `@` stands for.
+    /// The place, which `@` means.
     fn place(&self) -> u64
         ensures { result ≡ at self.now };
 }

@@ -12,7 +12,7 @@ use crate::{Expr, ExprFault, Exprs};
 use std::alloc::Global;
 
 /// Reads an operand field (MMIXware, "MMIXAL", expressions) into the list of expressions that it spells. A
-/// string stands for its bytes, and an empty field for `0`.
+/// string means its bytes, and an empty field for `0`.
 ///
 /// Where the field is not spelled as a list, or passes a bound, the answer is its first fault from
 /// the left: `Syntax` where no list is spelled, at the last byte of the shortest front that begins

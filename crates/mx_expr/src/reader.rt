@@ -14,7 +14,7 @@ use crate::{BinOp, Expr, ExprFault, Exprs, UnOp};
 use mx_word::{Bytes, is_digit, is_hexadecimal, is_letter, is_name_byte};
 use std::alloc::Global;
 
-/// Where reading stands, with the expression or the token that is being read.
+/// How far reading has come, with the expression or the token that is being read.
 #[derive(Drop)]
 pub(crate) enum Mode {
     /// A primary comes next.

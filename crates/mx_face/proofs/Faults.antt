@@ -5,7 +5,7 @@ use Rattle.std.specs.Prelude.{Option, Result}
 use Rattle.mx_host.specs.HostModel.{HostModel, Rose}
 use Rattle.mx_host.specs.Keeping.{ComesByFault, Keeps, OnlyByFailure}
 use Rattle.mx_host.proofs.Keeping.{keeps-then, keeps-all}
-use Rattle.mx_plan.proofs.Standing.{only-behind, rose-on, stands-kept}
+use Rattle.mx_plan.proofs.KeptHosts.{only-after, rose-on, keeps_host-kept}
 use Rattle.mx_outcome.specs.declared.outcome.Outcome.{Outcome}
 use Rattle.mx_outcome.specs.declared.outcome.Outcome.TheVariants.{HostFault as Broken, NoFile, OutOfMemory}
 use Rattle.mx_face.specs.Pages.{FaultsBetween, IsOfView}
@@ -23,7 +23,7 @@ rose-later k m n a b (inr e) = by (cases_lt k n)
 pub faults-nowhere : (a : Option HostModel) (k : ℕ) (r : Outcome) → IsOfView r → FaultsBetween a a k k Broken NoFile r
 faults-nowhere a k r of = record { host_fault = λ had e. absurd (of.0 e); no_file = λ n e. absurd (of.1 e); keeps = keeps-all a k }
 
--- an outcome is told: what comes of that is the outcome, or want of memory
+-- an outcome is told: what comes of that is the outcome, or that memory ran out
 pub faults-told : (a b c : Option HostModel) (k m n : ℕ) (said r : Outcome) → FaultsBetween a b k m Broken NoFile said → Keeps b c m n → (r ≢ OutOfMemory → r ≡ said) → FaultsBetween a c k n Broken NoFile r
 faults-told a b c k m n said r was kept same = record {
   host_fault = λ had e. rose-later k m n was.keeps.counting kept.counting (was.host_fault had (sym (same (λ x. absurd (cc (x, e)))) ∙ e));
@@ -38,7 +38,7 @@ faults-said a b k m said r of kept same = faults-told a a b k k m said r (faults
 -- a whole after what keeps
 pub faults-after : (a b c : Option HostModel) (k m n : ℕ) (r : Outcome) → Keeps a b k m → FaultsBetween b c m n Broken NoFile r → FaultsBetween a c k n Broken NoFile r
 faults-after a b c k m n r kept rest = record {
-  host_fault = only-behind a b k m n Broken r (stands-kept a b k m kept) rest.host_fault;
+  host_fault = only-after a b k m n Broken r (keeps_host-kept a b k m kept) rest.host_fault;
   no_file = λ un e. rose-on k m n kept.counting (rest.no_file (λ t. un (subst IsTrue kept.telling t)) e);
   keeps = keeps-then a b c k m n kept rest.keeps;
 }

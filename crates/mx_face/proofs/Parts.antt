@@ -4,7 +4,7 @@ use Rattle.std.specs.Prelude.{Option, Result}
 use Rattle.mx_host.specs.HostModel.{HostModel}
 use Rattle.mx_host.specs.Keeping.{Keeps}
 use Rattle.mx_host.proofs.Keeping.{keeps-then, keeps-all}
-use Rattle.mx_plan.proofs.Standing.{only-behind, rose-on, stands-kept}
+use Rattle.mx_plan.proofs.KeptHosts.{only-after, rose-on, keeps_host-kept}
 use Rattle.mx_outcome.specs.declared.outcome.Outcome.{Outcome}
 use Rattle.mx_outcome.specs.declared.outcome.Outcome.TheVariants.{Done, HostFault as Broken, NoFile, OutOfMemory}
 use Rattle.mx_face.specs.Pages.{FaultsBetween, IsOfView}
@@ -25,7 +25,7 @@ part-failed a b k m r part = part-ended a b k m r (whole-ended a b k m r part)
 -- one after another
 pub part-after : {A : Type 0} (a b c : Option HostModel) (k m n : ℕ) (x : Result A Outcome) → Keeps a b k m → FaultsBetween {A = Result A Outcome} b c m n (Err Broken) (Err NoFile) x → FaultsBetween {A = Result A Outcome} a c k n (Err Broken) (Err NoFile) x
 part-after a b c k m n x kept rest = record {
-  host_fault = only-behind a b k m n (Err Broken) x (stands-kept a b k m kept) rest.host_fault;
+  host_fault = only-after a b k m n (Err Broken) x (keeps_host-kept a b k m kept) rest.host_fault;
   no_file = λ un e. rose-on k m n kept.counting (rest.no_file (λ t. un (subst IsTrue kept.telling t)) e);
   keeps = keeps-then a b c k m n kept rest.keeps;
 }

@@ -3,14 +3,14 @@
 use Rattle.std.specs.Prelude.{ℕ, ◌≡◌, ◌≢◌, List, [], ◌∷◌, Option, None, Some, Result, Ok, Err}
 use Rattle.mx_host.specs.HostModel.{HostModel}
 use Rattle.mx_host.specs.HostAnswer.{Then, write_answer}
-use Rattle.mx_host.specs.Keeping.{ComesByFault, Keeps, OnlyByFailure}
+use Rattle.mx_host.specs.Keeping.{Answers, ComesByFault, Keeps, OnlyByFailure}
 use Rattle.mx_host.specs.declared.faults.HostFault.{HostFault}
 use Rattle.mx_files.specs.Assembling.{refused_with}
 use Rattle.mx_files.specs.Source.{file_bytes, source_pieces}
 use Rattle.mx_files.specs.declared.refusal.Refusal.{Refusal}
 use Rattle.mx_outcome.specs.Messages.{message_of}
 use Rattle.mx_outcome.specs.declared.outcome.Outcome.{Outcome}
-use Rattle.mx_outcome.specs.declared.outcome.Outcome.TheVariants.{Done, NoFile, HostFault as Broken}
+use Rattle.mx_outcome.specs.declared.outcome.Outcome.TheVariants.{Done, NoFile, HostFault as Broken, OutOfMemory}
 use Rattle.mx_face.specs.declared.page.Page.{Page}
 
 -- ---- standard error
@@ -76,6 +76,10 @@ abbrev pub shown_file : (List ℕ → Page) → List ℕ → HostModel → Then 
 shown_file view name m = page_of view (source_in name m)
 
 -- ---- the words of clauses: `told` is what a host tells, `faults` its count of faults, `old` and `new` are the host before and after
+
+-- over a host that tells its contents, the outcome and what the host then holds are those of f, unless there was no memory
+abbrev pub Shows : {H : Type 0} → (H → Option HostModel) → H → H → Outcome → (HostModel → Then Outcome) → Type 0
+Shows told old new result f = Answers (told old) (told new) OutOfMemory result f
 
 -- an outcome that tells no fault of the host and no missing file
 abbrev pub IsOfView : Outcome → Type 0

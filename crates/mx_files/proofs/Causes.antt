@@ -17,11 +17,11 @@ use Rattle.mx_host.specs.declared.slots.Mode.TheVariants.{BinaryWrite}
 use Rattle.mx_host.specs.declared.slots.Slot.{Slot}
 use Rattle.mx_host.specs.declared.slots.Slot.TheVariants.{Closed, Open}
 use Rattle.mx_plan.specs.Calls.{host, HostPlan, read_plan, write_plan, close_plan, open_plan}
-use Rattle.mx_plan.specs.Clauses.{CarriesOut, Stands}
+use Rattle.mx_plan.specs.Clauses.{CarriesOutOnHost, KeepsHost}
 use Rattle.mx_plan.specs.Held.{Makes}
 use Rattle.mx_plan.specs.Plan.{returns, bind, end_of, end_after}
 use Rattle.mx_plan.proofs.Plans.{end_bind, end_returns}
-use Rattle.mx_files.specs.Clauses.{Serves, gives, takes, can_read, can_write, is_open, WorksBetween}
+use Rattle.mx_files.specs.Clauses.{Serves, gives, takes, can_read, can_write, is_open, DoesPartBetween}
 use Rattle.mx_files.specs.FilePlans.{Part, carried, piece_added, read_piece, write_piece, close_file}
 use Rattle.mx_files.specs.ObjectPlans.{open_object}
 use Rattle.mx_outcome.specs.declared.outcome.Outcome.TheVariants.{HostFault as Broken}
@@ -87,7 +87,7 @@ close-served slot n l h =
 
 by-failing : {A B C : Type 0} (a b : Option HostModel) (k m : ℕ) (f : Result A HostFault → HostPlan B) (p : HostPlan (Result A HostFault)) →
     ((n : HostModel) → Makes host Serves p n → IsServed (end_of host p n)) →
-    CarriesOut a b (Err OutOfMemory) (Err Misused) p → ComesByFault {A = Result C HostFault} a (Err Misused) (Err Misused) k m →
+    CarriesOutOnHost a b (Err OutOfMemory) (Err Misused) p → ComesByFault {A = Result C HostFault} a (Err Misused) (Err Misused) k m →
     (IsTrue (tells a) → Makes host Serves (bind f p) (contents a)) → Rose k m
 by-failing {A} a b k m f p served told misused makes = misused (λ t.
     let is = (told t).ending (λ e. absurd (cc)) in
@@ -96,8 +96,8 @@ by-failing {A} a b k m f p served told misused makes = misused (λ t.
 -- the fault of a call that was misused, as a part of the work
 misused-works : {A B C : Type 0} (a b : Option HostModel) (k m : ℕ) (f : Result A HostFault → Part B) (p : HostPlan (Result A HostFault)) → f (Err Misused) ≡ returns (Err Broken) →
     ((n : HostModel) → Makes host Serves p n → IsServed (end_of host p n)) →
-    CarriesOut a b (Err OutOfMemory) (Err Misused) p → ComesByFault {A = Result C HostFault} a (Err Misused) (Err Misused) k m → Stands a b k m → WorksBetween a b k m (Err Broken) (bind f p)
-misused-works {A} {B} {C} a b k m f p e served told misused stands = record {
+    CarriesOutOnHost a b (Err OutOfMemory) (Err Misused) p → ComesByFault {A = Result C HostFault} a (Err Misused) (Err Misused) k m → KeepsHost a b k m → DoesPartBetween a b k m (Err Broken) (bind f p)
+misused-works {A} {B} {C} a b k m f p e served told misused keeps = record {
   told = λ t. record {
     ending = λ ne. sym (end_bind host f p (contents a) ∙ ap (end_after host f) (sym ((told t).ending (λ x. absurd (cc)))) ∙ ap (λ (q : Part B). end_of host q (contents b)) e ∙ end_returns host (Err Broken) (contents b));
     stopping = λ x. absurd (cc);
@@ -105,23 +105,23 @@ misused-works {A} {B} {C} a b k m f p e served told misused stands = record {
   cause = λ makes x. by-failing {C = C} a b k m f p served told misused makes;
   absent = λ u x. absurd (cc);
   ends = refl;
-  stands = stands;
+  keeps = keeps;
 }
 
-pub read-misused : (a b : Option HostModel) (k m : ℕ) (got : List ℕ) → CarriesOut a b (Err OutOfMemory) (Err Misused) (read_plan 256 4096) →
-    ComesByFault {A = Result ℕ HostFault} a (Err Misused) (Err Misused) k m → Stands a b k m → WorksBetween a b k m (Err Broken) (read_piece got)
+pub read-misused : (a b : Option HostModel) (k m : ℕ) (got : List ℕ) → CarriesOutOnHost a b (Err OutOfMemory) (Err Misused) (read_plan 256 4096) →
+    ComesByFault {A = Result ℕ HostFault} a (Err Misused) (Err Misused) k m → KeepsHost a b k m → DoesPartBetween a b k m (Err Broken) (read_piece got)
 unfolding read_piece
-read-misused a b k m got told misused stands = misused-works {C = ℕ} a b k m (piece_added got) (read_plan 256 4096) refl (read-served 256 4096) told misused stands
+read-misused a b k m got told misused keeps = misused-works {C = ℕ} a b k m (piece_added got) (read_plan 256 4096) refl (read-served 256 4096) told misused keeps
 
-pub write-misused : (a b : Option HostModel) (k m slot : ℕ) (from : List ℕ) → CarriesOut a b (Err OutOfMemory) (Err Misused) (write_plan slot from) →
-    ComesByFault {A = Result (Unit {0}) HostFault} a (Err Misused) (Err Misused) k m → Stands a b k m → WorksBetween a b k m (Err Broken) (write_piece slot from)
+pub write-misused : (a b : Option HostModel) (k m slot : ℕ) (from : List ℕ) → CarriesOutOnHost a b (Err OutOfMemory) (Err Misused) (write_plan slot from) →
+    ComesByFault {A = Result (Unit {0}) HostFault} a (Err Misused) (Err Misused) k m → KeepsHost a b k m → DoesPartBetween a b k m (Err Broken) (write_piece slot from)
 unfolding write_piece
-write-misused a b k m slot from told misused stands = misused-works {C = Unit {0}} a b k m (λ r. returns (carried r)) (write_plan slot from) refl (write-served slot from) told misused stands
+write-misused a b k m slot from told misused keeps = misused-works {C = Unit {0}} a b k m (λ r. returns (carried r)) (write_plan slot from) refl (write-served slot from) told misused keeps
 
-pub close-misused : (a b : Option HostModel) (k m slot : ℕ) → slot ≤ 257 → CarriesOut a b (Err OutOfMemory) (Err Misused) (close_plan slot) →
-    ComesByFault {A = Result (Unit {0}) HostFault} a (Err Misused) (Err Misused) k m → Stands a b k m → WorksBetween a b k m (Err Broken) (close_file slot)
+pub close-misused : (a b : Option HostModel) (k m slot : ℕ) → slot ≤ 257 → CarriesOutOnHost a b (Err OutOfMemory) (Err Misused) (close_plan slot) →
+    ComesByFault {A = Result (Unit {0}) HostFault} a (Err Misused) (Err Misused) k m → KeepsHost a b k m → DoesPartBetween a b k m (Err Broken) (close_file slot)
 unfolding close_file
-close-misused a b k m slot l told misused stands = misused-works {C = Unit {0}} a b k m (λ r. returns (carried r)) (close_plan slot) refl (λ n. close-served slot n l) told misused stands
+close-misused a b k m slot l told misused keeps = misused-works {C = Unit {0}} a b k m (λ r. returns (carried r)) (close_plan slot) refl (λ n. close-served slot n l) told misused keeps
 
 -- ---- a file that is opened for writing is made where it is not there
 
@@ -137,15 +137,15 @@ present : (name : List ℕ) (n : HostModel) → (end_of host (open_plan 257 name
 unfolding open_plan end_of host open_answer
 present name n = failing-present (is_failing n) _ _ (λ e. absurd (cc)) (opened-present (counted n) 257 name (place_of n.files name))
 
-pub object-absent : (a b : Option HostModel) (k m : ℕ) (name : List ℕ) → CarriesOut a b (Err opening.OutOfMemory) (Err Absent) (open_plan 257 name BinaryWrite) →
-    ComesByFault {A = Result (Unit {0}) OpenFault} a (Err Absent) (Err Absent) k m → Stands a b k m → WorksBetween a b k m (Err Broken) (open_object name)
+pub object-absent : (a b : Option HostModel) (k m : ℕ) (name : List ℕ) → CarriesOutOnHost a b (Err opening.OutOfMemory) (Err Absent) (open_plan 257 name BinaryWrite) →
+    ComesByFault {A = Result (Unit {0}) OpenFault} a (Err Absent) (Err Absent) k m → KeepsHost a b k m → DoesPartBetween a b k m (Err Broken) (open_object name)
 unfolding open_object
-object-absent a b k m name told absent stands = record {
+object-absent a b k m name told absent keeps = record {
   told = λ t. record { ending = λ ne. absurd (never t); stopping = λ x. absurd (cc) };
   cause = λ makes x. absent never refl;
   absent = λ u x. absurd (cc);
   ends = refl;
-  stands = stands;
+  keeps = keeps;
 }
   where
     never : IsTrue (tells a) → ⊥

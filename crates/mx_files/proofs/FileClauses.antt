@@ -4,7 +4,7 @@ use Rattle.std.specs.Prelude.{Option, Result, IfErr}
 use Rattle.mx_host.specs.HostModel.{HostModel, contents}
 use Rattle.mx_host.specs.Keeping.{ComesByFault, Keeps, OnlyByFailure}
 use Rattle.mx_plan.specs.Calls.{host, HostPlan}
-use Rattle.mx_plan.specs.Clauses.{CarriesOut, Stands}
+use Rattle.mx_plan.specs.Clauses.{CarriesOutOnHost, KeepsHost}
 use Rattle.mx_plan.specs.Held.{Makes}
 use Rattle.mx_plan.specs.Plan.{returns, end_of, end_after, Comes}
 use Rattle.mx_plan.proofs.Plans.{end_bind, end_returns, stops_first}
@@ -12,7 +12,7 @@ use Rattle.mx_word.specs.Lists.{IsFront}
 use Rattle.mx_plan.specs.Wild.{ends}
 use Rattle.mx_files.specs.Answers.{output_of, GoesAs, plainly}
 use Rattle.mx_outcome.specs.Kinds.{is_usage}
-use Rattle.mx_files.specs.Clauses.{ComesByFailing, HasToolSlots, Serves, WorksBetween, is_end}
+use Rattle.mx_files.specs.Clauses.{ComesByFailing, DoesPartBetween, HasToolSlots, Serves, is_end}
 use Rattle.mx_files.specs.FilePlans.{Part, file_plan}
 use Rattle.mx_files.specs.ObjectPlans.{outcome_of, whole_plan, assemble_plan, list_plan}
 use Rattle.mx_outcome.specs.declared.outcome.Outcome.{Outcome}
@@ -39,8 +39,8 @@ file-output most name m n r c = by (decided-part r)
     by (inl e) = file-stops-quiet most name m n (c.stopping e)
     by (inr ne) = ap (λ (t : Result (List ℕ) Outcome × HostModel). t.1.output) (c.ending ne) ∙ file-ends-quiet most name m
 
-pub part-keeps : {A : Type 0} (a b : Option HostModel) (k m : ℕ) (r : Result A Outcome) (p : Part A) → WorksBetween a b k m r p → Keeps a b k m
-part-keeps a b k m r p w = comes-keeps a b k m (Err OutOfMemory) r p (decided-part r) w.told w.stands
+pub part-keeps : {A : Type 0} (a b : Option HostModel) (k m : ℕ) (r : Result A Outcome) (p : Part A) → DoesPartBetween a b k m r p → Keeps a b k m
+part-keeps a b k m r p w = comes-keeps a b k m (Err OutOfMemory) r p (decided-part r) w.told w.keeps
 
 pub end-words : (r : Outcome) → is_end r ≡ true → is_usage r ≡ false
 end-words (Usage fault) i = absurd (cc)
@@ -52,21 +52,21 @@ outcome-failed : (r : Result (Unit {0}) Outcome) (end : Outcome) → end ≢ out
 outcome-failed (Ok u) end ne e = absurd (ne (sym e))
 outcome-failed (Err outcome) end ne e = ap Err e
 
-pub whole-told : (a b : Option HostModel) (o : Outcome) (r : Result (Unit {0}) Outcome) (p : Part (Unit {0})) → o ≡ outcome_of r → CarriesOut a b (Err OutOfMemory) r p → CarriesOut a b OutOfMemory o (whole_plan p)
+pub whole-told : (a b : Option HostModel) (o : Outcome) (r : Result (Unit {0}) Outcome) (p : Part (Unit {0})) → o ≡ outcome_of r → CarriesOutOnHost a b (Err OutOfMemory) r p → CarriesOutOnHost a b OutOfMemory o (whole_plan p)
 whole-told a b o r p e told t = rw e (record {
   ending = λ ne. sym (end_bind host (λ s. returns (outcome_of s)) p (contents a)
       ∙ ap (end_after host (λ s. returns (outcome_of s))) (sym ((told t).ending (λ lacks. ne (ap outcome_of lacks)))) ∙ end_returns host (outcome_of r) (contents b));
   stopping = λ lacks. stops_first host (λ s. returns (outcome_of s)) p (contents b) (contents a) ((told t).stopping (outcome-failed r OutOfMemory (λ x. absurd (cc)) lacks));
 })
 
-pub whole-cause : (a b : Option HostModel) (k m : ℕ) (o : Outcome) (r : Result (Unit {0}) Outcome) (p : Part (Unit {0})) → o ≡ outcome_of r → WorksBetween a b k m r p → ComesByFailing a HostFault o k m p
+pub whole-cause : (a b : Option HostModel) (k m : ℕ) (o : Outcome) (r : Result (Unit {0}) Outcome) (p : Part (Unit {0})) → o ≡ outcome_of r → DoesPartBetween a b k m r p → ComesByFailing a HostFault o k m p
 whole-cause a b k m o r p e w = λ serves fault. w.cause serves (outcome-failed r HostFault (λ x. absurd (cc)) (sym e ∙ fault))
 
 pub whole-rose : (a b : Option HostModel) (k m : ℕ) (o : Outcome) (r : Result (Unit {0}) Outcome) (p : Part (Unit {0})) → o ≡ outcome_of r →
-    ((n : HostModel) → HasToolSlots n → Makes host Serves p n) → WorksBetween a b k m r p → OnlyByFailure a HostFault o k m
+    ((n : HostModel) → HasToolSlots n → Makes host Serves p n) → DoesPartBetween a b k m r p → OnlyByFailure a HostFault o k m
 whole-rose a b k m o r p e served w = λ has fault. only-failed a b k m r p served w has (outcome-failed r HostFault (λ x. absurd (cc)) (sym e ∙ fault))
 
-pub whole-absent : (a b : Option HostModel) (k m : ℕ) (o : Outcome) (r : Result (Unit {0}) Outcome) (p : Part (Unit {0})) → o ≡ outcome_of r → WorksBetween a b k m r p → ComesByFault a NoFile o k m
+pub whole-absent : (a b : Option HostModel) (k m : ℕ) (o : Outcome) (r : Result (Unit {0}) Outcome) (p : Part (Unit {0})) → o ≡ outcome_of r → DoesPartBetween a b k m r p → ComesByFault a NoFile o k m
 whole-absent a b k m o r p e w = λ silent none. w.absent silent (outcome-failed r NoFile (λ x. absurd (cc)) (sym e ∙ none))
 
 pub ended-unused : {A : Type 0} (r : Result A Outcome) → IfErr r (λ outcome. is_end outcome ≡ true) → IfErr r (λ outcome. is_usage outcome ≡ false)
@@ -77,7 +77,7 @@ outcome-words : (r : Result (Unit {0}) Outcome) → IfErr r (λ outcome. is_end 
 outcome-words (Ok u) i = refl
 outcome-words (Err outcome) i = end-words outcome i
 
-pub whole-words : (a b : Option HostModel) (k m : ℕ) (o : Outcome) (r : Result (Unit {0}) Outcome) (p : Part (Unit {0})) → o ≡ outcome_of r → WorksBetween a b k m r p → is_usage o ≡ false
+pub whole-words : (a b : Option HostModel) (k m : ℕ) (o : Outcome) (r : Result (Unit {0}) Outcome) (p : Part (Unit {0})) → o ≡ outcome_of r → DoesPartBetween a b k m r p → is_usage o ≡ false
 whole-words a b k m o r p e w = rw e (outcome-words r w.ends)
 
 -- ---- an object that is assembled, and one that is listed
@@ -99,5 +99,5 @@ pub listed-front : (name : List ℕ) (m n : HostModel) (o : Outcome) → Comes h
 listed-front name m n o c e =
     subst (IsFront n.output) (sym (answer-output (end_of host (list_plan name) m))) (stop-front (list_plan name) n m (c.stopping e))
 
-pub whole-keeps : (a b : Option HostModel) (k m : ℕ) (o : Outcome) (p : HostPlan Outcome) → CarriesOut a b OutOfMemory o p → Stands a b k m → Keeps a b k m
-whole-keeps a b k m o p told stands = comes-keeps a b k m OutOfMemory o p (decided o) told stands
+pub whole-keeps : (a b : Option HostModel) (k m : ℕ) (o : Outcome) (p : HostPlan Outcome) → CarriesOutOnHost a b OutOfMemory o p → KeepsHost a b k m → Keeps a b k m
+whole-keeps a b k m o p told keeps = comes-keeps a b k m OutOfMemory o p (decided o) told keeps

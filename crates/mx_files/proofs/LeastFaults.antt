@@ -52,7 +52,7 @@ long-least bytes k l late (unnamed _ _ g e) = late k g e
 within-none : (bytes : List ℕ) (k : ℕ) → 0 < length bytes → length bytes ≤ longest → Late bytes → IsAtFault bytes k → ⊥
 within-none bytes k l m late empty = absurd (omega (arith, l))
 within-none bytes k l m late (long _ g) = omega (arith, m, g)
-within-none bytes k l m late (unnamed _ _ g e) = (let behind = late k g e in omega (arith, m, g, behind))
+within-none bytes k l m late (unnamed _ _ g e) = (let following = late k g e in omega (arith, m, g, following))
 
 none-judged : (bytes : List ℕ) → (length bytes == 0) ≡ true → IsLeastFault bytes 0
 none-judged [] h = record { fault = empty; least = λ k f. omega arith }
@@ -74,8 +74,8 @@ found-judged bytes place true t l e h =
     let first : place < longest = grind (arith, nat_tests) in
     record { fault = unnamed bytes place l (eight-up (get_or bytes place 0) e); least = λ k f. found-least bytes place k l first h f }
 found-judged bytes place false t l e h =
-    let behind : longest ≤ place = grind (arith, nat_tests) in
-    by-length bytes (λ k g u. (let from = from-place bytes place k (nat_lt k place) refl h u in omega (arith, behind, from)))
+    let following : longest ≤ place = grind (arith, nat_tests) in
+    by-length bytes (λ k g u. (let from = from-place bytes place k (nat_lt k place) refl h u in omega (arith, following, from)))
 
 place-judged : (bytes : List ℕ) (found : Option ℕ) → position is_unnamed bytes ≡ found → Judges bytes (least_fault found (length bytes))
 place-judged bytes None e = by-length bytes (λ k l u. absurd (no-named bytes k (none-named bytes e) l u))

@@ -2,12 +2,12 @@
 use Rattle.std.proofs.Common.{IsTrue, ◌≡◌, ◌≢◌, ◌⊎◌, inl, inr, ℕ, true, Ok, Err, refl, sym, ◌∙◌, ap, subst}
 use Rattle.std.specs.Prelude.{Option, Result}
 use Rattle.mx_host.specs.HostModel.{HostModel, tells, contents}
-use Rattle.mx_plan.proofs.Standing.{rose-on, stands-all, stands-then}
+use Rattle.mx_plan.proofs.KeptHosts.{rose-on, keeps_host-all, keeps_host-then}
 use Rattle.mx_plan.specs.Calls.{host, need}
 use Rattle.mx_plan.specs.Held.{Makes}
 use Rattle.mx_plan.specs.Plan.{Plan, returns, calls, bind, Acts, end_of, end_after, Stops, StopsAfter, IsRest}
 use Rattle.mx_plan.proofs.Plans.{end_bind, end_returns, stops_first, stops_after, rest_after}
-use Rattle.mx_files.specs.Clauses.{Serves, is_end, WorksBetween, Leaves}
+use Rattle.mx_files.specs.Clauses.{Serves, is_end, DoesPartBetween, Leaves}
 use Rattle.mx_files.specs.FilePlans.{Part, on_ok}
 use Rattle.mx_outcome.specs.declared.outcome.Outcome.{Outcome}
 use Rattle.mx_outcome.specs.declared.outcome.Outcome.TheVariants.{NoFile, HostFault, OutOfMemory}
@@ -42,44 +42,44 @@ tells-back : (a b : Option HostModel) → tells b ≡ tells a → IsTrue (tells 
 tells-back a b e t = subst IsTrue e t
 
 -- what is left of a whole is done
-pub works-on : {A : Type 0} (a b c : Option HostModel) (k m n : ℕ) (r : Result A Outcome) (p whole : Part A) → Leaves a b k m p whole → WorksBetween b c m n r p → WorksBetween a c k n r whole
+pub works-on : {A : Type 0} (a b c : Option HostModel) (k m n : ℕ) (r : Result A Outcome) (p whole : Part A) → Leaves a b k m p whole → DoesPartBetween b c m n r p → DoesPartBetween a c k n r whole
 works-on a b c k m n r p whole h w = record {
-  told = λ t. rest-comes host p whole (contents b) (contents c) (contents a) (Err OutOfMemory) r (h.told t) (w.told (tells-then a b h.stands.0 t));
-  cause = λ s e. rose-on k m n h.stands.1 (w.cause (h.cause s) e);
-  absent = λ u e. rose-on k m n h.stands.1 (w.absent (λ t. u (tells-back a b h.stands.0 t)) e);
+  told = λ t. rest-comes host p whole (contents b) (contents c) (contents a) (Err OutOfMemory) r (h.told t) (w.told (tells-then a b h.keeps.0 t));
+  cause = λ s e. rose-on k m n h.keeps.1 (w.cause (h.cause s) e);
+  absent = λ u e. rose-on k m n h.keeps.1 (w.absent (λ t. u (tells-back a b h.keeps.0 t)) e);
   ends = w.ends;
-  stands = stands-then a b c k m n h.stands w.stands;
+  keeps = keeps_host-then a b c k m n h.keeps w.keeps;
 }
 
 pub leaves-all : {A : Type 0} (a : Option HostModel) (k : ℕ) (p : Part A) → Leaves a a k k p p
-leaves-all a k p = record { told = λ t. record { ending = refl; stopping = λ v h. h }; cause = λ s. s; stands = stands-all a k }
+leaves-all a k p = record { told = λ t. record { ending = refl; stopping = λ v h. h }; cause = λ s. s; keeps = keeps_host-all a k }
 
 pub leaves-on : {A : Type 0} (a b c : Option HostModel) (k m n : ℕ) (p q whole : Part A) → Leaves a b k m q whole → Leaves b c m n p q → Leaves a c k n p whole
 leaves-on a b c k m n p q whole h g = record {
-  told = λ t. rest-through host p q whole (contents c) (contents b) (contents a) (g.told (tells-then a b h.stands.0 t)) (h.told t);
+  told = λ t. rest-through host p q whole (contents c) (contents b) (contents a) (g.told (tells-then a b h.keeps.0 t)) (h.told t);
   cause = λ s. g.cause (h.cause s);
-  stands = stands-then a b c k m n h.stands g.stands;
+  keeps = keeps_host-then a b c k m n h.keeps g.keeps;
 }
 
 -- a part is done, and what follows it is left
-pub leaves-next : {A B : Type 0} (a b : Option HostModel) (k m : ℕ) (x : A) (f : A → Part B) (p : Part A) → WorksBetween a b k m (Ok x) p → Leaves a b k m (f x) (bind (on_ok f) p)
+pub leaves-next : {A B : Type 0} (a b : Option HostModel) (k m : ℕ) (x : A) (f : A → Part B) (p : Part A) → DoesPartBetween a b k m (Ok x) p → Leaves a b k m (f x) (bind (on_ok f) p)
 leaves-next {A} {B} a b k m x f p w = record {
   told = λ t. rest_after host (on_ok f) p (Ok x) (contents b) (contents a) (contents a) (bind (on_ok f) p) (is t) (record { ending = refl; stopping = λ v h. h });
   cause = λ s t.
-      let u : IsTrue (tells a) = tells-back a b w.stands.0 t in
+      let u : IsTrue (tells a) = tells-back a b w.keeps.0 t in
       subst (λ (e : Result A Outcome × HostModel). MakesAfter host Serves (on_ok f) e) (sym (is u)) (makes-after host Serves (on_ok f) p (contents a) (s u));
-  stands = w.stands;
+  keeps = w.keeps;
 }
   where
     is : IsTrue (tells a) → (Ok x, contents b) ≡ end_of host p (contents a)
     is t = (w.told t).ending (λ e. absurd (cc))
 
-pub works-then : {A B : Type 0} (a b c : Option HostModel) (k m n : ℕ) (x : A) (r : Result B Outcome) (f : A → Part B) (p : Part A) → WorksBetween a b k m (Ok x) p → WorksBetween b c m n r (f x) →
-    WorksBetween a c k n r (bind (on_ok f) p)
+pub works-then : {A B : Type 0} (a b c : Option HostModel) (k m n : ℕ) (x : A) (r : Result B Outcome) (f : A → Part B) (p : Part A) → DoesPartBetween a b k m (Ok x) p → DoesPartBetween b c m n r (f x) →
+    DoesPartBetween a c k n r (bind (on_ok f) p)
 works-then a b c k m n x r f p h w = works-on a b c k m n r (f x) (bind (on_ok f) p) (leaves-next a b k m x f p h) w
 
 -- a part ends the work
-pub works-ends : {A B : Type 0} (a b : Option HostModel) (k m : ℕ) (outcome : Outcome) (f : A → Part B) (p : Part A) → WorksBetween a b k m (Err outcome) p → WorksBetween a b k m (Err outcome) (bind (on_ok f) p)
+pub works-ends : {A B : Type 0} (a b : Option HostModel) (k m : ℕ) (outcome : Outcome) (f : A → Part B) (p : Part A) → DoesPartBetween a b k m (Err outcome) p → DoesPartBetween a b k m (Err outcome) (bind (on_ok f) p)
 works-ends a b k m outcome f p w = record {
   told = λ t. record {
     ending = λ ne. sym (end_bind host (on_ok f) p (contents a) ∙ ap (end_after host (on_ok f)) (sym ((w.told t).ending (λ e. ne (cc)))) ∙ end_returns host (Err outcome) (contents b));
@@ -88,7 +88,7 @@ works-ends a b k m outcome f p w = record {
   cause = λ s e. w.cause (λ t. makes-first host Serves (on_ok f) p (contents a) (s t)) (cc);
   absent = λ u e. w.absent u (cc);
   ends = w.ends;
-  stands = w.stands;
+  keeps = w.keeps;
 }
 
 -- ---- what is left of a whole, with what follows both
@@ -118,50 +118,50 @@ pub leaves-bind : {A B : Type 0} (a b : Option HostModel) (k m : ℕ) (f : A →
 leaves-bind {A} {B} a b k m f p whole h = record {
   told = λ t. rest-bind host (on_ok f) p whole (contents b) (contents a) (h.told t);
   cause = λ s t.
-      let u : IsTrue (tells a) = tells-back a b h.stands.0 t in
+      let u : IsTrue (tells a) = tells-back a b h.keeps.0 t in
       makes-bind host Serves (on_ok f) p (contents b) (h.cause (λ v. makes-first host Serves (on_ok f) whole (contents a) (s v)) t)
       (subst (λ (e : Result A Outcome × HostModel). MakesAfter host Serves (on_ok f) e) ((h.told u).ending) (makes-after host Serves (on_ok f) whole (contents a) (s u)));
-  stands = h.stands;
+  keeps = h.keeps;
 }
 
 -- ---- no call
 
-pub works-done : {A : Type 0} (a : Option HostModel) (k : ℕ) (x : A) → WorksBetween a a k k (Ok x) (returns (Ok x))
+pub works-done : {A : Type 0} (a : Option HostModel) (k : ℕ) (x : A) → DoesPartBetween a a k k (Ok x) (returns (Ok x))
 works-done a k x = record {
   told = λ t. record { ending = λ ne. sym (end_returns host (Ok x) (contents a)); stopping = λ e. absurd (cc) };
   cause = λ s e. absurd (cc);
   absent = λ u e. absurd (cc);
   ends = tt;
-  stands = stands-all a k;
+  keeps = keeps_host-all a k;
 }
 
-pub works-refused : {A : Type 0} (a : Option HostModel) (k : ℕ) (outcome : Outcome) → is_end outcome ≡ true → outcome ≢ HostFault → outcome ≢ NoFile → outcome ≢ OutOfMemory → WorksBetween {A = A} a a k k (Err outcome) (returns (Err outcome))
+pub works-refused : {A : Type 0} (a : Option HostModel) (k : ℕ) (outcome : Outcome) → is_end outcome ≡ true → outcome ≢ HostFault → outcome ≢ NoFile → outcome ≢ OutOfMemory → DoesPartBetween {A = A} a a k k (Err outcome) (returns (Err outcome))
 works-refused a k outcome i h n o = record {
   told = λ t. record { ending = λ ne. sym (end_returns host (Err outcome) (contents a)); stopping = λ e. absurd (o (cc)) };
   cause = λ s e. absurd (h (cc));
   absent = λ u e. absurd (n (cc));
   ends = i;
-  stands = stands-all a k;
+  keeps = keeps_host-all a k;
 }
 
 -- ---- memory that is taken between two calls
 
-pub works-lacking : {B : Type 0} (a : Option HostModel) (k : ℕ) (f : Unit {0} → Part B) → WorksBetween {A = B} a a k k (Err OutOfMemory) (bind f need)
+pub works-lacking : {B : Type 0} (a : Option HostModel) (k : ℕ) (f : Unit {0} → Part B) → DoesPartBetween {A = B} a a k k (Err OutOfMemory) (bind f need)
 unfolding bind need Stops host
 works-lacking a k f = record {
   told = λ t. record { ending = λ ne. absurd (ne refl); stopping = λ e. inl refl };
   cause = λ s e. absurd (cc);
   absent = λ u e. absurd (cc);
   ends = refl;
-  stands = stands-all a k;
+  keeps = keeps_host-all a k;
 }
 
-pub works-taking : {A : Type 0} (a b : Option HostModel) (k m : ℕ) (r : Result A Outcome) (f : Unit {0} → Part A) → WorksBetween a b k m r (f tt) → WorksBetween a b k m r (bind f need)
+pub works-taking : {A : Type 0} (a b : Option HostModel) (k m : ℕ) (r : Result A Outcome) (f : Unit {0} → Part A) → DoesPartBetween a b k m r (f tt) → DoesPartBetween a b k m r (bind f need)
 unfolding bind need Stops end_of Makes host
 works-taking a b k m r f w = record {
   told = λ t. record { ending = λ ne. (w.told t).ending ne; stopping = λ e. inr ((w.told t).stopping e) };
   cause = λ s e. w.cause (λ t. (s t).1) e;
   absent = w.absent;
   ends = w.ends;
-  stands = w.stands;
+  keeps = w.keeps;
 }

@@ -3,7 +3,7 @@ use Rattle.std.proofs.Common.{◌≡◌, ℕ, suc, ◌-◌, ◌/◌, ◌<◌, �
 use Rattle.std.specs.Prelude.{Option, Result}
 use Rattle.mx_host.specs.HostModel.{HostModel}
 use Rattle.mx_plan.specs.Plan.{bind}
-use Rattle.mx_files.specs.Clauses.{WorksBetween, Leaves}
+use Rattle.mx_files.specs.Clauses.{DoesPartBetween, Leaves}
 use Rattle.mx_files.specs.FilePlans.{Part, on_ok, write_piece, write_pieces, text_plan}
 use Rattle.mx_outcome.specs.declared.outcome.Outcome.{Outcome}
 use Rattle.mx_files.proofs.Parts.{works-on, works-ends, leaves-all, leaves-on, leaves-next}
@@ -26,21 +26,21 @@ unfolding text_plan write_pieces
 text-one slot text h = rw (no-more (length text) h) refl
 
 pub text-next : (a b c : Option HostModel) (k m n slot : ℕ) (text piece others : List ℕ) (whole : Part (Unit {0})) → 4096 < length text → piece ≡ take 4096 text → others ≡ drop 4096 text →
-    Leaves a b k m (text_plan slot text) whole → WorksBetween b c m n (Ok tt) (write_piece slot piece) → Leaves a c k n (text_plan slot others) whole
+    Leaves a b k m (text_plan slot text) whole → DoesPartBetween b c m n (Ok tt) (write_piece slot piece) → Leaves a c k n (text_plan slot others) whole
 text-next a b c k m n slot text piece others whole l front back h w =
-    let next = leaves-next b c m n tt (λ u. text_plan slot (drop 4096 text)) (write_piece slot (take 4096 text)) (subst (λ p. WorksBetween b c m n (Ok tt) (write_piece slot p)) front w) in
+    let next = leaves-next b c m n tt (λ u. text_plan slot (drop 4096 text)) (write_piece slot (take 4096 text)) (subst (λ p. DoesPartBetween b c m n (Ok tt) (write_piece slot p)) front w) in
     subst (λ p. Leaves a c k n (text_plan slot p) whole) (sym back)
     (leaves-on a b c k m n (text_plan slot (drop 4096 text)) (text_plan slot text) whole h (subst (λ p. Leaves b c m n (text_plan slot (drop 4096 text)) p) (sym (text-more slot text l)) next))
 
 pub text-ends : (a b c : Option HostModel) (k m n slot : ℕ) (text piece : List ℕ) (outcome : Outcome) (whole : Part (Unit {0})) → 4096 < length text → piece ≡ take 4096 text →
-    Leaves a b k m (text_plan slot text) whole → WorksBetween b c m n (Err outcome) (write_piece slot piece) → WorksBetween a c k n (Err outcome) whole
+    Leaves a b k m (text_plan slot text) whole → DoesPartBetween b c m n (Err outcome) (write_piece slot piece) → DoesPartBetween a c k n (Err outcome) whole
 text-ends a b c k m n slot text piece outcome whole l front h w =
-    let end = works-ends b c m n outcome (λ u. text_plan slot (drop 4096 text)) (write_piece slot (take 4096 text)) (subst (λ p. WorksBetween b c m n (Err outcome) (write_piece slot p)) front w) in
-    works-on a b c k m n (Err outcome) (text_plan slot text) whole h (subst (λ p. WorksBetween b c m n (Err outcome) p) (sym (text-more slot text l)) end)
+    let end = works-ends b c m n outcome (λ u. text_plan slot (drop 4096 text)) (write_piece slot (take 4096 text)) (subst (λ p. DoesPartBetween b c m n (Err outcome) (write_piece slot p)) front w) in
+    works-on a b c k m n (Err outcome) (text_plan slot text) whole h (subst (λ p. DoesPartBetween b c m n (Err outcome) p) (sym (text-more slot text l)) end)
 
 pub text-last : (a b c : Option HostModel) (k m n slot : ℕ) (text : List ℕ) (r : Result (Unit {0}) Outcome) (whole : Part (Unit {0})) → length text ≤ 4096 → Leaves a b k m (text_plan slot text) whole →
-    WorksBetween b c m n r (write_piece slot text) → WorksBetween a c k n r whole
+    DoesPartBetween b c m n r (write_piece slot text) → DoesPartBetween a c k n r whole
 text-last a b c k m n slot text r whole l h w =
-    works-on a b c k m n r (text_plan slot text) whole h (subst (λ p. WorksBetween b c m n r p) (sym (text-one slot text l)) w)
+    works-on a b c k m n r (text_plan slot text) whole h (subst (λ p. DoesPartBetween b c m n r p) (sym (text-one slot text l)) w)
 
 pub ruleset putting = (text-next, text-ends, text-last, leaves-all)

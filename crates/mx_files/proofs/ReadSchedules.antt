@@ -5,7 +5,7 @@ use Rattle.std.specs.List.{position, position_or_len}
 use Rattle.std.proofs.lemmas.Bool.Decides.{nat_tests}
 use Rattle.mx_host.specs.HostModel.{HostModel}
 use Rattle.mx_plan.specs.Plan.{returns}
-use Rattle.mx_files.specs.Clauses.{WorksBetween}
+use Rattle.mx_files.specs.Clauses.{DoesPartBetween}
 use Rattle.mx_files.specs.FilePlans.{file_plan}
 use Rattle.mx_files.specs.Schedules.{AreEight, is_unnamed, judged, schedule_in, schedule_fault, schedule_plan}
 use Rattle.mx_outcome.specs.declared.outcome.Outcome.{Outcome}
@@ -40,21 +40,21 @@ none-named bytes e = let i = position_or_len is_unnamed bytes in all-named bytes
 
 -- ---- the plan
 
-judged-works : (a : Option HostModel) (k : ℕ) (fault : Option ℕ) (bytes : List ℕ) → WorksBetween a a k k (judged fault bytes) (returns (judged fault bytes))
+judged-works : (a : Option HostModel) (k : ℕ) (fault : Option ℕ) (bytes : List ℕ) → DoesPartBetween a a k k (judged fault bytes) (returns (judged fault bytes))
 judged-works a k None bytes = works-done a k bytes
 judged-works a k (Some place) bytes = works-refused a k (BadSchedule place) refl (λ e. absurd (cc)) (λ e. absurd (cc)) (λ e. absurd (cc))
 
-in-works : (a : Option HostModel) (k : ℕ) (bytes : List ℕ) → WorksBetween a a k k (schedule_in bytes) (returns (schedule_in bytes))
+in-works : (a : Option HostModel) (k : ℕ) (bytes : List ℕ) → DoesPartBetween a a k k (schedule_in bytes) (returns (schedule_in bytes))
 unfolding schedule_in
 in-works a k bytes = judged-works a k (schedule_fault bytes) bytes
 
-pub schedule-read : (a b : Option HostModel) (k m : ℕ) (name bytes : List ℕ) (r : Result (List ℕ) Outcome) → r ≡ schedule_in bytes → WorksBetween a b k m (Ok bytes) (file_plan 1025 name) →
-    WorksBetween a b k m r (schedule_plan name)
+pub schedule-read : (a b : Option HostModel) (k m : ℕ) (name bytes : List ℕ) (r : Result (List ℕ) Outcome) → r ≡ schedule_in bytes → DoesPartBetween a b k m (Ok bytes) (file_plan 1025 name) →
+    DoesPartBetween a b k m r (schedule_plan name)
 unfolding schedule_plan
 schedule-read a b k m name bytes r e w =
     rw e (works-then a b b k m m bytes (schedule_in bytes) (λ bytes. returns (schedule_in bytes)) (file_plan 1025 name) w (in-works b m bytes))
 
-pub schedule-unread : (a b : Option HostModel) (k m : ℕ) (name : List ℕ) (outcome : Outcome) → WorksBetween {A = List ℕ} a b k m (Err outcome) (file_plan 1025 name) →
-    WorksBetween a b k m (Err outcome) (schedule_plan name)
+pub schedule-unread : (a b : Option HostModel) (k m : ℕ) (name : List ℕ) (outcome : Outcome) → DoesPartBetween {A = List ℕ} a b k m (Err outcome) (file_plan 1025 name) →
+    DoesPartBetween a b k m (Err outcome) (schedule_plan name)
 unfolding schedule_plan
 schedule-unread a b k m name outcome w = works-ends a b k m outcome (λ bytes. returns (schedule_in bytes)) (file_plan 1025 name) w

@@ -4,7 +4,7 @@ use Rattle.std.specs.Prelude.{Option}
 use Rattle.mx_host.specs.HostModel.{HostModel, tells, contents}
 use Rattle.mx_host.specs.Keeping.{Keeps}
 use Rattle.mx_plan.specs.Calls.{host, HostPlan}
-use Rattle.mx_plan.specs.Clauses.{Stands}
+use Rattle.mx_plan.specs.Clauses.{KeepsHost}
 use Rattle.mx_plan.specs.Held.{Held, KeepsStreams}
 use Rattle.mx_plan.specs.Plan.{Plan, returns, Acts, end_of, Stops, Comes, IsRest}
 use Rattle.mx_plan.proofs.HeldLaws.{held-end, held-stop, held-on}
@@ -41,7 +41,7 @@ stop-streams p v w s = held-stop host KeepsStreams streams-held p v w s
 pub stop-front : {A : Type 0} (p : HostPlan A) (v w : HostModel) → Stops host v p w → IsFront v.output (end_of host p w).1.output
 stop-front p v w s = (held-on host KeepsStreams streams-held p v w s).growing
 
-pub keeps-by : (old new : Option HostModel) (earlier later : ℕ) → Stands old new earlier later → (IsTrue (tells old) → KeepsStreams (contents old) (contents new)) → Keeps old new earlier later
+pub keeps-by : (old new : Option HostModel) (earlier later : ℕ) → KeepsHost old new earlier later → (IsTrue (tells old) → KeepsStreams (contents old) (contents new)) → Keeps old new earlier later
 keeps-by old new earlier later h k = record {
   telling = h.0;
   counting = h.1;
@@ -52,7 +52,7 @@ keeps-by old new earlier later h k = record {
 }
 
 pub comes-keeps : {A : Type 0} (old new : Option HostModel) (earlier later : ℕ) (none r : A) (p : HostPlan A) → (r ≡ none) ⊎ (r ≢ none) →
-    (IsTrue (tells old) → Comes host (contents old) (contents new) none r p) → Stands old new earlier later → Keeps old new earlier later
+    (IsTrue (tells old) → Comes host (contents old) (contents new) none r p) → KeepsHost old new earlier later → Keeps old new earlier later
 comes-keeps old new earlier later none r p lacks c h =
     keeps-by old new earlier later h (λ t. comes-held host KeepsStreams streams-held (contents old) (contents new) none r p lacks (c t))
 

@@ -23,7 +23,7 @@ use Rattle.mx_plan.specs.Plan.{returns, calls, bind, end_of, end_after}
 use Rattle.mx_plan.proofs.HeldLaws.{held-end}
 use Rattle.mx_plan.proofs.Plans.{end_bind}
 use Rattle.mx_plan.proofs.Streams.{streams-held}
-use Rattle.mx_files.specs.Clauses.{Serves, HasToolSlots, WorksBetween}
+use Rattle.mx_files.specs.Clauses.{Serves, HasToolSlots, DoesPartBetween}
 use Rattle.mx_files.specs.FilePlans.{Part, on_ok, close_file, piece_added, read_piece, read_next, read_pieces, then_closed, read_open, input_opened, open_input, file_plan, write_piece, write_pieces, text_plan, made_plan, lines_plan}
 use Rattle.mx_files.specs.ObjectPlans.{assembled, object_opened, open_object, close_object, put_object, put_source, put_into, assemble_part, typed_end, typed_plan, list_part}
 use Rattle.mx_files.specs.Objects.{Assembled, source_object}
@@ -383,9 +383,9 @@ output-there m e = (on (nat_lt 259 (length m.slots)) refl, e)
 
 -- over every host, work that is served ends with a fault of the host only where the count of faults rose
 pub only-failed : {A : Type 0} (a b : Option HostModel) (k m : ℕ) (r : Result A Outcome) (p : Part A) → ((n : HostModel) → HasToolSlots n → Served p n) →
-    WorksBetween a b k m r p → OnlyByFailure a (Err Broken) r k m
+    DoesPartBetween a b k m r p → OnlyByFailure a (Err Broken) r k m
 unfolding HasStreams
 only-failed a b k m r p served w has e = w.cause (λ t. served (contents a) (output-there (contents a) (has t).1)) e
 
-pub only-lines : (a b : Option HostModel) (k m : ℕ) (r : Result (Unit {0}) Outcome) (texts : List (List ℕ)) → WorksBetween a b k m r (lines_plan texts) → OnlyByFailure a (Err Broken) r k m
+pub only-lines : (a b : Option HostModel) (k m : ℕ) (r : Result (Unit {0}) Outcome) (texts : List (List ℕ)) → DoesPartBetween a b k m r (lines_plan texts) → OnlyByFailure a (Err Broken) r k m
 only-lines a b k m r texts = only-failed a b k m r (lines_plan texts) (λ n h. (lines-safe texts n h.1).0)

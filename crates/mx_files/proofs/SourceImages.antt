@@ -1,4 +1,4 @@
--- A source that is loaded line by line comes to what it means: the lines that were taken stand for the statements before the
+-- A source that is loaded line by line comes to what it means: the lines that were taken mean the statements before the
 -- first refusal, and what is loaded of them is what their items mean.
 use Rattle.std.proofs.Common.{◌≡◌, ℕ, ◌+◌, Bool, true, false, not, cond, List, [], ◌∷◌, ◌++◌, length, refl, sym, ap, subst, ◌∙◌, is_some, Option, Some, None, Result, Ok, Err, append_assoc, append-nil, length-append}
 use Rattle.std.specs.List.{AllByRecursion}
@@ -16,7 +16,7 @@ use Rattle.mx_asm.specs.TwoPass.{Sight}
 use Rattle.mx_asm.specs.Image.{image}
 use Rattle.mx_asm.specs.Pages.{accepted_in, has_room, outlined, page_fault, page_refusal, RunRefusal, run_refusal, run_refusal_with}
 use Rattle.mx_asm.specs.Refusal.{first_of, end_refusal, last_line, refusal}
-use Rattle.mx_asm.specs.OnePass.{Assembly, Progress, Ended, beginning, line_behind, end_behind}
+use Rattle.mx_asm.specs.OnePass.{Assembly, Progress, Ended, beginning, line_following, end_following}
 use Rattle.mx_asm.specs.Fronts.{GrowsAlike}
 use Rattle.mx_asm.specs.Whole.{Line, HasTaken, assembled_lines, assembled_source, lines_entries, lines_items, lines_taken}
 use Rattle.mx_asm.proofs.InTurn.{none-taken, line-taken, line-grows, taken-ends, taken-grows, refusal-lasts, source-accepted, source-refused}
@@ -25,7 +25,7 @@ use Rattle.mx_asm.proofs.MeaningLaws.{page-refusal-is}
 use Rattle.mx_asm.proofs.MeaningLines.{line-is-refused}
 use Rattle.mx_asm.proofs.MeaningSources.{bytes-fault, run-means, source-bytes}
 use Rattle.mx_asm.proofs.MeaningStates.{take-append}
-use Rattle.mx_files.specs.Loading.{standing, refused_at, refusal_of, all_loaded, judged, progress_loaded, and_lines, lines_loaded, image_loaded, ended_with, end_loaded, end_after, standing_after, source_image}
+use Rattle.mx_files.specs.Loading.{loading_status, refused_at, refusal_of, all_loaded, judged, progress_loaded, and_lines, lines_loaded, image_loaded, ended_with, end_loaded, end_after, loading_status_after, source_image}
 use Rattle.mx_files.specs.Sources.{meaning_unless, source_meaning}
 use Rattle.mx_files.specs.declared.refusal.Refusal.{Refusal}
 use Rattle.mx_files.specs.declared.refusal.SourceFault.{SourceFault}
@@ -43,8 +43,8 @@ loaded-means [] r = sym (ap told (none-left r))
 loaded-means (item ∷ items) (Ok s) = loaded-means items (take_item s item)
 loaded-means (item ∷ items) (Err e) = fault-stays (fault_of e) (item ∷ items)
 
-loaded-behind : (out items : List Item) (s : Loading) → take_items out (Ok nothing) ≡ Ok s → all_loaded (Ok s) items ≡ told (take_items (out ++ items) (Ok nothing))
-loaded-behind out items s e = loaded-means items (Ok s) ∙ ap (λ r. told (take_items items r)) (sym e) ∙ ap told (sym (take-append out items (Ok nothing)))
+loaded-after : (out items : List Item) (s : Loading) → take_items out (Ok nothing) ≡ Ok s → all_loaded (Ok s) items ≡ told (take_items (out ++ items) (Ok nothing))
+loaded-after out items s e = loaded-means items (Ok s) ∙ ap (λ r. told (take_items items r)) (sym e) ∙ ap told (sym (take-append out items (Ok nothing)))
 
 -- ---- lines of bytes
 
@@ -73,8 +73,8 @@ full-only false e h = cc
 -- ---- the lines of a source
 
 module _ (source : List ℕ) (bytes : AreBytes source) where
-  -- what lines before the rest stand for: they were taken, and their items mean something
-  record Stands (front rest : List Line) (a : Assembly) (s : Loading) : Type 0 where
+  -- what lines before the rest come to: they were taken, and their items mean something
+  record HasLoaded (front rest : List Line) (a : Assembly) (s : Loading) : Type 0 where
     whole : lines_of source ≡ front ++ rest
     taken : HasTaken front (Ok a)
     loaded : take_items (lines_items front) (Ok nothing) ≡ Ok s
@@ -119,31 +119,31 @@ module _ (source : List ℕ) (bytes : AreBytes source) where
   image-of (Ok s) m e = cc
   image-of (Err why) m e = absurd (cc)
 
-  ends : (front : List Line) (a : Assembly) (s : Loading) → Stands front [] a s → ended_with (Ok s) (end_behind [] (Ok a)) ≡ source_meaning source
+  ends : (front : List Line) (a : Assembly) (s : Loading) → HasLoaded front [] a s → ended_with (Ok s) (end_following [] (Ok a)) ≡ source_meaning source
   ends front a s h = by (refusal source) refl
     where
       whole : lines_of source ≡ front
       whole = h.whole ∙ append-nil front
 
-      grows : GrowsAlike (lines_items front) (assembled_lines front).0 [] (end_behind [] (Ok a)).0
+      grows : GrowsAlike (lines_items front) (assembled_lines front).0 [] (end_following [] (Ok a)).0
       grows = taken-grows front [] (Ok a) h.taken
 
-      items : lines_items front ++ (end_behind [] (Ok a)).0 ≡ (assembled_source source).0
+      items : lines_items front ++ (end_following [] (Ok a)).0 ≡ (assembled_source source).0
       items = ap (λ l. lines_items front ++ l) grows.added ∙ sym grows.due ∙ ap (λ ls. (assembled_lines ls).0) (sym whole)
 
-      trie : (end_behind [] (Ok a)).1 ≡ (assembled_source source).1
+      trie : (end_following [] (Ok a)).1 ≡ (assembled_source source).1
       trie = taken-ends front [] (Ok a) h.taken ∙ ap (λ ls. (assembled_lines ls).1) (sym whole)
 
       pages : refused_pages ≡ None
       pages = no-pages front s (ap lines_items whole) h.loaded
 
-      by : (r : Option Refused) → refusal source ≡ r → ended_with (Ok s) (end_behind [] (Ok a)) ≡ source_meaning source
+      by : (r : Option Refused) → refusal source ≡ r → ended_with (Ok s) (end_following [] (Ok a)) ≡ source_meaning source
       by (Some r) e =
-          with-refusal (Ok s) (end_behind [] (Ok a)) r (trie ∙ ap (λ (p : Ended). p.1) (source-refused source r e))
+          with-refusal (Ok s) (end_following [] (Ok a)) r (trie ∙ ap (λ (p : Ended). p.1) (source-refused source r e))
           ∙ refusal-means r pages e
       by None e =
-          with-trie (Ok s) (end_behind [] (Ok a)) _ (trie ∙ ap (λ (p : Ended). p.1) (source-accepted source e))
-          ∙ ap image_loaded (loaded-behind (lines_items front) (end_behind [] (Ok a)).0 s h.loaded)
+          with-trie (Ok s) (end_following [] (Ok a)) _ (trie ∙ ap (λ (p : Ended). p.1) (source-accepted source e))
+          ∙ ap image_loaded (loaded-after (lines_items front) (end_following [] (Ok a)).0 s h.loaded)
           ∙ ap (λ l. image_loaded (told (take_items l (Ok nothing)))) items
           ∙ image-of (take_items (assembled_source source).0 (Ok nothing)) (image (statements_in (source_entries source)))
           (run-means source bytes (λ i. run_refusal_with (pages i) (e i)))
@@ -152,12 +152,12 @@ module _ (source : List ℕ) (bytes : AreBytes source) where
   -- ---- a line more
 
   abbrev Whole : List Line → List Line → Type 0
-  Whole front rest = (a : Assembly) (s : Loading) → Stands front rest a s →
-      end_loaded (lines_loaded (length front + 1) rest (standing (Ok a) (Ok s))) ≡ source_meaning source
+  Whole front rest = (a : Assembly) (s : Loading) → HasLoaded front rest a s →
+      end_loaded (lines_loaded (length front + 1) rest (loading_status (Ok a) (Ok s))) ≡ source_meaning source
 
   next : (front texts : List Line) (text : Line) → Whole (front ++ text ∷ []) texts → Whole front (text ∷ texts)
   unfolding lines_loaded
-  next front texts text more a s h = step (line_behind [] (Ok a) text) refl
+  next front texts text more a s h = step (line_following [] (Ok a) text) refl
     where
       few : page_fault (accepted_in (lines_entries front)) ≡ None
       few = sym (fault-of front (text ∷ texts) h.whole) ∙ ap result_err h.loaded
@@ -186,15 +186,15 @@ module _ (source : List ℕ) (bytes : AreBytes source) where
       by b (Err e) taken loaded = full e (sym (ap result_err loaded) ∙ fault-of next_lines texts whole)
       by (Err r) (Ok t) taken loaded = refuses r t taken loaded
       by (Ok b) (Ok t) taken loaded =
-          ap (λ n. end_loaded (lines_loaded (n + 1) texts (standing (Ok b) (Ok t)))) (sym (length-append front (text ∷ [])))
+          ap (λ n. end_loaded (lines_loaded (n + 1) texts (loading_status (Ok b) (Ok t)))) (sym (length-append front (text ∷ [])))
           ∙ more b t (record { whole = whole; taken = taken; loaded = loaded })
 
-      step : (p : Progress) → line_behind [] (Ok a) text ≡ p → end_loaded (and_lines (lines_loaded (length front + 1 + 1) texts) (progress_loaded (length front + 1) (Ok s) p)) ≡ source_meaning source
+      step : (p : Progress) → line_following [] (Ok a) text ≡ p → end_loaded (and_lines (lines_loaded (length front + 1 + 1) texts) (progress_loaded (length front + 1) (Ok s) p)) ≡ source_meaning source
       step (items, b) e =
           let grows = line-grows front text [] items (Ok a) b (sym e) h.taken in
           let all : lines_items front ++ items ≡ lines_items next_lines = ap (λ l. lines_items front ++ l) grows.added ∙ sym grows.due in
           ap (λ l. end_loaded (and_lines (lines_loaded (length front + 1 + 1) texts) (judged (length front + 1) b l)))
-          (loaded-behind (lines_items front) items s h.loaded ∙ ap (λ l. told (take_items l (Ok nothing))) all)
+          (loaded-after (lines_items front) items s h.loaded ∙ ap (λ l. told (take_items l (Ok nothing))) all)
           ∙ by b (take_items (lines_items next_lines) (Ok nothing)) (line-taken front text [] items (Ok a) b (sym e) h.taken) refl
 
   lines-are : (rest front : List Line) → Whole front rest
@@ -209,11 +209,11 @@ module _ (source : List ℕ) (bytes : AreBytes source) where
 -- ---- what is answered
 
 pub source-loaded : (source : List ℕ) → AreBytes source → (a : Result Assembly Refused) (l : Result Loading LoadFault) (r : Result Image Refusal) → a ≡ Ok beginning → l ≡ Ok nothing →
-    r ≡ end_loaded (lines_loaded 1 (lines_of source) (standing a l)) → r ≡ source_meaning source
+    r ≡ end_loaded (lines_loaded 1 (lines_of source) (loading_status a l)) → r ≡ source_meaning source
 unfolding source_image
-source-loaded source bytes a l r ea el e = e ∙ (λ i. end_loaded (lines_loaded 1 (lines_of source) (standing (ea i) (el i)))) ∙ source-is source bytes
+source-loaded source bytes a l r ea el e = e ∙ (λ i. end_loaded (lines_loaded 1 (lines_of source) (loading_status (ea i) (el i)))) ∙ source-is source bytes
 
-pub refusal-ends : (fault : SourceFault) (a : Result Assembly Refused) (l k : Result Loading LoadFault) → end_after (Err fault) k ≡ end_loaded (standing_after (Err fault) a l)
+pub refusal-ends : (fault : SourceFault) (a : Result Assembly Refused) (l k : Result Loading LoadFault) → end_after (Err fault) k ≡ end_loaded (loading_status_after (Err fault) a l)
 refusal-ends (Refusing refusal) a l k = refl
 refusal-ends NoRoom a l k = refl
 

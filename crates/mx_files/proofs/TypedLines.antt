@@ -21,20 +21,20 @@ use Rattle.mx_stab.specs.declared.faults.StabFault.{StabFault}
 use Rattle.mx_type.specs.Lambda.{lambda_after}
 use Rattle.mx_type.specs.Texts.{item_text}
 use Rattle.mx_word.specs.declared.symbols.Symbol.{Symbol}
-use Rattle.mx_files.specs.Clauses.{Serves, WorksBetween, Leaves, is_end}
+use Rattle.mx_files.specs.Clauses.{Serves, DoesPartBetween, Leaves, is_end}
 use Rattle.mx_files.specs.FilePlans.{Part, line_plan, made_plan, lines_plan}
 use Rattle.mx_files.specs.ObjectPlans.{typed_end, typed_plan, shown_plan, item_plan}
-use Rattle.mx_files.specs.Typed.{Typed, shown, item_lines, tail_lines, trie_typed, behind, end_typed, unread, tail_typed, walk_typed, still_typed, typed}
+use Rattle.mx_files.specs.Typed.{Typed, shown, item_lines, tail_lines, trie_typed, with_lines_first, end_typed, unread, tail_typed, walk_typed, still_typed, typed}
 use Rattle.mx_outcome.specs.declared.outcome.Outcome.{Outcome}
 use Rattle.mx_outcome.specs.declared.outcome.Outcome.TheVariants.{Done, Usage, NoFile, HostFault, Refused, BadObject, BadSchedule, Stopped, StepsSpent, Quit, ConsoleLimit, OutOfMemory}
 use Rattle.mx_files.proofs.FileParts.{lines-end}
-use Rattle.mx_plan.proofs.Standing.{stands-all}
+use Rattle.mx_plan.proofs.KeptHosts.{keeps_host-all}
 use Rattle.mx_files.proofs.Parts.{works-on, works-then, works-ends, works-done, leaves-all, leaves-on, leaves-next, leaves-bind}
 
 -- ---- lines and outcomes
 
-behind-behind : (xs ys : List (List ℕ)) (t : Typed) → behind xs (behind ys t) ≡ behind (xs ++ ys) t
-behind-behind xs ys t = ap (λ zs. (zs, t.1)) (sym (append_assoc xs ys t.0))
+after-after : (xs ys : List (List ℕ)) (t : Typed) → with_lines_first xs (with_lines_first ys t) ≡ with_lines_first (xs ++ ys) t
+after-after xs ys t = ap (λ zs. (zs, t.1)) (sym (append_assoc xs ys t.0))
 
 -- memory may run out before anything of a listing is written
 abbrev pub Lacks : Typed → Type 0
@@ -48,9 +48,9 @@ fault-lacks : (place fault : ℕ) → Lacks ([], BadObject place fault)
 unfolding typed_plan lines_plan bind need Stops host
 fault-lacks place fault m = inl refl
 
-behind-lacks : (lines : List (List ℕ)) (t : Typed) → Lacks t → Lacks (behind lines t)
-behind-lacks [] t h = h
-behind-lacks (line ∷ lines) t h = lines-lack line (lines ++ t.0) t.1
+after-lacks : (lines : List (List ℕ)) (t : Typed) → Lacks t → Lacks (with_lines_first lines t)
+after-lacks [] t h = h
+after-lacks (line ∷ lines) t h = lines-lack line (lines ++ t.0) t.1
 
 trie-lacks : (place : ℕ) (trie : List ℕ) (r : Result (List Symbol) StabFault) → Lacks (trie_typed place trie r)
 trie-lacks place trie (Ok symbols) = lines-lack _ _ (Done 0)
@@ -65,7 +65,7 @@ end-lacks (Ok left) = tail-lacks (tail_of left.phase left.at left.rest)
 end-lacks (Err fault) = fault-lacks _ _
 
 pub walk-lacks : (lambda : ℕ) (w : Walk) → Lacks (walk_typed lambda w)
-walk-lacks lambda w = behind-lacks (item_lines lambda w.0) (end_typed w.1) (end-lacks w.1)
+walk-lacks lambda w = after-lacks (item_lines lambda w.0) (end_typed w.1) (end-lacks w.1)
 
 either-lacks : (b : Bool) (t u : Typed) → Lacks t → Lacks u → Lacks (cond b t u)
 either-lacks true t u h k = h
@@ -93,7 +93,7 @@ refused-end (BadObject place fault) m i = refl
 refused-end OutOfMemory m i = refl
 
 -- no line, but an outcome
-pub refused-works : (a : Option HostModel) (k : ℕ) (r : Outcome) (t : Typed) → Lacks t → is_end r ≡ true → r ≢ HostFault → r ≢ NoFile → (r ≢ OutOfMemory → t ≡ ([], r)) → WorksBetween a a k k (Err r) (typed_plan t)
+pub refused-works : (a : Option HostModel) (k : ℕ) (r : Outcome) (t : Typed) → Lacks t → is_end r ≡ true → r ≢ HostFault → r ≢ NoFile → (r ≢ OutOfMemory → t ≡ ([], r)) → DoesPartBetween a a k k (Err r) (typed_plan t)
 refused-works a k r t lacks i h n is = record {
   told = λ u. record {
     ending = λ ne. sym (ap (λ (s : Typed). end_of host (typed_plan s) (contents a)) (is (λ e. ne (cc))) ∙ refused-end r (contents a) i);
@@ -102,17 +102,17 @@ refused-works a k r t lacks i h n is = record {
   cause = λ s e. absurd (h (cc));
   absent = λ u e. absurd (n (cc));
   ends = i;
-  stands = stands-all a k;
+  keeps = keeps_host-all a k;
 }
 
 -- all lines, where nothing is left but that
-pub done-works : (a b : Option HostModel) (k m : ℕ) (lines : List (List ℕ)) (r : Result (Unit {0}) Outcome) → WorksBetween a b k m r (lines_plan lines) → WorksBetween a b k m r (typed_plan (lines, Done 0))
+pub done-works : (a b : Option HostModel) (k m : ℕ) (lines : List (List ℕ)) (r : Result (Unit {0}) Outcome) → DoesPartBetween a b k m r (lines_plan lines) → DoesPartBetween a b k m r (typed_plan (lines, Done 0))
 unfolding typed_plan
 done-works a b k m lines (Ok u) w = works-then a b b k m m tt (Ok tt) (λ v. typed_end (Done 0)) (lines_plan lines) w (works-done b m tt)
 done-works a b k m lines (Err outcome) w = works-ends a b k m outcome (λ v. typed_end (Done 0)) (lines_plan lines) w
 
-pub works-named : (a b : Option HostModel) (k m : ℕ) (r : Result (Unit {0}) Outcome) (t u : Typed) → t ≡ u → WorksBetween a b k m r (typed_plan u) → WorksBetween a b k m r (typed_plan t)
-works-named a b k m r t u e w = subst (λ (x : Typed). WorksBetween a b k m r (typed_plan x)) (sym e) w
+pub works-named : (a b : Option HostModel) (k m : ℕ) (r : Result (Unit {0}) Outcome) (t u : Typed) → t ≡ u → DoesPartBetween a b k m r (typed_plan u) → DoesPartBetween a b k m r (typed_plan t)
+works-named a b k m r t u e w = subst (λ (x : Typed). DoesPartBetween a b k m r (typed_plan x)) (sym e) w
 
 pub leaves-named : (a : Option HostModel) (k : ℕ) (t u : Typed) → t ≡ u → Leaves a a k k (typed_plan u) (typed_plan t)
 leaves-named a k t u e = subst (λ (x : Typed). Leaves a a k k (typed_plan u) (typed_plan x)) (sym e) (leaves-all a k (typed_plan u))
@@ -122,17 +122,17 @@ leaves-named a k t u e = subst (λ (x : Typed). Leaves a a k k (typed_plan u) (t
 zero-of : (n : ℕ) → (n == 0) ≡ true → n ≡ 0
 zero-of n h = grind (arith, nat_tests)
 
-pub shown-none : (a : Option HostModel) (k : ℕ) (text : List ℕ) → (length text == 0) ≡ true → WorksBetween a a k k (Ok tt) (shown_plan text)
+pub shown-none : (a : Option HostModel) (k : ℕ) (text : List ℕ) → (length text == 0) ≡ true → DoesPartBetween a a k k (Ok tt) (shown_plan text)
 shown-none a k [] h = works-done a k tt
 shown-none a k (x ∷ text) h = absurd (omega (arith, zero-of _ h))
 
-pub shown-some : (a b : Option HostModel) (k m : ℕ) (text : List ℕ) (r : Result (Unit {0}) Outcome) → (length text == 0) ≡ false → WorksBetween a b k m r (line_plan text) → WorksBetween a b k m r (shown_plan text)
+pub shown-some : (a b : Option HostModel) (k m : ℕ) (text : List ℕ) (r : Result (Unit {0}) Outcome) → (length text == 0) ≡ false → DoesPartBetween a b k m r (line_plan text) → DoesPartBetween a b k m r (shown_plan text)
 shown-some a b k m [] r h w = absurd (cc)
 shown-some a b k m (x ∷ text) r h w = w
 
 -- ---- an item, and the rest after it
 
-none-shown : (a b : Option HostModel) (k m : ℕ) → WorksBetween a b k m (Ok tt) (item_plan []) → IsTrue (tells a) → contents b ≡ contents a
+none-shown : (a b : Option HostModel) (k m : ℕ) → DoesPartBetween a b k m (Ok tt) (item_plan []) → IsTrue (tells a) → contents b ≡ contents a
 unfolding item_plan bind need end_of host
 none-shown a b k m w t = ap (λ (e : Result (Unit {0}) Outcome × HostModel). e.1) ((w.told t).ending (λ e. absurd (cc)))
 
@@ -149,25 +149,25 @@ none-end : (m : HostModel) → end_of host (item_plan []) m ≡ (Ok tt, m)
 unfolding item_plan bind need end_of host
 none-end m = refl
 
-one-made : (a b : Option HostModel) (k m : ℕ) (r : Result (Unit {0}) Outcome) (x : ℕ) (text : List ℕ) → WorksBetween a b k m r (item_plan (x ∷ text)) → WorksBetween a b k m r (made_plan (x ∷ text))
+one-made : (a b : Option HostModel) (k m : ℕ) (r : Result (Unit {0}) Outcome) (x : ℕ) (text : List ℕ) → DoesPartBetween a b k m r (item_plan (x ∷ text)) → DoesPartBetween a b k m r (made_plan (x ∷ text))
 unfolding item_plan made_plan
 one-made a b k m r x text w = w
 
-line-leaves : (a b : Option HostModel) (k m : ℕ) (line : List ℕ) (lines : List (List ℕ)) (outcome : Outcome) → WorksBetween a b k m (Ok tt) (made_plan line) →
+line-leaves : (a b : Option HostModel) (k m : ℕ) (line : List ℕ) (lines : List (List ℕ)) (outcome : Outcome) → DoesPartBetween a b k m (Ok tt) (made_plan line) →
     Leaves a b k m (typed_plan (lines, outcome)) (typed_plan (line ∷ lines, outcome))
 unfolding typed_plan lines_plan
 line-leaves a b k m line lines outcome w =
     leaves-bind a b k m (λ u. typed_end outcome) (lines_plan lines) (lines_plan (line ∷ lines)) (leaves-next a b k m tt (λ u. lines_plan lines) (made_plan line) w)
 
-pub item-leaves : (a b : Option HostModel) (k m : ℕ) (text : List ℕ) (t : Typed) → WorksBetween a b k m (Ok tt) (item_plan text) → Leaves a b k m (typed_plan t) (typed_plan (behind (shown text) t))
+pub item-leaves : (a b : Option HostModel) (k m : ℕ) (text : List ℕ) (t : Typed) → DoesPartBetween a b k m (Ok tt) (item_plan text) → Leaves a b k m (typed_plan t) (typed_plan (with_lines_first (shown text) t))
 item-leaves a b k m [] t w = record {
   told = λ u. subst (λ n. IsRest host (typed_plan t) n (typed_plan t) (contents a)) (sym (none-shown a b k m w u)) (record { ending = refl; stopping = λ v h. h });
-  cause = λ s u. let v : IsTrue (tells a) = subst IsTrue w.stands.0 u in subst (λ n. Makes host Serves (typed_plan t) n) (sym (none-shown a b k m w v)) (s v);
-  stands = w.stands;
+  cause = λ s u. let v : IsTrue (tells a) = subst IsTrue w.keeps.0 u in subst (λ n. Makes host Serves (typed_plan t) n) (sym (none-shown a b k m w v)) (s v);
+  keeps = w.keeps;
 }
 item-leaves a b k m (x ∷ text) t w = line-leaves a b k m (x ∷ text) t.0 t.1 (one-made a b k m (Ok tt) x text w)
 
-pub item-ends : (a b : Option HostModel) (k m : ℕ) (text : List ℕ) (t : Typed) (outcome : Outcome) → Lacks t → WorksBetween a b k m (Err outcome) (item_plan text) → WorksBetween a b k m (Err outcome) (typed_plan (behind (shown text) t))
+pub item-ends : (a b : Option HostModel) (k m : ℕ) (text : List ℕ) (t : Typed) (outcome : Outcome) → Lacks t → DoesPartBetween a b k m (Err outcome) (item_plan text) → DoesPartBetween a b k m (Err outcome) (typed_plan (with_lines_first (shown text) t))
 unfolding typed_plan lines_plan
 item-ends a b k m [] t outcome lacks w = record {
   told = λ u. record {
@@ -177,7 +177,7 @@ item-ends a b k m [] t outcome lacks w = record {
   cause = λ s e. w.cause (λ u. none-made (contents a)) e;
   absent = w.absent;
   ends = w.ends;
-  stands = w.stands;
+  keeps = w.keeps;
 }
 item-ends a b k m (x ∷ text) t outcome lacks w =
     works-ends a b k m outcome (λ u. typed_end t.1) (lines_plan ((x ∷ text) ∷ t.0)) (works-ends a b k m outcome (λ u. lines_plan t.0) (made_plan (x ∷ text)) (one-made a b k m (Err outcome) x text w))
@@ -194,34 +194,34 @@ pub still-fault : (lambda : ℕ) (m n : ReaderModel) (fault : MmoFault) → m.fa
 unfolding item_lines
 still-fault lambda m n fault well h = ap (walk_typed lambda) (next-fault m n fault well h)
 
-first-line : (lambda : ℕ) (item : Item) (w : Walk) → walk_typed lambda (item ∷ w.0, w.1) ≡ behind (shown (item_text lambda item)) (walk_typed (lambda_after lambda item) w)
+first-line : (lambda : ℕ) (item : Item) (w : Walk) → walk_typed lambda (item ∷ w.0, w.1) ≡ with_lines_first (shown (item_text lambda item)) (walk_typed (lambda_after lambda item) w)
 unfolding item_lines
-first-line lambda item w = sym (behind-behind (shown (item_text lambda item)) (item_lines (lambda_after lambda item) w.0) (end_typed w.1))
+first-line lambda item w = sym (after-after (shown (item_text lambda item)) (item_lines (lambda_after lambda item) w.0) (end_typed w.1))
 
 pub still-item : (lambda next : ℕ) (m n : ReaderModel) (item : Item) → m.fault ≡ None → (Ok (Some item), n) ≡ next_answer m → next ≡ lambda_after lambda item →
-    still_typed lambda m ≡ behind (shown (item_text lambda item)) (still_typed next n)
+    still_typed lambda m ≡ with_lines_first (shown (item_text lambda item)) (still_typed next n)
 still-item lambda next m n item well h e =
     ap (walk_typed lambda) (sym (next-gave [] m n item well h).same)
     ∙ first-line lambda item (items_of n.phase n.at n.rest)
-    ∙ ap (λ l. behind (shown (item_text lambda item)) (still_typed l n)) (sym e)
+    ∙ ap (λ l. with_lines_first (shown (item_text lambda item)) (still_typed l n)) (sym e)
 
 -- ---- an item that is next
 
 pub next-leaves : (a b : Option HostModel) (k o lambda next : ℕ) (m n : ReaderModel) (item : Item) → m.fault ≡ None → (Ok (Some item), n) ≡ next_answer m → next ≡ lambda_after lambda item →
-    WorksBetween a b k o (Ok tt) (item_plan (item_text lambda item)) → Leaves a b k o (typed_plan (still_typed next n)) (typed_plan (still_typed lambda m))
+    DoesPartBetween a b k o (Ok tt) (item_plan (item_text lambda item)) → Leaves a b k o (typed_plan (still_typed next n)) (typed_plan (still_typed lambda m))
 next-leaves a b k o lambda next m n item well h e w =
     subst (λ (t : Typed). Leaves a b k o (typed_plan (still_typed next n)) (typed_plan t)) (sym (still-item lambda next m n item well h e)) (item-leaves a b k o (item_text lambda item) (still_typed next n) w)
 
 pub next-ends : (a b : Option HostModel) (k o lambda : ℕ) (m n : ReaderModel) (item : Item) (outcome : Outcome) → m.fault ≡ None → (Ok (Some item), n) ≡ next_answer m →
-    WorksBetween a b k o (Err outcome) (item_plan (item_text lambda item)) → WorksBetween a b k o (Err outcome) (typed_plan (still_typed lambda m))
+    DoesPartBetween a b k o (Err outcome) (item_plan (item_text lambda item)) → DoesPartBetween a b k o (Err outcome) (typed_plan (still_typed lambda m))
 next-ends a b k o lambda m n item outcome well h w =
     let next : ℕ = lambda_after lambda item in
-    works-named a b k o (Err outcome) (still_typed lambda m) (behind (shown (item_text lambda item)) (still_typed next n)) (still-item lambda next m n item well h refl)
+    works-named a b k o (Err outcome) (still_typed lambda m) (with_lines_first (shown (item_text lambda item)) (still_typed next n)) (still-item lambda next m n item well h refl)
     (item-ends a b k o (item_text lambda item) (still_typed next n) outcome (walk-lacks next (items_of n.phase n.at n.rest)) w)
 
 -- ---- lines of a list
 
-lines-leave : (b c : Option HostModel) (m n : ℕ) (line : List ℕ) (lines : List (List ℕ)) → WorksBetween b c m n (Ok tt) (made_plan line) → Leaves b c m n (lines_plan lines) (lines_plan (line ∷ lines))
+lines-leave : (b c : Option HostModel) (m n : ℕ) (line : List ℕ) (lines : List (List ℕ)) → DoesPartBetween b c m n (Ok tt) (made_plan line) → Leaves b c m n (lines_plan lines) (lines_plan (line ∷ lines))
 unfolding lines_plan
 lines-leave b c m n line lines w = leaves-next b c m n tt (λ u. lines_plan lines) (made_plan line) w
 
@@ -233,18 +233,18 @@ module _ {A : Type 0} (f : A → List ℕ) where
   none-left xs i l = grind (arith, common_steps)
 
   pub list-next : (a b c : Option HostModel) (k m n : ℕ) (xs : List A) (i : ℕ) (x d : A) (whole : Part (Unit {0})) → i < length xs → x ≡ get_or xs i d → Leaves a b k m (lines_plan (map f (drop i xs))) whole →
-      WorksBetween b c m n (Ok tt) (made_plan (f x)) → Leaves a c k n (lines_plan (map f (drop (i + 1) xs))) whole
+      DoesPartBetween b c m n (Ok tt) (made_plan (f x)) → Leaves a c k n (lines_plan (map f (drop (i + 1) xs))) whole
   list-next a b c k m n xs i x d whole l e h w =
       leaves-on a b c k m n (lines_plan (map f (drop (i + 1) xs))) (lines_plan (map f (drop i xs))) whole h
       (subst (λ ls. Leaves b c m n (lines_plan (map f (drop (i + 1) xs))) (lines_plan ls)) (sym (first-of-list xs i x d l e)) (lines-leave b c m n (f x) (map f (drop (i + 1) xs)) w))
 
   pub list-ends : (a b c : Option HostModel) (k m n : ℕ) (xs : List A) (i : ℕ) (x d : A) (outcome : Outcome) (whole : Part (Unit {0})) → i < length xs → x ≡ get_or xs i d → Leaves a b k m (lines_plan (map f (drop i xs))) whole →
-      WorksBetween b c m n (Err outcome) (made_plan (f x)) → WorksBetween a c k n (Err outcome) whole
+      DoesPartBetween b c m n (Err outcome) (made_plan (f x)) → DoesPartBetween a c k n (Err outcome) whole
   list-ends a b c k m n xs i x d outcome whole l e h w =
       works-on a b c k m n (Err outcome) (lines_plan (map f (drop i xs))) whole h
-      (subst (λ ls. WorksBetween b c m n (Err outcome) (lines_plan ls)) (sym (first-of-list xs i x d l e)) (lines-end b c m n (f x) (map f (drop (i + 1) xs)) outcome w))
+      (subst (λ ls. DoesPartBetween b c m n (Err outcome) (lines_plan ls)) (sym (first-of-list xs i x d l e)) (lines-end b c m n (f x) (map f (drop (i + 1) xs)) outcome w))
 
-  pub list-done : (a b : Option HostModel) (k m : ℕ) (xs : List A) (i : ℕ) (whole : Part (Unit {0})) → length xs ≤ i → Leaves a b k m (lines_plan (map f (drop i xs))) whole → WorksBetween a b k m (Ok tt) whole
+  pub list-done : (a b : Option HostModel) (k m : ℕ) (xs : List A) (i : ℕ) (whole : Part (Unit {0})) → length xs ≤ i → Leaves a b k m (lines_plan (map f (drop i xs))) whole → DoesPartBetween a b k m (Ok tt) whole
   unfolding lines_plan
   list-done a b k m xs i whole l h =
       works-on a b b k m m (Ok tt) (lines_plan (map f (drop i xs))) whole h (rw (none-left xs i l) (works-done b m tt))
@@ -252,7 +252,7 @@ module _ {A : Type 0} (f : A → List ℕ) where
 -- ---- the end of an object
 
 pub tail-listed : (a b : Option HostModel) (k m : ℕ) (tail : Tail) (trie : List ℕ) (symbols shown : List Symbol) (r : Result (Unit {0}) Outcome) → Ok symbols ≡ trie_answer tail.trie → trie ≡ tail.trie → shown ≡ symbols →
-    WorksBetween a b k m r (lines_plan (tail_lines trie shown)) → WorksBetween a b k m r (typed_plan (tail_typed (Ok tail)))
+    DoesPartBetween a b k m r (lines_plan (tail_lines trie shown)) → DoesPartBetween a b k m r (typed_plan (tail_typed (Ok tail)))
 tail-listed a b k m tail trie symbols shown r e s t w =
     works-named a b k m r (tail_typed (Ok tail)) (tail_lines trie shown, Done 0) (ap (trie_typed tail.place tail.trie) (sym e) ∙ rw (s, t) refl) (done-works a b k m (tail_lines trie shown) r w)
 

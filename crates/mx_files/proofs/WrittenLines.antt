@@ -8,7 +8,7 @@ use Rattle.std.specs.List.{flat_map, range_with_len}
 use Rattle.std.specs.Prelude.{Option, Result}
 use Rattle.mx_host.specs.HostModel.{HostModel}
 use Rattle.mx_plan.specs.Plan.{Plan, returns, calls, bind}
-use Rattle.mx_files.specs.Clauses.{WorksBetween}
+use Rattle.mx_files.specs.Clauses.{DoesPartBetween}
 use Rattle.mx_files.specs.FilePlans.{Part, on_ok, line_plan, made_plan, lines_plan}
 use Rattle.mx_outcome.specs.declared.outcome.Outcome.{Outcome}
 use Rattle.mx_outcome.specs.declared.outcome.Outcome.TheVariants.{OutOfMemory}
@@ -37,7 +37,7 @@ lines-append (x ∷ xs) ys =
 -- ---- parts of the work
 
 abbrev pub Writes : Option HostModel → Option HostModel → ℕ → ℕ → Result (Unit {0}) Outcome → List (List ℕ) → Type 0
-Writes a b k m r lines = WorksBetween a b k m r (lines_plan lines)
+Writes a b k m r lines = DoesPartBetween a b k m r (lines_plan lines)
 
 pub writes-none : (a : Option HostModel) (k : ℕ) → Writes a a k k (Ok tt) []
 unfolding lines_plan
@@ -46,20 +46,20 @@ writes-none a k = works-done a k tt
 -- lines after those that were written
 pub writes-then : (a b c : Option HostModel) (k m n : ℕ) (r : Result (Unit {0}) Outcome) (xs ys : List (List ℕ)) → Writes a b k m (Ok tt) xs → Writes b c m n r ys → Writes a c k n r (xs ++ ys)
 writes-then a b c k m n r xs ys first second =
-    subst (λ (p : Part (Unit {0})). WorksBetween a c k n r p) (sym (lines-append xs ys)) (works-then a b c k m n tt r (λ u. lines_plan ys) (lines_plan xs) first second)
+    subst (λ (p : Part (Unit {0})). DoesPartBetween a c k n r p) (sym (lines-append xs ys)) (works-then a b c k m n tt r (λ u. lines_plan ys) (lines_plan xs) first second)
 
 -- no other line after one that was not written
 pub writes-ended : (a b : Option HostModel) (k m : ℕ) (outcome : Outcome) (xs ys : List (List ℕ)) → Writes a b k m (Err outcome) xs → Writes a b k m (Err outcome) (xs ++ ys)
 writes-ended a b k m outcome xs ys h =
-    subst (λ (p : Part (Unit {0})). WorksBetween a b k m (Err outcome) p) (sym (lines-append xs ys)) (works-ends a b k m outcome (λ u. lines_plan ys) (lines_plan xs) h)
+    subst (λ (p : Part (Unit {0})). DoesPartBetween a b k m (Err outcome) p) (sym (lines-append xs ys)) (works-ends a b k m outcome (λ u. lines_plan ys) (lines_plan xs) h)
 
 -- one line
-one-made : (a b : Option HostModel) (k m : ℕ) (line : List ℕ) (r : Result (Unit {0}) Outcome) → WorksBetween a b k m r (made_plan line) → Writes a b k m r (line ∷ [])
+one-made : (a b : Option HostModel) (k m : ℕ) (line : List ℕ) (r : Result (Unit {0}) Outcome) → DoesPartBetween a b k m r (made_plan line) → Writes a b k m r (line ∷ [])
 unfolding lines_plan
 one-made a b k m line (Ok u) w = works-then a b b k m m u (Ok u) (λ v. returns (Ok tt)) (made_plan line) w (works-done b m tt)
 one-made a b k m line (Err outcome) w = works-ends a b k m outcome (λ v. returns (Ok tt)) (made_plan line) w
 
-pub writes-line : (a b : Option HostModel) (k m : ℕ) (line made : List ℕ) (r : Result (Unit {0}) Outcome) → made ≡ line → WorksBetween a b k m r (line_plan made) → Writes a b k m r (line ∷ [])
+pub writes-line : (a b : Option HostModel) (k m : ℕ) (line made : List ℕ) (r : Result (Unit {0}) Outcome) → made ≡ line → DoesPartBetween a b k m r (line_plan made) → Writes a b k m r (line ∷ [])
 writes-line a b k m line made r e w = one-made a b k m line r (line-made a b k m line made r e w)
 
 pub writes-lacking : (a : Option HostModel) (k : ℕ) (line : List ℕ) → Writes a a k k (Err OutOfMemory) (line ∷ [])

@@ -1,4 +1,4 @@
--- What a command comes to: an outcome and the host as it then stands.
+-- What a command comes to: an outcome and the host as it then is.
 use Rattle.std.specs.Prelude.{◌≡◌, ◌≢◌, IsTrue, Bool, if◌then◌else◌, ℕ, List, Option}
 use Rattle.mx_word.specs.Lists.{IsFront}
 use Rattle.mx_host.specs.HostModel.{HostModel, tells, contents}

@@ -9,7 +9,7 @@ use Rattle.mx_host.specs.declared.slots.Lead.TheVariants.{Input, Output, Errors,
 use Rattle.mx_host.specs.declared.slots.Slot.{Slot}
 use Rattle.mx_host.specs.declared.slots.Slot.TheVariants.{Closed, Open}
 use Rattle.mx_plan.specs.Calls.{HostCall, closing, reading, writing, host, HostPlan}
-use Rattle.mx_plan.specs.Clauses.{CarriesOut, Stands}
+use Rattle.mx_plan.specs.Clauses.{CarriesOutOnHost, KeepsHost}
 use Rattle.mx_plan.specs.Held.{Makes}
 use Rattle.mx_plan.specs.Plan.{IsRest, end_of}
 use Rattle.mx_files.specs.FilePlans.{Part}
@@ -79,20 +79,20 @@ is_end outcome = false
 
 -- A part is carried out. Over every host it ends the work only so; with a fault of the host only by a call that failed; over a host
 -- that tells nothing a file is missing only where the count of faults rose; and that count does not fall.
-pub record WorksBetween {A : Type 0} (old new : Option HostModel) (earlier later : ℕ) (result : Result A Outcome) (part : Part A) : Type 0 where
-  pub told : CarriesOut old new (Err OutOfMemory) result part
+pub record DoesPartBetween {A : Type 0} (old new : Option HostModel) (earlier later : ℕ) (result : Result A Outcome) (part : Part A) : Type 0 where
+  pub told : CarriesOutOnHost old new (Err OutOfMemory) result part
   pub cause : ComesByFailing old (Err HostFault) result earlier later part
   pub absent : ComesByFault old (Err NoFile) result earlier later
   pub ends : IfErr result (λ outcome. is_end outcome ≡ true)
-  pub stands : Stands old new earlier later
+  pub keeps : KeepsHost old new earlier later
 
 -- the same of a host: `told` is what it tells, `faults` its count of faults, `old` and `new` are the host before and after
-abbrev pub Works : {H A : Type 0} → (H → Option HostModel) → (H → ℕ) → H → H → Result A Outcome → Part A → Type 0
-Works told faults old new result part = WorksBetween (told old) (told new) (faults old) (faults new) result part
+abbrev pub DoesPart : {H A : Type 0} → (H → Option HostModel) → (H → ℕ) → H → H → Result A Outcome → Part A → Type 0
+DoesPart told faults old new result part = DoesPartBetween (told old) (told new) (faults old) (faults new) result part
 
 -- a part is carried out over a host
-abbrev pub CarriesOutPart : {H A : Type 0} → (H → Option HostModel) → H → H → Result A Outcome → Part A → Type 0
-CarriesOutPart told old new result part = CarriesOut (told old) (told new) (Err OutOfMemory) result part
+abbrev pub CarriesOutFilePart : {H A : Type 0} → (H → Option HostModel) → H → H → Result A Outcome → Part A → Type 0
+CarriesOutFilePart told old new result part = CarriesOutOnHost (told old) (told new) (Err OutOfMemory) result part
 
 -- over a host that tells its contents, the outcome and what the host then holds are the end of a plan, unless there was no memory;
 -- where there was none, what standard output has is a front of what the plan writes
@@ -106,7 +106,7 @@ WritesFrontOfPlan told old new result plan = WritesFront (told old) (told new) O
 pub record Leaves {A : Type 0} (old new : Option HostModel) (earlier later : ℕ) (rest whole : Part A) : Type 0 where
   pub told : IsTrue (tells old) → IsRest host rest (contents new) whole (contents old)
   pub cause : (IsTrue (tells old) → Makes host Serves whole (contents old)) → IsTrue (tells new) → Makes host Serves rest (contents new)
-  pub stands : Stands old new earlier later
+  pub keeps : KeepsHost old new earlier later
 
 -- whether all was written, as a part of the work, with the model after it
 abbrev pub part_of : Then Bool → Then (Result (Unit {0}) Outcome)

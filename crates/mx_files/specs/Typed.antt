@@ -58,14 +58,14 @@ end_typed (Ok left) = tail_typed (tail_of left.phase left.at left.rest)
 end_typed (Err fault) = ([], unread fault)
 
 -- lines before others
-abbrev pub behind : List (List ℕ) → Typed → Typed
-behind lines t = (lines ++ t.0, t.1)
+abbrev pub with_lines_first : List (List ℕ) → Typed → Typed
+with_lines_first lines t = (lines ++ t.0, t.1)
 
 -- the items up to the first fault, and then what follows them, or the fault
 abbrev pub walk_typed : ℕ → Walk → Typed
-walk_typed lambda w = behind (item_lines lambda w.0) (end_typed w.1)
+walk_typed lambda w = with_lines_first (item_lines lambda w.0) (end_typed w.1)
 
--- An object, line by line. Where it has a fault of its own, the lines of the items before it stand, and no line of a trie;
+-- An object, line by line. Where it has a fault of its own, the lines of the items before it are there, and no line of a trie;
 -- what its items mean plays no part. Of too many bytes there is no line.
 unfoldable pub typed : List ℕ → Typed
 typed object = if nat_lt limit (length object) then ([], unread (TooLong limit)) else walk_typed 0 (items_of Start 0 object)

@@ -7,10 +7,11 @@ ghost use Rattle.mx_asm.specs.OnePass.{beginning};
 ghost use Rattle.mx_asm.specs.Whole.{assembled_lines, line_after};
 ghost use Rattle.mx_line.specs.Lines.{lines_of};
 ghost use Rattle.mx_mmo.specs.Spelling.{written};
-ghost use Rattle.mx_plan.specs.Clauses.{CarriesOut};
+ghost use Rattle.mx_plan.specs.Clauses.{CarriesOutOnHost};
 ghost use Rattle.mx_files.specs.Failing.{FailsOnlyBy};
-ghost use Rattle.mx_files.specs.Clauses.{AnswersPlan, FailsByPlan, Works, WritesFrontOfPlan};
+ghost use Rattle.mx_files.specs.Clauses.{AnswersPlan, DoesPart, FailsByPlan, WritesFrontOfPlan};
 ghost use Rattle.mx_files.specs.ObjectPlans as plans;
+ghost use Rattle.mx_files.specs.ObjectPlans.{assemble_plan};
 ghost use Rattle.mx_files.specs.Objects as objects;
 
 use crate::pieces::{close_file, put_text, whole_outcome};
@@ -163,7 +164,7 @@ fn answer_of_source(answer: Result<(), Refusal>) -> Result<(), Outcome>
 
 /// Closes the object file, also that of a source that is refused.
 fn close_object<H: Host>(host: &mut H, answer: Result<(), Refusal>) -> Result<(), Outcome>
-    ensures { Works H.told H.faults host.old host.new result (plans.close_object answer) }
+    ensures { DoesPart H.told H.faults host.old host.new result (plans.close_object answer) }
 {
     close_file(host, OBJECT_SLOT)?;
     answer_of_source(answer)
@@ -175,7 +176,7 @@ fn put_object<H: Host>(
     bytes: &[u8],
     answer: Result<(), Refusal>,
 ) -> Result<(), Outcome>
-    ensures { Works H.told H.faults host.old host.new result (plans.put_object (bytes.now, answer)) }
+    ensures { DoesPart H.told H.faults host.old host.new result (plans.put_object (bytes.now, answer)) }
 {
     put_text(host, OBJECT_SLOT, bytes)?;
     close_object(host, answer)
@@ -184,7 +185,7 @@ fn put_object<H: Host>(
 /// Assembles a source into the object file, which is open. The file of a source that is refused has the
 /// items of the statements before the faulty one.
 fn put_source<H: Host>(alloc: Global, host: &mut H, text: &[u8]) -> Result<(), Outcome>
-    ensures { Works H.told H.faults host.old host.new result (plans.put_source text.now) }
+    ensures { DoesPart H.told H.faults host.old host.new result (plans.put_source text.now) }
 {
     let (bytes, answer) = source_object(alloc, text)?;
     put_object(host, bytes.as_slice(), answer)
@@ -193,7 +194,7 @@ fn put_source<H: Host>(alloc: Global, host: &mut H, text: &[u8]) -> Result<(), O
 /// Opens the file of this name as the object file.
 #[tactic(auto, using(mx_plan::proofs::Plans::plans), unfolding(crate::specs::ObjectPlans::open_object))]
 fn open_object<H: Host>(host: &mut H, name: &[u8]) -> Result<(), Outcome>
-    ensures { Works H.told H.faults host.old host.new result (plans.open_object name.now) }
+    ensures { DoesPart H.told H.faults host.old host.new result (plans.open_object name.now) }
 {
     match open(host, OBJECT_SLOT, name, Mode::BinaryWrite) {
         Ok(()) => Ok(()),
@@ -205,7 +206,7 @@ fn open_object<H: Host>(host: &mut H, name: &[u8]) -> Result<(), Outcome>
 
 /// Assembles a source into the file of this name.
 fn put_into<H: Host>(alloc: Global, host: &mut H, object: &[u8], text: &[u8]) -> Result<(), Outcome>
-    ensures { Works H.told H.faults host.old host.new result (plans.put_into object.now text.now) }
+    ensures { DoesPart H.told H.faults host.old host.new result (plans.put_into object.now text.now) }
 {
     open_object(host, object)?;
     put_source(alloc, host, text)
@@ -218,7 +219,7 @@ fn assemble<H: Host>(
     source: &[u8],
     object: &[u8],
 ) -> Result<(), Outcome>
-    ensures { Works H.told H.faults host.old host.new result (plans.assemble_part source.now object.now) }
+    ensures { DoesPart H.told H.faults host.old host.new result (plans.assemble_part source.now object.now) }
 {
     let text = read_file(alloc, host, source, SOURCE_PIECES)?;
     put_into(alloc, host, object, text.as_slice())
@@ -227,13 +228,13 @@ fn assemble<H: Host>(
 /// Assembles the source in a file into the object file of this name. Where there is no memory, the calls made by then
 /// stay: the object file is opened before the source is assembled, and written after.
 pub fn assemble_file<H: Host>(alloc: Global, host: &mut H, source: &[u8], object: &[u8]) -> Outcome
-    ensures plan { CarriesOut (H.told host.old) (H.told host.new) Outcome.OutOfMemory result
-        (plans.assemble_plan source.now object.now) }
+    ensures plan { CarriesOutOnHost (H.told host.old) (H.told host.new) Outcome.OutOfMemory result
+        (assemble_plan source.now object.now) }
     ensures cause { FailsByPlan H.told H.faults host.old host.new result
         (plans.assemble_part source.now object.now) }
-    ensures told { AnswersPlan H.told host.old host.new result (plans.assemble_plan source.now object.now) }
+    ensures told { AnswersPlan H.told host.old host.new result (assemble_plan source.now object.now) }
     ensures written { WritesFrontOfPlan H.told host.old host.new result
-        (plans.assemble_plan source.now object.now) }
+        (assemble_plan source.now object.now) }
     ensures causes { FailsOnlyBy H.told H.faults host.old host.new result }
 {
     whole_outcome(assemble(alloc, host, source, object))

@@ -22,7 +22,7 @@ pub fn files_are_their_plans()
         end_of host (lines_plan lines) m ≡ part_of (lines_put lines m) }
 {}
 
-/// Where a plan stops for want of memory, it only added to standard output, and what is there is a front of what
+/// Where a plan stops because memory runs out, it only added to standard output, and what is there is a front of what
 /// would be there at its end; the slots of the tool lead where they led.
 #[tactic(auto, using(crate::proofs::Rests::stopping))]
 pub fn files_stop_in_front()

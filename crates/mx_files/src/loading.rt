@@ -3,9 +3,10 @@
 ghost use Rattle.std.specs.Prelude.{◌≡◌, ◌≢◌, Ok, Err, IfOk, OnOk};
 ghost use Rattle.mx_asm.specs.Faults.{no_memory};
 ghost use Rattle.mx_asm.specs.Fitting.{AreFit};
-ghost use Rattle.mx_asm.specs.OnePass.{beginning, line_behind};
+ghost use Rattle.mx_asm.specs.OnePass.{beginning, line_following};
 ghost use Rattle.mx_line.specs.Lines.{lines_of};
-ghost use Rattle.mx_load.specs.Standing as loader_spec;
+ghost use Rattle.mx_load.specs.Status as loader_spec;
+ghost use Rattle.mx_load.specs.Status.{status};
 ghost use Rattle.mx_mmo.specs.Meaning.{nothing};
 ghost use Rattle.mx_files.specs.Loading as spec;
 ghost use Rattle.mx_files.specs.Sources.{source_meaning};
@@ -22,11 +23,11 @@ use std::alloc::Global;
 #[tactic(auto, using(crate::proofs::LoadedItems::loading), unfolding(mx_asm::specs::Fitting::AreFit))]
 fn load_items(loader: &mut Loader, items: &[Item]) -> Result<(), LoadFault>
     requires fit { AreFit items.now }
-    requires open { loader_spec.answer (loader_spec.standing loader.old) ≡ Ok tt }
+    requires open { loader_spec.answer (status loader.old) ≡ Ok tt }
     ensures loaded { result ≢ Err LoadFault.OutOfMemory →
-        loader_spec.standing loader.new ≡ spec.all_loaded (loader_spec.standing loader.old) items.now }
+        status loader.new ≡ spec.all_loaded (status loader.old) items.now }
     ensures answer { result ≢ Err LoadFault.OutOfMemory →
-        result ≡ loader_spec.answer (loader_spec.standing loader.new) }
+        result ≡ loader_spec.answer (status loader.new) }
 {
     let mut rest = items;
     while let [item, others @ ..] = rest {
@@ -53,7 +54,7 @@ fn take_line(
     items: &mut Items,
     text: &[u8],
 ) -> Result<Result<(), Refusal>, NoMemory>
-    ensures taken { OnOk result ((items.new, assembler.new) ≡ line_behind items.old assembler.old text.now) }
+    ensures taken { OnOk result ((items.new, assembler.new) ≡ line_following items.old assembler.old text.now) }
     ensures answer { IfOk result (λ answer. answer ≡ spec.refusal_in assembler.new) }
     ensures fits { AreFit items.old → AreFit items.new }
 {
@@ -72,11 +73,11 @@ fn load_line(
     text: &[u8],
     line: u32,
 ) -> Result<(), SourceFault>
-    requires open { loader_spec.answer (loader_spec.standing loader.old) ≡ Ok tt }
-    ensures open { OnOk result (loader_spec.answer (loader_spec.standing loader.new) ≡ Ok tt) }
+    requires open { loader_spec.answer (status loader.old) ≡ Ok tt }
+    ensures open { OnOk result (loader_spec.answer (status loader.new) ≡ Ok tt) }
     ensures loaded { result ≢ Err SourceFault.OutOfMemory →
-        spec.standing_after result assembler.new (loader_spec.standing loader.new)
-        ≡ spec.line_loaded line (spec.standing assembler.old (loader_spec.standing loader.old)) text.now }
+        spec.loading_status_after result assembler.new (status loader.new)
+        ≡ spec.line_loaded line (spec.loading_status assembler.old (status loader.old)) text.now }
 {
     let mut items = Items::new(alloc);
     let answer = take_line(assembler, &mut items, text)?;
@@ -108,11 +109,11 @@ fn load_lines(
     loader: &mut Loader,
     text: &[u8],
 ) -> Result<(), SourceFault>
-    requires open { loader_spec.answer (loader_spec.standing loader.old) ≡ Ok tt }
-    ensures open { OnOk result (loader_spec.answer (loader_spec.standing loader.new) ≡ Ok tt) }
+    requires open { loader_spec.answer (status loader.old) ≡ Ok tt }
+    ensures open { OnOk result (loader_spec.answer (status loader.new) ≡ Ok tt) }
     ensures loaded { result ≢ Err SourceFault.OutOfMemory →
-        spec.standing_after result assembler.new (loader_spec.standing loader.new)
-        ≡ spec.lines_loaded 1 (lines_of text.now) (spec.standing assembler.old (loader_spec.standing loader.old)) }
+        spec.loading_status_after result assembler.new (status loader.new)
+        ≡ spec.lines_loaded 1 (lines_of text.now) (spec.loading_status assembler.old (status loader.old)) }
 {
     let mut rest = text;
     let mut line = 1u32;
@@ -135,10 +136,10 @@ fn load_end(
     assembler: &mut Assembler,
     loader: &mut Loader,
 ) -> Result<(), SourceFault>
-    requires open { loader_spec.answer (loader_spec.standing loader.old) ≡ Ok tt }
+    requires open { loader_spec.answer (status loader.old) ≡ Ok tt }
     ensures { result ≢ Err SourceFault.OutOfMemory →
-        spec.end_after result (loader_spec.standing loader.new)
-        ≡ spec.end_loaded (Ok (spec.standing assembler.old (loader_spec.standing loader.old))) }
+        spec.end_after result (status loader.new)
+        ≡ spec.end_loaded (Ok (spec.loading_status assembler.old (status loader.old))) }
 {
     let mut items = Items::new(alloc);
     match assembler.finish(&mut items) {
@@ -158,9 +159,9 @@ fn load_by(
     text: &[u8],
 ) -> Result<(), SourceFault>
     requires start { assembler.old ≡ Ok beginning }
-    requires none { loader_spec.standing loader.old ≡ Ok nothing }
+    requires none { status loader.old ≡ Ok nothing }
     ensures { result ≢ Err SourceFault.OutOfMemory →
-        spec.end_after result (loader_spec.standing loader.new) ≡ source_meaning text.now }
+        spec.end_after result (status loader.new) ≡ source_meaning text.now }
 {
     load_lines(alloc, assembler, loader, text)?;
     load_end(alloc, assembler, loader)
@@ -168,9 +169,9 @@ fn load_by(
 
 /// Loads the items that a source is assembled into.
 fn load_into(alloc: Global, loader: &mut Loader, text: &[u8]) -> Result<(), SourceFault>
-    requires { loader_spec.standing loader.old ≡ Ok nothing }
+    requires { status loader.old ≡ Ok nothing }
     ensures { result ≢ Err SourceFault.OutOfMemory →
-        spec.end_after result (loader_spec.standing loader.new) ≡ source_meaning text.now }
+        spec.end_after result (status loader.new) ≡ source_meaning text.now }
 {
     let mut assembler = Assembler::new(alloc)?;
     load_by(alloc, &mut assembler, loader, text)

@@ -1,7 +1,7 @@
 //! Bytes that are written in pieces.
 
 ghost use Rattle.std.specs.Prelude.{◌≡◌, ◌≤◌};
-ghost use Rattle.mx_files.specs.Clauses.{Works};
+ghost use Rattle.mx_files.specs.Clauses.{DoesPart};
 ghost use Rattle.mx_files.specs.FilePlans as spec;
 ghost use Rattle.mx_files.specs.ObjectPlans.{outcome_of};
 
@@ -13,7 +13,7 @@ use mx_plan::{close, write};
 #[tactic(auto, using(mx_plan::proofs::Plans::plans), unfolding(crate::specs::FilePlans::write_piece))]
 pub fn put_piece<H: Host>(host: &mut H, slot: u16, piece: &[u8]) -> Result<(), Outcome>
     requires { slot ≤ 259 }
-    ensures { Works H.told H.faults host.old host.new result (spec.write_piece slot piece.now) }
+    ensures { DoesPart H.told H.faults host.old host.new result (spec.write_piece slot piece.now) }
 {
     match write(host, slot, piece) {
         Ok(()) => Ok(()),
@@ -26,7 +26,7 @@ pub fn put_piece<H: Host>(host: &mut H, slot: u16, piece: &[u8]) -> Result<(), O
 /// Writes a text in pieces, up to one that is not written.
 pub fn put_text<H: Host>(host: &mut H, slot: u16, text: &[u8]) -> Result<(), Outcome>
     requires { slot ≤ 259 }
-    ensures { Works H.told H.faults host.old host.new result (spec.text_plan slot text.now) }
+    ensures { DoesPart H.told H.faults host.old host.new result (spec.text_plan slot text.now) }
 {
     let mut rest = text;
     while rest.len() > 4096 {
@@ -41,7 +41,7 @@ pub fn put_text<H: Host>(host: &mut H, slot: u16, text: &[u8]) -> Result<(), Out
 #[tactic(auto, using(mx_plan::proofs::Plans::plans), unfolding(crate::specs::FilePlans::close_file))]
 pub fn close_file<H: Host>(host: &mut H, slot: u16) -> Result<(), Outcome>
     requires { slot ≤ 257 }
-    ensures { Works H.told H.faults host.old host.new result (spec.close_file slot) }
+    ensures { DoesPart H.told H.faults host.old host.new result (spec.close_file slot) }
 {
     match close(host, slot) {
         Ok(()) => Ok(()),

@@ -5,7 +5,7 @@ ghost use Rattle.std.specs.List.{position};
 ghost use Rattle.mx_host.specs.Keeping.{Answers, KeepsOutput};
 ghost use Rattle.mx_outcome.specs.Kinds.{is_usage};
 ghost use Rattle.mx_files.specs.Failing.{PartFailsOnlyBy};
-ghost use Rattle.mx_files.specs.Clauses.{Works};
+ghost use Rattle.mx_files.specs.Clauses.{DoesPart};
 ghost use Rattle.mx_files.specs.Schedules as spec;
 
 use crate::source::{SOURCE_PIECES, read_file};
@@ -92,7 +92,7 @@ fn check_schedule(bytes: Bytes) -> Result<Bytes, Outcome>
 /// Reads the schedule in the file of this name: 1 to 2^22 bytes, each of which names one of eight processors. Where it is
 /// none, the first place of its fault is told when the file was closed.
 pub fn read_schedule<H: Host>(alloc: Global, host: &mut H, name: &[u8]) -> Result<Bytes, Outcome>
-    ensures works { Works H.told H.faults host.old host.new result (spec.schedule_plan name.now) }
+    ensures works { DoesPart H.told H.faults host.old host.new result (spec.schedule_plan name.now) }
     ensures told { Answers (H.told host.old) (H.told host.new) (Err Outcome.OutOfMemory) result
         (λ m. spec.schedule_bytes name.now m) }
     ensures names { IfOk result spec.AreEight }

@@ -4,7 +4,7 @@ ghost use Rattle.std.specs.Prelude.{◌≡◌, [], Err, IfErr, false, length};
 ghost use Rattle.mx_host.specs.Keeping.{Answers, KeepsOutput};
 ghost use Rattle.mx_word.specs.Results.{map_ok};
 ghost use Rattle.mx_files.specs.Failing.{PartFailsOnlyBy};
-ghost use Rattle.mx_files.specs.Clauses.{Works};
+ghost use Rattle.mx_files.specs.Clauses.{DoesPart};
 ghost use Rattle.mx_files.specs.FilePlans as plans;
 ghost use Rattle.mx_files.specs.Source as spec;
 
@@ -28,7 +28,7 @@ pub const OBJECT_PIECES: u32 = 16385;
 #[tactic(auto, using(mx_plan::proofs::Plans::plans, mx_plan::proofs::Plans::needs), unfolding(crate::specs::FilePlans::read_piece))]
 fn one_piece<H: Host>(host: &mut H, got: &mut Bytes, piece: &mut [u8]) -> Result<bool, Outcome>
     requires { length piece.old ≡ 4096 }
-    ensures { Works H.told H.faults host.old host.new
+    ensures { DoesPart H.told H.faults host.old host.new
         (map_ok (λ whole. (got.new, whole)) result) (plans.read_piece got.old) }
 {
     match read(host, INPUT_SLOT, piece) {
@@ -44,7 +44,7 @@ fn one_piece<H: Host>(host: &mut H, got: &mut Bytes, piece: &mut [u8]) -> Result
 
 /// Reads the input file in pieces up to a shorter one, at most this many.
 fn pieces<H: Host>(alloc: Global, host: &mut H, most: u32) -> Result<Bytes, Outcome>
-    ensures { Works H.told H.faults host.old host.new result (plans.read_pieces most []) }
+    ensures { DoesPart H.told H.faults host.old host.new result (plans.read_pieces most []) }
 {
     let mut got = Bytes::new(alloc);
     let mut piece = [0u8; 4096];
@@ -60,7 +60,7 @@ fn pieces<H: Host>(alloc: Global, host: &mut H, most: u32) -> Result<Bytes, Outc
 
 /// Reads the input file, which is open, and closes it.
 fn read_open<H: Host>(alloc: Global, host: &mut H, most: u32) -> Result<Bytes, Outcome>
-    ensures { Works H.told H.faults host.old host.new result (plans.read_open most) }
+    ensures { DoesPart H.told H.faults host.old host.new result (plans.read_open most) }
 {
     let bytes = pieces(alloc, host, most)?;
     close_file(host, INPUT_SLOT)?;
@@ -70,7 +70,7 @@ fn read_open<H: Host>(alloc: Global, host: &mut H, most: u32) -> Result<Bytes, O
 /// Opens the file of this name as the input file.
 #[tactic(auto, using(mx_plan::proofs::Plans::plans), unfolding(crate::specs::FilePlans::open_input))]
 fn open_input<H: Host>(host: &mut H, name: &[u8]) -> Result<(), Outcome>
-    ensures { Works H.told H.faults host.old host.new result (plans.open_input name.now) }
+    ensures { DoesPart H.told H.faults host.old host.new result (plans.open_input name.now) }
 {
     match open(host, INPUT_SLOT, name, Mode::BinaryRead) {
         Ok(()) => Ok(()),
@@ -87,7 +87,7 @@ fn whole_file<H: Host>(
     name: &[u8],
     most: u32,
 ) -> Result<Bytes, Outcome>
-    ensures { Works H.told H.faults host.old host.new result (plans.file_plan most name.now) }
+    ensures { DoesPart H.told H.faults host.old host.new result (plans.file_plan most name.now) }
 {
     open_input(host, name)?;
     read_open(alloc, host, most)
@@ -101,7 +101,7 @@ pub fn read_file<H: Host>(
     name: &[u8],
     most: u32,
 ) -> Result<Bytes, Outcome>
-    ensures works { Works H.told H.faults host.old host.new result (plans.file_plan most name.now) }
+    ensures works { DoesPart H.told H.faults host.old host.new result (plans.file_plan most name.now) }
     ensures told { Answers (H.told host.old) (H.told host.new) (Err Outcome.OutOfMemory) result
         (λ m. spec.file_bytes most name.now m) }
     ensures output { KeepsOutput (H.told host.old) (H.told host.new) }

@@ -4,7 +4,7 @@ ghost use Rattle.std.specs.Prelude.{◌≡◌, ◌≢◌, ◌<◌, ◌≤◌, �
 ghost use Rattle.std.specs.Prelude.{IfErr, IfSome};
 ghost use Rattle.mx_mmo.specs.Whole.{left_of};
 ghost use Rattle.mx_plan.specs.Calls as calls;
-ghost use Rattle.mx_plan.specs.Clauses.{CarriesOut};
+ghost use Rattle.mx_plan.specs.Clauses.{CarriesOutOnHost};
 ghost use Rattle.mx_plan.specs.Plan.{end_of};
 ghost use Rattle.mx_stab.specs.Faults as tries;
 ghost use Rattle.mx_type.specs.Lambda.{lambda_after};
@@ -12,7 +12,7 @@ ghost use Rattle.mx_type.specs.Lines.{ended, stab_line, symbol_line};
 ghost use Rattle.mx_type.specs.Texts.{item_text};
 ghost use Rattle.mx_files.specs.Failing.{FailsOnlyBy};
 ghost use Rattle.mx_files.specs.Answers.{AnswersAs, AnswersAsList, WritesFrontOf, plainly};
-ghost use Rattle.mx_files.specs.Clauses.{FailsByPlan, Leaves, Works, is_end};
+ghost use Rattle.mx_files.specs.Clauses.{DoesPart, FailsByPlan, Leaves, is_end};
 ghost use Rattle.mx_files.specs.FilePlans as lines;
 ghost use Rattle.mx_files.specs.ObjectPlans as plans;
 ghost use Rattle.mx_files.specs.Typed as spec;
@@ -66,7 +66,7 @@ fn refuse_trie(place: u64, fault: StabFault) -> Outcome
 
 /// Writes a text as a line, if it has bytes.
 fn put_shown<H: Host>(host: &mut H, text: &[u8]) -> Result<(), Outcome>
-    ensures { Works H.told H.faults host.old host.new result (plans.shown_plan text.now) }
+    ensures { DoesPart H.told H.faults host.old host.new result (plans.shown_plan text.now) }
 {
     if text.is_empty() {
         return Ok(());
@@ -81,7 +81,7 @@ fn put_item<H: Host>(
     line: &mut Bytes,
     item: &Item,
 ) -> Result<(), Outcome>
-    ensures put { Works H.told H.faults host.old host.new result
+    ensures put { DoesPart H.told H.faults host.old host.new result
         (plans.item_plan (item_text lister.old item.now)) }
     ensures lambda { OnOk result (lister.new ≡ lambda_after lister.old item.now) }
 {
@@ -108,7 +108,7 @@ fn list_next<H: Host>(
     ensures less { result ≡ Ok true → length reader.new.rest < length reader.old.rest }
     ensures read { OnOk result (reader.new.fault ≡ None) }
     ensures ends { IfErr result (λ outcome.
-        Works H.told H.faults host.old host.new (Err outcome)
+        DoesPart H.told H.faults host.old host.new (Err outcome)
         (plans.typed_plan (spec.still_typed lister.old reader.old))) }
 {
     match reader.next() {
@@ -135,7 +135,7 @@ fn list_items<H: Host>(
         (plans.typed_plan (spec.still_typed lister.old reader.old))) }
     ensures read { OnOk result (reader.new.fault ≡ None) }
     ensures ends { IfErr result (λ outcome.
-        Works H.told H.faults host.old host.new (Err outcome)
+        DoesPart H.told H.faults host.old host.new (Err outcome)
         (plans.typed_plan (spec.still_typed lister.old reader.old))) }
 {
     loop {
@@ -149,7 +149,7 @@ fn list_items<H: Host>(
 
 /// Writes the line of a symbol.
 fn put_symbol<H: Host>(host: &mut H, lister: &Lister, symbol: &Symbol) -> Result<(), Outcome>
-    ensures { Works H.told H.faults host.old host.new result
+    ensures { DoesPart H.told H.faults host.old host.new result
         (lines.made_plan (ended (symbol_line symbol.now))) }
 {
     let line = lister.symbol_line(symbol)?;
@@ -158,7 +158,7 @@ fn put_symbol<H: Host>(host: &mut H, lister: &Lister, symbol: &Symbol) -> Result
 
 /// Writes the lines of symbols.
 fn put_symbols<H: Host>(host: &mut H, lister: &Lister, symbols: &[Symbol]) -> Result<(), Outcome>
-    ensures { Works H.told H.faults host.old host.new result
+    ensures { DoesPart H.told H.faults host.old host.new result
         (lines.lines_plan (map (λ s. ended (symbol_line s)) symbols.now)) }
 {
     for symbol in symbols {
@@ -169,7 +169,7 @@ fn put_symbols<H: Host>(host: &mut H, lister: &Lister, symbols: &[Symbol]) -> Re
 
 /// Writes the line of a trie.
 fn put_trie<H: Host>(host: &mut H, lister: &Lister, trie: &[u8]) -> Result<(), Outcome>
-    ensures { Works H.told H.faults host.old host.new result (lines.made_plan (ended (stab_line trie.now))) }
+    ensures { DoesPart H.told H.faults host.old host.new result (lines.made_plan (ended (stab_line trie.now))) }
 {
     let line = lister.trie_line(trie)?;
     write_line(host, line.as_slice())
@@ -182,7 +182,7 @@ fn put_tail<H: Host>(
     trie: &[u8],
     symbols: &[Symbol],
 ) -> Result<(), Outcome>
-    ensures { Works H.told H.faults host.old host.new result
+    ensures { DoesPart H.told H.faults host.old host.new result
         (lines.lines_plan (spec.tail_lines trie.now symbols.now)) }
 {
     put_trie(host, lister, trie)?;
@@ -198,7 +198,7 @@ fn list_tail<H: Host>(
     tail: &Tail,
 ) -> Result<(), Outcome>
     requires { tail.now.place ≤ 2 ^ 26 }
-    ensures { Works H.told H.faults host.old host.new result
+    ensures { DoesPart H.told H.faults host.old host.new result
         (plans.typed_plan (spec.tail_typed (Ok tail.now))) }
 {
     match mx_stab::read(alloc, tail.trie.as_slice()) {
@@ -215,7 +215,7 @@ fn list_end<H: Host>(
     reader: &mut Reader,
 ) -> Result<(), Outcome>
     requires { reader.old.fault ≡ None }
-    ensures { Works H.told H.faults host.old host.new result
+    ensures { DoesPart H.told H.faults host.old host.new result
         (plans.typed_plan (spec.end_typed (Ok (left_of reader.old)))) }
 {
     match reader.finish() {
@@ -227,7 +227,7 @@ fn list_end<H: Host>(
 /// Lists the object that a reader was fed.
 fn list_fed<H: Host>(alloc: Global, host: &mut H, reader: &mut Reader) -> Result<(), Outcome>
     requires { reader.old.fault ≡ None }
-    ensures { Works H.told H.faults host.old host.new result
+    ensures { DoesPart H.told H.faults host.old host.new result
         (plans.typed_plan (spec.still_typed 0 reader.old)) }
 {
     let mut lister = Lister::new(alloc);
@@ -238,7 +238,7 @@ fn list_fed<H: Host>(alloc: Global, host: &mut H, reader: &mut Reader) -> Result
 
 /// Lists an object, or the items before its first fault.
 fn list_object<H: Host>(alloc: Global, host: &mut H, bytes: &[u8]) -> Result<(), Outcome>
-    ensures { Works H.told H.faults host.old host.new result (plans.typed_plan (spec.typed bytes.now)) }
+    ensures { DoesPart H.told H.faults host.old host.new result (plans.typed_plan (spec.typed bytes.now)) }
 {
     let mut reader = Reader::new(alloc);
     match reader.feed(bytes) {
@@ -249,7 +249,7 @@ fn list_object<H: Host>(alloc: Global, host: &mut H, bytes: &[u8]) -> Result<(),
 
 /// Reads an object, and lists it.
 fn list_whole<H: Host>(alloc: Global, host: &mut H, name: &[u8]) -> Result<(), Outcome>
-    ensures { Works H.told H.faults host.old host.new result (plans.list_part name.now) }
+    ensures { DoesPart H.told H.faults host.old host.new result (plans.list_part name.now) }
 {
     let bytes = read_file(alloc, host, name, OBJECT_PIECES)?;
     list_object(alloc, host, bytes.as_slice())
@@ -258,7 +258,7 @@ fn list_whole<H: Host>(alloc: Global, host: &mut H, name: &[u8]) -> Result<(), O
 /// Lists the object in the file of this name. Where there is no memory, the lines that were written stay, and no other
 /// is written.
 pub fn list_file<H: Host>(alloc: Global, host: &mut H, name: &[u8]) -> Outcome
-    ensures plan { CarriesOut (H.told host.old) (H.told host.new) Outcome.OutOfMemory result
+    ensures plan { CarriesOutOnHost (H.told host.old) (H.told host.new) Outcome.OutOfMemory result
         (plans.list_plan name.now) }
     ensures cause { FailsByPlan H.told H.faults host.old host.new result (plans.list_part name.now) }
     ensures told { AnswersAs (H.told host.old) (H.told host.new) result

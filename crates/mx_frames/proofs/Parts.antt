@@ -10,13 +10,13 @@ use Rattle.mx_frames.specs.Heads.{begins_with_name, is_gap, length_in, next_line
 pub whole-front : (count : ℕ) (text : List ℕ) → length text ≤ count → take count text ≡ text
 whole-front count text e = take_all count text e
 
-pub none-behind : (count : ℕ) (text : List ℕ) → length text ≤ count → drop count text ≡ []
-none-behind zero [] e = refl
-none-behind zero (b ∷ bs) e = absurd (omega (arith, e))
-none-behind (suc n) [] e = refl
-none-behind (suc n) (b ∷ bs) e = none-behind n bs (omega (arith, e))
+pub none-following : (count : ℕ) (text : List ℕ) → length text ≤ count → drop count text ≡ []
+none-following zero [] e = refl
+none-following zero (b ∷ bs) e = absurd (omega (arith, e))
+none-following (suc n) [] e = refl
+none-following (suc n) (b ∷ bs) e = none-following n bs (omega (arith, e))
 
-pub ruleset parts = (whole-front, none-behind)
+pub ruleset parts = (whole-front, none-following)
 
 pub ruleset names = (bytes_eq-Decides)
 

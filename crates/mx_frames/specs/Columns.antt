@@ -14,7 +14,7 @@ total (b ∷ bs) = units b + total bs
 abbrev pub column_of : List ℕ → ℕ → ℕ
 column_of line place = total (take place line)
 
--- the place behind so many units, in front of a character; the end of a line that has fewer
+-- the place after so many units, in front of a character; the end of a line that has fewer
 unfoldable pub place_of : List ℕ → ℕ → ℕ
 place_of [] column = 0
 place_of (b ∷ bs) column = if column == 0 && not (units b == 0) then 0 else place_of bs (column - units b) + 1

@@ -19,7 +19,7 @@ pub record Read : Type 0 where
 abbrev pub read_with : List Frame → Coming → Read
 read_with frames coming = record { frames = frames; coming = coming }
 
--- behind a header that says how long the body is
+-- after a header that says how long the body is
 abbrev pub body_after : List ℕ → Option ℕ → Coming
 body_after head None = Faulty
 body_after head (Some n) = Body head n []
@@ -57,6 +57,9 @@ reads coming (b ∷ bs) = joined (settled (with_byte coming b)) (reads (settled 
 -- at the front of a stream nothing has come
 abbrev pub nothing : Coming
 nothing = Head []
+
+abbrev pub read_all : List ℕ → Read
+read_all stream = reads nothing stream
 
 abbrev pub frames_of : List ℕ → List Frame
 frames_of stream = (reads nothing stream).frames

@@ -13,7 +13,7 @@ pub(crate) const BODY_LIMIT: u64 = 1 << 26;
 
 /// A text without its first bytes, so many or all.
 #[tactic(auto, using(crate::proofs::Parts::parts))]
-fn behind(text: &[u8], count: usize) -> &[u8]
+fn skip_bytes(text: &[u8], count: usize) -> &[u8]
     ensures { result.now ≡ drop count text.now }
 {
     if count < text.len() {
@@ -39,7 +39,7 @@ pub(crate) fn front(text: &[u8], count: usize) -> &[u8]
 pub(crate) fn ends_head(head: &[u8]) -> bool
     ensures { result ≡ spec.ends_head head.now }
 {
-    behind(head, head.len().saturating_sub(4)) == b"\r\n\r\n".as_slice()
+    skip_bytes(head, head.len().saturating_sub(4)) == b"\r\n\r\n".as_slice()
 }
 
 /// Whether two texts differ in the case of their letters alone, or not at all.
@@ -111,7 +111,7 @@ fn number_at(text: &[u8]) -> Option<u64>
     ensures { result ≡ spec.number_at text.now }
 {
     let count = digit_count(text);
-    if count == 0 || !ends_value(behind(text, count)) {
+    if count == 0 || !ends_value(skip_bytes(text, count)) {
         return None;
     }
     let value = value_of(front(text, count));
@@ -133,7 +133,7 @@ fn line_count(text: &[u8]) -> usize
 fn next_line(text: &[u8]) -> &[u8]
     ensures { result.now ≡ spec.next_line text.now }
 {
-    behind(behind(text, line_count(text)), 1)
+    skip_bytes(skip_bytes(text, line_count(text)), 1)
 }
 
 /// How many bytes the body has after this header, if it says so and they are not too many.
@@ -145,8 +145,8 @@ pub(crate) fn body_length(head: &[u8]) -> Option<u64>
     let mut left = head.len();
     while left > 0 {
         if begins_with_name(rest) {
-            let value = behind(rest, 15);
-            return number_at(behind(value, blank_count(value)));
+            let value = skip_bytes(rest, 15);
+            return number_at(skip_bytes(value, blank_count(value)));
         }
         rest = next_line(rest);
         left -= 1;

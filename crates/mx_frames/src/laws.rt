@@ -17,8 +17,8 @@ pub fn what_is_framed_is_read()
 /// Up to a header that is none, a stream is the frames that are read and the front of one more, in whatever pieces it is read.
 #[tactic(auto, using(crate::proofs::Spelled::laws))]
 pub fn the_stream_is_the_frames_that_are_read()
-    ensures spelled { (stream : List ℕ) → (spec.reads spec.nothing stream).coming ≢ spec.Faulty →
-        spec.Spells stream (spec.reads spec.nothing stream) }
+    ensures spelled { (stream : List ℕ) → (spec.read_all stream).coming ≢ spec.Faulty →
+        spec.Spells stream (spec.read_all stream) }
     ensures pieces { (coming : Coming) (piece others : List ℕ) → spec.reads coming (piece ++ others)
         ≡ spec.joined (spec.reads coming piece) (spec.reads (spec.reads coming piece).coming others) }
 {}
@@ -26,8 +26,8 @@ pub fn the_stream_is_the_frames_that_are_read()
 /// Fewer bytes than those that are asked for make no frame.
 #[tactic(auto, using(crate::proofs::Spelled::laws))]
 pub fn no_frame_ends_before_the_bytes_that_are_wanted()
-    ensures { (stream piece : List ℕ) → length piece < spec.wanted (spec.reads spec.nothing stream).coming →
-        (spec.reads (spec.reads spec.nothing stream).coming piece).frames ≡ [] }
+    ensures { (stream piece : List ℕ) → length piece < spec.wanted (spec.read_all stream).coming →
+        (spec.reads (spec.read_all stream).coming piece).frames ≡ [] }
 {}
 
 /// Of two places of a line the later one has no smaller column.

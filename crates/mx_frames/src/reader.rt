@@ -129,7 +129,7 @@ pub fn feed(
     Ok(coming)
 }
 
-/// How many bytes may be asked for, so that none is behind the frame that comes.
+/// How many bytes may be asked for, so that none is after the frame that comes.
 pub fn wanted(coming: &Coming) -> u64
     ensures { result ≡ spec.wanted coming.now }
 {

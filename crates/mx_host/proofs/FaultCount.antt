@@ -7,7 +7,7 @@ use Rattle.mx_host.specs.HostModel.{fault_count, is_listed}
 mono-step : (k n x y : ℕ) (d : Bool) → x ≤ y → cond (nat_lt k n && d) 1 0 + x ≤ cond (nat_lt k (n + 1) && d) 1 0 + y
 mono-step k n x y d h = grind (arith, nat_tests)
 
--- b tells whether n stands further on, and d whether k does not
+-- b tells whether n is further on, and d whether k does not
 rises-step : (k n x y : ℕ) (b d : Bool) → x ≤ y → (b ≡ true → x < y) → (k == n || b) ≡ true → (k ≡ n → d ≡ not b) →
     cond (nat_lt k n && d) 1 0 + x < cond (nat_lt k (n + 1) && d) 1 0 + y
 rises-step k n x y true d h r e same = grind (arith, nat_tests)

@@ -29,7 +29,7 @@ pub record HostModel : Type 0 where
 unfoldable pub tells : Option HostModel → Bool
 tells told = is_some told
 
--- the contents that are told; where there are none, a model that stands for nothing
+-- the contents that are told; where there are none, a model that means nothing
 unfoldable pub contents : Option HostModel → HostModel
 contents (Some m) = m
 contents None = record { files = []; slots = []; input = []; output = []; errors = []; calls = 0; failing = [] }

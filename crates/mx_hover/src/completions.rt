@@ -4,12 +4,12 @@ ghost use Rattle.std.specs.Prelude.{◌≡◌, ◌++◌, IfOk, OnOk, codes, take
 ghost use Rattle.std.specs.List.{flat_map};
 ghost use Rattle.std.specs.Str.{str_eq_ignore_ascii_case};
 ghost use Rattle.mx_hover.specs.Completions as spec;
-ghost use Rattle.mx_references.specs.Outline.{is_symbol_label};
 
-use crate::words::{directives, instructions, predefined_words};
+use crate::words::{directives, instructions, list_predefined_words};
 use mx_json::{add_between, add_string};
 use mx_marks::line_text;
-use mx_occurrences::{Named, Occurrence, occurrences};
+use mx_occurrences::{Occurrence, occurrences};
+use mx_references::is_symbol_label;
 use mx_wire::{Values, add_array};
 use mx_word::{Bytes, NoMemory, is_name_byte};
 use std::alloc::Global;
@@ -136,17 +136,7 @@ fn add_predefined(alloc: Global, values: &mut Values, word: &[u8]) -> Result<(),
     ensures { OnOk result (values.new
         ≡ values.old ++ flat_map (spec.item_if word.now (codes "21")) spec.predefined) }
 {
-    add_names(alloc, values, word, b"21", predefined_words())
-}
-
-/// Whether a name is the label of a symbol.
-fn is_label(o: &Occurrence) -> bool
-    ensures { result ≡ is_symbol_label o.now }
-{
-    match &o.named {
-        Named::Symbol(_) => o.is_label,
-        Named::Local(_, _) => false,
-    }
+    add_names(alloc, values, word, b"21", list_predefined_words())
 }
 
 /// Adds a name, if it is the label of a symbol and begins with a word.
@@ -158,7 +148,7 @@ fn add_label(
 ) -> Result<(), NoMemory>
     ensures { OnOk result (values.new ≡ values.old ++ spec.label_if word.now o.now) }
 {
-    if is_label(o) {
+    if is_symbol_label(o) {
         return add_item(alloc, values, word, b"6", o.text.as_slice());
     }
     Ok(())

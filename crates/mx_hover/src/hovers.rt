@@ -183,7 +183,7 @@ fn statement_text(
 
 /// What is answered: a text with the range that it is about.
 #[tactic(auto, unfolding(crate::specs::Hovers::shown))]
-fn shown(alloc: Global, told: &[u8], range: &[u8]) -> Result<Bytes, NoMemory>
+fn show_told(alloc: Global, told: &[u8], range: &[u8]) -> Result<Bytes, NoMemory>
     ensures { IfOk result (λ text. text ≡ spec.shown told.now range.now) }
 {
     let mut text = Bytes::new(alloc);
@@ -198,12 +198,12 @@ fn shown(alloc: Global, told: &[u8], range: &[u8]) -> Result<Bytes, NoMemory>
 }
 
 /// What is answered: a text with the range that it is about, or otherwise this.
-fn shown_or(alloc: Global, told: &[u8], range: &[u8], otherwise: &[u8]) -> Result<Bytes, NoMemory>
+fn show_or(alloc: Global, told: &[u8], range: &[u8], otherwise: &[u8]) -> Result<Bytes, NoMemory>
     ensures { IfOk result (λ text. text ≡ spec.shown_or told.now range.now otherwise.now) }
 {
     match told {
         [] => Bytes::copy(alloc, otherwise),
-        [_, ..] => shown(alloc, told, range),
+        [_, ..] => show_told(alloc, told, range),
     }
 }
 
@@ -232,7 +232,7 @@ fn statement_hover(
         Some(statement) => {
             let told = statement_text(alloc, lines, number, statement)?;
             let range = piece_range(alloc, line_text(number, source), number, &statement.op)?;
-            shown_or(alloc, told.as_slice(), range.as_slice(), b"null")
+            show_or(alloc, told.as_slice(), range.as_slice(), b"null")
         }
     }
 }
@@ -255,7 +255,7 @@ fn name_hover(
         Some(o) => {
             let told = name_text(alloc, source, lines, symbols, names, o)?;
             let range = range_text(alloc, source, o)?;
-            shown_or(alloc, told.as_slice(), range.as_slice(), otherwise)
+            show_or(alloc, told.as_slice(), range.as_slice(), otherwise)
         }
     }
 }

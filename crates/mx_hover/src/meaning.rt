@@ -9,7 +9,7 @@ use mx_word::{Bytes, NoMemory};
 use std::alloc::Global;
 
 /// What is said of a word, or no text.
-fn explained(alloc: Global, word: &str) -> Result<Bytes, NoMemory>
+fn explain_word(alloc: Global, word: &str) -> Result<Bytes, NoMemory>
     ensures { IfOk result (λ text. text ≡ spec.text_of (answer word.now)) }
 {
     match explain(alloc, word)? {
@@ -23,7 +23,7 @@ pub(crate) fn meaning(alloc: Global, word: &[u8]) -> Result<Bytes, NoMemory>
     ensures { IfOk result (λ text. text ≡ spec.meaning word.now) }
 {
     match str::from_utf8(word) {
-        Ok(word) => explained(alloc, word),
+        Ok(word) => explain_word(alloc, word),
         Err(_) => Ok(Bytes::new(alloc)),
     }
 }

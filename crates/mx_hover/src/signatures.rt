@@ -37,7 +37,7 @@ fn form_shown(alloc: Global, name: &[u8]) -> Result<Bytes, NoMemory>
 }
 
 /// How a name is written with its operands, if it is one of an operation.
-fn shown_if(alloc: Global, name: &[u8]) -> Result<Bytes, NoMemory>
+fn show_if(alloc: Global, name: &[u8]) -> Result<Bytes, NoMemory>
     ensures { IfOk result (λ text. text ≡ spec.shown_if name.now (operation_of name.now)) }
 {
     match find(name) {
@@ -60,7 +60,7 @@ fn statement_form(
             if from < statement.op.from {
                 return Bytes::copy(alloc, b"null");
             }
-            shown_if(alloc, statement.op.text.as_slice())
+            show_if(alloc, statement.op.text.as_slice())
         }
     }
 }

@@ -123,7 +123,7 @@ pub(crate) fn instructions() -> &'static [&'static str]
 
 /// The predefined symbols.
 #[tactic(auto, unfolding(crate::specs::Completions::predefined, mx_ops::specs::Predefined::predefined_names, mx_ops::specs::Predefined::special_registers))]
-pub(crate) fn predefined_words() -> &'static [&'static str]
+pub(crate) fn list_predefined_words() -> &'static [&'static str]
     ensures { map (λ w. w.now) result.now ≡ spec.predefined }
 {
     &PREDEFINED

@@ -43,7 +43,7 @@ statement-order line place h = grind (arith, cond_both, statement_at-order, leng
 pub past-label : (place : ℕ) (label : Option Span) (op : ℕ) → LabelBefore place label op → place < op
 past-label place label op h = search rules
 
--- what is listed rests on what stands later
+-- what is listed depends on what comes later
 same-later : (place end : ℕ) (f g : ℕ → List (Result Cut LineFault)) → ((p : ℕ) → place < p → p ≤ end → f p ≡ g p) → (r : Result (Option Cut) LineFault) → CutInOrder place end r → list_with f r ≡ list_with g r
 same-later place end f g h r o = search rules
 

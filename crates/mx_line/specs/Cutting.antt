@@ -11,7 +11,7 @@ use Rattle.mx_line.specs.Bytes.{is_blank, is_digit, is_name_byte, run, past}
 use Rattle.mx_line.specs.Fields.{ends_here, field_length}
 use Rattle.mx_line.specs.Spans.{span}
 
--- Each definition below is given a text and the place in the line at which the text stands.
+-- Each definition below is given a text and the place in the line at which the text is.
 
 -- If the first byte that is not blank after the operand field is `;`, the next statement begins
 -- right after it. Anything else to the end of the line is a comment.
@@ -31,7 +31,7 @@ with_field label op place text (Ok count) =
 abbrev pub operands_at : Option Span → Span → ℕ → List ℕ → Result (Option Cut) LineFault
 operands_at label op place text = with_field label op (place + length (run is_blank text)) (past is_blank text) (field_length (past is_blank text))
 
--- Without an opcode the rest of the line is a comment; but a label wants an opcode.
+-- Without an opcode the rest of the line is a comment; but a label needs an opcode.
 abbrev pub no_opcode : Option Span → Result (Option Cut) LineFault
 no_opcode None = Ok None
 no_opcode (Some label) = Err NoOpcode
@@ -95,7 +95,7 @@ cuts_within (suc most) line place = list_with (cuts_within most line) (statement
 abbrev pub cuts_from : List ℕ → ℕ → List (Result Cut LineFault)
 cuts_from line place = cuts_within (length line + 1 - place) line place
 
--- where the parts of a statement stand that begins at a place: in order, up to the line's end
+-- where the parts of a statement are that begins at a place: in order, up to the line's end
 abbrev pub LabelBefore : ℕ → Option Span → ℕ → Type 0
 LabelBefore place None op = place < op
 LabelBefore place (Some label) op = (label.from ≡ place) × (place < label.to) × (label.to < op)

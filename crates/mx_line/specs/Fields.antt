@@ -7,7 +7,7 @@ use Rattle.mx_line.specs.declared.faults.LineFault.{LineFault}
 use Rattle.mx_line.specs.declared.faults.LineFault.TheVariants.{OpenString, OpenChar}
 use Rattle.mx_line.specs.Bytes.{is_blank}
 
--- where a byte of an operand field stands
+-- where a byte of an operand field is
 pub data Within : Type 0 where
   nothing : Within  -- neither in a string nor in a character constant
   string : Within  -- after the quote that opens a string

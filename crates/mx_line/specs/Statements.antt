@@ -63,7 +63,7 @@ pub data Operands (label : Option Span) (op : Span) (place : ℕ) (text : List �
       Operands label op place text (Err OpenChar)
 
 -- The opcode is a run of letters and digits, and ends at a blank, at `;` or at the end of the
--- line. Without one, the rest of the line is a comment, but a label wants an opcode.
+-- line. Without one, the rest of the line is a comment, but a label needs an opcode.
 pub data Operation (label : Option Span) (place : ℕ) (text : List ℕ) : Found → Type 0 where
   named : (gap rest op after : List ℕ) (found : Found) → Run is_blank text gap rest → Run is_name_byte rest op after → 0 < length op → ends_here after ≡ true →
       Operands label (span (place + length gap) op) (place + length gap + length op) after found → Operation label place text found

@@ -69,7 +69,7 @@ fn operands_at(
     with_field(label, op, place + gap.len(), rest)
 }
 
-/// What stands where an opcode is missing: a comment, but a label wants one.
+/// What there may be in place of an opcode: a comment, but a label needs one.
 fn no_opcode(label: Option<Span>) -> Result<Option<Cut>, LineFault>
     ensures { result ≡ spec.no_opcode label }
 {

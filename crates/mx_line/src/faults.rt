@@ -18,7 +18,7 @@ pub enum LineFault {
     OpenString,
     /// An apostrophe is not followed by one byte and an apostrophe.
     OpenChar,
-    /// A label stands with no opcode.
+    /// A label has no opcode.
     NoOpcode,
 }
 

@@ -2,7 +2,7 @@
 use Rattle.std.proofs.Common.{◌≡◌, ℕ, zero, suc, ◌+◌, ◌<◌, ◌≤◌, List, [], ◌∷◌, length, drop, Bool, true, false, cond, Some, Ok, Err, refl, sym, ◌∙◌, ap, subst, arith, Result, nat_lt}
 use Rattle.std.proofs.lemmas.Bool.Decides.{nat_tests}
 use Rattle.mx_mmo.specs.Image.{Image}
-use Rattle.mx_load.proofs.Words.{Loading, Meaningless, nothing, take_item, take_items, image_in, meaning, Due, IsWithin, first_item, limit, phase_after, tail_of, Left, Walk, behind, walk_on, walk, items_of, object_after, object_of, with_tail, Item, MmoFault, MeansNothing, fault_at, Loaded, item_loaded, first_loaded, items_loaded, taken, trie_read, tail_read, with_symbols, whole_loaded, object_loaded, StabFault}
+use Rattle.mx_load.proofs.Words.{Loading, Meaningless, nothing, take_item, take_items, image_in, meaning, Due, IsWithin, first_item, limit, phase_after, tail_of, Left, Walk, after_item, walk_on, walk, items_of, object_after, object_of, with_tail, Item, MmoFault, MeansNothing, fault_at, Loaded, item_loaded, first_loaded, items_loaded, taken, trie_read, tail_read, with_symbols, whole_loaded, object_loaded, StabFault}
 use Rattle.mx_mmo.specs.declared.faults.MmoFault.TheVariants.{TooLong}
 use Rattle.mx_mmo.specs.declared.items.Tail.{Tail}
 use Rattle.mx_mmo.specs.declared.items.Object.{Object}
@@ -39,7 +39,7 @@ take-fault [] e = refl
 take-fault (item ∷ items) e = refl
 
 walk-more : (n : ℕ) (phase : Phase) (at : ℕ) (bytes : List ℕ) (item : Item) (size : ℕ) → first_item phase at bytes ≡ Ok (Some (item, size)) →
-    walk (suc n) phase at bytes ≡ behind item (walk n (phase_after item phase) (at + size) (drop size bytes))
+    walk (suc n) phase at bytes ≡ after_item item (walk n (phase_after item phase) (at + size) (drop size bytes))
 unfolding walk
 walk-more n phase at bytes item size d = ap (walk_on (walk n) phase at bytes) d
 

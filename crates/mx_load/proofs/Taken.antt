@@ -4,9 +4,9 @@ use Rattle.mx_load.proofs.Words.{AllByRecursion, Loading, Meaningless, nothing, 
 use Rattle.std.proofs.Math.ListN.{drop_of_length-le}
 use Rattle.std.proofs.lemmas.List.{drop_more}
 use Rattle.mx_mmo.specs.Meaning as spec
-use Rattle.mx_load.specs.Standing.{image_in}
+use Rattle.mx_load.specs.Status.{image_in}
 
--- what stands after items more
+-- what there is after items more
 abbrev pub after_all : Result Loading LoadFault → List Item → Result Loading LoadFault
 after_all r [] = r
 after_all r (item ∷ items) = after_all (after r item) items

@@ -4,7 +4,7 @@ pub use Rattle.mx_mmo.specs.Meaning.{Loading, Meaningless, image_in, meaning, no
 pub use Rattle.mx_mmo.specs.Reading.{Due, IsWithin, first_item}
 pub use Rattle.mx_mmo.specs.Replies.{ReaderModel, given, limit, next_answer, next_due, next_item, phase_after, tail_of}
 pub use Rattle.mx_mmo.specs.Valid.{Fits}
-pub use Rattle.mx_mmo.specs.Whole.{Left, Walk, behind, left_of, object_after, object_of, walk_on, with_tail}
+pub use Rattle.mx_mmo.specs.Whole.{Left, Walk, after_item, left_of, object_after, object_of, walk_on, with_tail}
 unfoldable pub use Rattle.mx_mmo.specs.Whole.{items_of, walk}
 pub use Rattle.mx_mmo.specs.declared.faults.MmoFault.{MmoFault}
 pub use Rattle.mx_mmo.specs.declared.items.Item.{Item}
@@ -14,6 +14,6 @@ pub use Rattle.mx_load.specs.Answers.{item_answer, loaded_after, loaded_from, pl
 pub use Rattle.mx_load.specs.Faults.{fault_of, told}
 pub use Rattle.mx_load.specs.Objects.{Loaded, MeansNothing, fault_at, first_loaded, item_loaded, object_loaded, tail_read, taken, trie_read, whole_loaded, with_symbols}
 unfoldable pub use Rattle.mx_load.specs.Objects.{items_loaded}
-pub use Rattle.mx_load.specs.Standing.{after, answer, loading_of, standing}
+pub use Rattle.mx_load.specs.Status.{after, answer, loading_of, status}
 pub use Rattle.mx_load.specs.declared.fault.LoadFault.{LoadFault}
 pub use Rattle.mx_load.specs.declared.objects.ObjectFault.TheVariants.{OutOfMemory}

@@ -1,4 +1,4 @@
--- What the answers of the calls on objects stand for.
+-- What the answers of the calls on objects mean.
 use Rattle.std.specs.Prelude.{◌≡◌, ◌≢◌, ℕ, suc, ◌+◌, Bool, List, length, Option, Some, None, Result, Ok, Err}
 use Rattle.mx_word.specs.declared.symbols.Symbol.{Symbol}
 use Rattle.mx_mmo.specs.Faults as objects
@@ -11,7 +11,7 @@ use Rattle.mx_stab.specs.Faults as tries
 use Rattle.mx_stab.specs.declared.faults.StabFault.{StabFault}
 use Rattle.mx_load.specs.Kept.{Kept, image_of}
 use Rattle.mx_load.specs.Faults as loads
-use Rattle.mx_load.specs.Standing.{loading_of}
+use Rattle.mx_load.specs.Status.{loading_of}
 use Rattle.mx_load.specs.Objects.{Loaded, items_loaded, taken}
 use Rattle.mx_load.specs.declared.progress.Progress.{Progress}
 use Rattle.mx_load.specs.declared.fault.LoadFault.{LoadFault}
@@ -73,7 +73,7 @@ LoadsOn old new before after = (n : ℕ) → loaded_from (suc n) old before ≡ 
 abbrev pub all_loaded : Progress → ReaderModel → Loaded
 all_loaded progress reader = loaded_from (length reader.rest + 1) progress reader
 
--- what stands after an item that was taken, or the fault that was answered
+-- the status after an item that was taken, or the fault that was answered
 abbrev pub item_answer : Result Bool ObjectFault → Loading → Result Loading (ℕ × ℕ)
 item_answer (Ok more) s = Ok s
 item_answer (Err fault) s = Err (place_and_number fault)
@@ -83,7 +83,7 @@ abbrev pub LoadsItem : Result Bool ObjectFault → Progress → Progress → ℕ
 LoadsItem result old new place item =
     result ≢ Err OutOfMemory → item_answer result (loading_of new) ≡ taken place (take_item (loading_of old) item)
 
--- what follows an item after which a reader stands
+-- what follows an item, of a reader after it
 abbrev pub loaded_after : ℕ → ReaderModel → Result Loading (ℕ × ℕ) → Loaded
 loaded_after n reader (Ok s) = items_loaded n s reader.phase reader.at reader.rest
 loaded_after n reader (Err fault) = Err fault

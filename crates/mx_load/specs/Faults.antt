@@ -24,7 +24,7 @@ abbrev pub told : {A : Type 0} → Result A Meaningless → Result A LoadFault
 told (Ok x) = Ok x
 told (Err e) = Err (fault_of e)
 
--- what stands after a call, or its fault
+-- what there is after a call, or its fault
 abbrev pub given : {A : Type 0} → Result (Unit {0}) LoadFault → A → Result A LoadFault
 given (Ok u) x = Ok x
 given (Err fault) x = Err fault

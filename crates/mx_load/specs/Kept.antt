@@ -1,4 +1,4 @@
--- What an image keeps, and the image that it stands for.
+-- What an image keeps, and the image that it represents.
 use Rattle.std.specs.Prelude.{ℕ, ◌/◌, List, unwrap_or}
 use Rattle.std.specs.Map.{lookup}
 use Rattle.std.specs.Ordering.{nat_cmp}

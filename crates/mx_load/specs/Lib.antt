@@ -7,4 +7,4 @@ pub mod Answers
 pub mod Faults
 pub mod Kept
 pub mod Objects
-pub mod Standing
+pub mod Status

@@ -24,12 +24,12 @@ use Rattle.mx_load.specs.Faults.{fault_of, number_of}
 abbrev pub fault_at : MmoFault → ℕ × ℕ
 fault_at fault = (unwrap_or (objects.place_of fault) 0, objects.number_of fault)
 
--- what stands after an item that begins at a place, or the fault there
+-- what there is after an item that begins at a place, or the fault there
 abbrev pub taken : ℕ → Result Loading Meaningless → Result Loading (ℕ × ℕ)
 taken place (Ok s) = Ok s
 taken place (Err e) = Err (place, number_of (fault_of e))
 
--- what stands once items were loaded, with what is left after them; or the place and the number of the first fault
+-- what there is once items were loaded, with what is left after them; or the place and the number of the first fault
 abbrev pub Loaded : Type 0
 Loaded = Result (Loading × Left) (ℕ × ℕ)
 

@@ -12,7 +12,7 @@ ghost use Rattle.mx_mmo.specs.declared.due.Phase.{Phase};
 ghost use Rattle.mx_stab.specs.Reading.{trie_answer};
 ghost use Rattle.mx_mmo.specs.declared.items.Item.{Item};
 ghost use Rattle.mx_load.specs.Faults.{fault_of, number_of, told};
-ghost use Rattle.mx_load.specs.Standing.{after, image_in};
+ghost use Rattle.mx_load.specs.Status.{after, image_in, items_loaded};
 ghost use Rattle.mx_load.specs.Objects.{MeansNothing, fault_at, object_loaded, trie_read, with_symbols};
 
 /// What is loaded of the bytes of an object, by reading, meaning and trie apart: an object whose items
@@ -38,10 +38,10 @@ pub fn objects_are_loaded_as_they_mean()
         (place : ℕ) × MeansNothing bytes place e × (object_loaded bytes ≡ Err (place, number_of (fault_of e))) }
 {}
 
-/// Items are loaded one after another: what stands after a list of items and one more is what this
-/// item makes of what stood after the list, and the image in it at the end is what the items mean.
+/// Items are loaded one after another: what there is after a list of items and one more is what this
+/// item makes of what there was after the list, and the image in it at the end is what the items mean.
 pub fn items_are_loaded_in_turn()
-    ensures next { (front : List Item) (item : Item) → told (take_items (front ++ item ∷ []) (Ok nothing)) ≡
-        after (told (take_items front (Ok nothing))) item }
-    ensures image { (items : List Item) → image_in (told (take_items items (Ok nothing))) ≡ told (meaning items) }
+    ensures next { (front : List Item) (item : Item) →
+        items_loaded (front ++ item ∷ []) ≡ after (items_loaded front) item }
+    ensures image { (items : List Item) → image_in (items_loaded items) ≡ told (meaning items) }
 {}

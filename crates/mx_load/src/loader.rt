@@ -5,7 +5,7 @@ ghost use Rattle.mx_mmo.specs.Meaning.{nothing};
 ghost use Rattle.mx_mmo.specs.Valid.{Fits};
 ghost use Rattle.mx_word.specs.Results.{map_ok};
 ghost use Rattle.mx_load.specs.Kept.{image_of};
-ghost use Rattle.mx_load.specs.Standing.{standing, after, answer, image_in};
+ghost use Rattle.mx_load.specs.Status.{status, after, answer, image_in};
 
 use crate::progress::Progress;
 use crate::{Image, LoadFault};
@@ -24,7 +24,7 @@ pub struct Loader {
 }
 
 impl Model for Loader {
-    ghost use Rattle.mx_load.specs.Standing.{Held};
+    ghost use Rattle.mx_load.specs.Status.{Held};
 
     ghost Value = { Held };
 
@@ -33,9 +33,9 @@ impl Model for Loader {
 
 impl Loader {
     /// A loader that took no item. It takes no memory.
-    #[tactic(auto, unfolding(crate::specs::Standing::standing))]
+    #[tactic(auto, unfolding(crate::specs::Status::status))]
     pub fn new(alloc: Global) -> Loader
-        ensures { standing result ≡ Ok nothing }
+        ensures { status result ≡ Ok nothing }
     {
         Loader {
             progress: Progress::new(alloc),
@@ -48,13 +48,13 @@ impl Loader {
     ///
     /// Errors: `PagesFull`, `BadPlace` and `NoFile` where the items so far have no meaning for that reason; out
     /// of memory; the fault that was answered before.
-    #[tactic(auto, unfolding(crate::specs::Standing::standing))]
+    #[tactic(auto, unfolding(crate::specs::Status::status))]
     pub fn take(&mut self, item: &Item) -> Result<(), LoadFault>
         requires { Fits item.now }
         ensures meaning { result ≢ Err LoadFault.OutOfMemory →
-            standing self.new ≡ after (standing self.old) item.now }
-        ensures answer { result ≡ answer (standing self.new) }
-        ensures fault_again { IfErr (standing self.old) (λ fault. standing self.new ≡ Err fault) }
+            status self.new ≡ after (status self.old) item.now }
+        ensures answer { result ≡ answer (status self.new) }
+        ensures fault_again { IfErr (status self.old) (λ fault. status self.new ≡ Err fault) }
     {
         if let Some(fault) = self.fault {
             return Err(fault);
@@ -71,9 +71,9 @@ impl Loader {
     /// The image that the items set up, with these symbols.
     ///
     /// Errors: the fault that `take` answered.
-    #[tactic(auto, unfolding(crate::specs::Standing::standing))]
+    #[tactic(auto, unfolding(crate::specs::Status::status))]
     pub fn finish(self, symbols: Symbols) -> Result<Image, LoadFault>
-        ensures meaning { map_ok image_of result ≡ image_in (standing self) }
+        ensures meaning { map_ok image_of result ≡ image_in (status self) }
         ensures symbols { IfOk result (λ image. image.symbols ≡ symbols) }
     {
         match self.fault {

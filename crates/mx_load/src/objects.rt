@@ -5,8 +5,9 @@ ghost use Rattle.std.specs.Prelude.{IfErr, IfSome};
 ghost use Rattle.mx_mmo.specs.Valid.{Fits};
 ghost use Rattle.mx_mmo.specs.Whole.{left_of};
 ghost use Rattle.mx_load.specs.Answers as spec;
+ghost use Rattle.mx_load.specs.Answers.{LoadsTo, all_loaded, loaded_in, place_and_number};
 ghost use Rattle.mx_load.specs.Objects.{object_loaded, trie_read, whole_loaded};
-ghost use Rattle.mx_load.specs.Standing.{loading_of};
+ghost use Rattle.mx_load.specs.Status.{loading_of};
 ghost use Rattle.mx_stab.specs.Faults as tries;
 ghost use Rattle.mx_stab.specs.Reading.{trie_answer};
 
@@ -86,10 +87,10 @@ fn load_next(reader: &mut Reader, progress: &mut Progress) -> Result<bool, Objec
     ensures next { result ≡ Ok true → spec.LoadsOn progress.old progress.new reader.old reader.new }
     ensures less { result ≡ Ok true → length reader.new.rest < length reader.old.rest }
     ensures last { result ≡ Ok false →
-        spec.LoadsTo progress.old reader.old (Ok (loading_of progress.new, left_of reader.new)) }
+        LoadsTo progress.old reader.old (Ok (loading_of progress.new, left_of reader.new)) }
     ensures read { OnOk result (reader.new.fault ≡ None) }
     ensures fault { result ≢ Err ObjectFault.OutOfMemory →
-        IfErr result (λ f. spec.LoadsTo progress.old reader.old (Err (spec.place_and_number f))) }
+        IfErr result (λ f. LoadsTo progress.old reader.old (Err (place_and_number f))) }
 {
     match reader.next_plain() {
         Some(t) => load_tetra(progress, t, reader.place()),
@@ -104,10 +105,10 @@ fn load_other(reader: &mut Reader, progress: &mut Progress) -> Result<bool, Obje
     ensures next { result ≡ Ok true → spec.LoadsOn progress.old progress.new reader.old reader.new }
     ensures less { result ≡ Ok true → length reader.new.rest < length reader.old.rest }
     ensures last { result ≡ Ok false →
-        spec.LoadsTo progress.old reader.old (Ok (loading_of progress.new, left_of reader.new)) }
+        LoadsTo progress.old reader.old (Ok (loading_of progress.new, left_of reader.new)) }
     ensures read { OnOk result (reader.new.fault ≡ None) }
     ensures fault { result ≢ Err ObjectFault.OutOfMemory →
-        IfErr result (λ f. spec.LoadsTo progress.old reader.old (Err (spec.place_and_number f))) }
+        IfErr result (λ f. LoadsTo progress.old reader.old (Err (place_and_number f))) }
 {
     match reader.next() {
         Ok(None) => Ok(false),
@@ -120,10 +121,10 @@ fn load_other(reader: &mut Reader, progress: &mut Progress) -> Result<bool, Obje
 fn load_items(reader: &mut Reader, progress: &mut Progress) -> Result<(), ObjectFault>
     requires { reader.old.fault ≡ None }
     ensures last { OnOk result
-        (spec.all_loaded progress.old reader.old ≡ Ok (loading_of progress.new, left_of reader.new)) }
+        (all_loaded progress.old reader.old ≡ Ok (loading_of progress.new, left_of reader.new)) }
     ensures read { OnOk result (reader.new.fault ≡ None) }
     ensures fault { result ≢ Err ObjectFault.OutOfMemory →
-        IfErr result (λ f. spec.all_loaded progress.old reader.old ≡ Err (spec.place_and_number f)) }
+        IfErr result (λ f. all_loaded progress.old reader.old ≡ Err (place_and_number f)) }
 {
     loop {
         match load_next(reader, progress) {
@@ -168,7 +169,7 @@ fn read_trie(alloc: Global, tail: &Tail) -> Result<Symbols, ObjectFault>
 fn finish(alloc: Global, reader: &mut Reader, progress: Progress) -> Result<Image, ObjectFault>
     requires { reader.old.fault ≡ None }
     ensures { result ≢ Err ObjectFault.OutOfMemory →
-        spec.loaded_in result ≡ whole_loaded (Ok (loading_of progress, left_of reader.old)) }
+        loaded_in result ≡ whole_loaded (Ok (loading_of progress, left_of reader.old)) }
 {
     match reader.finish() {
         Ok(tail) => {
@@ -184,7 +185,7 @@ fn finish(alloc: Global, reader: &mut Reader, progress: Progress) -> Result<Imag
 /// Errors: the first fault with its byte place, as [`ObjectFault`] says, and out of memory.
 #[tactic(auto, using(crate::proofs::Tails::tails))]
 pub fn load_object(alloc: Global, bytes: &[u8]) -> Result<Image, ObjectFault>
-    ensures { result ≢ Err ObjectFault.OutOfMemory → spec.loaded_in result ≡ object_loaded bytes.now }
+    ensures { result ≢ Err ObjectFault.OutOfMemory → loaded_in result ≡ object_loaded bytes.now }
 {
     let mut reader = Reader::new(alloc);
     let mut progress = Progress::new(alloc);

@@ -2,10 +2,10 @@
 
 ghost use Rattle.std.specs.Prelude.{◌≡◌, ◌≢◌, ◌≤◌, ◌+◌, ◌==◌, true, Ok, Err, if◌then◌else◌};
 ghost use Rattle.mx_mmo.specs.Meaning as spec;
-ghost use Rattle.mx_mmo.specs.Meaning.{nothing, after_load, with_image, with_name, noted, take_item};
+ghost use Rattle.mx_mmo.specs.Meaning.{nothing, after_load, lined, with_image, with_name, noted, take_item};
 ghost use Rattle.mx_mmo.specs.Valid.{Fits};
 ghost use Rattle.mx_load.specs.Faults.{told, given};
-ghost use Rattle.mx_load.specs.Standing.{GoesOn, loading_of};
+ghost use Rattle.mx_load.specs.Status.{GoesOn, loading_of};
 
 use crate::{Image, LoadFault};
 use mx_mmo::Item;
@@ -32,8 +32,8 @@ fn tetras_before(n: u32, a: u64) -> u64
 }
 
 /// The address this many tetras after another.
-fn tetras_behind(n: u32, a: u64) -> u64
-    ensures { result ≡ spec.tetras_behind n a }
+fn tetras_following(n: u32, a: u64) -> u64
+    ensures { result ≡ spec.tetras_following n a }
 {
     a.wrapping_add(4 * u64::from(n))
 }
@@ -44,7 +44,7 @@ fn far_place(a: u64, bits: u8, t: u32) -> u64
     ensures { result ≡ spec.far_place a bits t }
 {
     if t >= 1 << 24 {
-        tetras_behind(1 << bits, tetras_before(t % (1 << 24), a))
+        tetras_following(1 << bits, tetras_before(t % (1 << 24), a))
     } else {
         tetras_before(t, a)
     }
@@ -71,7 +71,8 @@ impl Progress {
         }
     }
 
-    /// Notes the line in force for the tetra at lambda, and goes on to the next line.
+    /// Notes the line in force, where one is, for the tetra at lambda, and goes on to the next line. Mostly none is.
+    #[inline(always)]
     fn count_line(&mut self) -> Result<(), LoadFault>
         ensures { GoesOn result self.old self.new
             (λ s. Ok (record s { image = noted s s.image; line = spec.next_line s.line })) }
@@ -79,12 +80,25 @@ impl Progress {
         if self.line == 0 {
             return Ok(());
         }
+        self.note_line()
+    }
+
+    /// Notes the number of the line in force for the tetra at lambda, also where it is 0, and goes on to the next line.
+    /// It is a call, so that a tetra without a line pays for none of it.
+    #[inline(never)]
+    fn note_line(&mut self) -> Result<(), LoadFault>
+        ensures { GoesOn result self.old self.new (λ s. Ok (record s {
+          image = record s.image { line_of = lined s.image.line_of s.lambda s.line };
+          line = spec.next_line s.line;
+        })) }
+    {
         self.image.note(self.lambda, self.line)?;
         self.line = next_line(self.line);
         Ok(())
     }
 
     /// Goes on after the tetra that was joined at lambda.
+    #[inline(always)]
     fn advance(&mut self) -> Result<(), LoadFault>
         ensures { GoesOn result self.old self.new (λ s. after_load s (Ok s.image)) }
     {

@@ -1,6 +1,6 @@
 -- The texts that are open, each under its name. A text that is taken goes in front of the others. (Language Server Protocol, "Text
 -- Document Synchronization".)
-use Rattle.std.specs.Prelude.{ℕ, nat_lt, Bool, List, ◌∷◌, length, Option, None, Some, option_map, if◌then◌else◌}
+use Rattle.std.specs.Prelude.{ℕ, nat_lt, Bool, List, length, Option, None, Some, if◌then◌else◌}
 use Rattle.std.specs.List.{find, insert, position, remove}
 use Rattle.std.specs.Str.{bytes_eq}
 use Rattle.mx_lsp.specs.declared.documents.Document.{Document}

@@ -1,3 +1,7 @@
 pub mod Documents
+pub mod Edits
 pub mod Lines
+pub mod Messages
+pub mod Once
+pub mod Requests
 pub mod Sessions

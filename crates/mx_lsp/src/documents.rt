@@ -49,7 +49,7 @@ fn place(documents: &[Document], uri: &[u8]) -> Option<usize>
 }
 
 /// The texts without the one at a place.
-fn removed(documents: Documents, at: usize) -> Documents
+fn remove_at(documents: Documents, at: usize) -> Documents
     ensures { result ≡ spec.removed documents at }
 {
     let mut left = documents.into_vec();
@@ -65,7 +65,7 @@ pub(crate) fn without(documents: Documents, uri: &[u8]) -> Documents
 {
     match place(documents.as_slice(), uri) {
         None => documents,
-        Some(at) => removed(documents, at),
+        Some(at) => remove_at(documents, at),
     }
 }
 

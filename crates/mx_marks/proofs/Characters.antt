@@ -1,4 +1,4 @@
--- Under a text that is UTF-8 stand as many bytes as it has characters.
+-- Under a text that is UTF-8 there are as many bytes as it has characters.
 use Rattle.std.proofs.Common.{◌≡◌, ℕ, ◌+◌, ◌-◌, ◌/◌, ◌<◌, ◌≤◌, List, [], ◌∷◌, ◌++◌, length, take, true, false, cond, nat_lt, arith, refl, sym, ap, ◌∙◌}
 unfoldable use Rattle.std.specs.Char.{encode_utf8}
 use Rattle.std.specs.Str.{all_scalars, continuation_len, encode_utf8_all, is_utf8}
@@ -8,7 +8,7 @@ use Rattle.std.proofs.lemmas.List.{take_at, drop_at}
 use Rattle.std.proofs.lemmas.Str.{IsUtf8-encode, is_utf8-from_IsUtf8}
 use Rattle.mx_marks.specs.Under.{under, under_text}
 unfoldable use Rattle.mx_marks.specs.Under.{char_length, under_after}
-use Rattle.mx_marks.proofs.UnderTurns.{behind-is}
+use Rattle.mx_marks.proofs.UnderTurns.{after-is}
 
 -- ---- the first byte of a character
 
@@ -61,7 +61,7 @@ unfolding under_after
 one-under b bs rest count valid =
     let whole = first-is b bs rest count valid in
     let left : length bs ≡ char_length (b ∷ (bs ++ rest)) - 1 = omega (arith, whole) in
-    ap (λ more. under b ∷ more) (behind-is (char_length (b ∷ (bs ++ rest)) - 1) (bs ++ rest))
+    ap (λ more. under b ∷ more) (after-is (char_length (b ∷ (bs ++ rest)) - 1) (bs ++ rest))
     ∙ ap (λ text. under b ∷ under_text text) (drop_at bs rest (char_length (b ∷ (bs ++ rest)) - 1) left)
 
 char-under : (bytes rest : List ℕ) (a : Announces bytes) → is_utf8 bytes ≡ true → under_text (bytes ++ rest) ≡ under a.first ∷ under_text rest

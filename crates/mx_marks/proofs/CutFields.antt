@@ -1,4 +1,4 @@
--- A caret stands where the field begins that is cut from the line.
+-- A caret is where the field begins that is cut from the line.
 use Rattle.std.proofs.Common.{◌≡◌, ℕ, ◌+◌, ◌-◌, ◌≤◌, [], ◌∷◌, length, drop, Bool, true, false, cond, arith, refl, sym, subst, Option, None, Some, Result, Ok, Err}
 use Rattle.std.proofs.lemmas.Bool.Decides.{nat_tests}
 use Rattle.std.proofs.lemmas.List.{length-drop}
@@ -12,16 +12,16 @@ use Rattle.mx_line.specs.declared.faults.LineFault.{LineFault}
 use Rattle.mx_line.specs.declared.faults.LineFault.TheVariants.{BadLabel, BadLocal, BadOpcode, TooLong}
 use Rattle.mx_line.specs.declared.spans.Span.{Span}
 use Rattle.mx_line.proofs.KindLemmas.{run-whole}
-use Rattle.mx_marks.specs.Fields.{Line, behind_word, from_field}
+use Rattle.mx_marks.specs.Fields.{Line, after_word, from_field}
 use Rattle.mx_marks.specs.declared.fields.Field.TheVariants.{Operands, Operation}
 
 abbrev Found : Type 0
 Found = Result (Option Cut) LineFault
 
--- where the operation and the operands stand, by what is after them
-record Stand (end : ℕ) (from : Line) (cut : Cut) : Type 0 where
+-- where the operation and the operands are, by what is after them
+record PlacedFields (end : ℕ) (from : Line) (cut : Cut) : Type 0 where
   operation : cut.op.from + length from ≡ end
-  operands : cut.operands.from + length (behind_word from) ≡ end
+  operands : cut.operands.from + length (after_word from) ≡ end
 
 in-field : (label : Option Span) (op : Span) (place : ℕ) (text : Line) (r : Result ℕ LineFault) (cut : Cut) → with_field label op place text r ≡ Ok (Some cut) → (cut.op.from ≡ op.from) × (cut.operands.from ≡ place)
 in-field label op place text (Err why) cut e = absurd (cc)
@@ -40,7 +40,7 @@ in-word label place (b ∷ bs) rest cut e = by (ends_here rest) e
     by true e = let is = in-field label (record { from = place; to = place + length (b ∷ bs) }) (place + length (b ∷ bs) + length (run is_blank rest)) (past is_blank rest) (field_length (past is_blank rest)) cut e in record { op_from = is.0; operands_from = is.1 }
     by false e = absurd (cc)
 
-in-operation : (label : Option Span) (place : ℕ) (text : Line) (cut : Cut) → operation_at label place text ≡ Ok (Some cut) → Stand (place + length text) (past is_blank text) cut
+in-operation : (label : Option Span) (place : ℕ) (text : Line) (cut : Cut) → operation_at label place text ≡ Ok (Some cut) → PlacedFields (place + length text) (past is_blank text) cut
 in-operation label place text cut e =
     let from : Line = past is_blank text in
     let is = in-word label (place + length (run is_blank text)) (run is_name_byte from) (past is_name_byte from) cut e in
@@ -55,7 +55,7 @@ in-operation label place text cut e =
 no-word : (b : ℕ) (bs : Line) → is_name_byte b ≡ false → past is_name_byte (b ∷ bs) ≡ b ∷ bs
 no-word b bs e = grind (arith, nat_tests)
 
-in-statement : (place : ℕ) (text : Line) (cut : Cut) → statement_at place text ≡ Ok (Some cut) → Stand (place + length text) (behind_word text) cut
+in-statement : (place : ℕ) (text : Line) (cut : Cut) → statement_at place text ≡ Ok (Some cut) → PlacedFields (place + length text) (after_word text) cut
 in-statement place [] cut e = absurd (cc)
 in-statement place (b ∷ bs) cut e = by (is_name_byte b) (is_blank b) refl e
   where
@@ -68,7 +68,7 @@ in-statement place (b ∷ bs) cut e = by (is_name_byte b) (is_blank b) refl e
     rest : Line
     rest = past is_name_byte text
 
-    labelled : (bad ends : Bool) → cond bad (Err BadLocal) (cond ends (operation_at (Some (record { from = place; to = place + length word })) (place + length word) rest) (Err BadLabel)) ≡ Ok (Some cut) → Stand (place + length text) (behind_word text) cut
+    labelled : (bad ends : Bool) → cond bad (Err BadLocal) (cond ends (operation_at (Some (record { from = place; to = place + length word })) (place + length word) rest) (Err BadLabel)) ≡ Ok (Some cut) → PlacedFields (place + length text) (after_word text) cut
     labelled true ends e = absurd (cc)
     labelled false false e = absurd (cc)
     labelled false true e =
@@ -76,16 +76,16 @@ in-statement place (b ∷ bs) cut e = by (is_name_byte b) (is_blank b) refl e
         let whole = run-whole is_name_byte text in
         record { operation = omega (arith, is.operation, whole); operands = omega (arith, is.operands, whole) }
 
-    by : (t u : Bool) → is_name_byte b ≡ t → cond t (labelled_at place word rest) (cond u (operation_at None place text) (Ok None)) ≡ Ok (Some cut) → Stand (place + length text) (behind_word text) cut
+    by : (t u : Bool) → is_name_byte b ≡ t → cond t (labelled_at place word rest) (cond u (operation_at None place text) (Ok None)) ≡ Ok (Some cut) → PlacedFields (place + length text) (after_word text) cut
     by true u t e = labelled (is_bad_local word) (ends_label rest) e
-    by false true t e = subst (λ x. Stand (place + length text) (past is_blank x) cut) (sym (no-word b bs t)) (in-operation None place text cut e)
+    by false true t e = subst (λ x. PlacedFields (place + length text) (past is_blank x) cut) (sym (no-word b bs t)) (in-operation None place text cut e)
     by false false t e = absurd (cc)
 
-cut-stands : (line : Line) (place : ℕ) (cut : Cut) → place ≤ length line → statement_of line place ≡ Ok (Some cut) → Stand (length line) (behind_word (drop place line)) cut
+cut-placed : (line : Line) (place : ℕ) (cut : Cut) → place ≤ length line → statement_of line place ≡ Ok (Some cut) → PlacedFields (length line) (after_word (drop place line)) cut
 unfolding statement_of
-cut-stands line place cut within e = by (is_too_long line place) e
+cut-placed line place cut within e = by (is_too_long line place) e
   where
-    by : (t : Bool) → cond t (Err TooLong) (statement_at place (drop place line)) ≡ Ok (Some cut) → Stand (length line) (behind_word (drop place line)) cut
+    by : (t : Bool) → cond t (Err TooLong) (statement_at place (drop place line)) ≡ Ok (Some cut) → PlacedFields (length line) (after_word (drop place line)) cut
     by true e = absurd (cc)
     by false e =
         let is = in-statement place (drop place line) cut e in
@@ -93,9 +93,9 @@ cut-stands line place cut within e = by (is_too_long line place) e
         record { operation = omega (arith, is.operation, rest, within); operands = omega (arith, is.operands, rest, within) }
 
 pub operation-marked : (line : Line) (place : ℕ) (cut : Cut) → place ≤ length line → statement_of line place ≡ Ok (Some cut) → length line - length (from_field Operation (drop place line)) ≡ cut.op.from
-operation-marked line place cut within e = let is = cut-stands line place cut within e in omega (arith, is.operation)
+operation-marked line place cut within e = let is = cut-placed line place cut within e in omega (arith, is.operation)
 
 pub operands-marked : (line : Line) (place : ℕ) (cut : Cut) → place ≤ length line → statement_of line place ≡ Ok (Some cut) → length line - length (from_field Operands (drop place line)) ≡ cut.operands.from
-operands-marked line place cut within e = let is = cut-stands line place cut within e in omega (arith, is.operands)
+operands-marked line place cut within e = let is = cut-placed line place cut within e in omega (arith, is.operands)
 
 pub ruleset marked = (operation-marked, operands-marked)

@@ -3,7 +3,7 @@ use Rattle.std.proofs.Common.{◌≡◌, ◌≢◌, ◌≤◌, ◌<◌, ℕ, zer
 use Rattle.mx_word.proofs.Comparisons.{other-test}
 use Rattle.mx_line.specs.Lines.{lines_of}
 use Rattle.mx_line.specs.Pieces.{split}
-use Rattle.mx_marks.specs.Fields.{Line, behind_word, word}
+use Rattle.mx_marks.specs.Fields.{Line, after_word, word}
 use Rattle.mx_marks.specs.Labels.{begin_alike, first_line, first_word, is_alike, is_like, is_near, is_slip_in, label_number}
 use Rattle.mx_marks.specs.declared.labels.Likeness.{Likeness}
 
@@ -88,7 +88,7 @@ unfolding first_word
 word-found zero name text e like = absurd (omega (arith, e))
 word-found (suc n) name text e like = rw like refl
 
-pub word-next : (n : ℕ) (name text : List ℕ) → 0 < n → is_alike name (word text) ≡ false → first_word n name text ≡ first_word (n - 1) name (behind_word text)
+pub word-next : (n : ℕ) (name text : List ℕ) → 0 < n → is_alike name (word text) ≡ false → first_word n name text ≡ first_word (n - 1) name (after_word text)
 unfolding first_word
 word-next zero name text e like = absurd (omega (arith, e))
 word-next (suc n) name text e like = let less : suc n - 1 ≡ n = omega arith in rw (like, less) refl

@@ -27,9 +27,9 @@ unfolding is_near
 two-letters = refl
 
 -- of short words: a letter at the end, a digit for a letter, and two that are no slips
-letter-behind : is_near false (codes "INC") (codes "INCL") ≡ true
+letter-after : is_near false (codes "INC") (codes "INCL") ≡ true
 unfolding is_near
-letter-behind = refl
+letter-after = refl
 
 digit-for-letter : is_near false (codes "ST0") (codes "STO") ≡ true
 unfolding is_near

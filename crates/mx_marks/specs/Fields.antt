@@ -39,14 +39,14 @@ abbrev pub word : Line → Line
 word text = run is_name_byte text
 
 -- what follows them, and what follows the blanks after them
-abbrev pub behind_word : Line → Line
-behind_word text = past is_blank (past is_name_byte text)
+abbrev pub after_word : Line → Line
+after_word text = past is_blank (past is_name_byte text)
 
 -- A statement from one of its fields on: the operation follows the label, and the operands after the operation.
 abbrev pub from_field : Field → Line → Line
 from_field Label text = text
-from_field Operation text = behind_word text
-from_field Operands text = behind_word (behind_word text)
+from_field Operation text = after_word text
+from_field Operands text = after_word (after_word text)
 
 -- the operands at the front of a text, where the statement at this place is cut from its line; else all of the text
 abbrev pub operands_by : Result (Option Cut) LineFault → Line → Line

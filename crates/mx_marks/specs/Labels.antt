@@ -8,7 +8,7 @@ use Rattle.mx_ops.specs.declared.op.Op.TheVariants.{Pseudo as PseudoOp, Code, Ld
 use Rattle.mx_ops.specs.declared.op.Pseudo.{Pseudo}
 use Rattle.mx_ops.specs.declared.op.Pseudo.TheVariants as pseudo
 use Rattle.mx_ops.specs.Opcodes.{operation_of}
-use Rattle.mx_marks.specs.Fields.{Line, behind_word, word}
+use Rattle.mx_marks.specs.Fields.{Line, after_word, word}
 use Rattle.mx_marks.specs.declared.labels.Likeness.{Likeness}
 use Rattle.mx_marks.specs.declared.labels.Likeness.TheVariants.{Same, Alike}
 
@@ -86,7 +86,7 @@ label_number name most number (line ∷ lines) =
 
 -- the operation in the line of a label
 abbrev pub label_operation : List ℕ → List ℕ → Option Op
-label_operation name source = operation_of (word (behind_word (first_line Same name 4294967295 (lines_of source))))
+label_operation name source = operation_of (word (after_word (first_line Same name 4294967295 (lines_of source))))
 
 abbrev pub is_data_pseudo : Pseudo → Bool
 is_data_pseudo pseudo.Byte = true
@@ -117,7 +117,7 @@ labels_code name source = is_code (label_operation name source)
 -- the first of this many words of a text that is like a name; no text where none is
 unfoldable pub first_word : ℕ → List ℕ → List ℕ → List ℕ
 first_word zero name text = []
-first_word (suc n) name text = if is_alike name (word text) then word text else first_word n name (behind_word text)
+first_word (suc n) name text = if is_alike name (word text) then word text else first_word n name (after_word text)
 
 -- names that MMIXAL defines and that programs write
 unfoldable pub known_names : List ℕ

@@ -115,15 +115,15 @@ fn blank_length(text: &[u8]) -> usize
 
 /// The letters and digits at the front of a text.
 #[tactic(auto, using(crate::proofs::Words::words))]
-pub fn leading_word(text: &[u8]) -> &[u8]
+pub fn cut_leading_word(text: &[u8]) -> &[u8]
     ensures { result.now ≡ bytes.run bytes.is_name_byte text.now }
 {
     text.split_at(word_length(text)).0
 }
 
 /// What follows the letters and digits at the front of a text, and the blanks after these.
-pub(crate) fn behind_word(text: &[u8]) -> &[u8]
-    ensures { result.now ≡ spec.behind_word text.now }
+pub(crate) fn after_word(text: &[u8]) -> &[u8]
+    ensures { result.now ≡ spec.after_word text.now }
 {
     let rest = &text[word_length(text)..];
     &rest[blank_length(rest)..]
@@ -135,8 +135,8 @@ pub fn from_field(field: Field, text: &[u8]) -> &[u8]
 {
     match field {
         Field::Label => text,
-        Field::Operation => behind_word(text),
-        Field::Operands => behind_word(behind_word(text)),
+        Field::Operation => after_word(text),
+        Field::Operands => after_word(after_word(text)),
     }
 }
 
@@ -159,7 +159,10 @@ pub fn unknown_place(line: &[u8]) -> Option<usize>
 {
     let mut place = 0;
     while let Ok(Some(cut)) = next_statement(line, place) {
-        let operation = leading_word(from_field(Field::Operation, split_at_most(line, place).1));
+        let operation = cut_leading_word(from_field(
+            Field::Operation,
+            split_at_most(line, place).1,
+        ));
         if find(operation).is_none() {
             return Some(place);
         }

@@ -4,7 +4,7 @@ ghost use Rattle.std.specs.Prelude.{◌≡◌, drop, length};
 ghost use Rattle.mx_line.specs.Lines.{lines_of};
 ghost use Rattle.mx_marks.specs.Labels as spec;
 
-use crate::fields::{behind_word, leading_word};
+use crate::fields::{after_word, cut_leading_word};
 use crate::under::split_at_most;
 use mx_line::cut_line;
 use mx_ops::{Op, Pseudo, find};
@@ -130,7 +130,7 @@ fn first_line<'a>(kind: Likeness, name: &[u8], most: u32, source: &'a [u8]) -> &
         if left == 0 {
             return &[];
         }
-        if is_like(kind, name, leading_word(line)) {
+        if is_like(kind, name, cut_leading_word(line)) {
             return line;
         }
         left -= 1;
@@ -143,7 +143,7 @@ fn first_line<'a>(kind: Likeness, name: &[u8], most: u32, source: &'a [u8]) -> &
 pub fn find_similar_label<'a>(kind: Likeness, name: &[u8], most: u32, source: &'a [u8]) -> &'a [u8]
     ensures { result.now ≡ spec.first_label kind name.now most (lines_of source.now) }
 {
-    leading_word(first_line(kind, name, most, source))
+    cut_leading_word(first_line(kind, name, most, source))
 }
 
 /// The number of the first of this many lines of a source that has a label; 0 where none has it.
@@ -159,7 +159,7 @@ pub fn find_label_line(name: &[u8], most: u32, source: &[u8]) -> u64
         if left == 0 {
             return 0;
         }
-        if name == leading_word(line) {
+        if name == cut_leading_word(line) {
             return number;
         }
         number += 1;
@@ -173,7 +173,7 @@ pub fn find_label_line(name: &[u8], most: u32, source: &[u8]) -> u64
 fn label_operation(name: &[u8], source: &[u8]) -> Option<Op>
     ensures { result ≡ spec.label_operation name.now source.now }
 {
-    find(leading_word(behind_word(first_line(Likeness::Same, name, u32::MAX, source))))
+    find(cut_leading_word(after_word(first_line(Likeness::Same, name, u32::MAX, source))))
 }
 
 /// Whether a name is a label of data.
@@ -211,10 +211,10 @@ fn first_word<'a>(name: &[u8], text: &'a [u8]) -> &'a [u8]
     let mut rest = text;
     let mut left = text.len();
     while left > 0 {
-        if is_alike(name, leading_word(rest)) {
-            return leading_word(rest);
+        if is_alike(name, cut_leading_word(rest)) {
+            return cut_leading_word(rest);
         }
-        rest = behind_word(rest);
+        rest = after_word(rest);
         left -= 1;
     }
     &[]

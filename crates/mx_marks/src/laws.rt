@@ -11,7 +11,7 @@ ghost use Rattle.mx_marks.specs.declared.fields.Field.TheVariants.{Operands, Ope
 
 /// In a statement that is cut from a line, the operation and the operands begin for marks where they begin by the cut.
 #[tactic(auto, using(crate::proofs::CutFields::marked))]
-pub fn carets_stand_under_their_fields()
+pub fn carets_are_under_their_fields()
     ensures operation { (line : Line) (place : ℕ) (cut : Cut) → place ≤ length line →
         statement_of line place ≡ Ok (Some cut) →
         length line - length (from_field Operation (drop place line)) ≡ cut.op.from }

@@ -13,7 +13,7 @@ mod tokens;
 mod under;
 
 pub use fields::{
-    Field, find_end_of_cuts, find_only_statement, first_operand, from_field, leading_word,
+    Field, cut_leading_word, find_end_of_cuts, find_only_statement, first_operand, from_field,
     line_field, operands_at, skip_past_comma, statement_field, unknown_place,
 };
 pub use labels::{
@@ -21,7 +21,7 @@ pub use labels::{
     is_code_label, is_label,
 };
 pub use laws::{
-    carets_count_characters, carets_stand_under_their_fields, marks_begin_within_their_fields,
+    carets_are_under_their_fields, carets_count_characters, marks_begin_within_their_fields,
 };
 pub use marks::{Mark, field_mark, operation_at, room_at, slice_marked};
 pub use mending::{line_text, with_blank, with_label};

@@ -5,10 +5,10 @@ ghost use Rattle.mx_marks.specs.Marks as spec;
 ghost use Rattle.mx_marks.specs.Syntax as syntax;
 ghost use Rattle.mx_marks.specs.declared.tokens.Wanted.TheVariants.{Above, Unknown};
 
-use crate::fields::{Field, from_field, leading_word, operands_at};
+use crate::fields::{Field, cut_leading_word, from_field, operands_at};
 use crate::rooms::{Room, limit_of, room_of};
 use crate::syntax::scan;
-use crate::tokens::{Wanted, from_part, marked_length, number_part};
+use crate::tokens::{Wanted, from_part, measure_marked, number_part};
 use crate::under::split_at_most;
 use mx_ops::find;
 use mx_word::NoMemory;
@@ -27,7 +27,7 @@ pub struct Mark {
 pub fn operation_at(line: &[u8], place: usize) -> &[u8]
     ensures { result.now ≡ spec.operation_at line.now place }
 {
-    leading_word(from_field(Field::Operation, split_at_most(line, place).1))
+    cut_leading_word(from_field(Field::Operation, split_at_most(line, place).1))
 }
 
 /// The room for a number in the operands of the statement at a place.
@@ -125,7 +125,7 @@ fn operands_mark(from: usize, operands: &[u8], part: &[u8]) -> Mark
     }
     Mark {
         from: from + operands.len().saturating_sub(part.len()),
-        length: marked_length(part),
+        length: measure_marked(part),
         is_part: true,
     }
 }
@@ -136,7 +136,7 @@ fn word_mark(line: &[u8], rest: &[u8]) -> Mark
 {
     Mark {
         from: line.len().saturating_sub(rest.len()),
-        length: leading_word(rest).len(),
+        length: cut_leading_word(rest).len(),
         is_part: true,
     }
 }

@@ -4,7 +4,7 @@ ghost use Rattle.std.specs.Prelude.{◌≡◌, IfOk};
 ghost use Rattle.mx_line.specs.Lines.{lines_of};
 ghost use Rattle.mx_marks.specs.Mending as spec;
 
-use crate::fields::{Field, from_field, leading_word};
+use crate::fields::{Field, cut_leading_word, from_field};
 use mx_line::cut_line;
 use mx_word::{Bytes, NoMemory};
 use std::alloc::Global;
@@ -62,7 +62,7 @@ fn front_label(line: &[u8]) -> &[u8]
     if line.len() > LINE_LENGTH {
         &[]
     } else {
-        leading_word(line)
+        cut_leading_word(line)
     }
 }
 
@@ -98,7 +98,7 @@ fn label_alone(alloc: Global, line: &[u8]) -> Result<Bytes, NoMemory>
     if label.is_empty() {
         return Bytes::copy(alloc, b" ");
     }
-    let operation = leading_word(from_field(Field::Operation, line));
+    let operation = cut_leading_word(from_field(Field::Operation, line));
     let operands = from_field(Field::Operands, line);
     let mut left = Bytes::copy(alloc, label)?;
     left.extend(value_text(operation, operands))?;

@@ -5,7 +5,7 @@ ghost use Rattle.mx_line.specs.Bytes.{run};
 ghost use Rattle.mx_word.specs.Kinds as kinds;
 ghost use Rattle.mx_marks.specs.Syntax as spec;
 
-use crate::fields::leading_word;
+use crate::fields::cut_leading_word;
 use crate::tokens::{digits_length, string_length};
 use crate::under::split_at_most;
 use mx_word::{is_digit, is_hexadecimal, is_letter};
@@ -98,14 +98,14 @@ fn primary_length(text: &[u8]) -> usize
     } else if is_digit(*b) {
         number_length(text)
     } else if is_letter(*b) {
-        leading_word(text).len()
+        cut_leading_word(text).len()
     } else {
         0
     }
 }
 
 /// How many bytes are taken where a primary is wanted.
-fn wanting_length(text: &[u8]) -> usize
+fn measure_wanting(text: &[u8]) -> usize
     ensures { result ≡ spec.wanting_length text.now }
 {
     match text {
@@ -142,7 +142,7 @@ fn step_length(wants: bool, text: &[u8]) -> usize
     ensures { result ≡ spec.step_length wants text.now }
 {
     if wants {
-        wanting_length(text)
+        measure_wanting(text)
     } else {
         after_length(text)
     }

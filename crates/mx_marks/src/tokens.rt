@@ -5,7 +5,7 @@ ghost use Rattle.mx_line.specs.Bytes.{run};
 ghost use Rattle.mx_word.specs.Kinds as kinds;
 ghost use Rattle.mx_marks.specs.Tokens as spec;
 
-use crate::fields::{leading_word, skip_past_comma};
+use crate::fields::{cut_leading_word, skip_past_comma};
 use crate::labels::{is_data_label, is_label};
 use crate::under::split_at_most;
 use mx_ops::predefined;
@@ -54,11 +54,11 @@ fn part_length(text: &[u8]) -> usize
     } else if *b == b'\'' {
         3
     } else if *b == b'#' {
-        leading_word(rest).len().saturating_add(1)
+        cut_leading_word(rest).len().saturating_add(1)
     } else if *b == b'$' {
         digits_length(rest).saturating_add(1)
     } else if is_name_byte(*b) {
-        leading_word(text).len()
+        cut_leading_word(text).len()
     } else {
         1
     }
@@ -122,7 +122,7 @@ fn is_above(limit: u64, text: &[u8]) -> bool
     if *b == b'-' {
         starts_with_digit(rest)
     } else if *b == b'#' {
-        limit < value_of(16, leading_word(rest))
+        limit < value_of(16, cut_leading_word(rest))
     } else {
         is_digit(*b) && limit < value_of(10, text.split_at(digits_length(text)).0)
     }
@@ -151,10 +151,10 @@ fn starts_with_name(text: &[u8]) -> bool
 fn is_unknown(alloc: Global, source: &[u8], most: u32, text: &[u8]) -> Result<bool, NoMemory>
     ensures { IfOk result (λ is. is ≡ spec.is_unknown source.now most text.now) }
 {
-    if !starts_with_name(text) || is_label(leading_word(text), most, source) {
+    if !starts_with_name(text) || is_label(cut_leading_word(text), most, source) {
         return Ok(false);
     }
-    Ok(!is_predefined(alloc, leading_word(text))?)
+    Ok(!is_predefined(alloc, cut_leading_word(text))?)
 }
 
 /// Whether a word is a digit and `F`.
@@ -200,9 +200,11 @@ fn is_wanted(
 {
     match kind {
         Wanted::Unknown => is_unknown(alloc, source, most, text),
-        Wanted::Ahead => Ok(is_ahead(leading_word(text))),
+        Wanted::Ahead => Ok(is_ahead(cut_leading_word(text))),
         Wanted::Above(limit) => Ok(is_above(limit, text)),
-        Wanted::Address => Ok(starts_with_name(text) && is_data_label(leading_word(text), source)),
+        Wanted::Address => {
+            Ok(starts_with_name(text) && is_data_label(cut_leading_word(text), source))
+        }
         Wanted::Register => Ok(starts_with_no_register(text)),
         Wanted::Sum => Ok(starts_with_sum(text)),
     }
@@ -257,16 +259,16 @@ pub(crate) fn number_part(operands: &[u8]) -> &[u8]
 
 /// How long the part is that a text begins with, a minus with its number included.
 #[tactic(auto, using(crate::proofs::TokenTurns::lengths))]
-pub(crate) fn marked_length(text: &[u8]) -> usize
+pub(crate) fn measure_marked(text: &[u8]) -> usize
     ensures { result ≡ spec.marked_length text.now }
 {
     let [b, rest @ ..] = text else {
         return 0;
     };
     if *b == b'-' || *b == b'#' || *b == b'$' {
-        leading_word(rest).len().saturating_add(1)
+        cut_leading_word(rest).len().saturating_add(1)
     } else if is_name_byte(*b) {
-        leading_word(text).len()
+        cut_leading_word(text).len()
     } else {
         1
     }

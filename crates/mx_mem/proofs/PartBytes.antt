@@ -25,12 +25,12 @@ place-before Wyde a q e f = omega arith
 place-before Tetra a q e f = omega arith
 place-before Octa a q e f = omega arith
 
-place-behind : (part : Part) (a q : ℕ) → q / 8 ≡ a / 8 → a / size_of part < q / size_of part →
+place-after : (part : Part) (a q : ℕ) → q / 8 ≡ a / 8 → a / size_of part < q / size_of part →
     bits_below part a ≡ (bits_below part a - 8 - 8 * (7 - q % 8)) + (8 + 8 * (7 - q % 8))
-place-behind Byte a q e f = omega arith
-place-behind Wyde a q e f = omega arith
-place-behind Tetra a q e f = omega arith
-place-behind Octa a q e f = omega arith
+place-after Byte a q e f = omega arith
+place-after Wyde a q e f = omega arith
+place-after Tetra a q e f = omega arith
+place-after Octa a q e f = omega arith
 
 one-octa : (part : Part) (a q : ℕ) → q / size_of part ≡ a / size_of part → q / 8 ≡ a / 8
 one-octa Byte a q f = omega arith
@@ -44,15 +44,15 @@ byte-of-part part octa a x q e f =
     byte-within octa (bits_below part a) (8 * size_of part) x (8 * (7 - q % 8)) (8 * (size_of part - 1 - q % size_of part)) (8 * (q % size_of part)) place.0 place.1
 
 byte-beside : (part : Part) (octa a x q : ℕ) → q / 8 ≡ a / 8 → (q / size_of part ≡ a / size_of part → ⊥) → byte_of (with_part part octa a x) q ≡ byte_of octa q
-byte-beside part octa a x q e ne = ⊎_elim (λ l. before l) (λ l. behind l) (cases_lt (q / size_of part) (a / size_of part))
+byte-beside part octa a x q e ne = ⊎_elim (λ l. before l) (λ l. following l) (cases_lt (q / size_of part) (a / size_of part))
   where
     before : q / size_of part < a / size_of part → byte_of (with_part part octa a x) q ≡ byte_of octa q
     before l = byte-above octa (bits_below part a) (8 * size_of part) x (8 * (7 - q % 8)) _ (place-before part a q e l)
 
-    behind : a / size_of part ≤ q / size_of part → byte_of (with_part part octa a x) q ≡ byte_of octa q
-    behind l =
+    following : a / size_of part ≤ q / size_of part → byte_of (with_part part octa a x) q ≡ byte_of octa q
+    following l =
         let less : a / size_of part < q / size_of part = omega arith in
-        byte-below octa (bits_below part a) (8 * size_of part) x (8 * (7 - q % 8)) _ (place-behind part a q e less)
+        byte-below octa (bits_below part a) (8 * size_of part) x (8 * (7 - q % 8)) _ (place-after part a q e less)
 
 part-byte : (m : Stored) (part : Part) (a x q : ℕ) → byte_of (stored_at (octa_at m) a (with_part part (octa_at m a) a x) q) q ≡ bytes_with_part part (byte_at m) a x q
 part-byte m part a x q = ⊎_elim (λ f. inside f) (λ ne. beside ne) (cases_eq (q / size_of part) (a / size_of part))

@@ -17,7 +17,7 @@ octa-zero pages places m q v e = octa-found pages places m q None v (sym e)
 pub octa-on : (pages : List (ℕ × List ℕ)) (places : BTreeMap ℕ ℕ) (m : Stored) (q n place : ℕ) → view_of pages places.entries ≡ m.pages → get nat_cmp places n ≡ Some place → q / 4096 ≡ n → octa_at m q ≡ get_or (octas_in pages place) (q / 8 % 512) 0
 octa-on pages places m q n place v e f = octa-found pages places m q (Some place) v (sym e ∙ ap (get nat_cmp places) (sym f))
 
--- where an octa on the page stands from which on the page was searched
+-- where an octa on the page is from which on the page was searched
 module _ (pages : List (ℕ × List ℕ)) (places : BTreeMap ℕ ℕ) (m : Stored) (from at number place start : ℕ) (v : view_of pages places.entries ≡ m.pages) (zeros : ZeroUpTo m from at)
     (found : get nat_cmp places number ≡ Some place) (later : at / 512 ≤ number) (between : (p : ℕ) → at / 512 ≤ p → p < number → get nat_cmp places p ≡ None)
     (low : at ≤ start) (first : 512 * number ≤ start) (least : (start ≡ at) ⊎ (start ≡ 512 * number)) where

@@ -62,7 +62,7 @@ rewritten-indexed pages places place i x l ix = record {
   placed = λ p j e. (rw (length-kept pages place i x) (ix.placed p j e).0, number-kept pages place i x j l ∙ (ix.placed p j e).1);
 }
 
--- a page that is kept stands where it stood
+-- a page that is kept is where it was
 pub rewritten-kept : (pages : List (ℕ × List ℕ)) (place i x start size at : ℕ) → place < length pages → IsKept start size at pages → IsKept start size at (rewritten pages place i x)
 rewritten-kept pages place i x start size at l h = λ some.
     let k = h some in

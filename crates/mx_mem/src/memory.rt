@@ -161,7 +161,7 @@ impl Memory {
         ensures value { k < 1024 → result ≡ tetra_at self.now (self.now.code_start + 4 * k) }
         ensures end { k ≡ 1024 → result ≡ 0 }
     {
-        self.pages[place].numbered_tetra(k as usize)
+        self.pages[place].read_numbered_tetra(k as usize)
     }
 
     /// The first address of the page that is kept.
@@ -208,7 +208,7 @@ impl Memory {
         }
     }
 
-    /// Stores the low bytes of `x` in place of the part that holds an address, where its page is a low one and stands
+    /// Stores the low bytes of `x` in place of the part that holds an address, where its page is a low one and is
     /// at the place that is remembered for it; else nothing changes. Whether it did. It takes no memory.
     #[inline(always)]
     pub fn store_part_if_near(&mut self, a: u64, part: Part, x: u64) -> bool

@@ -122,7 +122,7 @@ impl Page {
 
     /// The tetra with a number below 1,024; 0 for the number 1,024.
     #[inline(always)]
-    pub fn numbered_tetra(&self, k: usize) -> u32
+    pub fn read_numbered_tetra(&self, k: usize) -> u32
         requires { k ≤ 1024 }
         ensures value { k < 1024 → result ≡ tetra_of (slice_index_or self.now.1 (4 * k / 8 % 512) 0) (4 * k) }
         ensures end { k ≡ 1024 → result ≡ 0 }
@@ -220,7 +220,7 @@ fn read_numbered(tetras: &[u32; TETRAS], k: usize) -> u32
     tetras[k]
 }
 
-/// Tells that each item of a slice of tetras is below 2^32. It does nothing.
+/// States that each item of a slice of tetras is below 2^32. It does nothing.
 #[inline(always)]
 fn know_tetras(tetras: &[u32])
     ensures { (i : ℕ) → slice_index tetras.now i < 2 ^ 32 }

@@ -1,6 +1,6 @@
 -- An object is read as its items and its trie.
 use Rattle.std.proofs.Common.{◌≡◌, ℕ, ◌+◌, ◌-◌, ◌*◌, ◌/◌, ◌%◌, ◌^◌, ◌<◌, ◌≤◌, length, List, [], ◌∷◌, ◌++◌, arith, refl, sym, ◌∙◌, ap, subst, Ok, Some, None, length-append, append_assoc, append-nil, add-zero, zero-add, ◌==◌}
-use Rattle.mx_mmo.proofs.Words.{nat_tests, drop_at, wide_lop, Spells, Spelled, SpecsEnd, first_item, limit, phase_after, tail_of, end_count, ComeInTurn, EndsItem, EndsLast, phase_end, Left, Walk, behind, items_of, SpellsObject, object_of, object_after, onto, with_tail, Item, Pre, Post, Stab, Object, Phase, Start, Ended, common_steps}
+use Rattle.mx_mmo.proofs.Words.{nat_tests, drop_at, wide_lop, Spells, Spelled, SpecsEnd, first_item, limit, phase_after, tail_of, end_count, ComeInTurn, EndsItem, EndsLast, phase_end, Left, Walk, after_item, items_of, SpellsObject, object_of, object_after, onto, with_tail, Item, Pre, Post, Stab, Object, Phase, Start, Ended, common_steps}
 use Rattle.mx_mmo.proofs.Ends.{ends-next}
 use Rattle.mx_mmo.proofs.Phases.{Reaches, placed-reaches}
 use Rattle.mx_mmo.proofs.Pieces.{not-long}
@@ -8,10 +8,10 @@ use Rattle.mx_mmo.proofs.Spelt.{spells-first}
 use Rattle.mx_mmo.proofs.Walks.{items-more, items-none}
 
 first-item : (phase : Phase) (at : ℕ) (item : Item) (bytes rest : List ℕ) (w : Walk) → Spells item bytes → ComeInTurn phase (item ∷ []) → EndsItem item rest →
-    items_of (phase_after item phase) (at + length bytes) rest ≡ w → items_of phase at (bytes ++ rest) ≡ behind item w
+    items_of (phase_after item phase) (at + length bytes) rest ≡ w → items_of phase at (bytes ++ rest) ≡ after_item item w
 first-item phase at item bytes rest w sp s e h =
     items-more phase at (bytes ++ rest) item (length bytes) (spells-first phase at rest sp s.0 e)
-    ∙ ap (λ b. behind item (items_of (phase_after item phase) (at + length bytes) b)) (drop_at bytes rest (length bytes) refl) ∙ ap (behind item) h
+    ∙ ap (λ b. after_item item (items_of (phase_after item phase) (at + length bytes) b)) (drop_at bytes rest (length bytes) refl) ∙ ap (after_item item) h
 
 specs-rest : (item : Item) (items : List Item) → SpecsEnd (item ∷ items) → SpecsEnd items
 specs-rest item items h = grind arith
@@ -33,8 +33,8 @@ ended-first : (at : ℕ) (bytes : List ℕ) → first_item Ended at bytes ≡ Ok
 ended-first at bytes = grind arith
 
 -- what is left after the items of an object
-abbrev pub left_behind : ℕ → List ℕ → Left
-left_behind at rest = record { phase = Ended; at = at; rest = rest }
+abbrev pub left_after : ℕ → List ℕ → Left
+left_after at rest = record { phase = Ended; at = at; rest = rest }
 
 onto-none : (items : List Item) (left : Left) → onto items ([], Ok left) ≡ (items, Ok left)
 onto-none items left = rw append-nil refl
@@ -45,11 +45,11 @@ stab-last (item ∷ next ∷ items) g values rest = stab-last (next ∷ items) g
 stab-last items g values rest = tt
 
 pub items-read : (items : List Item) (front rest : List ℕ) → Spelled items front → Reaches Start items → SpecsEnd items → EndsLast items rest →
-    items_of Start 0 (front ++ rest) ≡ (items, Ok (left_behind (length front) rest))
+    items_of Start 0 (front ++ rest) ≡ (items, Ok (left_after (length front) rest))
 items-read items front rest sp r d e =
     walk-spelled Start 0 rest sp r.turn d e
     ∙ ap (λ (n : ℕ). onto items (items_of (phase_end Start items) n rest)) (zero-add (length front))
-    ∙ ap (onto items) (rw r.end (items-none Ended (length front) rest (ended-first (length front) rest))) ∙ onto-none items (left_behind (length front) rest)
+    ∙ ap (onto items) (rw r.end (items-none Ended (length front) rest (ended-first (length front) rest))) ∙ onto-none items (left_after (length front) rest)
 
 -- the lopcode that ends an object tells its count
 pub end-told : (count : ℕ) → count < 2 ^ 16 → end_count (wide_lop 12 count) ≡ Some count

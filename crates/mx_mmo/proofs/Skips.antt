@@ -29,7 +29,7 @@ skip-within quoted (a ∷ code ∷ y ∷ z ∷ more) =
 skip-within quoted xs = tt
 
 -- what is skipped, after a quote and elsewhere
-record Behind (front : List ℕ) : Type 0 where
+record QuotedFirst (front : List ℕ) : Type 0 where
   t : ℕ
   more : List ℕ
   fit : t < 2 ^ 32
@@ -37,7 +37,7 @@ record Behind (front : List ℕ) : Type 0 where
   others : IsSkipped more
 
 abbrev SkippedFrom : Bool → List ℕ → Type 0
-SkippedFrom true front = Behind front
+SkippedFrom true front = QuotedFirst front
 SkippedFrom false front = IsSkipped front
 
 record Skips (quoted : Bool) (bytes : List ℕ) (size : ℕ) : Type 0 where
@@ -128,12 +128,12 @@ skipped-on quoted q front rest e = absurd (cc)
 step-more : (f g : Bool → Option Bool) (o : Option Bool) (q r : Bool) → quoted_on f o ≡ Some q → ((p : Bool) → f p ≡ Some q → g p ≡ Some r) → quoted_on g o ≡ Some r
 step-more f g o q r h1 h2 = grind arith
 
-behind-more : (quoted q r : Bool) (front : List ℕ) (a b c d : ℕ) → quoted_after quoted front ≡ Some q → quote_after q a b c d ≡ Some r →
+after-more : (quoted q r : Bool) (front : List ℕ) (a b c d : ℕ) → quoted_after quoted front ≡ Some q → quote_after q a b c d ≡ Some r →
     quoted_after quoted (front ++ a ∷ b ∷ c ∷ d ∷ []) ≡ Some r
-behind-more quoted q r [] a b c d e h = let is : quoted ≡ q = cc in rw (is, h) refl
-behind-more quoted q r (k ∷ l ∷ m ∷ n ∷ more) a b c d e h =
-    step-more (λ p. quoted_after p more) (λ p. quoted_after p (more ++ a ∷ b ∷ c ∷ d ∷ [])) (quote_after quoted k l m n) q r e (λ p i. behind-more p q r more a b c d i h)
-behind-more quoted q r front a b c d e h = absurd (cc)
+after-more quoted q r [] a b c d e h = let is : quoted ≡ q = cc in rw (is, h) refl
+after-more quoted q r (k ∷ l ∷ m ∷ n ∷ more) a b c d e h =
+    step-more (λ p. quoted_after p more) (λ p. quoted_after p (more ++ a ∷ b ∷ c ∷ d ∷ [])) (quote_after quoted k l m n) q r e (λ p i. after-more p q r more a b c d i h)
+after-more quoted q r front a b c d e h = absurd (cc)
 
 -- the tetra that is first in what is left
 pub four-first : (r : List ℕ) → 4 ≤ length r → r ≡ get_or r 0 0 ∷ get_or r 1 0 ∷ get_or r 2 0 ∷ get_or r 3 0 ∷ drop 4 r
@@ -150,7 +150,7 @@ rest-more n more r e = take_all (length r - 4) (drop 4 r) (omega (arith, length-
 -- one tetra more was looked at
 pub looked-more : (n : ℕ) (more : List ℕ) (q r : Bool) (a b c d : ℕ) (others : List ℕ) → drop n more ≡ a ∷ b ∷ c ∷ d ∷ others → quoted_after false (take n more) ≡ Some q →
     quote_after q a b c d ≡ Some r → quoted_after false (take (n + 4) more) ≡ Some r
-looked-more n more q r a b c d others e h i = rw (front-grows n more a b c d others e) (behind-more false q r (take n more) a b c d h i)
+looked-more n more q r a b c d others e h i = rw (front-grows n more a b c d others e) (after-more false q r (take n more) a b c d h i)
 
 looked-on : (n : ℕ) (more : List ℕ) (q : Bool) → n ≤ length more → quoted_after false (take n more) ≡ Some q → skipped false more ≡ plus n (skipped q (drop n more))
 looked-on n more q l h =

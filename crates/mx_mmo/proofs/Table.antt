@@ -1,9 +1,9 @@
 -- The first fault of bytes is the one that the table tells.
 use Rattle.std.proofs.Common.{◌≡◌, ◌≢◌, ℕ, ◌+◌, ◌-◌, ◌*◌, ◌/◌, ◌%◌, ◌^◌, ◌<◌, ◌≤◌, length, List, [], ◌++◌, take, drop, arith, refl, sym, ◌∙◌, ap, subst, Ok, Err, Some, None, Bool, true, false, length-append, length-take, zero-add, Result, Option, ◌==◌, rules}
-use Rattle.mx_mmo.proofs.Words.{take-append-drop, drop_at, length-replicate, wide_lop, AreBytes, IsSkipped, Spells, Spelled, limit, tail_of, tail_after, end_count, phase_end, ItemFault, EndsWith, FaultOf, Left, Walk, items_of, object_of, object_after, object_fault, fault_in, onto, Item, Object, MmoFault, NotTetras, BadFields, Truncated, Phase, Start, Middle, Posted, Ended, bytes-behind, same-number, other-number, nat_tests, common_steps}
-use Rattle.mx_mmo.proofs.Complete.{end-told, items-read, left_behind, walk-spelled}
+use Rattle.mx_mmo.proofs.Words.{take-append-drop, drop_at, length-replicate, wide_lop, AreBytes, IsSkipped, Spells, Spelled, limit, tail_of, tail_after, end_count, phase_end, ItemFault, EndsWith, FaultOf, Left, Walk, items_of, object_of, object_after, object_fault, fault_in, onto, Item, Object, MmoFault, NotTetras, BadFields, Truncated, Phase, Start, Middle, Posted, Ended, bytes-after, same-number, other-number, nat_tests, common_steps}
+use Rattle.mx_mmo.proofs.Complete.{end-told, items-read, left_after, walk-spelled}
 use Rattle.mx_mmo.proofs.Pieces.{not-long}
-use Rattle.mx_mmo.proofs.Sound.{Stood, Stopped, Stands, left-bytes, stands}
+use Rattle.mx_mmo.proofs.Sound.{Stood, Stopped, IsSoundWalk, left-bytes, items-sound}
 use Rattle.mx_mmo.proofs.Spelt.{tetras-length, octas-length}
 use Rattle.mx_mmo.proofs.TetraFaults.{fault-first}
 use Rattle.mx_mmo.proofs.Told.{fault-found}
@@ -34,20 +34,20 @@ item-fault-met bytes fault i =
 stopped-fault : (bytes : List ℕ) (items : List Item) (fault : MmoFault) → Stopped Start 0 bytes items fault → ItemFault bytes fault
 stopped-fault bytes items fault s = search (rules, zero-add, fault-found)
 
-ends-met : (bytes trie : List ℕ) (count : ℕ) (e : EndsWith bytes trie count) → items_of Start 0 bytes ≡ (e.items, Ok (left_behind (length e.front) (trie ++ wide_lop 12 count)))
+ends-met : (bytes trie : List ℕ) (count : ℕ) (e : EndsWith bytes trie count) → items_of Start 0 bytes ≡ (e.items, Ok (left_after (length e.front) (trie ++ wide_lop 12 count)))
 ends-met bytes trie count e = search (rules, items-read)
 
 -- where no item has a fault, the fault is what is wrong at the end
 abbrev Unmet : List ℕ → Type 0
 Unmet bytes = (f : MmoFault) → ¬ ItemFault bytes f
 
-behind-fault : (bytes : List ℕ) (fault : MmoFault) (w : Walk) → items_of Start 0 bytes ≡ w → Stands Start 0 bytes w → Unmet bytes →
+after-fault : (bytes : List ℕ) (fault : MmoFault) (w : Walk) → items_of Start 0 bytes ≡ w → IsSoundWalk Start 0 bytes w → Unmet bytes →
     ((items : List Item) (left : Left) → Stood Start 0 bytes items left → tail_of left.phase left.at left.rest ≡ Err fault) → object_after w.0 w.1 ≡ Err fault
-behind-fault bytes fault w h1 h2 h3 h4 = search (rules, stopped-fault)
+after-fault bytes fault w h1 h2 h3 h4 = search (rules, stopped-fault)
 
 end-fault : (bytes : List ℕ) (fault : MmoFault) → AreBytes bytes → length bytes ≤ limit → Unmet bytes →
     ((items : List Item) (left : Left) → Stood Start 0 bytes items left → tail_of left.phase left.at left.rest ≡ Err fault) → object_of bytes ≡ Err fault
-end-fault bytes fault b l n h = not-long bytes l ∙ behind-fault bytes fault (items_of Start 0 bytes) refl (stands bytes b) n h
+end-fault bytes fault b l n h = not-long bytes l ∙ after-fault bytes fault (items_of Start 0 bytes) refl (items-sound bytes b) n h
 
 sizes : (bytes : List ℕ) (items : List Item) (left : Left) (s : Stood Start 0 bytes items left) → length bytes ≡ length s.front + length left.rest
 sizes bytes items left s = ap (λ (b : List ℕ). length b) s.first.whole ∙ length-append s.front left.rest
@@ -58,14 +58,14 @@ over-tail bytes items left s h = grind (arith, nat_tests, sizes bytes items left
 cut-place : (bytes : List ℕ) (items : List Item) (left : Left) → Stood Start 0 bytes items left → left.at + length left.rest ≡ length bytes
 cut-place bytes items left s = omega (arith, sizes bytes items left s, s.place)
 
-cut-behind : (phase : Phase) (at : ℕ) (rest : List ℕ) → (phase ≡ Ended → end_count (drop (length rest - 4) rest) ≡ None) → tail_after phase at rest ≡ Err (Truncated (at + length rest))
-cut-behind phase at rest h = grind arith
+cut-after : (phase : Phase) (at : ℕ) (rest : List ℕ) → (phase ≡ Ended → end_count (drop (length rest - 4) rest) ≡ None) → tail_after phase at rest ≡ Err (Truncated (at + length rest))
+cut-after phase at rest h = grind arith
 
--- the lopcode `end` that stands last
+-- the lopcode `end` that is last
 ends-with : (bytes : List ℕ) (items : List Item) (left : Left) (s : Stood Start 0 bytes items left) (count : ℕ) → AreBytes left.rest → left.phase ≡ Ended →
     end_count (drop (length left.rest - 4) left.rest) ≡ Some count → EndsWith bytes (take (length left.rest - 4) left.rest) count
 ends-with bytes items left s count b p e =
-    grind (arith, nat_tests, bytes-behind (length left.rest - 4) left.rest b, take-append-drop (length left.rest - 4) left.rest)
+    grind (arith, nat_tests, bytes-after (length left.rest - 4) left.rest b, take-append-drop (length left.rest - 4) left.rest)
 
 no-count : (o : Option ℕ) → ((count : ℕ) → ¬ (o ≡ Some count)) → o ≡ None
 no-count o h = grind arith
@@ -77,7 +77,7 @@ cut-tail bytes items left s b h n =
     let front = items-tetras s.first.spelled in
     let whole : length left.rest % 4 ≡ 0 = omega (arith, size, front, h) in
     let each = left-bytes s.front left.rest bytes s.first.whole b in
-    rw whole (cut-behind left.phase left.at left.rest (λ p. no-count _ (λ count e. n _ count (ends-with bytes items left s count each p e)))
+    rw whole (cut-after left.phase left.at left.rest (λ p. no-count _ (λ count e. n _ count (ends-with bytes items left s count each p e)))
     ∙ ap (λ (k : ℕ). Err (Truncated k)) (cut-place bytes items left s))
 
 wrong-tail : (at count : ℕ) (trie rest : List ℕ) → length trie % 4 ≡ 0 → length trie ≢ 4 * count → count < 2 ^ 16 → rest ≡ trie ++ wide_lop 12 count →
@@ -114,7 +114,7 @@ rest_in (Err f) = []
 not-counted : (bytes : List ℕ) (items : List Item) (left : Left) → items_of Start 0 bytes ≡ (items, Ok left) → end_count (drop (length left.rest - 4) left.rest) ≡ None →
     (trie : List ℕ) (count : ℕ) → ¬ EndsWith bytes trie count
 not-counted bytes items left e n trie count w =
-    let same : (items, Ok left) ≡ (w.items, Ok (left_behind (length w.front) (trie ++ wide_lop 12 count))) = sym e ∙ ends-met bytes trie count w in
+    let same : (items, Ok left) ≡ (w.items, Ok (left_after (length w.front) (trie ++ wide_lop 12 count))) = sym e ∙ ends-met bytes trie count w in
     let rest : left.rest ≡ trie ++ wide_lop 12 count = ap (λ (v : Walk). rest_in v.1) same in
     let size : length left.rest ≡ length trie + 4 = ap (λ (x : List ℕ). length x) rest ∙ length-append trie (wide_lop 12 count) in
     let less : length left.rest - 4 ≡ length trie = omega (arith, size) in
@@ -154,7 +154,7 @@ by-length bytes items left s fault true b l e h f = by-end bytes items left s fa
 by-length bytes items left s fault false b l e h f =
     record { fault = _; is = FaultOf.left_over bytes (no-fault-met bytes items left e) (other-number (length bytes % 4) 0 h) }
 
-by-walk : (bytes : List ℕ) (w : Walk) (fault : MmoFault) → AreBytes bytes → length bytes ≤ limit → items_of Start 0 bytes ≡ w → Stands Start 0 bytes w → object_of bytes ≡ Err fault → InTable bytes
+by-walk : (bytes : List ℕ) (w : Walk) (fault : MmoFault) → AreBytes bytes → length bytes ≤ limit → items_of Start 0 bytes ≡ w → IsSoundWalk Start 0 bytes w → object_of bytes ≡ Err fault → InTable bytes
 by-walk bytes (items, Err other) fault b l e s f = record { fault = other; is = FaultOf.of_item bytes other (stopped-fault bytes items other s) }
 by-walk bytes (items, Ok left) fault b l e s f = by-length bytes items left s fault (length bytes % 4 == 0) b l e refl f
 
@@ -167,5 +167,5 @@ refused r fault h = grind arith
 pub table-found : (bytes : List ℕ) (fault : MmoFault) → AreBytes bytes → length bytes ≤ limit → object_fault bytes ≡ Some fault → FaultOf bytes fault
 table-found bytes fault b l e =
     let r = refused (object_of bytes) fault e in
-    let t = by-walk bytes (items_of Start 0 bytes) fault b l refl (stands bytes b) r in
+    let t = by-walk bytes (items_of Start 0 bytes) fault b l refl (items-sound bytes b) r in
     subst (λ (f : MmoFault). FaultOf bytes f) (same-fault bytes fault t.fault r (told b l t.is)) t.is

@@ -1,6 +1,6 @@
 -- The items of bytes: one step, and what more bytes add.
 use Rattle.std.proofs.Common.{◌≡◌, ℕ, zero, suc, ◌+◌, ◌<◌, ◌≤◌, length, List, [], ◌∷◌, ◌++◌, drop, arith, refl, sym, ◌∙◌, ap, Ok, Err, Some, None, length-drop, rules}
-use Rattle.mx_mmo.proofs.Words.{common_steps, Due, IsWithin, first_item, phase_after, Walk, behind, walk_on, walk, items_of, extended, Item, MmoFault, Phase, nat_tests}
+use Rattle.mx_mmo.proofs.Words.{common_steps, Due, IsWithin, first_item, phase_after, Walk, after_item, walk_on, walk, items_of, extended, Item, MmoFault, Phase, nat_tests}
 use Rattle.mx_mmo.proofs.Firsts.{Grows, first-grows, first-within}
 
 pub shorter : (size : ℕ) (bytes : List ℕ) → 0 < size → size ≤ length bytes → length (drop size bytes) < length bytes
@@ -25,7 +25,7 @@ unfolding walk items_of
 items-step phase at bytes = search (rules, walk_on-same, first-within, enough)
 
 pub items-more : (phase : Phase) (at : ℕ) (bytes : List ℕ) (item : Item) (size : ℕ) → first_item phase at bytes ≡ Ok (Some (item, size)) →
-    items_of phase at bytes ≡ behind item (items_of (phase_after item phase) (at + size) (drop size bytes))
+    items_of phase at bytes ≡ after_item item (items_of (phase_after item phase) (at + size) (drop size bytes))
 items-more phase at bytes item size e = items-step phase at bytes ∙ ap (walk_on items_of phase at bytes) e
 
 pub items-none : (phase : Phase) (at : ℕ) (bytes : List ℕ) → first_item phase at bytes ≡ Ok None →
@@ -36,8 +36,8 @@ pub items-fault : (phase : Phase) (at : ℕ) (bytes : List ℕ) (fault : MmoFaul
     items_of phase at bytes ≡ ([], Err fault)
 items-fault phase at bytes fault e = items-step phase at bytes ∙ ap (walk_on items_of phase at bytes) e
 
-extended-behind : (item : Item) (w : Walk) (ys : List ℕ) → extended (behind item w) ys ≡ behind item (extended w ys)
-extended-behind item w ys = grind arith
+extended-after : (item : Item) (w : Walk) (ys : List ℕ) → extended (after_item item w) ys ≡ after_item item (extended w ys)
+extended-after item w ys = grind arith
 
 abbrev Extends : Phase → ℕ → List ℕ → List ℕ → Type 0
 Extends phase at xs ys = items_of phase at (xs ++ ys) ≡ extended (items_of phase at xs) ys
@@ -48,9 +48,9 @@ extend-step phase at xs ys (Ok None) e w g h = ap (λ v. extended v ys) (sym (it
 extend-step phase at xs ys (Err fault) e w g h = items-fault phase at (xs ++ ys) fault g ∙ ap (λ v. extended v ys) (sym (items-fault phase at xs fault e))
 extend-step phase at xs ys (Ok (Some (item, size))) e w g h =
     items-more phase at (xs ++ ys) item size g
-    ∙ ap (λ bs. behind item (items_of (phase_after item phase) (at + size) bs)) (grind (arith, common_steps, w.1))
-    ∙ ap (behind item) (h (phase_after item phase) (at + size) (drop size xs) (shorter size xs w.0 w.1))
-    ∙ sym (extended-behind item (items_of (phase_after item phase) (at + size) (drop size xs)) ys)
+    ∙ ap (λ bs. after_item item (items_of (phase_after item phase) (at + size) bs)) (grind (arith, common_steps, w.1))
+    ∙ ap (after_item item) (h (phase_after item phase) (at + size) (drop size xs) (shorter size xs w.0 w.1))
+    ∙ sym (extended-after item (items_of (phase_after item phase) (at + size) (drop size xs)) ys)
     ∙ ap (λ v. extended v ys) (sym (items-more phase at xs item size e))
 
 extends-below : (k : ℕ) (phase : Phase) (at : ℕ) (xs ys : List ℕ) → length xs < k → Extends phase at xs ys

@@ -4,7 +4,7 @@ use Rattle.std.specs.Prelude.{◌≡◌, ◌≢◌, ℕ, ◌-◌, ◌*◌, ◌/�
 use Rattle.mx_word.specs.Words.{tetra_to_bytes}
 use Rattle.mx_mmo.specs.Tetras.{wide_lop}
 use Rattle.mx_mmo.specs.Reading.{lop_of}
-use Rattle.mx_mmo.specs.Turns.{StandFirst, phase_end}
+use Rattle.mx_mmo.specs.Turns.{ComeFirst, phase_end}
 use Rattle.mx_mmo.specs.declared.items.Item.{Item}
 use Rattle.mx_mmo.specs.declared.lops.Lop.{Lop}
 use Rattle.mx_mmo.specs.declared.lops.Lop.TheVariants.{Quote, Loc, Fixo, Fixrx, Pre, Post, Stab, End}
@@ -14,12 +14,12 @@ use Rattle.mx_mmo.specs.declared.due.Phase.{Phase}
 use Rattle.mx_mmo.specs.declared.due.Phase.TheVariants.{Start, Middle, Posted, Ended}
 
 -- the lopcodes that may follow `pre`, up to `post`
-abbrev pub MayStand : Option Lop → Type 0
-MayStand (Some Pre) = ⊥
-MayStand (Some Stab) = ⊥
-MayStand (Some End) = ⊥
-MayStand (Some _) = Unit {0}
-MayStand None = ⊥
+abbrev pub MayBeBetween : Option Lop → Type 0
+MayBeBetween (Some Pre) = ⊥
+MayBeBetween (Some Stab) = ⊥
+MayBeBetween (Some End) = ⊥
+MayBeBetween (Some _) = Unit {0}
+MayBeBetween None = ⊥
 
 -- the bytes Y and Z that they have
 abbrev pub HasFields : Lop → ℕ → ℕ → Type 0
@@ -31,15 +31,15 @@ HasFields Post y z = (y ≡ 0) × (32 ≤ z)
 HasFields _ y z = Unit {0}
 
 -- the tetras that have a fault where an item is due, at a place: the first tetra is not `pre` with Y = 1; a lopcode that is
--- none, or may not stand here; wrong fields; a far fix whose tetra does not begin with 0 or 1; a name that is all zeros
+-- none, or may not be here; wrong fields; a far fix whose tetra does not begin with 0 or 1; a name that is all zeros
 pub data TetraFault : Phase → ℕ → List ℕ → MmoFault → Type 0 where
   no_pre : (at a code y z : ℕ) (more : List ℕ) → ¬ ((a ≡ 0x98) × (code ≡ 9) × (y ≡ 1)) →
       TetraFault Start at (a ∷ code ∷ y ∷ z ∷ more) (NoPre at)
-  bad_lop : (at code y z : ℕ) (more : List ℕ) → ¬ MayStand (lop_of code) →
+  bad_lop : (at code y z : ℕ) (more : List ℕ) → ¬ MayBeBetween (lop_of code) →
       TetraFault Middle at (0x98 ∷ code ∷ y ∷ z ∷ more) (BadLop at)
   no_stab : (at a code y z : ℕ) (more : List ℕ) → ¬ ((a ≡ 0x98) × (code ≡ 11)) →
       TetraFault Posted at (a ∷ code ∷ y ∷ z ∷ more) (BadLop at)
-  fields : (at code y z : ℕ) (more : List ℕ) (lop : Lop) → lop_of code ≡ Some lop → MayStand (Some lop) → ¬ HasFields lop y z →
+  fields : (at code y z : ℕ) (more : List ℕ) (lop : Lop) → lop_of code ≡ Some lop → MayBeBetween (Some lop) → ¬ HasFields lop y z →
       TetraFault Middle at (0x98 ∷ code ∷ y ∷ z ∷ more) (BadFields at)
   stab_fields : (at y z : ℕ) (more : List ℕ) → ¬ ((y ≡ 0) × (z ≡ 0)) →
       TetraFault Posted at (0x98 ∷ 11 ∷ y ∷ z ∷ more) (BadFields at)
@@ -53,14 +53,14 @@ pub record ItemFault (bytes : List ℕ) (fault : MmoFault) : Type 0 where
   pub items : List Item
   pub front : List ℕ
   pub rest : List ℕ
-  pub first : StandFirst Start bytes items front rest
+  pub first : ComeFirst Start bytes items front rest
   pub has : TetraFault (phase_end Start items) (length front) rest fault
 
 -- all items are first in bytes, and after these bytes of a trie the lopcode `end` with this count
 pub record EndsWith (bytes trie : List ℕ) (count : ℕ) : Type 0 where
   pub items : List Item
   pub front : List ℕ
-  pub first : StandFirst Start bytes items front (trie ++ wide_lop 12 count)
+  pub first : ComeFirst Start bytes items front (trie ++ wide_lop 12 count)
   pub all : phase_end Start items ≡ Ended
   pub most : count < 2 ^ 16
 

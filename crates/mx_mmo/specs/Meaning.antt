@@ -14,7 +14,7 @@ pub data Meaningless : Type 0 where
   BadPlace : Meaningless
   NoFile : Meaningless
 
--- what stands so far: the image, lambda, the line in force, whether a file is selected, and the
+-- what there is so far: the image, lambda, the line in force, whether a file is selected, and the
 -- numbers of the files that were named
 pub record Loading : Type 0 where
   pub image : Image
@@ -23,7 +23,7 @@ pub record Loading : Type 0 where
   pub selected : Bool
   pub named : ℕ → Bool
 
--- before the first item nothing stands anywhere
+-- before the first item there is nothing anywhere
 abbrev pub nothing : Loading
 nothing = record {
   image = record { memory = λ a. 0; pages = λ p. false; page_count = 0; line_of = λ a. 0; g = 255; global = λ k. 0 };
@@ -33,7 +33,7 @@ nothing = record {
   named = λ n. false;
 }
 
--- a page that stands already is not counted again, and there are at most 65,536
+-- a page that is there already is not counted again, and there are at most 65,536
 abbrev pub paged : Image → ℕ → Result Image Meaningless
 paged m page =
     if m.pages page then Ok m
@@ -69,14 +69,14 @@ join_octa m a x =
 abbrev pub tetras_before : ℕ → ℕ → ℕ
 tetras_before n a = (a + 2 ^ 64 - 4 * n) % 2 ^ 64
 
-abbrev pub tetras_behind : ℕ → ℕ → ℕ
-tetras_behind n a = (a + 4 * n) % 2 ^ 64
+abbrev pub tetras_following : ℕ → ℕ → ℕ
+tetras_following n a = (a + 4 * n) % 2 ^ 64
 
 -- where a far fix joins its tetra: lambda less four times a distance, which is the tetra, or its low 24 bits less 2^bits
 -- where its first byte is 1
 abbrev pub far_place : ℕ → ℕ → ℕ → ℕ
 far_place a bits t =
-    if nat_le (2 ^ 24) t then tetras_behind (2 ^ bits) (tetras_before (t % 2 ^ 24) a) else tetras_before t a
+    if nat_le (2 ^ 24) t then tetras_following (2 ^ bits) (tetras_before (t % 2 ^ 24) a) else tetras_before t a
 
 -- the image after a change, and all else as it was
 abbrev pub with_image : Loading → Result Image Meaningless → Result Loading Meaningless
@@ -120,7 +120,7 @@ value_at g values k = if nat_le g k then slice_index values (k - g) else 0
 abbrev pub with_globals : Image → ℕ → List ℕ → Image
 with_globals m g values = record m { g = g; global = value_at g values }
 
--- what stands after one item more
+-- what there is after one item more
 abbrev pub take_item : Loading → Item → Result Loading Meaningless
 take_item s (Load t) = after_load s (join s.image s.lambda t)
 take_item s (Loc a) = Ok (record s { lambda = a })
@@ -135,7 +135,7 @@ take_item s (Pre tetras) = Ok s
 take_item s (Post g values) = Ok (record s { image = with_globals s.image g values })
 take_item s Stab = Ok s
 
--- what stands after items, from the left; the first that has no meaning counts
+-- what there is after items, from the left; the first that has no meaning counts
 abbrev pub take_items : List Item → Result Loading Meaningless → Result Loading Meaningless
 take_items [] (Ok s) = Ok s
 take_items (item ∷ items) (Ok s) = take_items items (take_item s item)

@@ -32,7 +32,7 @@ abbrev pub EndsSpec : List ℕ → Type 0
 EndsSpec (a ∷ code ∷ y ∷ z ∷ more) = (a ≡ 0x98) × ¬ ((code ≡ 0) × (y ≡ 0) × (z ≡ 1))
 EndsSpec _ = ⊥
 
--- the bytes that an item may stand as
+-- the bytes that an item may be
 pub data Spells : Item → List ℕ → Type 0 where
   bare : (t : ℕ) → IsNoLop t → Spells (Load t) (tetra_to_bytes t)
   quoted : (t : ℕ) → t < 2 ^ 32 → Spells (Load t) (lop 0 0 1 ++ tetra_to_bytes t)

@@ -14,10 +14,10 @@ abbrev pub four_more : Option ℕ → Option ℕ
 four_more None = None
 four_more (Some n) = Some (4 + n)
 
--- what a tetra that is skipped has after it, by `behind`
+-- what a tetra that is skipped has after it, by `following`
 abbrev pub skip_on : (Bool → Option ℕ) → Option Bool → Option ℕ
-skip_on behind None = Some 0
-skip_on behind (Some quoted) = four_more (behind quoted)
+skip_on following None = Some 0
+skip_on following (Some quoted) = four_more (following quoted)
 
 -- how many bytes are before the lopcode that ends a spec, where it is there; `quoted` tells whether the first tetra is
 abbrev pub skipped : Bool → List ℕ → Option ℕ
@@ -25,8 +25,8 @@ skipped quoted (a ∷ code ∷ y ∷ z ∷ more) = skip_on (λ q. skipped q more
 skipped quoted _ = None
 
 abbrev pub quoted_on : (Bool → Option Bool) → Option Bool → Option Bool
-quoted_on behind None = None
-quoted_on behind (Some quoted) = behind quoted
+quoted_on following None = None
+quoted_on following (Some quoted) = following quoted
 
 -- whether the tetra after these is quoted, where all of these are skipped
 abbrev pub quoted_after : Bool → List ℕ → Option Bool

@@ -45,7 +45,7 @@ EndsLast (item ∷ []) rest = EndsItem item rest
 EndsLast (item ∷ next ∷ items) rest = EndsLast (next ∷ items) rest
 
 -- these items are first in bytes, where items may come as this phase says: they take `front`, and `rest` is left
-pub record StandFirst (phase : Phase) (bytes : List ℕ) (items : List Item) (front rest : List ℕ) : Type 0 where
+pub record ComeFirst (phase : Phase) (bytes : List ℕ) (items : List Item) (front rest : List ℕ) : Type 0 where
   pub whole : bytes ≡ front ++ rest
   pub spelled : Spelled items front
   pub turn : ComeInTurn phase items

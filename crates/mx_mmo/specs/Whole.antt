@@ -5,7 +5,7 @@ use Rattle.std.specs.Prelude.{◌≡◌, ℕ, zero, suc, ◌+◌, nat_lt, List, 
 use Rattle.mx_mmo.specs.Object.{IsObject}
 use Rattle.mx_mmo.specs.Reading.{Due, first_item}
 use Rattle.mx_mmo.specs.Replies.{ReaderModel, phase_after, tail_of, limit}
-use Rattle.mx_mmo.specs.Turns.{StandFirst}
+use Rattle.mx_mmo.specs.Turns.{ComeFirst}
 use Rattle.mx_mmo.specs.declared.items.Item.{Item}
 use Rattle.mx_mmo.specs.declared.items.Tail.{Tail}
 use Rattle.mx_mmo.specs.declared.items.Object.{Object}
@@ -24,14 +24,14 @@ pub record Left : Type 0 where
 abbrev pub Walk : Type 0
 Walk = List Item × Result Left MmoFault
 
-abbrev pub behind : Item → Walk → Walk
-behind item w = (item ∷ w.0, w.1)
+abbrev pub after_item : Item → Walk → Walk
+after_item item w = (item ∷ w.0, w.1)
 
 -- an item and those that follow it, by `others`; a fault; or nothing more
 abbrev pub walk_on : (Phase → ℕ → List ℕ → Walk) → Phase → ℕ → List ℕ → Due → Walk
 walk_on others phase at bytes (Ok None) = ([], Ok (record { phase = phase; at = at; rest = bytes }))
 walk_on others phase at bytes (Ok (Some (item, size))) =
-    behind item (others (phase_after item phase) (at + size) (drop size bytes))
+    after_item item (others (phase_after item phase) (at + size) (drop size bytes))
 walk_on others phase at bytes (Err fault) = ([], Err fault)
 
 -- at most this many items
@@ -101,13 +101,17 @@ abbrev pub passed_limit : Result Left MmoFault → Result Object MmoFault
 passed_limit (Err fault) = Err fault
 passed_limit (Ok left) = Err (TooLong limit)
 
+-- what pieces come to that go past the limit: the fault of an item before the one that does, or that there are too many bytes
+abbrev pub passed_pieces : List (List ℕ) → Result Object MmoFault
+passed_pieces pieces = passed_limit (items_of Start 0 (pieces_within 0 pieces)).1
+
 -- the bytes are this object in the grammar, and its trie begins where the items end
 pub record SpellsObject (bytes : List ℕ) (object : Object) : Type 0 where
   pub spelled : IsObject bytes object.items object.tail.trie
   pub place : object.tail.place ≡ length spelled.front
 
 -- these items are first in bytes, and what is left begins where they end
-pub record StandAt (bytes : List ℕ) (items : List Item) (left : Left) : Type 0 where
+pub record AreAt (bytes : List ℕ) (items : List Item) (left : Left) : Type 0 where
   pub front : List ℕ
-  pub first : StandFirst Start bytes items front left.rest
+  pub first : ComeFirst Start bytes items front left.rest
   pub place : left.at ≡ length front

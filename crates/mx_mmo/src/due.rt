@@ -104,7 +104,7 @@ fn due_item(alloc: Global, scan: &mut Scan, phase: Phase, at: u64, rest: &[u8]) 
     }
 }
 
-/// The tetra that is first in bytes between `pre` and `post`, where it is one that is loaded as it stands.
+/// The tetra that is first in bytes between `pre` and `post`, where it is one that is loaded as it is.
 #[inline(always)]
 pub fn plain_tetra(rest: &[u8]) -> Option<u32>
     ensures item { IfSome result (λ t. (at : ℕ) →

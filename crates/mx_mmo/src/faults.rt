@@ -12,7 +12,7 @@ pub enum MmoFault {
     NotTetras(u64),
     /// The first tetra is not `pre` with Y = 1.
     NoPre(u64),
-    /// A lopcode that does not exist, or one that may not stand here.
+    /// A lopcode that does not exist, or one that may not be here.
     BadLop(u64),
     /// A lopcode with wrong fields, or the count in `end` is wrong.
     BadFields(u64),

@@ -20,7 +20,7 @@ pub enum Item {
     /// or its low 24 bits less 2^bits where its first byte is 1. `bits` is 16 or 24, and the first
     /// byte is 0 or 1.
     FixFar { bits: u8, word: u32 },
-    /// The source file of this number is selected, and named where a name stands.
+    /// The source file of this number is selected, and named where it has a name.
     File { number: u8, name: Option<Bytes> },
     /// The line of the source that the tetras from here on come from.
     Line(u16),

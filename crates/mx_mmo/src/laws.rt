@@ -6,7 +6,7 @@ ghost use Rattle.mx_mmo.specs.Reading.{first_item};
 ghost use Rattle.mx_mmo.specs.Replies.{limit};
 ghost use Rattle.mx_mmo.specs.Spelling.{ending, written};
 ghost use Rattle.mx_mmo.specs.Valid.{AreBytes, Valid};
-ghost use Rattle.mx_mmo.specs.Whole.{Left, SpellsObject, StandAt, extended, items_of, object_fault, object_of, walk};
+ghost use Rattle.mx_mmo.specs.Whole.{AreAt, Left, SpellsObject, extended, items_of, object_fault, object_of, walk};
 ghost use Rattle.mx_mmo.specs.Whole.{walk_on};
 ghost use Rattle.mx_mmo.specs.declared.due.Phase.{Phase};
 ghost use Rattle.mx_mmo.specs.declared.faults.MmoFault.{MmoFault};
@@ -33,23 +33,23 @@ pub fn reading_is_the_grammar()
 
 /// The first fault of an object's bytes is the one that the table of faults has for them.
 pub fn faults_are_the_table()
-    ensures found { (bytes : List ℕ) (fault : MmoFault) → AreBytes bytes → length bytes ≤ limit →
-        object_fault bytes ≡ Some fault → FaultOf bytes fault }
-    ensures only { (bytes : List ℕ) (fault : MmoFault) → AreBytes bytes → length bytes ≤ limit →
-        FaultOf bytes fault → object_fault bytes ≡ Some fault }
+    ensures found { (bytes : List ℕ) (f : MmoFault) → AreBytes bytes → length bytes ≤ limit →
+        object_fault bytes ≡ Some f → FaultOf bytes f }
+    ensures only { (bytes : List ℕ) (f : MmoFault) → AreBytes bytes → length bytes ≤ limit →
+        FaultOf bytes f → object_fault bytes ≡ Some f }
 {}
 
 /// An item begins where the items before it end.
-pub fn items_stand_at_their_places()
+pub fn items_are_at_their_places()
     ensures { (count : ℕ) (bytes : List ℕ) (items : List Item) (left : Left) → AreBytes bytes →
-        walk count Phase.Start 0 bytes ≡ (items, Ok left) → StandAt bytes items left }
+        walk count Phase.Start 0 bytes ≡ (items, Ok left) → AreAt bytes items left }
 {}
 
 /// The items of bytes are the first one and those of the bytes after it; and where more bytes come,
 /// the items before stay, and the walk goes on with what was left.
 pub fn items_come_in_turn()
-    ensures first { (phase : Phase) (at : ℕ) (bytes : List ℕ) →
-        items_of phase at bytes ≡ walk_on items_of phase at bytes (first_item phase at bytes) }
-    ensures more { (phase : Phase) (at : ℕ) (front more : List ℕ) →
-        items_of phase at (front ++ more) ≡ extended (items_of phase at front) more }
+    ensures first { (p : Phase) (at : ℕ) (bytes : List ℕ) →
+        items_of p at bytes ≡ walk_on items_of p at bytes (first_item p at bytes) }
+    ensures more { (p : Phase) (at : ℕ) (front more : List ℕ) →
+        items_of p at (front ++ more) ≡ extended (items_of p at front) more }
 {}

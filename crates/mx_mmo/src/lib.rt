@@ -23,7 +23,7 @@ pub use due::Phase;
 pub use faults::MmoFault;
 pub use items::{Item, Object, Tail};
 pub use laws::{
-    faults_are_the_table, items_come_in_turn, items_stand_at_their_places, reading_is_the_grammar,
+    faults_are_the_table, items_are_at_their_places, items_come_in_turn, reading_is_the_grammar,
     written_is_read,
 };
 pub use lists::{Items, Octas, Words};

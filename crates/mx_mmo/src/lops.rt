@@ -16,7 +16,7 @@ pub(crate) enum Lop {
     Fixo,
     /// A number is joined this many tetras before lambda.
     Fixr,
-    /// A tetra is joined at a distance that it tells.
+    /// A tetra is joined at a distance that it gives.
     Fixrx,
     /// A source file is selected.
     File,

@@ -10,7 +10,7 @@ use std::alloc::Global;
 /// An item with how many bytes it takes; nothing where it is not whole yet.
 pub type Due = Result<Option<(Item, usize)>, MmoFault>;
 
-/// The tetras of bytes; one to three bytes at the end tell none.
+/// The tetras of bytes; one to three bytes at the end give none.
 fn tetras_of(alloc: Global, bytes: &[u8]) -> Result<Words, NoMemory>
     ensures { IfOk result (λ tetras. tetras ≡ spec.tetras_of bytes.now) }
 {
@@ -23,7 +23,7 @@ fn tetras_of(alloc: Global, bytes: &[u8]) -> Result<Words, NoMemory>
     Ok(tetras)
 }
 
-/// The octas of bytes; one to seven bytes at the end tell none.
+/// The octas of bytes; one to seven bytes at the end give none.
 fn octas_of(alloc: Global, bytes: &[u8]) -> Result<Octas, NoMemory>
     ensures { IfOk result (λ octas. octas ≡ spec.octas_of bytes.now) }
 {
@@ -72,7 +72,7 @@ pub fn read_quote(more: &[u8]) -> Due
     }
 }
 
-/// An address whose high byte is told, with a tetra after it.
+/// An address whose high byte is given, with a tetra after it.
 fn short_address(y: u8, more: &[u8]) -> Result<Option<(u64, usize)>, MmoFault>
     ensures { result ≡ spec.on_tetra (spec.short_address y) more.now }
 {

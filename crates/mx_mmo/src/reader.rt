@@ -139,7 +139,7 @@ impl Reader {
         }
     }
 
-    /// The tetra that is next, where it is one that is loaded as it stands: it is given then, as `next` gives it as an
+    /// The tetra that is next, where it is one that is loaded as it is: it is given then, as `next` gives it as an
     /// item. Nothing where anything else is due, and then nothing changes. It takes no memory.
     #[inline]
     pub fn next_plain(&mut self) -> Option<u32>

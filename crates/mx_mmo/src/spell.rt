@@ -106,7 +106,7 @@ fn append_loaded(bytes: &mut Vec<u8>, t: u32) -> Result<(), NoMemory>
     }
 }
 
-/// Adds a lopcode with an address, in a tetra where the top byte and a tetra tell it.
+/// Adds a lopcode with an address, in a tetra where the top byte and a tetra give it.
 fn append_address(bytes: &mut Vec<u8>, code: u8, a: u64) -> Result<(), NoMemory>
     ensures ok { OnOk result (bytes.new.items ≡ bytes.old.items ++ address code a) }
     ensures err { OnErr result (take (length bytes.old.items) bytes.new.items ≡ bytes.old.items) }

@@ -11,7 +11,7 @@ ghost use Rattle.mx_mmo.specs.declared.items.Item.{Item};
 ghost use Rattle.mx_mmo.specs.declared.items.Object.{Object};
 ghost use Rattle.mx_mmo.specs.declared.due.Phase.{Phase};
 ghost use Rattle.mx_mmo.specs.Whole.{SpellsObject, extended, fed, items_of, left_of, object_fault, object_of};
-ghost use Rattle.mx_mmo.specs.Whole.{passed_limit, pieces_within, walk_on, with_more, with_rest, with_tail};
+ghost use Rattle.mx_mmo.specs.Whole.{passed_pieces, walk_on, with_more, with_rest, with_tail};
 
 use crate::{Items, MmoFault, Object, Phase, Reader};
 use mx_word::Bytes;
@@ -87,7 +87,7 @@ fn take_pieces(reader: &mut Reader, items: &mut Items, pieces: &[Bytes]) -> Resu
     ensures fault { length (concat pieces.now) ≤ limit → result ≢ Err MmoFault.OutOfMemory →
         IfErr result (λ f. Err f ≡ object_of (concat pieces.now)) }
     ensures long { limit < length (concat pieces.now) → result ≢ Err MmoFault.OutOfMemory →
-        IfErr result (λ f. Err f ≡ passed_limit (items_of Phase.Start 0 (pieces_within 0 pieces.now)).1) }
+        IfErr result (λ f. Err f ≡ passed_pieces pieces.now) }
 {
     for piece in pieces {
         match take_piece(reader, items, piece.as_slice()) {
@@ -113,7 +113,7 @@ fn read_pieces(alloc: Global, pieces: &[Bytes]) -> Result<Object, MmoFault>
     ensures exact { length (concat pieces.now) ≤ limit → result ≢ Err MmoFault.OutOfMemory →
         result ≡ object_of (concat pieces.now) }
     ensures long { limit < length (concat pieces.now) → result ≢ Err MmoFault.OutOfMemory →
-        result ≡ passed_limit (items_of Phase.Start 0 (pieces_within 0 pieces.now)).1 }
+        result ≡ passed_pieces pieces.now }
     ensures bytes { OnOk result (AreBytes (concat pieces.now)) }
 {
     let mut reader = Reader::new(alloc);
@@ -131,7 +131,7 @@ pub fn read(alloc: Global, pieces: &[Bytes]) -> Result<Object, MmoFault>
         result ≡ object_of (concat pieces.now) }
     // Too many bytes are refused as such, unless an item in the pieces before has a fault.
     ensures long { limit < length (concat pieces.now) → result ≢ Err MmoFault.OutOfMemory →
-        result ≡ passed_limit (items_of Phase.Start 0 (pieces_within 0 pieces.now)).1 }
+        result ≡ passed_pieces pieces.now }
     // What is read is in the grammar of objects.
     ensures found { IfOk result (λ object. SpellsObject (concat pieces.now) object) }
     // What is in the grammar is read.

@@ -84,8 +84,8 @@ module _ (kind : MachineKind) (schedule : List ℕ) where
     ends-as : (s t : ℕ) (next : List ℕ) (w v : JointWorld) (end : Course MultiEnd JointWorld) → s ≡ t → w ≡ v → EndsSo kind schedule n s next w end → EndsSo kind schedule n t next v end
     ends-as s t next w v end e f h = subst (λ u. EndsSo kind schedule n t next u end) f (subst (λ k. EndsSo kind schedule n k next w end) e h)
 
-    behind-idle : (before part : List ℕ) (w : JointWorld) (end : Course MultiEnd JointWorld) → ¬ AllHaveHalted w.0.halted schedule → AllHaveHalted w.0.halted before → FoldsFrom kind part schedule n w end → FoldsFrom kind (before ++ part) schedule n w end
-    behind-idle before part w end due h f =
+    after-idle : (before part : List ℕ) (w : JointWorld) (end : Course MultiEnd JointWorld) → ¬ AllHaveHalted w.0.halted schedule → AllHaveHalted w.0.halted before → FoldsFrom kind part schedule n w end → FoldsFrom kind (before ++ part) schedule n w end
+    after-idle before part w end due h f =
         let steps : steps_in (before ++ f.turns) w ≡ steps_in f.turns w = idle-steps before f.turns w h in
         record {
           turns = before ++ f.turns;
@@ -191,7 +191,7 @@ module _ (kind : MachineKind) (schedule : List ℕ) where
       let due : ¬ AllHaveHalted w.0.halted schedule = λ all. not-all-in w.0.halted f.before who after runs (subst (AllHaveHalted w.0.halted) f.split (within w.0.halted all)) in
       let later : Within after = λ halted all. all-after halted f.before who after (subst (AllHaveHalted halted) f.split (within halted all)) in
       subst (λ p. FoldsFrom kind p schedule (suc n) w end) (sym f.split)
-      (behind-idle (suc n) f.before (who ∷ after) w end due f.idle
+      (after-idle (suc n) f.before (who ∷ after) w end due f.idle
       (kind-by n who after w (ends_wild kind (state_at w.0 who)) refl due runs (λ v. more after v later)))
 
   not-all-found : (halted : List Bool) (part : List ℕ) (who : ℕ) (after : List ℕ) → next_in halted part ≡ Some (who, after) → ¬ AllHaveHalted halted part
@@ -204,7 +204,7 @@ module _ (kind : MachineKind) (schedule : List ℕ) where
   next-by n rest w None (Some (who, after)) e f within more =
       let end = turn_by kind (turns kind schedule n) w (Some (who, after)) in
       one-round (suc n) rest w end
-      (behind-idle (suc n) rest schedule w end (not-all-found w.0.halted schedule who after f) (all-none w.0.halted rest e)
+      (after-idle (suc n) rest schedule w end (not-all-found w.0.halted schedule who after f) (all-none w.0.halted rest e)
       (one-found n schedule who after w f (λ halted all. all) more))
   next-by n rest w None None e f within more = nothing (suc n) rest w (ends AllHalted w) (refl, all-none w.0.halted schedule f)
 

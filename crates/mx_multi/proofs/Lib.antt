@@ -1,5 +1,4 @@
 pub mod Begun
-pub mod Exchanges
 pub mod Places
 pub mod Untraced
 pub mod TurnComes
@@ -10,7 +9,9 @@ pub mod StepSums
 pub mod ListStarts
 pub mod Folded
 pub mod Stretches
+pub mod Seating
 pub mod Names
+pub mod Rounds
 pub mod Packed
 pub mod RowTurns
 pub mod Underway

@@ -1,9 +1,8 @@
 -- The names of a schedule that are those of processors which have not halted.
-use Rattle.std.proofs.Common.{◌≡◌, ◌<◌, ◌≤◌, ℕ, zero, suc, ◌+◌, not, Bool, true, false, cond, IsTrue, List, [], ◌∷◌, drop, length, get_or, set, None, Some, arith, refl, sym, subst, ap, ◌∙◌}
-use Rattle.std.proofs.lemmas.List.{at_drop_more}
+use Rattle.std.proofs.Common.{◌≡◌, ◌<◌, ℕ, zero, suc, not, Bool, true, false, cond, IsTrue, List, [], ◌∷◌, length, get_or, set, None, Some, arith, refl, sym, subst, ap, ◌∙◌}
 use Rattle.std.proofs.lemmas.List.Elements.{filter_passes, All-get_or}
 use Rattle.mx_multi.specs.Joint.{has_halted}
-use Rattle.mx_multi.specs.Stretches.{IsRow, running}
+use Rattle.mx_multi.specs.Stretches.{running}
 use Rattle.mx_multi.specs.Schedules.{next_in, AllHaveHalted, AreNames}
 
 -- ---- the next of them, and that of the schedule
@@ -88,20 +87,6 @@ pub run-again : (halted further : List Bool) (part : List ℕ) → ((x : ℕ) �
 run-again halted further [] still = refl
 run-again halted further (x ∷ xs) still = again-by halted further x xs (has_halted halted x) refl (λ e. still x e) (run-again halted further xs still)
 
--- ---- places
-
-pub row-first : (names : List ℕ) (place n who : ℕ) → IsRow names place (suc n) who → drop place names ≡ who ∷ drop (place + 1) names
-row-first names place n who row =
-    let inside : place < length names = (let i = row.inside in omega (arith, i)) in
-    let none : place + 0 ≡ place = omega arith in
-    at_drop_more (λ l. l) names place 0 inside ∙ ap (λ x. x ∷ drop (place + 1) names) (subst (λ p. get_or names p 0 ≡ who) none (row.names 0 (omega arith)))
-
-pub row-rest : (names : List ℕ) (place n who : ℕ) → IsRow names place (suc n) who → IsRow names (place + 1) n who
-row-rest names place n who row = record {
-  inside = (let i = row.inside in omega (arith, i));
-  names = λ i h. (let then : place + (i + 1) ≡ place + 1 + i = omega arith in subst (λ p. get_or names p 0 ≡ who) then (row.names (i + 1) (omega (arith, h))));
-}
-
 -- ---- parts of them
 
 pub part-runs : (halted : List Bool) (part : List ℕ) (i : ℕ) → i < length part → has_halted halted (get_or part i 0) ≡ false → AllHaveHalted halted part → ⊥
@@ -114,12 +99,3 @@ one-runs halted schedule names place e l all =
     let none : names ≡ [] = e ∙ run-all halted schedule all in
     let inside = subst (λ (ns : List ℕ). place < length ns) none l in
     omega (arith, inside)
-
-pub row-at : (names : List ℕ) (place most made who : ℕ) → made < most → IsRow names place most who → IsRow names (place + made) 1 who
-row-at names place most made who l row = record {
-  inside = (let i = row.inside in omega (arith, i, l));
-  names = λ i h. (let same : place + made ≡ place + made + i = omega (arith, h) in subst (λ p. get_or names p 0 ≡ who) same (row.names made l));
-}
-
-pub row-front : (names : List ℕ) (place most made who : ℕ) → made ≤ most → IsRow names place most who → IsRow names place made who
-row-front names place most made who l row = record { inside = (let i = row.inside in omega (arith, i, l)); names = λ i h. row.names i (omega (arith, h, l)) }

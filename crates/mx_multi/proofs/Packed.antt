@@ -9,7 +9,7 @@ use Rattle.mx_multi.specs.Joint.{has_halted}
 use Rattle.mx_multi.specs.Stretches.{running}
 use Rattle.mx_multi.specs.Schedules.{AreNames}
 
--- of the names of a part, those up to a place were moved, and the others stand where they stood
+-- of the names of a part, those up to a place were moved, and the others are where they were
 pub record Packs (count : ℕ) (halted : List Bool) (old : List ℕ) (from place : ℕ) (at kept : ℕ) (names : List ℕ) : Type 0 where
   pub moved : take kept names ≡ take place old ++ running halted (drop from (take at old))
   pub same : drop at names ≡ drop at old

@@ -17,7 +17,7 @@ alone-set (t ∷ ss) zero s h e = (e, h.1)
 alone-set (t ∷ ss) (suc i) s h e = (h.0, alone-set ss i s h.1 e)
 
 module _ (ks : List Kept) (i : ℕ) (inside : i < length ks) where
-  -- the state of the machine at a place, whatever stands for none
+  -- the state of the machine at a place, whatever means none
   pub held-at : (x : Kept) (d : State) → x ≡ get_or ks i x → get_or (map state_of ks) i d ≡ state_of x
   held-at x d e = get_or-map state_of ks i x d inside ∙ ap state_of (sym e)
 

@@ -1,26 +1,25 @@
--- Rows of turns of one processor, one after another.
-use Rattle.std.proofs.Common.{◌≡◌, ◌<◌, ◌≤◌, ℕ, zero, suc, ◌+◌, ◌-◌, true, false, Option, arith, refl, sym, subst, ap, ◌∙◌}
+-- Turns by names, each of which goes on.
+use Rattle.std.proofs.Common.{◌≡◌, ◌<◌, ◌≤◌, ℕ, zero, suc, ◌+◌, ◌-◌, true, false, List, length, Option, arith, refl, sym, subst, ap, ◌∙◌}
 use Rattle.mx_host.specs.HostModel.{HostModel, contents}
 use Rattle.mx_host.proofs.Keeping.{keeps-all}
+use Rattle.mx_multi.specs.Clauses.{TakesTurnBetween}
 use Rattle.mx_multi.specs.Joint.{Joint, has_halted}
-use Rattle.mx_multi.specs.Stretches.{EndsRow, GoesOn, Stretch, Over, Taken, Row}
+use Rattle.mx_multi.specs.Stretches.{Along, GoesOn, IsRow, Stretch, place_after}
 use Rattle.mx_multi.specs.declared.turn.Turn.{Turn}
 use Rattle.mx_multi.specs.declared.turn.Turn.TheVariants as turned
+use Rattle.mx_multi.proofs.Rounds.{place-below, place-here, place-then, row-first, row-less, row-rest}
 use Rattle.mx_multi.proofs.TurnComes.{turn-is}
 
-pub row-then : (who a b : ℕ) (v u w : Over) → Row a who v u → Row b who u w → Row (a + b) who v w
-unfolding Row
-row-then who zero b v u w r s = let none : 0 + b ≡ b = omega arith in subst (λ n. Row n who v w) (sym none) (subst (λ x. Row b who x w) (sym r) s)
-row-then who (suc a) b v u w r s = let more : suc a + b ≡ suc (a + b) = omega arith in subst (λ n. Row n who v w) (sym more) (r.0, (r.1.0, row-then who a b r.0 u w r.1.1 s))
+-- what a host tells, its count of faults, and the processors
+abbrev pub Over : Type 0
+Over = Option HostModel × ℕ × Joint
 
-pub row-one-turn : (who : ℕ) (v w : Over) → Taken who turned.Went v w → Row 1 who v w
-unfolding Row
-row-one-turn who v w t = (w, (t, refl))
+abbrev pub Taken : ℕ → Turn → Over → Over → Type 0
+Taken who answer v w = TakesTurnBetween v.0 w.0 v.1 w.1 v.2 w.2 who answer
 
--- ---- a stretch is a row over every host
-
-stretch-turn : (who : ℕ) (j k : Joint) (o : Option HostModel) (f : ℕ) → has_halted j.halted who ≡ false → GoesOn who j k → Taken who turned.Went (o, f, j) (o, f, k)
-stretch-turn who j k o f runs g = record {
+-- a turn that goes on is made over every host
+pub goes-taken : (who : ℕ) (j k : Joint) (o : Option HostModel) (f : ℕ) → has_halted j.halted who ≡ false → GoesOn who j k → Taken who turned.Went (o, f, j) (o, f, k)
+goes-taken who j k o f runs g = record {
   plan = λ t. g.comes (contents o);
   told = λ t ne. turn-is who j k (contents o) (contents o) turned.Went (g.comes (contents o)) ne;
   listed = λ t ne u. g.listed (contents o) u;
@@ -30,36 +29,52 @@ stretch-turn who j k o f runs g = record {
   keeps = keeps-all o f;
 }
 
-pub stretch-row : (n who : ℕ) (j l : Joint) (o : Option HostModel) (f : ℕ) → has_halted j.halted who ≡ false → Stretch n who j l → Row n who (o, f, j) (o, f, l)
-unfolding Stretch Row
-stretch-row zero who j l o f runs s = ap (λ (k : Joint). (o, f, k)) s
-stretch-row (suc n) who j l o f runs s = (
-  (o, f, s.0),
-  (stretch-turn who j s.0 o f runs s.1.0, stretch-row n who s.0 l o f (ap (λ hs. has_halted hs who) s.1.0.halted ∙ runs) s.1.1),
-)
+-- ---- one after another
 
-pub stayed : (n who : ℕ) (j l : Joint) → n ≤ 0 → Stretch n who j l → j ≡ l
-unfolding Stretch
-stayed zero who j l h s = s
-stayed (suc n) who j l h s = absurd (omega (arith, h))
+along-then : (names : List ℕ) (a b at mid after : ℕ) (j k l : Joint) → Along names a at mid j k → Along names b mid after k l → Along names (a + b) at after j l
+unfolding Along
+along-then names zero b at mid after j k l f g =
+    let none : 0 + b ≡ b = omega arith in
+    subst (λ n. Along names n at after j l) (sym none) (subst (λ p. Along names b p after j l) (sym f.0) (subst (λ (x : Joint). Along names b mid after x l) (sym f.1) g))
+along-then names (suc a) b at mid after j k l f g =
+    let more : suc a + b ≡ suc (a + b) = omega arith in
+    subst (λ n. Along names n at after j l) (sym more) (f.0, (f.1.0, along-then names a b (place_after (length names) at 1) mid after f.0 k l f.1.1 g))
+
+-- a stretch of one processor, where the names are its own
+pub stretch-along : (names : List ℕ) (n who at : ℕ) (j l : Joint) → at < length names → IsRow names at n who → Stretch n who j l → Along names n at (place_after (length names) at n) j l
+unfolding Along Stretch
+stretch-along names zero who at j l inside row s = (sym (place-here (length names) at inside), s)
+stretch-along names (suc n) who at j l inside row s =
+    let more : 1 + n ≡ suc n = omega arith in (
+      s.0,
+      (
+        subst (λ x. GoesOn x j s.0) (sym (row-first names at n who inside row)) s.1.0,
+        subst (λ p. Along names n (place_after (length names) at 1) p s.0 l) (place-then (length names) at 1 n ∙ ap (λ k. place_after (length names) at k) more)
+            (stretch-along names n who (place_after (length names) at 1) s.0 l (place-below (length names) at 1 inside) (row-rest names at n who row) s.1.1),
+      ),
+    )
 
 -- ---- of this many that were asked for
 
-pub none-yet : (most who : ℕ) (v : Over) → Row (most - most) who v v
-unfolding Row
-none-yet most who v = let none : most - most ≡ 0 = omega arith in subst (λ n. Row n who v v) (sym none) refl
+pub none-yet : (names : List ℕ) (n at : ℕ) (j : Joint) → Along names (n - n) at at j j
+unfolding Along
+none-yet names n at j = let none : n - n ≡ 0 = omega arith in subst (λ k. Along names k at at j j) (sym none) (refl, refl)
 
-pub some-more : (most left made who : ℕ) (v u w : Over) → left ≤ most → made ≤ left → Row (most - left) who v u → Row made who u w → Row (most - (left - made)) who v w
-some-more most left made who v u w f g r s =
-    let sum : most - left + made ≡ most - (left - made) = omega (arith, f, g) in subst (λ n. Row n who v w) sum (row-then who (most - left) made v u w r s)
+some-more : (names : List ℕ) (n left made at mid after : ℕ) (j k l : Joint) → left ≤ n → made ≤ left → Along names (n - left) at mid j k → Along names made mid after k l →
+    Along names (n - (left - made)) at after j l
+some-more names n left made at mid after j k l f g r s =
+    let sum : n - left + made ≡ n - (left - made) = omega (arith, f, g) in
+    subst (λ c. Along names c at after j l) sum (along-then names (n - left) made at mid after j k l r s)
 
--- a turn, where none was made before it
-module _ (most left made who : ℕ) (o : Option HostModel) (f : ℕ) (j k : Joint) (v w : Over) (few : left ≤ most) (some : 0 < left) (none : made ≤ 0) (r : Row (most - left) who v (o, f, j)) (s : Stretch made who j k) where
-  row-so-far : Row (most - left) who v (o, f, k)
-  row-so-far = subst (λ (i : Joint). Row (most - left) who v (o, f, i)) (stayed made who j k none s) r
+-- those of a row that go on
+pub walked-part : (names : List ℕ) (n left made most who at place next : ℕ) (j k l : Joint) → left ≤ n → made ≤ most → most ≤ left → place < length names → IsRow names place most who →
+    next ≡ place_after (length names) place made → Along names (n - left) at place j k → Stretch made who k l → Along names (n - (left - made)) at next j l
+walked-part names n left made most who at place next j k l f g h inside row e r s =
+    subst (λ p. Along names (n - (left - made)) at p j l) (sym e)
+    (some-more names n left made at place (place_after (length names) place made) j k l f (omega (arith, g, h)) r (stretch-along names made who place k l inside (row-less names place most made who g row) s))
 
-  pub one-more-turn : Taken who turned.Went (o, f, k) w → Row (most - (left - 1)) who v w
-  one-more-turn t = some-more most left 1 who v (o, f, k) w few (omega (arith, some)) row-so-far (row-one-turn who (o, f, k) w t)
-
-  pub row-ends : (a : Turn) → Taken who a (o, f, k) w → EndsRow who most (most - left) a v w
-  row-ends a t = record { before = (o, f, k); few = omega (arith, few, some); row = row-so-far; last = t }
+pub walked-row : (names : List ℕ) (n left made most who at place next : ℕ) (j k l : Joint) → left ≤ n → made ≤ most → most ≤ made → most ≤ left → place < length names → IsRow names place most who →
+    next ≡ place_after (length names) place most → Along names (n - left) at place j k → Stretch made who k l → Along names (n - (left - made)) at next j l
+walked-row names n left made most who at place next j k l f g all h inside row e r s =
+    let same : most ≡ made = omega (arith, g, all) in
+    walked-part names n left made most who at place next j k l f g h inside row (e ∙ ap (λ m. place_after (length names) place m) same) r s

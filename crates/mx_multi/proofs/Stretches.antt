@@ -1,8 +1,7 @@
 -- Steps of a machine that go on are a stretch of turns.
-use Rattle.std.proofs.Common.{◌≡◌, ◌<◌, ◌≤◌, ℕ, zero, suc, ◌+◌, Bool, true, false, List, length, get_or, set, arith, inl, inr, refl, sym, subst, ap, ◌∙◌, ⊎_elim}
-use Rattle.std.specs.Prelude.{◌⊎◌, Some}
+use Rattle.std.proofs.Common.{◌≡◌, ◌<◌, ℕ, zero, suc, Bool, true, false, List, length, get_or, set, arith, refl, sym, subst, ap, ◌∙◌}
+use Rattle.std.specs.Prelude.{Some}
 use Rattle.std.proofs.lemmas.List.{get_or-set_same, length-set, set-set, set-get_or}
-use Rattle.std.proofs.lemmas.Bool.{cases_eq}
 use Rattle.mx_word.proofs.Fronts.{front-self}
 use Rattle.mx_host.specs.HostModel.{HostModel, tells, contents}
 use Rattle.mx_core.specs.Bare.{Shared, nothing_shared, shared_of, with_shared}
@@ -23,9 +22,9 @@ use Rattle.mx_run.proofs.Later.{advanced-later}
 use Rattle.mx_run.proofs.ListTurns.{TurnWindow, turn-listed-on, wild-listed, turn-untouched}
 use Rattle.mx_run.proofs.Runners.{turn-told}
 use Rattle.mx_multi.specs.Clauses.{MakesTurn}
-use Rattle.mx_multi.specs.Joint.{Joint, no_processor, has_halted, alone, AllAlone}
+use Rattle.mx_multi.specs.Joint.{no_processor, has_halted, alone, AllAlone}
 use Rattle.mx_multi.specs.JointTurns.{told_at}
-use Rattle.mx_multi.specs.Stretches.{GoesOn, Stretch, IsRow}
+use Rattle.mx_multi.specs.Stretches.{GoesOn, Stretch}
 use Rattle.mx_multi.specs.declared.turn.Turn.TheVariants as turned
 use Rattle.mx_multi.proofs.Places.{alone-at, alone-set}
 use Rattle.mx_multi.proofs.TurnComes.{joint, told-comes, step-listed}
@@ -136,23 +135,3 @@ module _ (H : List Bool) (at : ℕ) (runs : has_halted H at ≡ false) where
               (subst (λ s. Goes n s (with_shared N (get_or Q at no_processor))) (sym (back P M inside p g.0 g.1)) g.2),
         ),
       )
-
--- ---- rows
-
-pub row-one : (schedule : List ℕ) (at : ℕ) → at < length schedule → IsRow schedule at 1 (get_or schedule at 0)
-row-one schedule at l = record { inside = omega (arith, l); names = λ i h. (let same : at + i ≡ at = omega (arith, h) in ap (λ p. get_or schedule p 0) same) }
-
-pub row-more : (schedule : List ℕ) (at n who : ℕ) → at + n < length schedule → get_or schedule (at + n) 0 ≡ who → IsRow schedule at n who → IsRow schedule at (n + 1) who
-row-more schedule at n who l e row = record { inside = omega (arith, l); names = λ i h. ⊎_elim (λ below. row.names i below) (λ same. subst (λ k. get_or schedule (at + k) 0 ≡ who) (sym same) e) (last-or i n h) }
-  where
-    last-or : (i n : ℕ) → i < n + 1 → (i < n) ⊎ (i ≡ n)
-    last-or i n h = ⊎_elim (λ e. inr e) (λ ne. inl (omega (arith, h, ne))) (cases_eq i n)
-
-pub row-less : (schedule : List ℕ) (at n k who : ℕ) → k ≤ n → IsRow schedule at n who → IsRow schedule at k who
-row-less schedule at n k who l row = record { inside = (let i = row.inside in omega (arith, i, l)); names = λ i h. row.names i (omega (arith, h, l)) }
-
-pub none-walked : (who : ℕ) (j : Joint) → Stretch 0 who j j
-unfolding Stretch
-none-walked who j = refl
-
-pub ruleset walking = (row-one, row-more, row-less, none-walked)

@@ -1,24 +1,26 @@
 -- Turns by a schedule that are under way: how many steps are left, and what of the schedule.
-use Rattle.std.proofs.Common.{◌≡◌, ◌<◌, ◌≤◌, ℕ, zero, suc, ◌+◌, ◌-◌, Bool, IsTrue, true, List, [], ◌∷◌, drop, length, None, Some, Ok, Err, inl, inr, arith, refl, sym, subst, ap, ◌∙◌}
+use Rattle.std.proofs.Common.{◌≡◌, ◌<◌, ◌≤◌, ℕ, zero, suc, ◌+◌, ◌-◌, Bool, IsTrue, true, List, [], ◌∷◌, drop, get_or, length, Option, None, Some, Ok, Err, inl, inr, arith, refl, sym, subst, ap, ◌∙◌}
 use Rattle.std.specs.Prelude.{◌⊎◌, ◌↔◌}
 use Rattle.std.proofs.lemmas.Bool.{cases_lt}
-use Rattle.std.proofs.lemmas.List.{drop_all}
-use Rattle.mx_host.specs.HostModel.{tells, contents}
+use Rattle.std.proofs.lemmas.List.{at_drop_more, drop_all}
+use Rattle.mx_host.specs.HostModel.{HostModel, tells, contents}
 use Rattle.mx_host.specs.Keeping.{Keeps}
 use Rattle.mx_host.proofs.Keeping.{keeps-then, keeps-all}
 use Rattle.mx_word.proofs.Fronts.{front-through}
 use Rattle.mx_plan.specs.Plan.{Stops}
-use Rattle.mx_multi.specs.Clauses.{MakesAtMost, RestsBoth, TakesTurns, TurnsBoth, WriteOn}
-use Rattle.mx_multi.specs.Joint.{has_halted}
+use Rattle.mx_multi.specs.Clauses.{MakesAtMost, RestsBoth, TakesTurnsBetween, TurnsBoth, WriteOn}
+use Rattle.mx_multi.specs.Joint.{Joint, has_halted}
 use Rattle.mx_multi.specs.JointTurns.{JointWorld, halted_by}
 use Rattle.mx_multi.specs.MultiPlans.{MultiPlan, multi, step_plan, steps_plan, turns_plan}
 use Rattle.mx_multi.specs.Schedules.{AllHaveHalted, end_at_last, end_of_turn, next_in, next_turn, or_again}
-use Rattle.mx_multi.specs.Stretches.{IsRow, IsPlaceFrom, EndsRow, Over, Row, Taken, running}
+use Rattle.mx_multi.specs.Stretches.{Along, IsPlaceFrom, place_after, running}
 use Rattle.mx_multi.specs.declared.end.MultiEnd.{MultiEnd}
 use Rattle.mx_multi.specs.declared.end.MultiEnd.TheVariants.{AllHalted, OutOfMemory, Spent}
 use Rattle.mx_multi.specs.declared.turn.Turn.{Turn}
 use Rattle.mx_multi.specs.declared.turn.Turn.TheVariants as turned
-use Rattle.mx_multi.proofs.Names.{run-next, run-none, run-again, still-halted, one-runs, row-at, row-first, row-front, row-rest}
+use Rattle.mx_multi.proofs.Names.{name-runs, run-next, run-none, run-again, still-halted, one-runs}
+use Rattle.mx_multi.proofs.Rounds.{place-below, place-from}
+use Rattle.mx_multi.proofs.RowTurns.{Over, Taken, goes-taken}
 use Rattle.mx_multi.proofs.Schedules.{all-none, last-all}
 use Rattle.mx_multi.proofs.StepSums.{both-made, few-made, none-made, one-made}
 use Rattle.mx_multi.proofs.TurnPlans.{again-both, begun, ended-both, halted-both, spent-both, turn-goes, turned-both, turns-listed, turns-told, went-both}
@@ -60,7 +62,7 @@ pub record Underway (schedule : List ℕ) (n : ℕ) (start : Over) (left : ℕ) 
   pub keeps : Keeps start.0 v.0 start.1 v.1
 
 abbrev pub Done : List ℕ → ℕ → Over → Over → MultiEnd → Type 0
-Done schedule n start w end = TakesTurns schedule n start.0 w.0 start.1 w.1 start.2 w.2 end
+Done schedule n start w end = TakesTurnsBetween schedule n start.0 w.0 start.1 w.1 start.2 w.2 end
 
 pub begins : (schedule : List ℕ) (n : ℕ) (start : Over) → Underway schedule n start n schedule start
 begins schedule n start = record {
@@ -202,76 +204,62 @@ module _ (schedule : List ℕ) (n : ℕ) (start : Over) (names : List ℕ) where
       let f = run-next v.2.halted q.rest who others (sym q.place ∙ e) in
       (f.after, (ap (λ x. or_again x (next_in v.2.halted schedule)) f.next, f.others))
 
-  went-so : (who : ℕ) (after : List ℕ) → end_of_turn who after turned.Went ≡ Ok after
-  went-so who after = refl
+  -- ---- the turn of the name at a place
 
-  one-named : (k place left who : ℕ) (v u : Over) → 0 < left → IsRow names place (suc k) who → Taken who turned.Went v u → Queued schedule n start left names place v → Queued schedule n start (left - 1) names (place + 1) u
-  one-named k place left who v u some row taken q =
-      let f = next-named place left who (drop (place + 1) names) v q (row-first names place k who row) in
-      record {
-        rest = f.0;
-        under = goes-on schedule n start left q.rest v u who f.0 turned.Went some f.1.0 taken q.under refl;
-        named = q.named ∙ ap (λ hs. running hs schedule) (sym taken.marked);
-        place = sym f.1.1 ∙ ap (λ hs. running hs f.0) (sym taken.marked);
-      }
+  module _ (place left : ℕ) (v w : Over) (some : 0 < left) (inside : place < length names) (q : Queued schedule n start left names place v) where
+    abbrev who : ℕ
+    who = get_or names place 0
 
-  pub row-named : (k place left who : ℕ) (v u : Over) → k ≤ left → IsRow names place k who → Row k who v u → Queued schedule n start left names place v → Queued schedule n start (left - k) names (place + k) u
-  unfolding Row
-  row-named zero place left who v u l row r q =
-      let less : left ≡ left - 0 = omega arith in
-      let more : place ≡ place + 0 = omega arith in
-      subst (λ x. Queued schedule n start (left - 0) names (place + 0) x) r (subst (λ c. Queued schedule n start c names (place + 0) v) less (subst (λ p. Queued schedule n start left names p v) more q))
-  row-named (suc k) place left who v u l row r q =
-      let less : left - 1 - k ≡ left - suc k = omega arith in
-      let more : place + 1 + k ≡ place + suc k = omega arith in
-      subst (λ c. Queued schedule n start c names (place + suc k) u) less (subst (λ p. Queued schedule n start (left - 1 - k) names p u) more
-      (row-named k (place + 1) (left - 1) who r.0 u (omega (arith, l)) (row-rest names place k who row) r.1.1
-      (one-named k place left who v r.0 (omega (arith, l)) row r.1.0 q)))
+    abbrev next : (after : List ℕ) × ((next_turn v.2.halted schedule q.rest ≡ Some (who, after)) × (running v.2.halted after ≡ drop (place + 1) names))
+    next = next-named place left who (drop (place + 1) names) v q (at_drop_more (λ x. x) names place 0 inside)
 
-  -- ---- the turn that ends a row
-
-  -- before it, and what then follows
-  record Before (made place left who : ℕ) (v : Over) : Type 0 where
-    pub queue : Queued schedule n start (left - made) names (place + made) v
-    pub after : List ℕ
-    pub next : next_turn v.2.halted schedule queue.rest ≡ Some (who, after)
-    pub others : running v.2.halted after ≡ drop (place + made + 1) names
-
-  before-last : (most made place left who : ℕ) (a : Turn) (v w : Over) → most ≤ left → IsRow names place most who → (e : EndsRow who most made a v w) → Queued schedule n start left names place v → Before made place left who e.before
-  before-last most made place left who a v w l row e q =
-      let few = e.few in
-      let queue = row-named made place left who v e.before (omega (arith, l, few)) (row-front names place most made who (omega (arith, few)) row) e.row q in
-      let f = next-named (place + made) (left - made) who (drop (place + made + 1) names) e.before queue (row-first names (place + made) 0 who (row-at names place most made who few row)) in
-      record { queue = queue; after = f.0; next = f.1.0; others = f.1.1 }
-
-  still : (who status : ℕ) (v w : Over) → Taken who (turned.Halted status) v w → (x : ℕ) → has_halted v.2.halted x ≡ true → has_halted w.2.halted x ≡ true
-  still who status v w taken x e = subst (λ hs. has_halted hs x ≡ true) (sym taken.marked) (still-halted v.2.halted who x e)
-
-  module _ (most made place left who status : ℕ) (v w : Over) (l : most ≤ left) (row : IsRow names place most who) (e : EndsRow who most made (turned.Halted status) v w) (q : Queued schedule n start left names place v) where
-    abbrev last : Before made place left who e.before
-    last = before-last most made place left who (turned.Halted status) v w l row e q
-
-    after-halt : Underway schedule n start (left - (made + 1)) last.after w
-    after-halt =
-        let few = e.few in
-        let less : left - made - 1 ≡ left - (made + 1) = omega arith in
-        subst (λ c. Underway schedule n start c last.after w) less
-        (goes-on schedule n start (left - made) last.queue.rest e.before w who last.after (turned.Halted status) (omega (arith, l, few)) last.next e.last last.queue.under refl)
-
-    pub halted-named : (others : List ℕ) (at : ℕ) → others ≡ running w.2.halted names → drop at others ≡ running w.2.halted (drop (place + made + 1) names) → Queued schedule n start (left - (made + 1)) others at w
-    halted-named others at f g = record {
-      rest = last.after;
-      under = after-halt;
-      named = f ∙ ap (running w.2.halted) last.queue.named ∙ run-again e.before.2.halted w.2.halted schedule (still who status e.before w e.last);
-      place = g ∙ ap (running w.2.halted) (sym last.others) ∙ run-again e.before.2.halted w.2.halted last.after (still who status e.before w e.last);
+    pub one-named : Taken who turned.Went v w → Queued schedule n start (left - 1) names (place + 1) w
+    one-named taken = record {
+      rest = next.0;
+      under = goes-on schedule n start left q.rest v w who next.0 turned.Went some next.1.0 taken q.under refl;
+      named = q.named ∙ ap (λ hs. running hs schedule) (sym taken.marked);
+      place = sym next.1.1 ∙ ap (λ hs. running hs next.0) (sym taken.marked);
     }
 
-  pub ended-named : (most made place left who : ℕ) (a : Turn) (end : MultiEnd) (v w : Over) → most ≤ left → IsRow names place most who → EndsRow who most made a v w → end_of_turn who [] a ≡ Err end → Queued schedule n start left names place v → Done schedule n start w end
-  ended-named most made place left who a end v w l row e err q =
-      let few = e.few in
-      let last = before-last most made place left who a v w l row e q in
-      ends-here schedule n start (left - made) last.queue.rest e.before w who last.after a (omega (arith, l, few)) last.next e.last last.queue.under end (ends-so who last.after a end err)
-      (λ all. one-runs e.before.2.halted schedule names (place + made) last.queue.named (let i = row.inside in omega (arith, i, few)) all)
+    still : (status : ℕ) → Taken who (turned.Halted status) v w → (x : ℕ) → has_halted v.2.halted x ≡ true → has_halted w.2.halted x ≡ true
+    still status taken x e = subst (λ hs. has_halted hs x ≡ true) (sym taken.marked) (still-halted v.2.halted who x e)
+
+    pub halted-named : (status : ℕ) (others : List ℕ) (at : ℕ) → Taken who (turned.Halted status) v w → others ≡ running w.2.halted names →
+        drop at others ≡ running w.2.halted (drop (place + 1) names) → Queued schedule n start (left - 1) others at w
+    halted-named status others at taken f g = record {
+      rest = next.0;
+      under = goes-on schedule n start left q.rest v w who next.0 (turned.Halted status) some next.1.0 taken q.under refl;
+      named = f ∙ ap (running w.2.halted) q.named ∙ run-again v.2.halted w.2.halted schedule (still status taken);
+      place = g ∙ ap (running w.2.halted) (sym next.1.1) ∙ run-again v.2.halted w.2.halted next.0 (still status taken);
+    }
+
+    pub ended-named : (a : Turn) (end : MultiEnd) → Taken who a v w → end_of_turn who [] a ≡ Err end → Done schedule n start w end
+    ended-named a end taken err =
+        ends-here schedule n start left q.rest v w who next.0 a some next.1.0 taken q.under end (ends-so who next.0 a end err)
+        (λ all. one-runs v.2.halted schedule names place q.named inside all)
+
+  -- ---- turns by names, each of which goes on
+
+  along-named : (k at after left : ℕ) (o : Option HostModel) (f : ℕ) (j l : Joint) → k ≤ left → at < length names → Along names k at after j l → Queued schedule n start left names at (o, f, j) →
+      Queued schedule n start (left - k) names after (o, f, l)
+  unfolding Along
+  along-named zero at after left o f j l few inside a q =
+      let less : left ≡ left - 0 = omega arith in
+      subst (λ p. Queued schedule n start (left - 0) names p (o, f, l)) a.0
+      (subst (λ (x : Joint). Queued schedule n start (left - 0) names at (o, f, x)) a.1 (subst (λ c. Queued schedule n start c names at (o, f, j)) less q))
+  along-named (suc k) at after left o f j l few inside a q =
+      let less : left - 1 - k ≡ left - suc k = omega arith in
+      let taken = goes-taken (get_or names at 0) j a.0 o f (name-runs j.halted schedule names at q.named inside) a.1.0 in
+      subst (λ c. Queued schedule n start c names after (o, f, l)) less
+      (along-named k (place_after (length names) at 1) after (left - 1) o f a.0 l (omega (arith, few)) (place-below (length names) at 1 inside) a.1.1
+      (placed names (left - 1) (at + 1) (place_after (length names) at 1) (o, f, a.0) refl (one-named at left (o, f, j) (o, f, a.0) (omega (arith, few)) inside q taken) (place-from names at inside)))
+
+  -- up to a count of those that are left
+  pub walked-named : (left more at after : ℕ) (o : Option HostModel) (f : ℕ) (j l : Joint) → more ≤ left → at < length names → Along names (left - more) at after j l →
+      Queued schedule n start left names at (o, f, j) → Queued schedule n start more names after (o, f, l)
+  walked-named left more at after o f j l few inside a q =
+      let same : left - (left - more) ≡ more = omega (arith, few) in
+      subst (λ c. Queued schedule n start c names after (o, f, l)) same (along-named (left - more) at after left o f j l (omega arith) inside a q)
 
   -- ---- no name, or no step, is left
 

@@ -10,7 +10,7 @@ use Rattle.mx_code.specs.declared.reason.Reason.{Reason}
 use Rattle.mx_core.specs.declared.step.Advance.{Advance}
 use Rattle.mx_core.specs.declared.step.Advance.TheVariants as advance
 use Rattle.mx_core.specs.declared.step.Step.TheVariants as made
-use Rattle.mx_run.specs.Clauses.{CarriesOutRun}
+use Rattle.mx_run.specs.Clauses.{CarriesOutOnMachine}
 use Rattle.mx_run.specs.RunPlans as run
 use Rattle.mx_run.specs.Runs.{IsLater}
 use Rattle.mx_run.specs.declared.turn_answer.TurnAnswer.{TurnAnswer}
@@ -53,7 +53,7 @@ stopped-makes o s t reason e = record {
   carried = λ tells. stopped-comes s t (contents o) reason (stopped-by s t reason (step s) e);
 }
 
--- ---- want of memory
+-- ---- where memory runs out
 
 pub lacking-makes : (o : Option HostModel) (s t : State) → t ≡ s → IsTrue (step_needs_page s) → MakesTurn o o s t turned.OutOfMemory
 lacking-makes o s t e h = record { step = answer.OutOfMemory; told = refl; carried = λ tells. lacking-comes s t (contents o) e h }
@@ -65,12 +65,12 @@ called-by s t (went u trace) e = let first : advance.Trap ≡ advance.Went = ap 
 called-by s t (calls call) e = ap (λ p. p.1) e
 called-by s t (stopped reason) e = let first : advance.Trap ≡ advance.Stopped reason = ap (λ p. p.0) e in absurd (cc)
 
-pub called-makes : (o n : Option HostModel) (s t u : State) (r : TurnAnswer) → (advance.Trap, t) ≡ advanced s (step s) → CarriesOutRun o n t u answer.OutOfMemory r run.turn_plan →
+pub called-makes : (o n : Option HostModel) (s t u : State) (r : TurnAnswer) → (advance.Trap, t) ≡ advanced s (step s) → CarriesOutOnMachine o n t u answer.OutOfMemory r run.turn_plan →
     MakesTurn o n s u (told_at s.pc r)
 called-makes o n s t u r e c = record {
   step = r;
   told = refl;
-  carried = subst (λ (v : State). CarriesOutRun o n v u answer.OutOfMemory r run.turn_plan) (called-by s t (step s) e) c;
+  carried = subst (λ (v : State). CarriesOutOnMachine o n v u answer.OutOfMemory r run.turn_plan) (called-by s t (step s) e) c;
 }
 
 pub called-later : (s t u : State) → (advance.Trap, t) ≡ advanced s (step s) → IsLater 1 t u → IsLater 1 s u

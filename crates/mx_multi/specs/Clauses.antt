@@ -4,10 +4,10 @@ use Rattle.std.specs.Prelude.{ℕ, zero, suc, ◌≡◌, ◌≢◌, ◌↔◌, �
 use Rattle.mx_word.specs.Lists.{IsFront}
 use Rattle.mx_host.specs.HostModel.{HostModel, tells, contents}
 use Rattle.mx_host.specs.Keeping.{Keeps}
-use Rattle.mx_plan.specs.Plan.{Comes}
+use Rattle.mx_plan.specs.Clauses.{CarriesOut}
 use Rattle.mx_plan.specs.Wild.{Course, ends, meets_wild, ComesBoth, IsRestBoth}
 use Rattle.mx_core.specs.State.{State}
-use Rattle.mx_run.specs.Clauses.{CarriesOutRun}
+use Rattle.mx_run.specs.Clauses.{CarriesOutOnMachine}
 use Rattle.mx_run.specs.RunPlans as run
 use Rattle.mx_run.specs.Runs.{IsLater}
 use Rattle.mx_run.specs.WildRuns.{HasWindow, list_machine, window_machine}
@@ -23,30 +23,33 @@ use Rattle.mx_multi.specs.declared.turn.Turn.TheVariants as turned
 use Rattle.mx_multi.specs.declared.end.MultiEnd.{MultiEnd}
 use Rattle.mx_multi.specs.declared.end.MultiEnd.TheVariants as end
 
--- Over a host that tells its contents, the plan is carried out: unless the answer is `none`, which is that of no memory, the
--- answer, the processors and the contents are its end; where it is, the turns that were completed stay, and of one that lacked
--- memory what it leaves then; nothing else changed.
-abbrev pub CarriesOutTurns : {A : Type 0} → Option HostModel → Option HostModel → Joint → Joint → A → A → MultiPlan A → Type 0
-CarriesOutTurns old new before after none result plan =
-    IsTrue (tells old) → Comes multi (before, contents old) (after, contents new) none result plan
+-- a call carries out a plan over processors and a host
+abbrev pub CarriesOutOnProcessors : {A : Type 0} → Option HostModel → Option HostModel → Joint → Joint → A → A → MultiPlan A → Type 0
+CarriesOutOnProcessors old new before after none result plan =
+    CarriesOut multi old (before, contents old) (after, contents new) none result plan
 
 -- the turn of one machine on all of its memory, told without a trace: what the answer of its step tells, which is carried out
 pub record MakesTurn (old new : Option HostModel) (before after : State) (result : Turn) : Type 0 where
   pub step : TurnAnswer
   pub told : result ≡ told_at before.pc step
-  pub carried : CarriesOutRun old new before after answer.OutOfMemory step run.turn_plan
+  pub carried : CarriesOutOnMachine old new before after answer.OutOfMemory step run.turn_plan
 
 -- what holds of such a turn over every host: it is made where the host tells its contents, from a state over a window; it is one
 -- step at most, and the host keeps what it keeps at every call
-pub record TurnsAlone (old new : Option HostModel) (earlier later : ℕ) (before after : State) (result : Turn) : Type 0 where
+pub record TurnsAloneBetween (old new : Option HostModel) (earlier later : ℕ) (before after : State) (result : Turn) : Type 0 where
   pub told : MakesTurn old new before after result
   pub over : HasWindow before
   pub bound : IsLater 1 before after
   pub keeps : Keeps old new earlier later
 
+-- the same of a host: `told` is what it tells, `faults` its count of faults
+abbrev pub TurnsAlone : {H : Type 0} → (H → Option HostModel) → (H → ℕ) → H → H → State → State → Turn → Type 0
+TurnsAlone told faults old new before after result =
+    TurnsAloneBetween (told old) (told new) (faults old) (faults new) before after result
+
 -- BESIDE LIST MACHINES
 
--- one turn beside that of list machines on one memory: where it is wild, what stood on standard output still does; else it
+-- one turn beside that of list machines on one memory: where it is wild, what was on standard output still is; else it
 -- answers and leaves the same, and nothing touched
 abbrev pub TurnGoesAsLists : Bool → ℕ → Joint → HostModel → Turn → Joint → HostModel → Type 0
 TurnGoesAsLists true who j m result after n = IsFront m.output n.output
@@ -60,7 +63,7 @@ TurnsAsLists old new before after who result =
     TurnGoesAsLists (is_wild_turn who (as_list_joint before)) who (as_list_joint before) (contents old) result after (contents new)
 
 -- turns by a schedule beside those of list machines on one memory: they end as those, with the lists that the register stacks
--- then stand for and nothing touched; or, where those meet a wild turn, they begin by writing what those had written
+-- then represent and nothing touched; or, where those meet a wild turn, they begin by writing what those had written
 abbrev pub GoAsLists : Course MultiEnd JointWorld → MultiEnd → Joint → HostModel → Type 0
 GoAsLists (ends end w) result after n = (end ≡ result) × (as_list_joint after ≡ w.0) × (n ≡ w.1) × NoneTouched after.processors
 GoAsLists (meets_wild w) result after n = IsFront w.1.output n.output
@@ -84,14 +87,18 @@ TurnsTo old new before after who result =
 -- what holds of the turn of a processor over every host: its plan is carried out, so it answers and leaves what it should, beside
 -- list machines too; it is idle exactly where the processor had halted, and a Halt alone marks it; it is one step at most; and
 -- the host keeps what it keeps at every call
-pub record TakesTurn (old new : Option HostModel) (earlier later : ℕ) (before after : Joint) (who : ℕ) (result : Turn) : Type 0 where
-  pub plan : CarriesOutTurns old new before after turned.OutOfMemory result (turn_plan who)
+pub record TakesTurnBetween (old new : Option HostModel) (earlier later : ℕ) (before after : Joint) (who : ℕ) (result : Turn) : Type 0 where
+  pub plan : CarriesOutOnProcessors old new before after turned.OutOfMemory result (turn_plan who)
   pub told : TurnsTo old new before after who result
   pub listed : TurnsAsLists old new before after who result
   pub idle : (result ≡ turned.Idle) ↔ IsTrue (has_halted before.halted who)
   pub marked : after.halted ≡ halted_by before.halted who result
   pub bound : MakesOne who before after
   pub keeps : Keeps old new earlier later
+
+abbrev pub TakesTurn : {H : Type 0} → (H → Option HostModel) → (H → ℕ) → H → H → Joint → Joint → ℕ → Turn → Type 0
+TakesTurn told faults old new before after who result =
+    TakesTurnBetween (told old) (told new) (faults old) (faults new) before after who result
 
 -- COUNTS
 
@@ -113,13 +120,17 @@ pub record MakesAtMost (n : ℕ) (old new : Joint) : Type 0 where
 -- What holds of turns by a schedule over every host, at most n steps of them: their plan is carried out, so they end and leave what
 -- they should, beside list machines too; they end so that all have halted exactly where each that the schedule names then has; at most
 -- n steps are made; and the host keeps what it keeps at every call.
-pub record TakesTurns (schedule : List ℕ) (n : ℕ) (old new : Option HostModel) (earlier later : ℕ) (before after : Joint) (result : MultiEnd) : Type 0 where
-  pub plan : CarriesOutTurns old new before after end.OutOfMemory result (turns_plan schedule n schedule)
+pub record TakesTurnsBetween (schedule : List ℕ) (n : ℕ) (old new : Option HostModel) (earlier later : ℕ) (before after : Joint) (result : MultiEnd) : Type 0 where
+  pub plan : CarriesOutOnProcessors old new before after end.OutOfMemory result (turns_plan schedule n schedule)
   pub told : EndAs old new before after result (λ j m. turns window_machine schedule n schedule j m)
   pub listed : EndAsLists old new before after result (λ j m. turns list_machine schedule n schedule j m)
   pub halted : (result ≡ end.AllHalted) ↔ AllHaveHalted after.halted schedule
   pub bound : MakesAtMost n before after
   pub keeps : Keeps old new earlier later
+
+abbrev pub TakesTurns : {H : Type 0} → List ℕ → ℕ → (H → Option HostModel) → (H → ℕ) → H → H → Joint → Joint → MultiEnd → Type 0
+TakesTurns schedule n told faults old new before after result =
+    TakesTurnsBetween schedule n (told old) (told new) (faults old) (faults new) before after result
 
 -- BOTH MACHINES
 

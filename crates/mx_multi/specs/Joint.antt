@@ -21,7 +21,7 @@ pub record Joint : Type 0 where
 abbrev pub alone : State → State
 alone s = with_shared nothing_shared s
 
--- stands where a number names no processor
+-- the one where a number names no processor
 unfoldable pub no_processor : State
 no_processor = bare 255 [] 0 0 (listed list_at_start)
 
@@ -74,7 +74,7 @@ AllAlone (s ∷ ss) = (shared_of s ≡ nothing_shared) × AllAlone ss
 
 -- LISTS
 
--- each processor over the list that its register stack stands for
+-- each processor over the list that its register stack represents
 abbrev pub as_list_joint : Joint → Joint
 as_list_joint j = record j { processors = map as_list_state j.processors }
 

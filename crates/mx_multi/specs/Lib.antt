@@ -1,5 +1,6 @@
 pub mod Joint
 pub mod Parts
+pub mod Seats
 pub mod JointTurns
 pub mod Schedules
 pub mod MultiPlans

@@ -14,8 +14,7 @@ use std::alloc::Global;
 /// A turn of a machine on all of its memory: a step without its trace, or a file trap as a whole.
 #[tactic(auto, using(mx_run::proofs::Areas::windows, crate::proofs::Untraced::making))]
 pub(crate) fn turn_alone<H: Host>(alloc: Global, machine: &mut Machine, host: &mut H) -> Turn
-    ensures { TurnsAlone (H.told host.old) (H.told host.new) (H.faults host.old) (H.faults host.new) (state_of machine.old)
-        (state_of machine.new) result }
+    ensures { TurnsAlone H.told H.faults host.old host.new (state_of machine.old) (state_of machine.new) result }
 {
     machines_keep_the_invariant(machine);
     machines_are_whole(machine);

@@ -11,7 +11,7 @@ ghost use Rattle.mx_multi.specs.Folds.{FoldsFrom};
 ghost use Rattle.mx_multi.specs.Joint.{Joint, NoneTouched, as_list_joint, started};
 ghost use Rattle.mx_multi.specs.Turns.{turns};
 
-/// Processors start over the lists that their register stacks at the start stand for, and none is touched.
+/// Processors start over the lists that their register stacks at the start represent, and none is touched.
 #[tactic(auto, using(crate::proofs::ListStarts::starting))]
 pub fn processors_start_as_lists()
     ensures listed { (image : Image) (count size : ℕ) → started image count (listed list_at_start)

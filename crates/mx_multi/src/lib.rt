@@ -8,6 +8,7 @@ mod multi;
 mod queue;
 mod rows;
 mod runs;
+mod seats;
 mod turn;
 mod turning;
 

@@ -11,6 +11,7 @@ ghost use Rattle.mx_core.specs.Kept.{state_of};
 ghost use Rattle.mx_multi.specs.Joint as spec;
 ghost use Rattle.mx_multi.specs.Joint.{has_halted, joint_of, processor_count, started};
 
+use crate::seats::Seats;
 use mx_core::Machine;
 use mx_load::Image;
 use mx_mem::Memory;
@@ -26,9 +27,8 @@ use std::marker::Model;
 #[derive(Drop)]
 pub struct Multi {
     pub(crate) alloc: Global,
-    // Between turns none of these has memory of its own.
-    pub(crate) processors: Vec<Machine>,
-    pub(crate) halted: Vec<bool>,
+    // While they take no turns, none of these has memory of its own.
+    pub(crate) seats: Seats,
     pub(crate) memory: Memory,
 }
 
@@ -58,10 +58,10 @@ impl Multi {
         let globals = collect_globals(alloc, &image)?;
         let processors = bare_machines(alloc, image.g(), &globals, count, r)?;
         let halted = none_halted(alloc, count)?;
+        let seats = Seats::new(processors, halted);
         Ok(Multi {
             alloc,
-            processors,
-            halted,
+            seats,
             memory: image.into_memory(),
         })
     }
@@ -71,7 +71,7 @@ impl Multi {
         requires { who < processor_count self.now }
         ensures { state_of result.now ≡ spec.processor (joint_of self.now) who }
     {
-        &self.processors[usize::from(who)]
+        self.seats.machine(usize::from(who))
     }
 
     /// Whether a processor has halted. It takes no memory.
@@ -79,15 +79,7 @@ impl Multi {
         requires { who < processor_count self.now }
         ensures { result ≡ has_halted self.now.halted who }
     {
-        self.halted[usize::from(who)]
-    }
-
-    /// Which processors have halted, by their numbers. It takes no memory.
-    pub(crate) fn halted_flags(&self) -> &[bool]
-        ensures flags { result.now ≡ self.now.halted }
-        ensures count { length result.now ≡ processor_count self.now }
-    {
-        self.halted.as_slice()
+        self.seats.halted()[usize::from(who)]
     }
 
     /// The octa of the one memory that holds an address below the stack area; 0 where nothing was stored.

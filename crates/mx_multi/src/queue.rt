@@ -1,11 +1,10 @@
 //! The turns of a schedule that are steps: those of processors that have not halted.
 
 ghost use Rattle.std.specs.Prelude.{◌≡◌, ◌≤◌, ◌<◌, ◌++◌, ℕ, List, IfErr, IfOk, IfSome, None, [], drop, false, length, take, true};
-ghost use Rattle.mx_multi.specs.Joint.{has_halted, processor_count};
+ghost use Rattle.mx_multi.specs.Joint.{has_halted};
 ghost use Rattle.mx_multi.specs.Stretches.{IsPlaceFrom, running};
 ghost use Rattle.mx_multi.specs.Schedules.{AllHaveHalted, AreNames};
 
-use crate::Multi;
 use mx_word::NoMemory;
 use std::alloc::Global;
 
@@ -31,13 +30,13 @@ pub(crate) fn next_place(names: &[u8], at: usize) -> Option<usize>
 }
 
 /// The names of a schedule, from its first turn on. It takes no memory where all their processors have halted.
-pub(crate) fn queue_of(alloc: Global, multi: &Multi, schedule: &[u8]) -> Result<Queue, NoMemory>
-    requires { AreNames (processor_count multi.now) schedule.now }
-    ensures names { IfOk result (λ q. q.names.items ≡ running multi.now.halted schedule.now) }
-    ensures place { IfOk result (λ q. drop q.at q.names.items ≡ running multi.now.halted schedule.now) }
-    ensures none { IfErr result (λ _. AllHaveHalted multi.now.halted schedule.now → ⊥) }
+pub(crate) fn queue_of(alloc: Global, halted: &[bool], schedule: &[u8]) -> Result<Queue, NoMemory>
+    requires { AreNames (length halted.now) schedule.now }
+    ensures names { IfOk result (λ q. q.names.items ≡ running halted.now schedule.now) }
+    ensures place { IfOk result (λ q. drop q.at q.names.items ≡ running halted.now schedule.now) }
+    ensures none { IfErr result (λ _. AllHaveHalted halted.now schedule.now → ⊥) }
 {
-    if !has_any_running(multi, schedule) {
+    if !has_any_running(halted, schedule) {
         return Ok(Queue {
             names: Vec::new(alloc),
             at: 0,
@@ -45,8 +44,8 @@ pub(crate) fn queue_of(alloc: Global, multi: &Multi, schedule: &[u8]) -> Result<
     }
     let names = Vec::from_slice(alloc, schedule)?;
     let mut queue = Queue { names, at: 0 };
-    if has_any_halted(multi.halted_flags()) {
-        leave_out_halted(multi, &mut queue);
+    if has_any_halted(halted) {
+        leave_out_halted(halted, &mut queue);
     }
     Ok(queue)
 }
@@ -65,13 +64,13 @@ fn has_any_halted(halted: &[bool]) -> bool
 }
 
 /// Whether a name is that of a processor which has not halted.
-fn has_any_running(multi: &Multi, names: &[u8]) -> bool
-    requires { AreNames (processor_count multi.now) names.now }
-    ensures some { result ≡ true → AllHaveHalted multi.now.halted names.now → ⊥ }
-    ensures none { result ≡ false → running multi.now.halted names.now ≡ [] }
+fn has_any_running(halted: &[bool], names: &[u8]) -> bool
+    requires { AreNames (length halted.now) names.now }
+    ensures some { result ≡ true → AllHaveHalted halted.now names.now → ⊥ }
+    ensures none { result ≡ false → running halted.now names.now ≡ [] }
 {
     for who in names {
-        if !multi.halted(*who) {
+        if !is_halted(halted, *who) {
             return true;
         }
     }
@@ -79,13 +78,12 @@ fn has_any_running(multi: &Multi, names: &[u8]) -> bool
 }
 
 /// Leaves out the names of processors that have halted, and finds the place again. It takes no memory.
-pub(crate) fn leave_out_halted(multi: &Multi, queue: &mut Queue)
-    requires names { AreNames (processor_count multi.now) queue.now.names.items }
+pub(crate) fn leave_out_halted(halted: &[bool], queue: &mut Queue)
+    requires names { AreNames (length halted.now) queue.now.names.items }
     requires inside { queue.now.at ≤ length queue.now.names.items }
-    ensures names { queue.new.names.items ≡ running multi.now.halted queue.old.names.items }
-    ensures place { drop queue.new.at queue.new.names.items ≡ running multi.now.halted (drop queue.old.at queue.old.names.items) }
+    ensures names { queue.new.names.items ≡ running halted.now queue.old.names.items }
+    ensures place { drop queue.new.at queue.new.names.items ≡ running halted.now (drop queue.old.at queue.old.names.items) }
 {
-    let halted = multi.halted_flags();
     let length = queue.names.len();
     let names = queue.names.as_mut_slice();
     let place = pack(halted, names, 0, queue.at, 0);

@@ -1,84 +1,146 @@
-//! Rows: turns of one processor, one after another.
+//! Rows: turns of one processor, one after another, also across the end of a schedule.
 
-ghost use Rattle.std.specs.Prelude.{◌≡◌, ◌≤◌, ◌<◌, false, get_or, length};
-ghost use Rattle.mx_multi.specs.Joint.{has_halted, joint_of, processor_count};
-ghost use Rattle.mx_multi.specs.Stretches.{IsRow, RunsRow, Stretch};
+ghost use Rattle.std.specs.Prelude.{◌≡◌, ◌≤◌, ◌<◌, ◌-◌, get_or, length};
+ghost use Rattle.mx_multi.specs.Schedules.{AreNames};
+ghost use Rattle.mx_multi.specs.Seats.{seated};
+ghost use Rattle.mx_multi.specs.Stretches.{AllRun, Along, IsRow, place_after};
 
-use crate::{Multi, MultiEnd, Turn};
-use mx_host::Host;
+use crate::seats::Seats;
 
-/// How a row of turns ends: all of them went on; the processor halted in the turn after this many; or a turn ended the run.
-pub(crate) enum RowEnd {
-    Went,
-    Halted(u64),
-    Ended(MultiEnd),
+/// How many names of a row are counted at once, so that it costs little to count them again after a turn of another kind.
+const COUNTED: u64 = 256;
+
+/// How many turns of one processor follow each other, and the place after them.
+#[derive(Clone, Copy)]
+pub(crate) struct Row {
+    pub(crate) length: u64,
+    pub(crate) next: usize,
 }
 
-/// How many names of a list, from a place on and at most this many, are the same.
-#[tactic(auto, using(crate::proofs::Stretches::walking))]
-pub(crate) fn row_length(names: &[u8], at: usize, most: u64) -> u64
+/// How many turns are left, and the place of the next one.
+#[derive(Clone, Copy)]
+pub(crate) struct Walked {
+    pub(crate) left: u64,
+    pub(crate) at: usize,
+}
+
+/// The place after one of so many, which is the first one again after the last.
+#[tactic(auto, using(crate::proofs::Rounds::rounds))]
+#[inline(always)]
+fn next_of(count: usize, at: usize) -> usize
+    requires { at < count }
+    ensures { result ≡ place_after count at 1 }
+{
+    if at + 1 < count { at + 1 } else { 0 }
+}
+
+/// The place that is this many after one of so many, and at most one round.
+#[tactic(auto, using(crate::proofs::Rounds::rounds))]
+fn pass_some(count: usize, at: usize, more: usize) -> usize
+    requires inside { at < count }
+    requires few { more ≤ count }
+    ensures { result ≡ place_after count at more }
+{
+    if more < count - at {
+        at + more
+    } else {
+        more - (count - at)
+    }
+}
+
+/// The place that is this many after one of so many.
+#[tactic(auto, using(crate::proofs::Rounds::rounds))]
+fn pass(count: usize, at: usize, made: u64) -> usize
+    requires { at < count }
+    ensures { result ≡ place_after count at made }
+{
+    let more = (made % count as u64) as usize;
+    pass_some(count, at, more)
+}
+
+/// The turns of one processor that come first, from a place on: at least one, at most this many, and at most those that are
+/// counted at once.
+#[tactic(auto, using(crate::proofs::Rounds::rounds))]
+fn count_row(names: &[u8], at: usize, most: u64) -> Row
     requires positive { 1 ≤ most }
     requires inside { at < length names.now }
-    ensures some { 1 ≤ result }
-    ensures few { result ≤ most }
-    ensures row { IsRow names.now at result (get_or names.now at 0) }
+    ensures some { 1 ≤ result.length }
+    ensures few { result.length ≤ most }
+    ensures row { IsRow names.now at result.length (get_or names.now at 0) }
+    ensures next { result.next ≡ place_after (length names.now) at result.length }
 {
     let who = names[at];
     let mut length = 1;
-    while length < most && length < (names.len() - at) as u64 {
-        if names[at + length as usize] != who {
-            return length;
-        }
+    let mut next = next_of(names.len(), at);
+    while length < most && length < COUNTED && names[next] == who {
         length += 1;
+        next = next_of(names.len(), next);
     }
-    length
+    Row { length, next }
 }
 
-/// Makes a row of this many turns of a processor that has not halted. A file trap does not end it.
-pub(crate) fn run_row<H: Host>(multi: &mut Multi, host: &mut H, who: u8, most: u64) -> RowEnd
-    requires inside { who < processor_count multi.now }
-    requires runs { has_halted multi.now.halted who ≡ false }
-    ensures row { RunsRow who most (H.told host.old, H.faults host.old, joint_of multi.old)
-        (H.told host.new, H.faults host.new, joint_of multi.new) result }
-    ensures count { processor_count multi.new ≡ processor_count multi.old }
+/// The turns of one processor that come first, from a place on, at most this many: as many as are asked for, where all names
+/// are one.
+#[tactic(auto, using(crate::proofs::Rounds::rounds))]
+fn find_row(names: &[u8], at: usize, most: u64) -> Row
+    requires positive { 1 ≤ most }
+    requires inside { at < length names.now }
+    ensures some { 1 ≤ result.length }
+    ensures few { result.length ≤ most }
+    ensures row { IsRow names.now at result.length (get_or names.now at 0) }
+    ensures next { result.next ≡ place_after (length names.now) at result.length }
 {
-    let mut left = most;
+    let row = count_row(names, at, most);
+    if row.length == names.len() as u64 {
+        return Row {
+            length: most,
+            next: pass(names.len(), at, most),
+        };
+    }
+    row
+}
+
+/// The turns of one processor that come first, from a place on, at most this many. Mostly it is one, which takes one look.
+#[tactic(auto, using(crate::proofs::Rounds::rounds))]
+#[inline(always)]
+fn next_row(names: &[u8], at: usize, most: u64) -> Row
+    requires positive { 1 ≤ most }
+    requires inside { at < length names.now }
+    ensures some { 1 ≤ result.length }
+    ensures few { result.length ≤ most }
+    ensures row { IsRow names.now at result.length (get_or names.now at 0) }
+    ensures next { result.next ≡ place_after (length names.now) at result.length }
+{
+    let next = next_of(names.len(), at);
+    if names[next] != names[at] {
+        return Row { length: 1, next };
+    }
+    find_row(names, at, most)
+}
+
+/// Makes at most this many turns by names, from a place on, as far as each goes on: how many are left, and where.
+pub(crate) fn walk_rows(seats: &mut Seats, names: &[u8], at: usize, n: u64) -> Walked
+    requires names { AreNames (length seats.now.machines) names.now }
+    requires inside { at < length names.now }
+    requires run { AllRun seats.now.halted names.now }
+    ensures few { result.left ≤ n }
+    ensures inside { result.at < length names.now }
+    ensures turns { Along names.now (n - result.left) at result.at (seated seats.old) (seated seats.new) }
+    ensures halted { seats.new.halted ≡ seats.old.halted }
+    ensures count { length seats.new.machines ≡ length seats.old.machines }
+{
+    let mut place = at;
+    let mut left = n;
     while left > 0 {
-        let made = walk_some(multi, who, left);
-        if made > 0 {
-            left -= made;
-        } else {
-            match multi.turn(host, who) {
-                Turn::Went => left -= 1,
-                Turn::Idle => left -= 1,
-                Turn::Halted(_) => return RowEnd::Halted(most - left),
-                Turn::Stopped { pc, reason } => {
-                    return RowEnd::Ended(MultiEnd::Stopped {
-                        processor: who,
-                        pc,
-                        reason,
-                    });
-                }
-                Turn::OutOfMemory => return RowEnd::Ended(MultiEnd::OutOfMemory),
-            }
+        let row = next_row(names, place, left);
+        let length = row.length;
+        let made = seats.walk(names[place], length);
+        left -= made;
+        if made < length {
+            let at = pass(names.len(), place, made);
+            return Walked { left, at };
         }
+        place = row.next;
     }
-    RowEnd::Went
-}
-
-/// Makes turns of a processor that has not halted, up to this many, as far as each goes on: how many. None where one is asked
-/// for, which is made faster by itself.
-#[tactic(auto, using(crate::proofs::Stretches::walking))]
-fn walk_some(multi: &mut Multi, who: u8, most: u64) -> u64
-    requires inside { who < processor_count multi.now }
-    requires runs { has_halted multi.now.halted who ≡ false }
-    ensures few { result ≤ most }
-    ensures turns { Stretch result who (joint_of multi.old) (joint_of multi.new) }
-    ensures halted { multi.new.halted ≡ multi.old.halted }
-    ensures count { processor_count multi.new ≡ processor_count multi.old }
-{
-    if most < 2 {
-        return 0;
-    }
-    multi.walk(who, most)
+    Walked { left, at: place }
 }

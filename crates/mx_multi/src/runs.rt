@@ -1,13 +1,16 @@
 //! Turns of several processors by a schedule.
 
-ghost use Rattle.std.specs.Prelude.{◌≡◌};
+ghost use Rattle.std.specs.Prelude.{◌≡◌, ◌≤◌, drop, length};
 ghost use Rattle.mx_multi.specs.Clauses.{TakesTurns};
 ghost use Rattle.mx_multi.specs.Joint.{joint_of, processor_count};
 ghost use Rattle.mx_multi.specs.Schedules.{AreNames};
+ghost use Rattle.mx_multi.specs.Seats.{seated};
+ghost use Rattle.mx_multi.specs.Stretches.{running};
 
-use crate::queue::{leave_out_halted, next_place, queue_of};
-use crate::rows::{RowEnd, row_length, run_row};
-use crate::{Multi, MultiEnd};
+use crate::queue::{Queue, leave_out_halted, next_place, queue_of};
+use crate::rows::walk_rows;
+use crate::seats::Seats;
+use crate::{Multi, MultiEnd, Turn};
 use mx_host::Host;
 use std::alloc::Global;
 
@@ -27,11 +30,26 @@ pub fn run_turns<H: Host>(
     n: u64,
 ) -> MultiEnd
     requires { AreNames (processor_count multi.now) schedule.now }
-    ensures turns { TakesTurns schedule.now n (H.told host.old) (H.told host.new) (H.faults host.old) (H.faults host.new)
+    ensures turns { TakesTurns schedule.now n H.told H.faults host.old host.new
         (joint_of multi.old) (joint_of multi.new) result }
     ensures count { processor_count multi.new ≡ processor_count multi.old }
 {
-    let mut queue = match queue_of(alloc, multi, schedule) {
+    multi.run(alloc, host, schedule, n)
+}
+
+/// The same of machines of which one has the one memory.
+pub(crate) fn run_seats<H: Host>(
+    alloc: Global,
+    seats: &mut Seats,
+    host: &mut H,
+    schedule: &[u8],
+    n: u64,
+) -> MultiEnd
+    requires { AreNames (length seats.now.machines) schedule.now }
+    ensures turns { TakesTurns schedule.now n H.told H.faults host.old host.new (seated seats.old) (seated seats.new) result }
+    ensures count { length seats.new.machines ≡ length seats.old.machines }
+{
+    let mut queue = match queue_of(alloc, seats.halted(), schedule) {
         Ok(all) => all,
         Err(_) => return MultiEnd::OutOfMemory,
     };
@@ -42,22 +60,42 @@ pub fn run_turns<H: Host>(
             Some(place) => place,
             None => return MultiEnd::AllHalted,
         };
-        let length = row_length(names, place, left);
-        match run_row(multi, host, names[place], length) {
-            RowEnd::Went => {
-                queue.at = place + length as usize;
-                left -= length;
+        let walked = walk_rows(seats, names, place, left);
+        left = walked.left;
+        if left == 0 {
+            return MultiEnd::Spent;
+        }
+        left -= 1;
+        let who = names[walked.at];
+        match seats.turn(alloc, host, who) {
+            Turn::Went => queue.at = walked.at + 1,
+            Turn::Idle => queue.at = walked.at + 1,
+            Turn::Halted(_) => {
+                queue.at = walked.at + 1;
+                leave_out(seats, &mut queue);
             }
-            RowEnd::Halted(made) => {
-                queue.at = place + made as usize + 1;
-                leave_out_halted(multi, &mut queue);
-                left -= made + 1;
+            Turn::Stopped { pc, reason } => {
+                return MultiEnd::Stopped {
+                    processor: who,
+                    pc,
+                    reason,
+                };
             }
-            RowEnd::Ended(end) => return end,
+            Turn::OutOfMemory => return MultiEnd::OutOfMemory,
         }
     }
     match next_place(queue.names.as_slice(), queue.at) {
         Some(_) => MultiEnd::Spent,
         None => MultiEnd::AllHalted,
     }
+}
+
+/// Leaves out the names of machines that have halted, and finds the place again.
+fn leave_out(seats: &Seats, queue: &mut Queue)
+    requires names { AreNames (length seats.now.machines) queue.now.names.items }
+    requires inside { queue.now.at ≤ length queue.now.names.items }
+    ensures names { queue.new.names.items ≡ running seats.now.halted queue.old.names.items }
+    ensures place { drop queue.new.at queue.new.names.items ≡ running seats.now.halted (drop queue.old.at queue.old.names.items) }
+{
+    leave_out_halted(seats.halted(), queue);
 }

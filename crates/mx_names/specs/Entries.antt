@@ -1,4 +1,4 @@
--- How a map entry stands for a symbol.
+-- How a map entry means a symbol.
 use Rattle.std.specs.Prelude.{◌<◌, ◌^◌, ℕ, List}
 use Rattle.mx_word.specs.Ranges.{AreBytes}
 use Rattle.mx_word.specs.Symbols.{IsValue}

@@ -18,7 +18,7 @@ pub record NameTable : Type 0 where
   pub prefix : List ℕ
   pub backs : List Value
 
--- the names that a source has so far, and the references that wait, in the order of their making
+-- the names that a source has so far, and the references that wait, in the order in which they were made
 pub record Naming : Type 0 where
   pub names : NameTable
   pub waiting : List Wait

@@ -1,4 +1,4 @@
--- The references that wait: one list in the order of their making. They are kept in groups, one for each name or label,
+-- The references that wait: one list in the order in which they were made. They are kept in groups, one for each name or label,
 -- and each has its number in that order.
 -- (MMIXware, the part on MMIXAL: future references; TAOCP 1, Fascicle 1, section 1.3.2'.)
 use Rattle.std.specs.Prelude.{◌≡◌, ◌<◌, ℕ, not, nat_lt, if◌then◌else◌, List, [], ◌∷◌, map, filter, Option, None, Some, option_map}

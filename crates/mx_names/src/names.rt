@@ -88,7 +88,7 @@ impl Names {
         })
     }
 
-    /// The complete form of a symbol: one that begins with a colon is complete, any other stands for
+    /// The complete form of a symbol: one that begins with a colon is complete, any other means
     /// the prefix followed by it. It is refused where it has more than 1,024 bytes.
     pub fn resolve(&self, name: &[u8]) -> Result<Bytes, NameFault>
         ensures answer { result ≢ Err NameFault.OutOfMemory →
@@ -184,7 +184,7 @@ impl Names {
         self.backs[usize::from(d)] = v;
     }
 
-    /// The value of the last local label dH, for a digit d from 0 to 9: what dB stands for, or pure 0 before any.
+    /// The value of the last local label dH, for a digit d from 0 to 9: what dB means, or pure 0 before any.
     pub fn local_back(&self, d: u8) -> Value
         requires { d ≤ 9 }
         ensures { result ≡ spec.back_of self.now.names d }

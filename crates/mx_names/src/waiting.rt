@@ -9,7 +9,7 @@ use std::alloc::Global;
 use std::collections::BTreeMap;
 use std::marker::Model;
 
-/// References to one name or label, each with its number in the order of making.
+/// References to one name or label, each with its number in the order in which they were made.
 #[derive(Drop)]
 struct Group {
     numbers: Vec<u64>,
@@ -74,7 +74,7 @@ impl Group {
     }
 }
 
-/// The references that wait, which contracts see as one list in the order of their making.
+/// The references that wait, which contracts see as one list in the order in which they were made.
 #[derive(Drop)]
 pub(crate) struct Waiting {
     groups: BTreeMap<Vec<u8>, Group>,
@@ -182,7 +182,7 @@ impl Waiting {
         Ok(())
     }
 
-    /// Gives and removes the references to one name or label, in the order of their making. Nothing
+    /// Gives and removes the references to one name or label, in the order in which they were made. Nothing
     /// changes where there is no memory.
     pub(crate) fn take(&mut self, who: &Awaited) -> Result<Waits, NoMemory>
         ensures taken { IfOk result (λ waits. waits ≡ spec.waits_for who.now self.old) }

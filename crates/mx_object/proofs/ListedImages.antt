@@ -22,7 +22,7 @@ use Rattle.mx_mmo.specs.declared.items.Item.{Item}
 use Rattle.mx_mmo.specs.declared.items.Item.TheVariants.{Load, Loc, Skip, FixOcta, FixNear, FixFar, File, Line, Spec, Pre, Post, Stab}
 use Rattle.mx_mmo.specs.declared.items.Object.{Object}
 use Rattle.mx_mmo.specs.declared.items.Tail.{Tail}
-use Rattle.mx_mmo.proofs.Sound.{object-stands}
+use Rattle.mx_mmo.proofs.Sound.{object-sound}
 use Rattle.mx_load.specs.Objects.{object_loaded}
 use Rattle.mx_load.proofs.Apart.{loaded-means}
 use Rattle.mx_type.proofs.Lambdas.{meaning-moved}
@@ -74,7 +74,7 @@ record Stays (out : Type 0) (a : ℕ) (f g : ℕ → ℕ) : Type 0 where
   tetra : out → tetra_of (g a) a ≡ tetra_of (f a) a
   octas : IsByOctas f → IsByOctas g
 
--- where something stands, memory is this
+-- where there is something, memory is this
 abbrev MemoryIs : (ℕ → ℕ) → Result Image Meaningless → Type 0
 MemoryIs f (Ok m) = m.memory ≡ f
 MemoryIs f (Err e) = Unit {0}
@@ -108,7 +108,7 @@ module _ (out : Type 0) (a : ℕ) where
   both-stay : (f g h : ℕ → ℕ) → Stays out a f g → Stays out a g h → Stays out a f h
   both-stay f g h s t = record { tetra = λ o. t.tetra o ∙ s.tetra o; octas = λ is. t.octas (s.octas is) }
 
-  -- where something stands, it left a tetra as it was
+  -- where there is something, it left a tetra as it was
   abbrev StaysIn : (ℕ → ℕ) → Result Image Meaningless → Type 0
   StaysIn f (Ok m) = Stays out a f m.memory
   StaysIn f (Err e) = Unit {0}
@@ -155,7 +155,7 @@ module _ (out : Type 0) (a : ℕ) where
 
   -- ---- one item
 
-  -- where something stands after an item, it left a tetra as it was
+  -- where there is something after an item, it left a tetra as it was
   abbrev KeepsTetra : (ℕ → ℕ) → Result Loading Meaningless → Type 0
   KeepsTetra f (Ok s) = Stays out a f s.image.memory
   KeepsTetra f (Err e) = Unit {0}
@@ -267,16 +267,16 @@ tail-items items (Ok tail) object e =
     ap (λ (o : Object). o.items) same
 tail-items items (Err fault) object e = absurd (cc)
 
-behind-items : (items : List Item) (r : Result Left MmoFault) (object : Object) → object_after items r ≡ Ok object → items ≡ object.items
-behind-items items (Ok left) object e = tail-items items (tail_of left.phase left.at left.rest) object e
-behind-items items (Err fault) object e = absurd (cc)
+after-items : (items : List Item) (r : Result Left MmoFault) (object : Object) → object_after items r ≡ Ok object → items ≡ object.items
+after-items items (Ok left) object e = tail-items items (tail_of left.phase left.at left.rest) object e
+after-items items (Err fault) object e = absurd (cc)
 
 object-items : (bytes : List ℕ) (object : Object) → object_of bytes ≡ Ok object → items_in bytes ≡ object.items
 object-items bytes object e = by (nat_lt limit (length bytes)) e
   where
     by : (b : Bool) → cond b (Err (TooLong limit)) (object_after (items_in bytes) (items_of Start 0 bytes).1) ≡ Ok object → items_in bytes ≡ object.items
     by true e = absurd (cc)
-    by false e = behind-items (items_in bytes) (items_of Start 0 bytes).1 object e
+    by false e = after-items (items_in bytes) (items_of Start 0 bytes).1 object e
 
 -- what the items of an object leave at an address
 record Left-at (a : ℕ) (items : List Item) (m : Image) : Type 0 where
@@ -311,7 +311,7 @@ listing-is-image bytes m symbols a are loaded low =
     let means = loaded-means bytes m symbols loaded in
     let object : Object = means.0 in
     let items : items_in bytes ≡ object.items = object-items bytes object means.1 in
-    let left : Left-at a (items_in bytes) m = subst (λ is. Left-at a is m) (sym items) (image-left object.items m a (object-stands bytes object are means.1).spelled.valid.fits means.2) in
+    let left : Left-at a (items_in bytes) m = subst (λ is. Left-at a is m) (sym items) (image-left object.items m a (object-sound bytes object are means.1).spelled.valid.fits means.2) in
     by (has (addresses_of (items_in bytes)) (tetra_address a)) refl left
   where
     by : (b : Bool) → has (addresses_of (items_in bytes)) (tetra_address a) ≡ b → Left-at a (items_in bytes) m →

@@ -1,27 +1,24 @@
 -- What an object comes to that is run and counted: the outcome, the host as it then is, and the sheet where a machine ran. The machine
 -- is that over a ring of registers, or that over an unbounded list.
-use Rattle.std.specs.Prelude.{ℕ, ◌≡◌, List, Option, None, Some, Result, Ok, Err}
+use Rattle.std.specs.Prelude.{ℕ, ◌≡◌, List, None, Some, Result, Ok, Err}
 use Rattle.mx_word.specs.declared.symbols.Symbol.{Symbol}
 use Rattle.mx_host.specs.HostModel.{HostModel}
 use Rattle.mx_mmo.specs.Image.{Image}
-use Rattle.mx_mmo.specs.Reading.{octas_of}
 use Rattle.mx_plan.specs.Wild.{ends}
 use Rattle.mx_load.specs.Objects.{object_loaded}
-use Rattle.mx_code.specs.declared.trace.Trace.{Trace}
 use Rattle.mx_run.specs.WildRuns.{MachineKind}
 use Rattle.mx_words.specs.declared.order.Order.{Order}
 use Rattle.mx_outcome.specs.declared.outcome.Outcome.{Outcome}
 use Rattle.mx_outcome.specs.declared.outcome.Outcome.TheVariants.{BadObject}
+use Rattle.mx_count.specs.Counting.{counts_in}
 use Rattle.mx_count.specs.Leaving.{ImageLeaves}
-use Rattle.mx_count.specs.Reports.{sheet_bytes}
-use Rattle.mx_count.specs.Runs.{CountAnswer, AnswerForms, image_counted, mapped, reporting}
-use Rattle.mx_count.specs.Tallies.{tally_in}
-use Rattle.mx_count.specs.declared.count.Counted.{Counted}
+use Rattle.mx_count.specs.Runs.{AnswerForms, CountAnswer, RunCounts, by_counts, image_counted, mapped}
+use Rattle.mx_count.specs.Sheets.{tallies_in}
+use Rattle.mx_count.specs.declared.counts.Entry.{Entry}
 use Rattle.mx_object.specs.Addresses.{addresses_of, items_in}
-use Rattle.mx_object.specs.Counting.{loads_of, sheet_of, sheet_read}
+use Rattle.mx_object.specs.Counting.{sheet_by, sheet_of}
 use Rattle.mx_object.specs.Listing.{tetras_at}
 use Rattle.mx_object.specs.declared.counted.CountedObject.{CountedObject}
-use Rattle.mx_object.specs.declared.counting.ObjectSheet.{ObjectSheet}
 use Rattle.mx_object.specs.declared.tetras.ListedTetra.{ListedTetra}
 
 -- an outcome without a sheet
@@ -32,25 +29,22 @@ uncounted outcome = record { outcome = outcome; sheet = None }
 abbrev pub Counting : Type 0
 Counting = MachineKind → Order → List (List ℕ) → List ListedTetra → Image → HostModel → CountAnswer CountedObject
 
--- by a report: the octas of the tallies that a watcher has of steps
-abbrev pub report_on : List ListedTetra → List Trace → List ℕ
-report_on tetras h = sheet_bytes (loads_of tetras) (λ test. tally_in test h)
+-- by the counts of a run
+abbrev pub object_in : List ListedTetra → RunCounts → CountedObject
+object_in tetras (Ok (outcome, counts)) = record { outcome = outcome; sheet = Some (sheet_by counts tetras) }
+object_in tetras (Err outcome) = uncounted outcome
 
-abbrev pub sheet_in : List ListedTetra → Option (List ℕ) → Option ObjectSheet
-sheet_in tetras None = None
-sheet_in tetras (Some report) = Some (sheet_read tetras (octas_of report))
+abbrev pub object_as : List ListedTetra → Outcome → List Entry → CountedObject
+object_as tetras outcome es = object_in tetras (Ok (outcome, counts_in es))
 
-abbrev pub object_in : List ListedTetra → Counted → CountedObject
-object_in tetras counted = record { outcome = counted.outcome; sheet = sheet_in tetras counted.sheet }
-
-abbrev pub by_report : Counting
-by_report kind o arguments tetras image m = mapped (object_in tetras) (image_counted kind o arguments (reporting (report_on tetras)) image m)
+abbrev pub by_run : Counting
+by_run kind o arguments tetras image m = mapped (object_in tetras) (image_counted kind o arguments by_counts image m)
 
 -- by the steps: each tetra has the tally of the steps there
 abbrev pub by_tetras : List ListedTetra → AnswerForms CountedObject
 by_tetras tetras = record {
   without = λ outcome. uncounted outcome;
-  with_steps = λ outcome h. record { outcome = outcome; sheet = Some (sheet_of (λ test. tally_in test h) tetras) };
+  with_steps = λ outcome h. record { outcome = outcome; sheet = Some (sheet_of (tallies_in h) tetras) };
 }
 
 abbrev pub by_steps : Counting
@@ -68,7 +62,7 @@ abbrev pub object_with : Counting → MachineKind → Order → List (List ℕ) 
 object_with counting kind o arguments bytes m = loaded_with counting kind o arguments bytes (object_loaded bytes) m
 
 abbrev pub object_counted : MachineKind → Order → List (List ℕ) → List ℕ → HostModel → CountAnswer CountedObject
-object_counted kind o arguments bytes m = object_with by_report kind o arguments bytes m
+object_counted kind o arguments bytes m = object_with by_run kind o arguments bytes m
 
 abbrev pub object_traced : MachineKind → Order → List (List ℕ) → List ℕ → HostModel → CountAnswer CountedObject
 object_traced kind o arguments bytes m = object_with by_steps kind o arguments bytes m

@@ -1,24 +1,22 @@
 //! An object that is run and counted.
 
-ghost use Rattle.std.specs.Prelude.{◌≡◌, ◌≢◌, ◌≤◌, ◌^◌, IfOk, None, length};
+ghost use Rattle.std.specs.Prelude.{◌≡◌, ◌≢◌, ◌≤◌, ◌^◌, None, Some, length};
 ghost use Rattle.mx_host.specs.Keeping.{Keeps};
 ghost use Rattle.mx_load.specs.Kept.{image_of};
 ghost use Rattle.mx_count.specs.Leaving.{ImageLeaves, IsLeft};
 ghost use Rattle.mx_count.specs.Runs.{AreArguments, CountsByKind};
-ghost use Rattle.mx_object.specs.Counting.{loads_of as lists_of};
 ghost use Rattle.mx_object.specs.Listing.{listed_of};
 ghost use Rattle.mx_object.specs.Runs as spec;
 ghost use Rattle.mx_object.specs.Runs.{ObjectLeaves};
 
-use crate::counting::{ObjectSheet, loads_of, sheet_in};
+use crate::counting::{ObjectSheet, sheet_in};
 use crate::tetras::ListedTetras;
 use crate::view::tetras_of;
-use mx_count::{Counted, Counts, Form, count_image};
+use mx_count::{Counts, count_image};
 use mx_host::Host;
 use mx_load::{Image, ObjectFault, load_object};
 use mx_outcome::Outcome;
-use mx_view::LineCells;
-use mx_word::{Bytes, NoMemory};
+use mx_word::Bytes;
 use mx_words::Order;
 use std::alloc::Global;
 
@@ -39,62 +37,38 @@ fn without_sheet(outcome: Outcome) -> CountedObject
     }
 }
 
-/// The sheet of tetras, if there is a report on their tallies.
-fn sheet_if(
-    alloc: Global,
-    tetras: ListedTetras,
-    report: &Option<Bytes>,
-) -> Result<Option<ObjectSheet>, NoMemory>
-    ensures { IfOk result (λ sheet. sheet ≡ spec.sheet_in tetras report.now) }
+/// An outcome with the sheet of its run; where there was no memory, without it.
+fn with_sheet(outcome: Outcome, sheet: ObjectSheet) -> CountedObject
+    ensures same { result.outcome ≡ outcome }
+    ensures value { outcome ≢ Outcome.OutOfMemory → result ≡ record { outcome = outcome; sheet = Some sheet } }
+    ensures none { result.outcome ≡ Outcome.OutOfMemory → result.sheet ≡ None }
 {
-    match report {
-        None => Ok(None),
-        Some(report) => Ok(Some(sheet_in(alloc, tetras, report.as_slice())?)),
+    match outcome {
+        Outcome::OutOfMemory => without_sheet(Outcome::OutOfMemory),
+        _ => CountedObject {
+            outcome,
+            sheet: Some(sheet),
+        },
     }
 }
 
-/// What was counted of an image by these tetras, whose report has the octas of their tallies.
-fn with_tetras(alloc: Global, tetras: ListedTetras, counted: &Counted) -> CountedObject
-    ensures value { result.outcome ≢ Outcome.OutOfMemory → result ≡ spec.object_in tetras counted.now }
-    ensures same { result.outcome ≢ Outcome.OutOfMemory → result.outcome ≡ counted.now.outcome }
-    ensures none { (counted.now.outcome ≡ Outcome.OutOfMemory → counted.now.sheet ≡ None) →
-        result.outcome ≡ Outcome.OutOfMemory → result.sheet ≡ None }
-    ensures no_host_fault { counted.now.outcome ≢ Outcome.HostFault → result.outcome ≢ Outcome.HostFault }
-    ensures no_missing_file { counted.now.outcome ≢ Outcome.NoFile → result.outcome ≢ Outcome.NoFile }
+/// What was counted of a run of an image, by these tetras.
+fn object_by(
+    alloc: Global,
+    tetras: ListedTetras,
+    outcome: Outcome,
+    counts: &Counts,
+) -> CountedObject
+    ensures value { result.outcome ≢ Outcome.OutOfMemory → result ≡ spec.object_as tetras outcome counts.now }
+    ensures lacking { result.outcome ≢ Outcome.OutOfMemory → outcome ≢ Outcome.OutOfMemory }
+    ensures none { result.outcome ≡ Outcome.OutOfMemory → result.sheet ≡ None }
+    ensures no_host_fault { outcome ≢ Outcome.HostFault → result.outcome ≢ Outcome.HostFault }
+    ensures no_missing_file { outcome ≢ Outcome.NoFile → result.outcome ≢ Outcome.NoFile }
 {
-    match sheet_if(alloc, tetras, &counted.sheet) {
-        Ok(sheet) => CountedObject {
-            outcome: counted.outcome,
-            sheet,
-        },
+    match sheet_in(alloc, tetras, counts.as_slice()) {
+        Ok(sheet) => with_sheet(outcome, sheet),
         Err(_) => without_sheet(Outcome::OutOfMemory),
     }
-}
-
-/// Runs an image, and counts its steps at the tetras of each of the lists of these tetras.
-fn count_loads<H: Host>(
-    alloc: Global,
-    host: &mut H,
-    order: &Order,
-    image: Image,
-    arguments: &[Bytes],
-    tetras: ListedTetras,
-    loads: LineCells,
-) -> CountedObject
-    requires given { AreArguments arguments.now }
-    requires lists { loads ≡ lists_of tetras }
-    ensures told { CountsByKind (H.told host.old) (H.told host.new) result.outcome result
-        (λ kind m. spec.by_report kind order.now arguments.now tetras (image_of image) m) }
-    ensures left { IsLeft (H.told host.old) (H.told host.new)
-        (λ m k. ImageLeaves order.now arguments.now (image_of image) m k) }
-    ensures none { result.outcome ≡ Outcome.OutOfMemory → result.sheet ≡ None }
-    ensures no_host_fault { result.outcome ≢ Outcome.HostFault }
-    ensures no_missing_file { result.outcome ≢ Outcome.NoFile }
-    ensures keeps { Keeps (H.told host.old) (H.told host.new) (H.faults host.old) (H.faults host.new) }
-{
-    let counts = Counts::of_loads(alloc, Form::Octas, Bytes::new(alloc), loads);
-    let counted = count_image(alloc, host, order, image, arguments, counts);
-    with_tetras(alloc, tetras, &counted)
 }
 
 /// Runs an image, and counts its steps by these tetras.
@@ -108,7 +82,7 @@ fn count_tetras<H: Host>(
 ) -> CountedObject
     requires { AreArguments arguments.now }
     ensures told { CountsByKind (H.told host.old) (H.told host.new) result.outcome result
-        (λ kind m. spec.by_report kind order.now arguments.now tetras (image_of image) m) }
+        (λ kind m. spec.by_run kind order.now arguments.now tetras (image_of image) m) }
     ensures left { IsLeft (H.told host.old) (H.told host.new)
         (λ m k. ImageLeaves order.now arguments.now (image_of image) m k) }
     ensures none { result.outcome ≡ Outcome.OutOfMemory → result.sheet ≡ None }
@@ -116,9 +90,9 @@ fn count_tetras<H: Host>(
     ensures no_missing_file { result.outcome ≢ Outcome.NoFile }
     ensures keeps { Keeps (H.told host.old) (H.told host.new) (H.faults host.old) (H.faults host.new) }
 {
-    match loads_of(alloc, tetras.as_slice()) {
-        Ok(loads) => count_loads(alloc, host, order, image, arguments, tetras, loads),
-        Err(_) => without_sheet(Outcome::OutOfMemory),
+    match count_image(alloc, host, order, image, arguments) {
+        Ok((outcome, counts)) => object_by(alloc, tetras, outcome, &counts),
+        Err(outcome) => without_sheet(outcome),
     }
 }
 
@@ -134,7 +108,7 @@ fn count_loaded<H: Host>(
     requires given { AreArguments arguments.now }
     requires short { length bytes.now ≤ 2 ^ 26 }
     ensures told { CountsByKind (H.told host.old) (H.told host.new) result.outcome result
-        (λ kind m. spec.by_report kind order.now arguments.now
+        (λ kind m. spec.by_run kind order.now arguments.now
         (listed_of (image_of image) image.symbols bytes.now).tetras (image_of image) m) }
     ensures left { IsLeft (H.told host.old) (H.told host.new)
         (λ m k. ImageLeaves order.now arguments.now (image_of image) m k) }

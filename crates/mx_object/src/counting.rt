@@ -1,12 +1,13 @@
-//! The counts of the tetras of an object, and how they are read from the octas that a watcher reports.
+//! The counts of the tetras of an object.
 
 ghost use Rattle.std.specs.Prelude.{◌≡◌, ◌++◌, ◌∷◌, [], IfOk, OnOk};
-ghost use Rattle.mx_mmo.specs.Reading.{octas_of as octas_in};
+ghost use Rattle.mx_count.specs.Counting.{counts_in as counts_of_entries};
+ghost use Rattle.mx_count.specs.InTurn.{sum_at, tally_by};
 ghost use Rattle.mx_object.specs.Counting as spec;
 
 use crate::tetras::{ListedTetra, ListedTetras};
-use mx_count::{Tally, next_tally, to_octas};
-use mx_view::{Cell, LineCells};
+use mx_count::{Entry, Sums, Tally, line_tally, sums_of, total};
+use mx_view::Cell;
 use mx_word::{NoMemory, Sequence};
 use std::alloc::Global;
 
@@ -87,80 +88,69 @@ fn part_cells(
     Ok(cells)
 }
 
-/// Adds the cell of a tetra alone, and those of its part.
-fn add_loads(
-    alloc: Global,
-    loads: &mut LineCells,
-    tetra: &ListedTetra,
-    others: &[ListedTetra],
-) -> Result<(), NoMemory>
-    ensures { OnOk result (loads.new ≡ loads.old ++ spec.tetra_loads tetra.now others.now) }
+/// The tally of a tetra alone.
+fn tetra_tally(alloc: Global, sums: &Sums, tetra: &ListedTetra) -> Result<Tally, NoMemory>
+    ensures { IfOk result (λ y. y ≡ tally_by (sum_at sums.now) (spec.cell_of tetra.now ∷ [])) }
 {
     let mut alone = Sequence::new(alloc);
     alone.push(cell_of(tetra))?;
-    loads.push(alone)?;
-    loads.push(part_cells(alloc, tetra, others)?)
+    line_tally(alloc, sums, alone.as_slice())
 }
 
-/// Adds the lists of tetras whose tallies are reported, tetra by tetra.
-#[tactic(auto, using(crate::proofs::PartCells::loads))]
-fn add_all_loads(
-    alloc: Global,
-    loads: &mut LineCells,
-    tetras: &[ListedTetra],
-) -> Result<(), NoMemory>
-    ensures { OnOk result (loads.new ≡ loads.old ++ spec.loads_from tetras.now) }
+/// This tally, if a part begins with a tetra.
+fn part_if(tetra: &ListedTetra, tally: Tally) -> Option<Tally>
+    ensures { result ≡ spec.part_if tetra.now tally }
 {
-    let mut rest = tetras;
-    while let Some((tetra, others)) = rest.split_first() {
-        add_loads(alloc, loads, tetra, others)?;
-        rest = others;
-    }
-    Ok(())
-}
-
-/// The lists of tetras whose tallies are reported.
-pub(crate) fn loads_of(alloc: Global, tetras: &[ListedTetra]) -> Result<LineCells, NoMemory>
-    ensures { IfOk result (λ loads. loads ≡ spec.loads_of tetras.now) }
-{
-    let mut loads = LineCells::new(alloc);
-    loads.push(cells_of(alloc, tetras)?)?;
-    add_all_loads(alloc, &mut loads, tetras)?;
-    Ok(loads)
-}
-
-/// The count of a tetra, and the octas that follow it.
-fn next_count<'a>(tetra: &ListedTetra, octas: &'a [u64]) -> (TetraCount, &'a [u64])
-    ensures count { result.0 ≡ spec.count_read tetra.now octas.now }
-    ensures others { result.1.now ≡ spec.after_count octas.now }
-{
-    let (tally, behind) = next_tally(octas);
-    let (part, others) = next_tally(behind);
-    let part = if is_part_start(tetra) {
-        Some(part)
+    if is_part_start(tetra) {
+        Some(tally)
     } else {
         None
-    };
-    (TetraCount { tally, part }, others)
+    }
 }
 
-/// The counts of tetras, by the octas of their tallies.
+/// The tally of the part that begins with a tetra which others follow, if one does.
+fn part_tally(
+    alloc: Global,
+    sums: &Sums,
+    tetra: &ListedTetra,
+    others: &[ListedTetra],
+) -> Result<Option<Tally>, NoMemory>
+    ensures { IfOk result (λ part. part ≡
+        spec.part_if tetra.now (tally_by (sum_at sums.now) (spec.part_cells tetra.now others.now))) }
+{
+    let cells = part_cells(alloc, tetra, others)?;
+    let tally = line_tally(alloc, sums, cells.as_slice())?;
+    Ok(part_if(tetra, tally))
+}
+
+/// The count of a tetra that others follow.
+fn count_of(
+    alloc: Global,
+    sums: &Sums,
+    tetra: &ListedTetra,
+    others: &[ListedTetra],
+) -> Result<TetraCount, NoMemory>
+    ensures { IfOk result (λ count. count ≡ spec.count_of (tally_by (sum_at sums.now)) tetra.now others.now) }
+{
+    let tally = tetra_tally(alloc, sums, tetra)?;
+    let part = part_tally(alloc, sums, tetra, others)?;
+    Ok(TetraCount { tally, part })
+}
+
+/// The counts of tetras.
 #[tactic(auto, using(crate::proofs::PartCells::counts))]
 fn counts_in(
     alloc: Global,
+    sums: &Sums,
     tetras: &[ListedTetra],
-    octas: &[u64],
 ) -> Result<Sequence<TetraCount>, NoMemory>
-    ensures { IfOk result (λ counts. counts ≡ spec.counts_read tetras.now octas.now) }
+    ensures { IfOk result (λ counts. counts ≡ spec.counts_of (tally_by (sum_at sums.now)) tetras.now) }
 {
     let mut counts = Sequence::new(alloc);
     let mut rest = tetras;
-    let mut left = octas;
     while let Some((tetra, others)) = rest.split_first() {
-        let (count, behind) = next_count(tetra, left);
-        counts.push(count)?;
+        counts.push(count_of(alloc, sums, tetra, others)?)?;
         rest = others;
-        left = behind;
     }
     Ok(counts)
 }
@@ -177,32 +167,40 @@ fn less(x: Tally, y: Tally) -> Tally
     }
 }
 
-/// The counts of tetras by a report, what it has of the steps elsewhere, and what of all steps.
+/// The tally of all these tetras together.
+fn loaded_tally(alloc: Global, sums: &Sums, tetras: &[ListedTetra]) -> Result<Tally, NoMemory>
+    ensures { IfOk result (λ y. y ≡ tally_by (sum_at sums.now) (spec.cells_of tetras.now)) }
+{
+    let cells = cells_of(alloc, tetras)?;
+    line_tally(alloc, sums, cells.as_slice())
+}
+
+/// The counts of tetras, the tally of the steps elsewhere, and that of all steps.
 fn figures_in(
     alloc: Global,
     tetras: &[ListedTetra],
-    report: &[u8],
+    entries: &[Entry],
 ) -> Result<(Sequence<TetraCount>, Tally, Tally), NoMemory>
-    ensures counts { IfOk result (λ read. read.0 ≡ (spec.sheet_read tetras.now (octas_in report.now)).counts) }
-    ensures elsewhere { IfOk result (λ read. read.1 ≡ (spec.sheet_read tetras.now (octas_in report.now)).elsewhere) }
-    ensures total { IfOk result (λ read. read.2 ≡ (spec.sheet_read tetras.now (octas_in report.now)).total) }
+    ensures counts { IfOk result (λ read. read.0 ≡ (spec.sheet_by (counts_of_entries entries.now) tetras.now).counts) }
+    ensures elsewhere { IfOk result (λ read. read.1 ≡ (spec.sheet_by (counts_of_entries entries.now) tetras.now).elsewhere) }
+    ensures total { IfOk result (λ read. read.2 ≡ (spec.sheet_by (counts_of_entries entries.now) tetras.now).total) }
 {
-    let octas = to_octas(alloc, report)?;
-    let (total, behind) = next_tally(octas.as_slice());
-    let (loaded, others) = next_tally(behind);
-    let counts = counts_in(alloc, tetras, others)?;
-    Ok((counts, less(total, loaded), total))
+    let sums = sums_of(alloc, entries)?;
+    let all = total(entries)?;
+    let loaded = loaded_tally(alloc, &sums, tetras)?;
+    let counts = counts_in(alloc, &sums, tetras)?;
+    Ok((counts, less(all, loaded), all))
 }
 
-/// The sheet of tetras, by the report on their tallies.
+/// The sheet of tetras, by what is counted of a run.
 pub(crate) fn sheet_in(
     alloc: Global,
     tetras: ListedTetras,
-    report: &[u8],
+    entries: &[Entry],
 ) -> Result<ObjectSheet, NoMemory>
-    ensures { IfOk result (λ sheet. sheet ≡ spec.sheet_read tetras (octas_in report.now)) }
+    ensures { IfOk result (λ sheet. sheet ≡ spec.sheet_by (counts_of_entries entries.now) tetras) }
 {
-    let (counts, elsewhere, total) = figures_in(alloc, tetras.as_slice(), report)?;
+    let (counts, elsewhere, total) = figures_in(alloc, tetras.as_slice(), entries)?;
     Ok(ObjectSheet {
         tetras,
         counts,

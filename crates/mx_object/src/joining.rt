@@ -39,7 +39,7 @@ fn tetras_before(n: u32, a: u64) -> u64
 
 /// The address this many tetras after another.
 fn tetras_after(n: u32, a: u64) -> u64
-    ensures { result ≡ meaning.tetras_behind n a }
+    ensures { result ≡ meaning.tetras_following n a }
 {
     a.wrapping_add(4 * u64::from(n))
 }

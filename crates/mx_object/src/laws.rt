@@ -1,6 +1,6 @@
 //! What holds of every listing of an object.
 
-ghost use Rattle.std.specs.Prelude.{◌≡◌, ◌<◌, ◌≤◌, ◌^◌, ◌++◌, ◌∷◌, ℕ, List, Ok};
+ghost use Rattle.std.specs.Prelude.{◌≡◌, ◌<◌, ◌^◌, ◌++◌, ◌∷◌, ℕ, List, Ok};
 ghost use Rattle.std.specs.List.Sorted.{IsStrictlyIncreasing};
 ghost use Rattle.mx_word.specs.Ranges.{AreBytes};
 ghost use Rattle.mx_word.specs.declared.symbols.Symbol.{Symbol};
@@ -40,12 +40,11 @@ pub fn the_nearest_symbol_is_told()
         IsAsNear (nearest a (front ++ s ∷ later)) (place_of a s) }
 {}
 
-/// `count_object` gives the sheet of the steps: in a run of at most 10^12 steps, which is the most that the words of the
-/// command line allow, each tetra that the object loads has the tally of the steps there, with the one that halts, each
-/// part that of the steps at its tetras, and what is told as elsewhere is the tally of the steps at all other addresses. So
-/// it is over a ring of registers, and over an unbounded list of them.
+/// `count_object` gives the sheet of the steps: each tetra that the object loads has the tally of the steps there, with the
+/// one that halts, each part that of the steps at its tetras, and what is told as elsewhere is the tally of the steps at all
+/// other addresses. So it is over a ring of registers, and over an unbounded list of them.
 #[tactic(auto, using(crate::proofs::CountedSheets::counts))]
 pub fn counted_objects_are_those_of_the_steps()
     ensures { (kind : MachineKind) (o : Order) (arguments : List (List ℕ)) (bytes : List ℕ) (m : HostModel) →
-        o.steps ≤ 10 ^ 12 → object_counted kind o arguments bytes m ≡ object_traced kind o arguments bytes m }
+        object_counted kind o arguments bytes m ≡ object_traced kind o arguments bytes m }
 {}

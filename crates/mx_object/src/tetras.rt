@@ -13,7 +13,7 @@ use mx_word::{Bytes, NoMemory, Sequence};
 use std::alloc::Global;
 
 /// A tetra that an object loads: its address, a multiple of 4, the tetra that memory has there before the program runs, the
-/// text of the instruction that it is, the line of the source that it came from, if the object tells one, and its labels.
+/// text of the instruction that it is, the line of the source that it came from, if the object gives one, and its labels.
 #[derive(Drop)]
 pub struct ListedTetra {
     pub address: u64,

@@ -1,3 +1,4 @@
 pub mod NameTurns
 pub mod InPlace
 pub mod Ascending
+pub mod OfTrees

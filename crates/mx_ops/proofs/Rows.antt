@@ -25,13 +25,13 @@ module _ {X A : Type 0} (f : X → List A) (n : ℕ) (long : (x : X) → length 
       further i j is = omega (arith, is)
 
   -- what follows all pieces
-  behind : (xs : List X) (rest : List A) (k : ℕ) (d : A) → get_or (flat_map f xs ++ rest) (n * length xs + k) d ≡ get_or rest k d
-  behind [] rest k d = ap (λ i. get_or rest i d) (none-of k)
-  behind (x ∷ xs) rest k d =
+  following : (xs : List X) (rest : List A) (k : ℕ) (d : A) → get_or (flat_map f xs ++ rest) (n * length xs + k) d ≡ get_or rest k d
+  following [] rest k d = ap (λ i. get_or rest i d) (none-of k)
+  following (x ∷ xs) rest k d =
       ap (λ l. get_or l (n * suc (length xs) + k) d) (append_assoc (f x) (flat_map f xs) rest)
       ∙ ap (λ i. get_or (f x ++ (flat_map f xs ++ rest)) i d) (further (length xs) (long x))
       ∙ get_or-append-add (f x) (flat_map f xs ++ rest) (n * length xs + k) d
-      ∙ behind xs rest k d
+      ∙ following xs rest k d
     where
       further : {m : ℕ} (i : ℕ) → m ≡ n → n * suc i + k ≡ m + (n * i + k)
       further i is = omega (arith, is)
@@ -65,8 +65,8 @@ in-later : (first row : Row) (table : List Row) (i j start : ℕ) → IsPlace ro
 in-later first row table i j start h = record {
   offset = row_length first + h.offset;
   code = omega (arith, h.code);
-  named = behind (λ name. map (λ kind. name) first.kinds) (length first.kinds) (names-long first.kinds) first.names (flat_map row_names table) h.offset [] ∙ h.named;
-  kind_is = behind (λ name. first.kinds) (length first.kinds) (λ name. refl) first.names (flat_map row_kinds table) h.offset own_code ∙ h.kind_is;
+  named = following (λ name. map (λ kind. name) first.kinds) (length first.kinds) (names-long first.kinds) first.names (flat_map row_names table) h.offset [] ∙ h.named;
+  kind_is = following (λ name. first.kinds) (length first.kinds) (λ name. refl) first.names (flat_map row_kinds table) h.offset own_code ∙ h.kind_is;
 }
 
 place-of : (table : List Row) (row : Row) (i j start : ℕ) → rows_follow start table ≡ true → Contains table row → i < length row.names → j < length row.kinds → IsPlace row i j start table

@@ -130,7 +130,7 @@ pseudo_operations =
     ∷ (codes "OCTA", PseudoOp Octa)
     ∷ []
 
--- the two names that stand for an instruction chosen by the operands
+-- the two names that mean an instruction chosen by the operands
 unfoldable pub chosen_operations : List (List ℕ × Op)
 chosen_operations = (codes "LDA", Lda) ∷ (codes "SET", Set) ∷ []
 

@@ -10,7 +10,7 @@ use Rattle.mx_outcome.specs.declared.outcome.Outcome.TheVariants.{Done, Usage, N
 abbrev pub numbered_fault : ℕ → List ℕ
 numbered_fault number = decimal number ++ codes " " ++ fault_name_of number
 
--- where a reference that waited stands, if that is what the fault is about
+-- where a reference that waited is, if that is what the fault is about
 abbrev pub from_text : ℕ → List ℕ
 from_text from_line = if from_line == 0 then [] else codes " from line " ++ decimal from_line
 

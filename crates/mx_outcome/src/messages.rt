@@ -1,4 +1,4 @@
-//! The line that tells an outcome.
+//! The line that prints an outcome.
 
 ghost use Rattle.std.specs.Prelude.{IsTrue, ◌≡◌, ◌≢◌, ◌≤◌, ◌++◌, ◌<◌, OnOk, IfOk, OnErr, [], codes, decimal};
 ghost use Rattle.mx_outcome.specs.Messages as spec;
@@ -11,7 +11,7 @@ use mx_words::WordsFault;
 use std::alloc::Global;
 
 /// Adds the number and the name of a fault.
-fn add_fault(text: &mut Bytes, number: u16) -> Result<(), NoMemory>
+pub fn add_fault(text: &mut Bytes, number: u16) -> Result<(), NoMemory>
     ensures { OnOk result (text.new ≡ text.old ++ spec.numbered_fault number) }
 {
     add_decimal(text, u64::from(number))?;
@@ -19,7 +19,7 @@ fn add_fault(text: &mut Bytes, number: u16) -> Result<(), NoMemory>
     text.extend(fault_name(number).as_bytes())
 }
 
-/// Adds where a reference that waited stands, if that is what a fault is about.
+/// Adds where a reference that waited is, if that is what a fault is about.
 fn add_from(text: &mut Bytes, from_line: u32) -> Result<(), NoMemory>
     ensures { OnOk result (text.new ≡ text.old ++ spec.from_text from_line) }
 {

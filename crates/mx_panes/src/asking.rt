@@ -1,7 +1,7 @@
 //! The value of a name.
 
 use crate::scene::Scene;
-use crate::values::{add_reference, add_value_text, is_data};
+use crate::values::{add_reference, is_data, value_text};
 use mx_adapter::Answer;
 use mx_book::Thing;
 use mx_json::add_string;
@@ -39,8 +39,7 @@ impl Scene<'_> {
             return Ok(Answer::Refused(Bytes::copy(self.alloc, why)?));
         };
         let value = value_of(self.machine, thing);
-        let mut shown = Bytes::new(self.alloc);
-        add_value_text(&mut shown, self.book, value)?;
+        let shown = value_text(self.alloc, self.book, value)?;
         let body = result_body(self.alloc, shown.as_slice(), address_of(thing, value))?;
         Ok(Answer::Done(body))
     }

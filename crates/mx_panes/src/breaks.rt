@@ -30,7 +30,7 @@ pub fn offset_wanted(wanted: &Value) -> u64 {
 }
 
 /// The register at a place of the register stack, as the identifier of a watch has it: its number, `@`, and the place.
-fn stacked_place(register: &[u8], place: &[u8]) -> Option<Place> {
+fn find_stacked_place(register: &[u8], place: &[u8]) -> Option<Place> {
     let [b'@', digits @ ..] = place else {
         return None;
     };
@@ -43,16 +43,16 @@ fn stacked_place(register: &[u8], place: &[u8]) -> Option<Place> {
     })
 }
 
-/// The place that an identifier of a watch stands for, or a name of a variable.
-pub fn watched_place(book: &Book, name: &[u8]) -> Option<Place> {
+/// The place that an identifier of a watch means, or a name of a variable.
+pub fn find_watched_place(book: &Book, name: &[u8]) -> Option<Place> {
     match name.iter().position(|b| *b == b'@') {
-        Some(i) => stacked_place(&name[..i], &name[i..]),
-        None => named_place(book, name),
+        Some(i) => find_stacked_place(&name[..i], &name[i..]),
+        None => find_named_place(book, name),
     }
 }
 
-/// The place that a name of a variable stands for: what `print` would show, where that is no number.
-fn named_place(book: &Book, name: &[u8]) -> Option<Place> {
+/// The place that a name of a variable means: what `print` would show, where that is no number.
+fn find_named_place(book: &Book, name: &[u8]) -> Option<Place> {
     match resolve_for_display(book, cut_word(name).0)? {
         Thing::Register(k) => Some(Place::Register(k)),
         Thing::Special(code) => Some(Place::Special(code)),
@@ -125,7 +125,7 @@ impl Scene<'_> {
     pub fn data_info(&self, message: &Value) -> Result<Answer, NoMemory> {
         let name = text_at(message, "/arguments/name").unwrap_or(b"");
         let mut text = Bytes::new(self.alloc);
-        match watched_place(self.book, name) {
+        match find_watched_place(self.book, name) {
             None => text.extend(b"{\"dataId\":null,\"description\":\"this can't be watched\"}")?,
             Some(place) => self.add_data_info(&mut text, followed(self.machine, place))?,
         }

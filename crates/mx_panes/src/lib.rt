@@ -1,4 +1,5 @@
-//! What an editor is shown of a step of a run: frames, registers, symbols, memory, instructions, and the value of a name.
+//! What an editor is shown of a step of a run: why it is a stop, frames, registers, symbols, memory, instructions, and the value of a
+//! name.
 #![tactic(auto)]
 
 mod asking;
@@ -8,12 +9,14 @@ mod frames;
 mod memory;
 mod scene;
 mod sources;
+mod stops;
 mod values;
 mod variables;
 
 pub use asking::result_body;
-pub use breaks::{line_wanted, offset_wanted, watched_place};
+pub use breaks::{find_watched_place, line_wanted, offset_wanted};
 pub use frames::{depth_around, locals_reference};
 pub use scene::Scene;
+pub use stops::stop_body;
 pub use values::{add_reference, parse_reference};
 pub use variables::list_variables;

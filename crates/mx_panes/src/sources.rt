@@ -56,7 +56,7 @@ impl Scene<'_> {
     }
 
     /// Answers `loadedSources`.
-    pub fn loaded_sources(&self) -> Result<Answer, NoMemory> {
+    pub fn list_loaded_sources(&self) -> Result<Answer, NoMemory> {
         let mut text = Bytes::new(self.alloc);
         self.add_source(&mut text, b"{\"sources\":[")?;
         text.extend(b"]}")?;

@@ -1,5 +1,11 @@
 //! Values as texts, and references to memory.
 
+ghost use Rattle.std.specs.Prelude.{◌≡◌, ◌++◌, IfOk, OnOk};
+ghost use Rattle.mx_panes.specs.Memory.{reference};
+ghost use Rattle.mx_panes.specs.Registers as spec;
+ghost use Rattle.mx_panes.specs.Registers.{HasDigits};
+ghost use Rattle.mx_text.specs.Numbers.{hex_digits};
+
 use mx_ask::parse_address;
 use mx_book::{Book, Thing};
 use mx_pieces::is_short;
@@ -36,15 +42,43 @@ pub(crate) fn add_label_after(text: &mut Bytes, book: &Book, address: u64) -> Re
     text.extend(b">")
 }
 
-/// Adds a value in decimal and hexadecimal digits, and the label that is near a long one.
-pub(crate) fn add_value_text(text: &mut Bytes, book: &Book, value: u64) -> Result<(), NoMemory> {
-    add_value(text, book, value, Some(Form::Decimal))?;
+/// The label that is near a long value, after something else.
+fn label_of(alloc: Global, book: &Book, value: u64) -> Result<Bytes, NoMemory> {
+    let mut text = Bytes::new(alloc);
+    if !is_short(value) {
+        add_label_after(&mut text, book, value)?;
+    }
+    Ok(text)
+}
+
+/// The decimal digits of a value.
+fn decimal_of(alloc: Global, book: &Book, value: u64) -> Result<Bytes, NoMemory> {
+    let mut text = Bytes::new(alloc);
+    add_value(&mut text, book, value, Some(Form::Decimal))?;
+    Ok(text)
+}
+
+/// The hexadecimal digits of a value, after other digits and before a label.
+#[tactic(auto, unfolding(crate::specs::Registers::digits_text))]
+fn digits_text(alloc: Global, front: &[u8], value: u64, label: &[u8]) -> Result<Bytes, NoMemory>
+    ensures { IfOk result (λ text. text ≡ spec.digits_text front.now value label.now) }
+{
+    let mut text = Bytes::copy(alloc, front)?;
     text.extend(b"  ")?;
     text.extend(&octa_hex(value))?;
-    if is_short(value) {
-        return Ok(());
-    }
-    add_label_after(text, book, value)
+    text.extend(label)?;
+    Ok(text)
+}
+
+/// A value in decimal and hexadecimal digits, with the label that is near a long one.
+#[tactic(auto, using(crate::proofs::Shown::showing))]
+pub(crate) fn value_text(alloc: Global, book: &Book, value: u64) -> Result<Bytes, NoMemory>
+    ensures { IfOk result (HasDigits value) }
+{
+    let front = decimal_of(alloc, book, value)?;
+    let label = label_of(alloc, book, value)?;
+    let text = digits_text(alloc, front.as_slice(), value, label.as_slice())?;
+    Ok(text)
 }
 
 /// Whether a value may be an address of data.
@@ -52,12 +86,22 @@ pub(crate) fn is_data(value: u64) -> bool {
     DATA <= value && value < MEMORY_END
 }
 
-/// Adds the reference to an address between quotation marks.
-pub fn add_reference(text: &mut Bytes, front: &[u8], address: u64) -> Result<(), NoMemory> {
+/// Adds the hexadecimal digits of an address.
+fn add_digits(text: &mut Bytes, address: u64) -> Result<(), NoMemory>
+    ensures { OnOk result (text.new ≡ text.old ++ hex_digits 16 address) }
+{
     let digits = octa_hex(address);
+    text.extend(&digits[1..])
+}
+
+/// Adds the reference to an address between quotation marks.
+#[tactic(auto, unfolding(crate::specs::Memory::reference))]
+pub fn add_reference(text: &mut Bytes, front: &[u8], address: u64) -> Result<(), NoMemory>
+    ensures { OnOk result (text.new ≡ text.old ++ front.now ++ reference address) }
+{
     text.extend(front)?;
     text.extend(b"\"0x")?;
-    text.extend(&digits[1..])?;
+    add_digits(text, address)?;
     text.extend(b"\"")
 }
 
@@ -69,7 +113,7 @@ fn hexadecimal(alloc: Global, digits: &[u8]) -> Result<Option<u64>, NoMemory> {
 }
 
 /// The address that a text names as `print` would.
-fn named_address(book: &Book, text: &[u8]) -> Option<u64> {
+fn find_named_address(book: &Book, text: &[u8]) -> Option<u64> {
     match resolve_name(book, text)? {
         Thing::Octa(a) | Thing::Number(a) => Some(a),
         Thing::Register(_) | Thing::Special(_) => None,
@@ -81,6 +125,6 @@ pub fn parse_reference(alloc: Global, book: &Book, text: &[u8]) -> Result<Option
     match text {
         [b'0', b'x', digits @ ..] => hexadecimal(alloc, digits),
         [b'#', ..] => Ok(parse_address(text)),
-        _ => Ok(named_address(book, text)),
+        _ => Ok(find_named_address(book, text)),
     }
 }

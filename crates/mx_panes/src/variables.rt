@@ -1,8 +1,14 @@
 //! What scopes have: registers, hidden frames and symbols.
 
+ghost use Rattle.std.specs.Prelude.{◌≡◌, ◌≤◌, ◌+◌, IfOk};
+ghost use Rattle.mx_core.specs.Kept.{state_of};
+ghost use Rattle.mx_panes.specs.Registers as spec;
+ghost use Rattle.mx_panes.specs.Registers.{ShowGlobals, ShowLocals, ShowRegisters, ShowsValue};
+ghost use Rattle.mx_ring.specs.Stack.{register};
+
 use crate::frames::{frame_address, locals_reference};
 use crate::scene::Scene;
-use crate::values::{add_reference, add_value_text, is_data};
+use crate::values::{add_reference, is_data, value_text};
 use mx_adapter::{Answer, number_at};
 use mx_book::Thing;
 use mx_cmd::special_name;
@@ -44,14 +50,22 @@ pub fn list_variables(alloc: Global, rows: &Values, message: &Value) -> Result<A
     Ok(Answer::Done(text))
 }
 
+/// A row: its name, the text of its value, and what is after it.
+#[tactic(auto, unfolding(crate::specs::Registers::row_text))]
+fn row_text(alloc: Global, name: &[u8], value: &[u8], rest: &[u8]) -> Result<Bytes, NoMemory>
+    ensures { IfOk result (λ row. row ≡ spec.row_text name.now value.now rest.now) }
+{
+    let mut text = Bytes::new(alloc);
+    add_string(alloc, &mut text, b"{\"name\":", name)?;
+    add_string(alloc, &mut text, b",\"value\":", value)?;
+    text.extend(rest)?;
+    Ok(text)
+}
+
 impl Scene<'_> {
-    /// The row of a variable: its name, what `evaluate` takes for it, which may be nothing, and its value.
-    fn row(&self, name: &[u8], asked: &[u8], value: u64) -> Result<Bytes, NoMemory> {
-        let mut shown = Bytes::new(self.alloc);
-        add_value_text(&mut shown, self.book, value)?;
+    /// What a row has after its value: what `evaluate` takes for it, which may be nothing, and where it leads.
+    fn row_end(&self, asked: &[u8], value: u64) -> Result<Bytes, NoMemory> {
         let mut text = Bytes::new(self.alloc);
-        add_string(self.alloc, &mut text, b"{\"name\":", name)?;
-        add_string(self.alloc, &mut text, b",\"value\":", shown.as_slice())?;
         if !asked.is_empty() {
             add_string(self.alloc, &mut text, b",\"evaluateName\":", asked)?;
         }
@@ -62,8 +76,21 @@ impl Scene<'_> {
         Ok(text)
     }
 
+    /// The row of a variable: its name, what `evaluate` takes for it, which may be nothing, and its value.
+    #[tactic(auto, using(crate::proofs::Shown::showing))]
+    fn row(&self, name: &[u8], asked: &[u8], value: u64) -> Result<Bytes, NoMemory>
+        ensures { IfOk result (ShowsValue value) }
+    {
+        let shown = value_text(self.alloc, self.book, value)?;
+        let end = self.row_end(asked, value)?;
+        let row = row_text(self.alloc, name, shown.as_slice(), end.as_slice())?;
+        Ok(row)
+    }
+
     /// The row of a register with this value.
-    fn register_row(&self, k: u8, value: u64, is_now: bool) -> Result<Bytes, NoMemory> {
+    fn register_row(&self, k: u8, value: u64, is_now: bool) -> Result<Bytes, NoMemory>
+        ensures { IfOk result (ShowsValue value) }
+    {
         let mut name = Bytes::new(self.alloc);
         add_thing(&mut name, self.book, Thing::Register(k))?;
         let mut asked = Bytes::new(self.alloc);
@@ -74,12 +101,27 @@ impl Scene<'_> {
         self.row(name.as_slice(), asked.as_slice(), value)
     }
 
-    /// The rows of the registers from one up to another.
-    fn register_rows(&self, from: usize, to: usize) -> Result<Values, NoMemory> {
+    /// The row of a register as it is.
+    #[tactic(auto, using(crate::proofs::Shown::equal_values))]
+    fn row_now(&self, k: u8) -> Result<Bytes, NoMemory>
+        ensures { IfOk result (ShowsValue (register (state_of self.now.machine.now).stack k)) }
+    {
+        let value = self.machine.register(k);
+        let row = self.register_row(k, value, true)?;
+        Ok(row)
+    }
+
+    /// The rows of so many registers from one on.
+    #[tactic(auto, using(crate::proofs::Shown::listing))]
+    fn register_rows(&self, first: usize, count: usize) -> Result<Values, NoMemory>
+        requires { first + count ≤ 256 }
+        ensures { IfOk result (ShowRegisters (state_of self.now.machine.now) first count) }
+    {
         let mut rows = Values::new(self.alloc);
-        for k in from..to {
-            let k = (k % 256) as u8;
-            rows.push(self.register_row(k, self.machine.register(k), true)?)?;
+        for i in 0..count {
+            let k = (first + i) as u8;
+            let row = self.row_now(k)?;
+            rows.push(row)?;
         }
         Ok(rows)
     }
@@ -104,17 +146,27 @@ impl Scene<'_> {
     }
 
     /// The rows of the local registers.
-    pub fn local_rows(&self) -> Result<Values, NoMemory> {
-        self.register_rows(0, usize::from(self.machine.l()))
+    #[tactic(auto, using(crate::proofs::Shown::listed))]
+    pub fn local_rows(&self) -> Result<Values, NoMemory>
+        ensures { IfOk result (ShowLocals (state_of self.now.machine.now)) }
+    {
+        let count = usize::from(self.machine.l());
+        let rows = self.register_rows(0, count)?;
+        Ok(rows)
     }
 
     /// The rows of the global registers.
-    pub fn global_rows(&self) -> Result<Values, NoMemory> {
-        self.register_rows(usize::from(self.machine.g()), 256)
+    #[tactic(auto, using(crate::proofs::Shown::listed))]
+    pub fn global_rows(&self) -> Result<Values, NoMemory>
+        ensures { IfOk result (ShowGlobals (state_of self.now.machine.now)) }
+    {
+        let first = usize::from(self.machine.g());
+        let rows = self.register_rows(first, 256 - first)?;
+        Ok(rows)
     }
 
     /// The row of a frame that is not the innermost one.
-    fn hidden_row(&self, frame: usize, address: u64) -> Result<Bytes, NoMemory> {
+    fn make_hidden_row(&self, frame: usize, address: u64) -> Result<Bytes, NoMemory> {
         let mut name = Bytes::new(self.alloc);
         add_decimal(&mut name, frame as u64)?;
         name.extend(b"  ")?;
@@ -131,11 +183,11 @@ impl Scene<'_> {
     }
 
     /// The rows of the frames but the innermost one.
-    pub fn hidden_rows(&self, frames: &[Frame]) -> Result<Values, NoMemory> {
+    pub fn make_hidden_rows(&self, frames: &[Frame]) -> Result<Values, NoMemory> {
         let mut rows = Values::new(self.alloc);
         for frame in 1..frames.len().saturating_add(1) {
             if let Some(address) = frame_address(frames, self.machine.pc(), frame) {
-                rows.push(self.hidden_row(frame, address)?)?;
+                rows.push(self.make_hidden_row(frame, address)?)?;
             }
         }
         Ok(rows)

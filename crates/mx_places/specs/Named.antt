@@ -20,7 +20,7 @@ use Rattle.mx_places.specs.declared.places.Target.{Target}
 
 -- ---- numbers
 
--- the number that a symbol stands for
+-- the number that a symbol means
 abbrev pub pure : Value → Option ℕ
 pure (Pure a) = Some a
 pure (Reg k) = None
@@ -71,15 +71,15 @@ thing_written text = written (subject_in text) (octa_in text)
 abbrev pub thing_beside : Book → List ℕ → Option Thing
 thing_beside book text = option_or (octa_of (part_in book text)) (thing_written text)
 
--- what a symbol stands for, or a sum of one
+-- what a symbol means, or a sum of one
 abbrev pub thing_by_symbol : Book → List ℕ → Option Thing
 thing_by_symbol book text = option_or (thing book text) (option_map things.Number (symbol_sum book text))
 
--- what a text names: a symbol stands before all else
+-- what a text names: a symbol comes before all else
 unfoldable pub named_thing : Book → List ℕ → Option Thing
 named_thing book text = option_or (thing_by_symbol book text) (thing_beside book text)
 
--- a symbol whose value is an address of data stands for the octa there
+-- a symbol whose value is an address of data means the octa there
 abbrev pub as_data : Thing → Thing
 as_data (things.Number a) = if nat_le (2 ^ 61) a && nat_lt a (2 ^ 63) then things.Octa a else things.Number a
 as_data (things.Register k) = things.Register k

@@ -90,8 +90,8 @@ fn relation_of(signs: &[u8]) -> Option<Relation>
     }
 }
 
-/// The place that a text names, where a symbol with an address of data stands for the octa there.
-fn shown_place(book: &Book, text: &[u8]) -> Option<Place>
+/// The place that a text names, where a symbol with an address of data means the octa there.
+fn find_shown_place(book: &Book, text: &[u8]) -> Option<Place>
     ensures { result ≡ option_and_then place_thing (thing_shown book.now text.now) }
 {
     place_of_thing(resolve_for_display(book, text)?)
@@ -105,7 +105,7 @@ pub fn parse_condition(book: &Book, text: &[u8]) -> Option<Condition>
     let (value, rest) = cut_value(text);
     let (signs, rest) = cut_signs(rest);
     let relation = relation_of(signs)?;
-    let place = shown_place(book, trim_end(value))?;
+    let place = find_shown_place(book, trim_end(value))?;
     let number = parse_value(book, cut_word(rest).0)?;
     Some(Condition {
         place,

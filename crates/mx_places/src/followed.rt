@@ -29,7 +29,7 @@ fn add_number(note: &mut Bytes, at: u64, number: u64, seen: &Seen) -> Result<(),
 }
 
 /// The value that was seen at a place; nothing where the register is hidden.
-pub fn known_value(place: Place, seen: &Seen) -> Option<u64> {
+pub fn find_known_value(place: Place, seen: &Seen) -> Option<u64> {
     match place {
         Place::Stacked { at, number: _ } if seen.hides(at) => None,
         _ => Some(seen.value),

@@ -14,7 +14,7 @@ pub use conditions::{parse_condition, signs_of};
 pub use examined::{
     MEMORY_END, parse_examined, parse_examined_units, parse_form, parse_small_part,
 };
-pub use followed::{known_value, note_of};
+pub use followed::{find_known_value, note_of};
 pub use moments::{resolve_for_display_now, resolve_name_now};
 pub use orders::{Unwanted, Wanted, parse_break};
 pub use overwritten::add_overwritten;

@@ -10,7 +10,7 @@ use mx_book::{Book, Thing};
 use mx_core::Machine;
 
 /// What a register has.
-fn held(machine: &Machine, thing: Option<Thing>) -> Option<u64>
+fn read_held(machine: &Machine, thing: Option<Thing>) -> Option<u64>
     ensures { result ≡ spec.held (state_of machine.now) thing }
 {
     match thing {
@@ -24,7 +24,10 @@ fn register_sum(book: &Book, machine: &Machine, text: &[u8]) -> Option<u64>
     ensures { result ≡ spec.register_sum book.now (state_of machine.now) text.now }
 {
     let (base, rest) = cut_sum(text);
-    add_numbers(held(machine, resolve_name(book, base)), parse_offset(rest))
+    add_numbers(
+        read_held(machine, resolve_name(book, base)),
+        parse_offset(rest),
+    )
 }
 
 /// What a text names in a machine.
@@ -38,7 +41,7 @@ pub fn resolve_name_now(book: &Book, machine: &Machine, text: &[u8]) -> Option<T
     }
 }
 
-/// The same, but for a name with an address of data: it stands for the octa there.
+/// The same, but for a name with an address of data: it means the octa there.
 #[tactic(auto, unfolding(crate::specs::Moments::shown_now))]
 pub fn resolve_for_display_now(book: &Book, machine: &Machine, text: &[u8]) -> Option<Thing>
     ensures { result ≡ spec.shown_now book.now (state_of machine.now) text.now }

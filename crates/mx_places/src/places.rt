@@ -9,7 +9,7 @@ use mx_book::{Book, Thing, thing_of_subject};
 use mx_stops::Place;
 use mx_word::Value;
 
-/// The first address of the data segment: a name with a value from there on stands for what is there.
+/// The first address of the data segment: a name with a value from there on means what is there.
 const DATA: u64 = 0x2000_0000_0000_0000;
 
 /// The first address that no memory has.
@@ -48,7 +48,7 @@ fn symbol_sum(book: &Book, text: &[u8]) -> Option<u64>
 }
 
 /// The value of a symbol, or a sum of one.
-fn named_number(book: &Book, text: &[u8]) -> Option<u64>
+fn find_named_number(book: &Book, text: &[u8]) -> Option<u64>
     ensures { result ≡ spec.named_number book.now text.now }
 {
     match symbol_address(book, text) {
@@ -63,7 +63,7 @@ fn address_named(book: &Book, text: &[u8]) -> Option<u64>
 {
     match parse_address(text) {
         Some(a) => Some(a),
-        None => named_number(book, text),
+        None => find_named_number(book, text),
     }
 }
 
@@ -108,7 +108,7 @@ fn thing_beside(book: &Book, text: &[u8]) -> Option<Thing>
     }
 }
 
-/// What a symbol stands for, or a sum of one.
+/// What a symbol means, or a sum of one.
 fn thing_by_symbol(book: &Book, text: &[u8]) -> Option<Thing>
     ensures { result ≡ spec.thing_by_symbol book.now text.now }
 {
@@ -139,7 +139,7 @@ fn as_data(thing: Thing) -> Thing
     }
 }
 
-/// The same, but for a name with an address of data: it stands for the octa there.
+/// The same, but for a name with an address of data: it means the octa there.
 #[tactic(auto, unfolding(crate::specs::Named::shown_thing))]
 pub fn resolve_for_display(book: &Book, text: &[u8]) -> Option<Thing>
     ensures { result ≡ spec.shown_thing book.now text.now }
@@ -207,7 +207,7 @@ fn line_target(book: &Book, line: u64) -> Option<Target>
 }
 
 /// The instruction that a text names by an address or a label.
-fn named_target(book: &Book, text: &[u8]) -> Option<Target>
+fn find_named_target(book: &Book, text: &[u8]) -> Option<Target>
     ensures { result ≡ spec.by_number None book.now text.now }
 {
     Some(target_at(address_named(book, text)?))
@@ -220,7 +220,7 @@ pub fn parse_target(book: &Book, text: &[u8]) -> Option<Target>
 {
     match parse_number(text) {
         Some(line) => line_target(book, line),
-        None => named_target(book, text),
+        None => find_named_target(book, text),
     }
 }
 
@@ -231,6 +231,6 @@ pub fn parse_value(book: &Book, text: &[u8]) -> Option<u64>
 {
     match parse_octa(text) {
         Some(n) => Some(n),
-        None => named_number(book, text),
+        None => find_named_number(book, text),
     }
 }

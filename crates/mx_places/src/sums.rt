@@ -76,7 +76,7 @@ fn cut_closing(text: &[u8]) -> (&[u8], &[u8])
 }
 
 /// What is in front of a bracket that ends a text.
-fn closed(text: &[u8]) -> Option<&[u8]>
+fn cut_closed(text: &[u8]) -> Option<&[u8]>
     ensures { option_map (λ inner. inner.now) result ≡ spec.closed text.now }
 {
     let (inner, rest) = cut_closing(text);
@@ -108,7 +108,7 @@ pub(crate) fn parse_brackets(text: &[u8]) -> Option<(Unit, &[u8])>
         return None;
     };
     if *m == b'M' && *opening == b'[' {
-        Some((unit_of_size(*size)?, closed(text)?))
+        Some((unit_of_size(*size)?, cut_closed(text)?))
     } else {
         None
     }

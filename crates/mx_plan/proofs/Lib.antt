@@ -6,4 +6,4 @@ pub mod BothWorlds
 pub mod Spared
 pub mod Giving
 pub mod Taking
-pub mod Standing
+pub mod KeptHosts

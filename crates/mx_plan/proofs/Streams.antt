@@ -121,7 +121,7 @@ call-leads k to (seeking slot n) m h i e = on-either (Leads k to) (is_failing m)
 call-leads k to (telling slot) m h i e = on-either (Leads k to) (is_failing m) _ _ e e
 call-leads k to needing m h i e = e
 
--- ---- want of memory
+-- ---- where memory runs out
 
 left-same : (P : HostModel → Type 0) (o : HostCall) (m n : HostModel) → HostLacks o m n → P m → P (counted m) → P n
 left-same P (opening slot name mode) m n l h k = rw (l.counts) k

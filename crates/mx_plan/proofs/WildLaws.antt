@@ -27,29 +27,29 @@ course_carried d (calls o k) w = course_carried d (k (d.act o w).0) (d.act o w).
 
 -- ---- in two worlds
 
--- What is asked of two worlds: where they are related by `Stand`, and a call is such a one in the other world, it goes alike in
+-- What is asked of two worlds: where they are related by `Related`, and a call is such a one in the other world, it goes alike in
 -- both; and what was passed stays passed.
-pub record Leads {O : Type 0} {R : O → Type 0} {V W : Type 0} (goes : (o : O) → V → Course (R o) V) (e : Acts O R W) (Such : O → W → Type 0) (Stand Passed : V → W → Type 0) : Type 0 where
-  pub acting : (o : O) (v : V) (w : W) → Such o w → Stand v w → GoesBeside Stand Passed (goes o v) (e.act o w)
+pub record Leads {O : Type 0} {R : O → Type 0} {V W : Type 0} (goes : (o : O) → V → Course (R o) V) (e : Acts O R W) (Such : O → W → Type 0) (Related Passed : V → W → Type 0) : Type 0 where
+  pub acting : (o : O) (v : V) (w : W) → Such o w → Related v w → GoesBeside Related Passed (goes o v) (e.act o w)
   pub later : (o : O) (v : V) (w : W) → Passed v w → Passed v (e.act o w).1
 
-passed-end : {O : Type 0} {R : O → Type 0} {V W A : Type 0} (goes : (o : O) → V → Course (R o) V) (e : Acts O R W) (Such : O → W → Type 0) (Stand Passed : V → W → Type 0) →
-    Leads goes e Such Stand Passed → (p : Plan O R A) (v : V) (w : W) → Passed v w → Passed v (end_of e p w).1
+passed-end : {O : Type 0} {R : O → Type 0} {V W A : Type 0} (goes : (o : O) → V → Course (R o) V) (e : Acts O R W) (Such : O → W → Type 0) (Related Passed : V → W → Type 0) →
+    Leads goes e Such Related Passed → (p : Plan O R A) (v : V) (w : W) → Passed v w → Passed v (end_of e p w).1
 unfolding end_of
-passed-end goes e Such Stand Passed h (returns a) v w s = s
-passed-end goes e Such Stand Passed h (calls o k) v w s = passed-end goes e Such Stand Passed h (k (e.act o w).0) v (e.act o w).1 (h.later o v w s)
+passed-end goes e Such Related Passed h (returns a) v w s = s
+passed-end goes e Such Related Passed h (calls o k) v w s = passed-end goes e Such Related Passed h (k (e.act o w).0) v (e.act o w).1 (h.later o v w s)
 
-pub beside : {O : Type 0} {R : O → Type 0} {V W A : Type 0} (goes : (o : O) → V → Course (R o) V) (e : Acts O R W) (Such : O → W → Type 0) (Stand Passed : V → W → Type 0) →
-    Leads goes e Such Stand Passed → (p : Plan O R A) (v : V) (w : W) → Makes e Such p w → Stand v w → GoesBeside Stand Passed (course goes p v) (end_of e p w)
+pub beside : {O : Type 0} {R : O → Type 0} {V W A : Type 0} (goes : (o : O) → V → Course (R o) V) (e : Acts O R W) (Such : O → W → Type 0) (Related Passed : V → W → Type 0) →
+    Leads goes e Such Related Passed → (p : Plan O R A) (v : V) (w : W) → Makes e Such p w → Related v w → GoesBeside Related Passed (course goes p v) (end_of e p w)
 unfolding course end_of Makes
-beside goes e Such Stand Passed h (returns a) v w m s = (refl, s)
-beside {O} {R} {V} {W} {A} goes e Such Stand Passed h (calls o k) v w m s =
-    by (λ x t. beside goes e Such Stand Passed h (k (e.act o w).0) x (e.act o w).1 m.1 t) (goes o v) (h.acting o v w m.0 s)
+beside goes e Such Related Passed h (returns a) v w m s = (refl, s)
+beside {O} {R} {V} {W} {A} goes e Such Related Passed h (calls o k) v w m s =
+    by (λ x t. beside goes e Such Related Passed h (k (e.act o w).0) x (e.act o w).1 m.1 t) (goes o v) (h.acting o v w m.0 s)
   where
-    by : ((x : V) → Stand x (e.act o w).1 → GoesBeside Stand Passed (course goes (k (e.act o w).0) x) (end_of e (k (e.act o w).0) (e.act o w).1)) → (c : Course (R o) V) →
-        GoesBeside Stand Passed c (e.act o w) → GoesBeside Stand Passed (then_on (λ r x. course goes (k r) x) c) (end_of e (k (e.act o w).0) (e.act o w).1)
-    by more (ends r x) g = subst (λ (q : R o). GoesBeside Stand Passed (course goes (k q) x) (end_of e (k (e.act o w).0) (e.act o w).1)) (sym g.0) (more x g.1)
-    by more (meets_wild x) g = passed-end goes e Such Stand Passed h (k (e.act o w).0) x (e.act o w).1 g
+    by : ((x : V) → Related x (e.act o w).1 → GoesBeside Related Passed (course goes (k (e.act o w).0) x) (end_of e (k (e.act o w).0) (e.act o w).1)) → (c : Course (R o) V) →
+        GoesBeside Related Passed c (e.act o w) → GoesBeside Related Passed (then_on (λ r x. course goes (k r) x) c) (end_of e (k (e.act o w).0) (e.act o w).1)
+    by more (ends r x) g = subst (λ (q : R o). GoesBeside Related Passed (course goes (k q) x) (end_of e (k (e.act o w).0) (e.act o w).1)) (sym g.0) (more x g.1)
+    by more (meets_wild x) g = passed-end goes e Such Related Passed h (k (e.act o w).0) x (e.act o w).1 g
 
 -- ---- whatever number of calls was made before
 

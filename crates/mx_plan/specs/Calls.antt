@@ -14,7 +14,7 @@ use Rattle.mx_plan.specs.Plan.{Plan, returns, calls, Acts}
 
 -- ---- a host
 
--- A call on a slot. The last is no call of the host, but memory that a function takes between two calls: it stands here, so
+-- A call on a slot. The last is no call of the host, but memory that a function takes between two calls: it is here, so
 -- that a plan says where memory may run out.
 pub data HostCall : Type 0 where
   opening : ℕ → List ℕ → Mode → HostCall

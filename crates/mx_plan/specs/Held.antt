@@ -5,8 +5,8 @@ use Rattle.mx_host.specs.HostModel.{HostModel, slot_at, to_input, to_output, to_
 use Rattle.mx_host.specs.declared.slots.Slot.{Slot}
 use Rattle.mx_plan.specs.Plan.{Acts, Plan, returns, calls}
 
--- A relation that every call keeps: it leads from each world to itself, through worlds in between, over each call, over a want
--- of memory, and from where memory ran out in a call to where that call would have led.
+-- A relation that every call keeps: it leads from each world to itself, through worlds in between, over each call, over one
+-- that lacks memory, and from where memory ran out in a call to where that call would have led.
 pub record Held {O : Type 0} {R : O → Type 0} {W : Type 0} (d : Acts O R W) (Rel : W → W → Type 0) : Type 0 where
   pub self : (w : W) → Rel w w
   pub through : (u v w : W) → Rel u v → Rel v w → Rel u w

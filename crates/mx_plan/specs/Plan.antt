@@ -1,7 +1,7 @@
 -- A plan: the calls that a function makes, one after another, up to its answer. No world is in it.
 --
 -- What a larger world has for its calls was decided so. A call may be a whole plan of a smaller world: it answers and leaves
--- that plan's end, and lacks memory where that plan may stop. Calls of its own stand beside it. So no plan is written twice,
+-- that plan's end, and lacks memory where that plan may stop. Calls of its own are beside it. So no plan is written twice,
 -- and what all calls of the smaller world keep, its plans keep, and with them the calls of the larger one.
 -- A look answers what was read and never the world, so that two worlds that differ elsewhere answer alike.
 use Rattle.std.specs.Prelude.{◌≡◌, ◌≢◌, ◌⊎◌}
@@ -27,7 +27,7 @@ unfoldable pub end_of : {O : Type 0} {R : O → Type 0} {W A : Type 0} → Acts 
 end_of d (returns a) w = (a, w)
 end_of d (calls o k) w = end_of d (k (d.act o w).0) (d.act o w).1
 
--- A plan that begins in w may stop for want of memory with v left: one of its calls may lack memory and leave v, and all
+-- A plan that begins in w may stop because memory runs out, with v left: one of its calls may lack memory and leave v, and all
 -- calls before that one were carried out.
 unfoldable pub Stops : {O : Type 0} {R : O → Type 0} {W A : Type 0} → Acts O R W → W → Plan O R A → W → Type 0
 Stops d v (returns a) w = ⊥

@@ -30,10 +30,10 @@ abbrev pub unless_wild : {O : Type 0} {R : O → Type 0} {W : Type 0} → (O →
 unless_wild is_wild d o w = if is_wild o w then meets_wild w else carried d o w
 
 -- What a plan comes to where calls may go wild, beside its end in another world: the same answer, and worlds that are related by
--- `Stand`; or, where it met something wild, worlds of which the one was passed before the other.
+-- `Related`; or, where it met something wild, worlds of which the one was passed before the other.
 abbrev pub GoesBeside : {V W A : Type 0} → (V → W → Type 0) → (V → W → Type 0) → Course A V → A × W → Type 0
-GoesBeside Stand Passed (ends a v) t = (a ≡ t.0) × Stand v t.1
-GoesBeside Stand Passed (meets_wild v) t = Passed v t.1
+GoesBeside Related Passed (ends a v) t = (a ≡ t.0) × Related v t.1
+GoesBeside Related Passed (meets_wild v) t = Passed v t.1
 
 -- ---- beside a world that this one represents
 

@@ -21,7 +21,7 @@ remaining_of of_input of_file input streams.Closed = None
 remaining_of of_input of_file input streams.Output = None
 remaining_of of_input of_file input streams.Errors = None
 
--- The bytes that stand where a stream writes: on standard output, on standard error, or in its file.
+-- The bytes where a stream writes: on standard output, on standard error, or in its file.
 abbrev pub contents_of : {O E F : Type 0} → (O → Option (List ℕ)) → (E → Option (List ℕ)) → (F → Option (List ℕ)) → O → E → Stream F → Option (List ℕ)
 contents_of of_output of_errors of_file output errors streams.Output = of_output output
 contents_of of_output of_errors of_file output errors streams.Errors = of_errors errors

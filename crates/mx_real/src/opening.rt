@@ -15,13 +15,13 @@ pub fn open(runtime: &HostRuntime, name: &[u8], mode: Mode) -> Result<Stream<Fil
     ensures { IfOk result (IsOpenedIn mode) }
 {
     let Ok(path) = str::from_utf8(name) else {
-        return Err(missing_file(mode));
+        return Err(refuse_missing_file(mode));
     };
     match options(mode).open(runtime, path) {
         Ok(file) if is_at_standard_stream(&file) => Err(OpenFault::Failed),
         Ok(file) => Ok(Stream::File(file, mode)),
         Err(e) => match e.kind() {
-            ErrorKind::NotFound => Err(missing_file(mode)),
+            ErrorKind::NotFound => Err(refuse_missing_file(mode)),
             ErrorKind::OutOfMemory => Err(OpenFault::OutOfMemory),
             _ => Err(OpenFault::Failed),
         },
@@ -29,7 +29,7 @@ pub fn open(runtime: &HostRuntime, name: &[u8], mode: Mode) -> Result<Stream<Fil
 }
 
 /// The fault where there is no file of a name: it is absent where it is only to be read, and else it cannot be made.
-fn missing_file(mode: Mode) -> OpenFault {
+fn refuse_missing_file(mode: Mode) -> OpenFault {
     if mode.is_read_only() {
         OpenFault::Absent
     } else {

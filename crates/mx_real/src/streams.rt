@@ -54,7 +54,7 @@ pub fn read<I: Read, F: Read + Seek>(
             }
             match read_whole(file, into) {
                 Ok(count) => Ok(count),
-                Err(count) => Err(moved_back(file, count)),
+                Err(count) => Err(move_back(file, count)),
             }
         }
         Stream::Closed | Stream::Output | Stream::Errors => Err(HostFault::Misused),
@@ -89,7 +89,7 @@ pub fn write<O: Write, E: Write, F: Write + Seek>(
             }
             match write_whole(file, from) {
                 Ok(_) => Ok(()),
-                Err(count) => Err(moved_back(file, count)),
+                Err(count) => Err(move_back(file, count)),
             }
         }
         Stream::Closed | Stream::Input => Err(HostFault::Misused),
@@ -98,7 +98,7 @@ pub fn write<O: Write, E: Write, F: Write + Seek>(
 
 /// Moves the place in a file back over the bytes that a call moved before it failed. What has no place, as a pipe,
 /// stays as it is.
-fn moved_back<F: Seek>(file: &mut F, count: usize) -> HostFault
+fn move_back<F: Seek>(file: &mut F, count: usize) -> HostFault
     ensures { result ≡ HostFault.Failed }
 {
     if let Ok(count) = i64::try_from(count) {

@@ -14,11 +14,11 @@ use Rattle.mx_record.proofs.Telling.{Zeros, new-done, new-first, new-noted, new-
 before-next : (s : State) (n a x : ℕ) → IsNextNonzero (octa s) (8 * n) (Some (a, x)) → Zeros (octa_shown s) n (a / 8)
 before-next s n a x f q l m = octa-zero s q (f.4 (8 * q) (omega (arith, l)) (omega arith) (omega (arith, m)))
 
-behind-last : (s : State) (n : ℕ) → IsNextNonzero (octa s) (8 * n) None → (q : ℕ) → n ≤ q → octa_shown s q ≡ 0
-behind-last s n f q l = octa-zero s q (f (8 * q) (omega (arith, l)) (omega arith))
+after-last : (s : State) (n : ℕ) → IsNextNonzero (octa s) (8 * n) None → (q : ℕ) → n ≤ q → octa_shown s q ≡ 0
+after-last s n f q l = octa-zero s q (f (8 * q) (omega (arith, l)) (omega arith))
 
-behind-all : (s : State) (n q : ℕ) → 2 ^ 60 ≤ n → n ≤ q → octa_shown s q ≡ 0
-behind-all s n q l m = octa-beyond s q (omega (arith, l, m))
+after-all : (s : State) (n q : ℕ) → 2 ^ 60 ≤ n → n ≤ q → octa_shown s q ≡ 0
+after-all s n q l m = octa-beyond s q (omega (arith, l, m))
 
 not-zero : (s : State) (n a x : ℕ) → IsNextNonzero (octa s) (8 * n) (Some (a, x)) → octa s (8 * (a / 8)) ≢ 0
 not-zero s n a x f e =
@@ -31,10 +31,10 @@ old-next s t changes later n a x h f e =
     old-noted changes later (octa_shown s) (octa_shown t) n (a / 8) h (omega (arith, f.0)) (before-next s n a x f) (octa-hidden s t (a / 8) (not-zero s n a x f)) e
 
 pub old-none : (s t : State) (changes : List Change) (n : ℕ) → TellsWithin changes (octa_shown s) (octa_shown t) (old-below (octa_shown s) n) → IsNextNonzero (octa s) (8 * n) None → TellsWithin changes (octa_shown s) (octa_shown t) (λ q. not (octa_shown s q == 0))
-old-none s t changes n h f = old-done changes (octa_shown s) (octa_shown t) n h (behind-last s n f)
+old-none s t changes n h f = old-done changes (octa_shown s) (octa_shown t) n h (after-last s n f)
 
 pub old-all : (s t : State) (changes : List Change) (n : ℕ) → TellsWithin changes (octa_shown s) (octa_shown t) (old-below (octa_shown s) n) → 2 ^ 60 ≤ n → TellsWithin changes (octa_shown s) (octa_shown t) (λ q. not (octa_shown s q == 0))
-old-all s t changes n h l = old-done changes (octa_shown s) (octa_shown t) n h (λ q m. behind-all s n q l m)
+old-all s t changes n h l = old-done changes (octa_shown s) (octa_shown t) n h (λ q m. after-all s n q l m)
 
 is-zero : (x : ℕ) → x ≡ 0 → (x == 0) ≡ true
 is-zero x e = ap (λ y. y == 0) e
@@ -51,10 +51,10 @@ pub new-passed : (s t : State) (changes later : List Change) (n a x : ℕ) → T
 new-passed s t changes later n a x h f was e = rw e (new-on changes (octa_shown s) (octa_shown t) n (a / 8) h (omega (arith, f.0)) (before-next t n a x f) (is-not _ was))
 
 pub new-none : (s t : State) (changes : List Change) (n : ℕ) → TellsWithin changes (octa_shown s) (octa_shown t) (old-or-below (octa_shown s) n) → IsNextNonzero (octa t) (8 * n) None → TellsAll changes (octa_shown s) (octa_shown t)
-new-none s t changes n h f = new-done changes (octa_shown s) (octa_shown t) n h (behind-last t n f)
+new-none s t changes n h f = new-done changes (octa_shown s) (octa_shown t) n h (after-last t n f)
 
 pub new-all : (s t : State) (changes : List Change) (n : ℕ) → TellsWithin changes (octa_shown s) (octa_shown t) (old-or-below (octa_shown s) n) → 2 ^ 60 ≤ n → TellsAll changes (octa_shown s) (octa_shown t)
-new-all s t changes n h l = new-done changes (octa_shown s) (octa_shown t) n h (λ q m. behind-all t n q l m)
+new-all s t changes n h l = new-done changes (octa_shown s) (octa_shown t) n h (λ q m. after-all t n q l m)
 
 -- FROM NOTHING
 
@@ -67,10 +67,10 @@ pub start-next : (t : State) (changes later : List Change) (n a x : ℕ) → Tel
 start-next t changes later n a x h f e = new-noted changes later (λ _. 0) (octa_shown t) n (a / 8) h (omega (arith, f.0)) (before-next t n a x f) refl e
 
 pub start-none : (t : State) (changes : List Change) (n : ℕ) → TellsWithin changes (λ _. 0) (octa_shown t) (old-or-below (λ _. 0) n) → IsNextNonzero (octa t) (8 * n) None → TellsAll changes (λ _. 0) (octa_shown t)
-start-none t changes n h f = new-done changes (λ _. 0) (octa_shown t) n h (behind-last t n f)
+start-none t changes n h f = new-done changes (λ _. 0) (octa_shown t) n h (after-last t n f)
 
 pub start-all : (t : State) (changes : List Change) (n : ℕ) → TellsWithin changes (λ _. 0) (octa_shown t) (old-or-below (λ _. 0) n) → 2 ^ 60 ≤ n → TellsAll changes (λ _. 0) (octa_shown t)
-start-all t changes n h l = new-done changes (λ _. 0) (octa_shown t) n h (λ q m. behind-all t n q l m)
+start-all t changes n h l = new-done changes (λ _. 0) (octa_shown t) n h (λ q m. after-all t n q l m)
 
 pub ruleset searching = (old-all, new-all, new-first, none-old)
 

@@ -62,8 +62,8 @@ pub followed-all : (now start final : ℕ → ℕ) (i : ℕ) → Followed now st
 followed-all now start final i h same q = h q ∙ cond_both (nat_lt q i) (final q) (start q) (λ x. x ≡ final q) (λ _. refl) (λ e. same q (grind (arith, nat_tests)))
 
 -- after the registers there are zeros
-pub zeros-behind : (z : Stack) (old : ℕ → ℕ) (end after i q : ℕ) → ((i : ℕ) → end ≤ i → old i ≡ 0) → after ≡ hidden_count z + local_count z → max end after ≤ i → i ≤ q → old q ≡ octa_of (all_registers z) q
-zeros-behind z old end after i q zeros e l m =
+pub zeros-following : (z : Stack) (old : ℕ → ℕ) (end after i q : ℕ) → ((i : ℕ) → end ≤ i → old i ≡ 0) → after ≡ hidden_count z + local_count z → max end after ≤ i → i ≤ q → old q ≡ octa_of (all_registers z) q
+zeros-following z old end after i q zeros e l m =
     let most : length (all_registers z) ≤ q = omega (arith, length-append (hidden_octas z) (visible z).locals, e, l, m) in
     zeros q (omega (arith, l, m)) ∙ sym (get_or_past (all_registers z) q 0 most)
 

@@ -4,6 +4,7 @@ ghost use Rattle.std.specs.Prelude.{◌≡◌, ◌<◌, IfOk};
 ghost use Rattle.mx_core.specs.Kept.{state_of};
 ghost use Rattle.mx_record.specs.Following.{TellsAll};
 ghost use Rattle.mx_record.specs.Pictures as spec;
+ghost use Rattle.mx_record.specs.Pictures.{special_shown};
 
 use crate::changes::{Change, note};
 use mx_core::{Machine, machines_keep_the_invariant};
@@ -12,15 +13,15 @@ use mx_word::{NoMemory, Sequence};
 use std::alloc::Global;
 
 /// What is shown of the special register with a code.
-pub(crate) fn shown_special(machine: &Machine, code: u8) -> u64
+pub(crate) fn show_special(machine: &Machine, code: u8) -> u64
     requires { code < 32 }
-    ensures { result ≡ spec.special_shown (state_of machine.now) code }
+    ensures { result ≡ special_shown (state_of machine.now) code }
 {
     if code == RC { 0 } else { machine.special(code) }
 }
 
 /// What is shown of the global register with a number.
-pub(crate) fn shown_global(machine: &Machine, k: u8) -> u64
+pub(crate) fn show_global(machine: &Machine, k: u8) -> u64
     ensures { result ≡ spec.global_shown (state_of machine.now) k }
 {
     if k < machine.g() {
@@ -38,7 +39,7 @@ pub(crate) fn special_changes(
     new: &Machine,
 ) -> Result<Sequence<Change>, NoMemory>
     ensures { IfOk result (λ changes.
-        TellsAll changes (spec.special_shown (state_of old.now)) (spec.special_shown (state_of new.now))) }
+        TellsAll changes (special_shown (state_of old.now)) (special_shown (state_of new.now))) }
 {
     machines_keep_the_invariant(old);
     machines_keep_the_invariant(new);
@@ -47,8 +48,8 @@ pub(crate) fn special_changes(
         note(
             &mut changes,
             u64::from(code),
-            shown_special(old, code),
-            shown_special(new, code),
+            show_special(old, code),
+            show_special(new, code),
         )?;
     }
     Ok(changes)
@@ -72,8 +73,8 @@ pub(crate) fn global_changes(
         note(
             &mut changes,
             u64::from(k),
-            shown_global(old, k as u8),
-            shown_global(new, k as u8),
+            show_global(old, k as u8),
+            show_global(new, k as u8),
         )?;
     }
     Ok(changes)

@@ -82,14 +82,14 @@ pub(crate) fn hidden_count(machine: &Machine) -> u64
 
 /// How many of them are spilled.
 #[tactic(auto, unfolding(mx_core::specs::State::special_register))]
-fn spilled_count(machine: &Machine) -> u64
+fn count_spilled(machine: &Machine) -> u64
     ensures { result ≡ stacks.spilled_count (state_of machine.now).stack }
 {
     (machine.special(RS) - STACK_SEGMENT) / 8
 }
 
 /// What a hidden register has that is not spilled.
-fn hidden_by(before: u64, after: u64, old: u64, i: u64) -> u64
+fn read_hidden_by(before: u64, after: u64, old: u64, i: u64) -> u64
     requires { i < after }
     ensures { result ≡ spec.hidden_by before after old i }
 {
@@ -102,16 +102,16 @@ fn hidden_by(before: u64, after: u64, old: u64, i: u64) -> u64
 
 /// What a register of the stack has, by what it had where this many were hidden.
 #[tactic(auto, using(crate::proofs::Stacking::seeing))]
-fn stacked_octa(machine: &Machine, before: u64, old: u64, i: u64) -> u64
+fn read_stacked_octa(machine: &Machine, before: u64, old: u64, i: u64) -> u64
     ensures { result ≡ spec.stacked_by before old (state_of machine.now).stack i }
 {
     machines_keep_the_invariant(machine);
     let hidden = hidden_count(machine);
     if i < hidden {
-        if i < spilled_count(machine) {
+        if i < count_spilled(machine) {
             machine.octa(STACK_SEGMENT + 8 * i)
         } else {
-            hidden_by(before, hidden, old, i)
+            read_hidden_by(before, hidden, old, i)
         }
     } else if i - hidden < u64::from(machine.l()) {
         machine.register((i - hidden) as u8)
@@ -123,7 +123,7 @@ fn stacked_octa(machine: &Machine, before: u64, old: u64, i: u64) -> u64
 /// What changed of the registers of the stack; they are followed to those of the machine. This many were hidden before, so
 /// many were hidden or local, and those in front of a place stayed the same.
 #[tactic(auto, using(crate::proofs::Stacking::seeing))]
-pub(crate) fn stacked_changes(
+pub(crate) fn find_stacked_changes(
     alloc: Global,
     stacked: &mut Stacked,
     machine: &Machine,
@@ -144,7 +144,7 @@ pub(crate) fn stacked_changes(
     let after = hidden_count(machine) + u64::from(machine.l());
     for i in from..end.max(after) {
         let old = stacked.get(i as usize);
-        let new = stacked_octa(machine, before, old, i);
+        let new = read_stacked_octa(machine, before, old, i);
         note(&mut changes, i, old, new)?;
         stacked.set(i as usize, new)?;
     }

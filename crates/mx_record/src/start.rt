@@ -9,9 +9,9 @@ ghost use Rattle.mx_record.specs.Pictures.{no_picture, octa_of, picture};
 ghost use Rattle.mx_record.specs.Records.{Leads};
 
 use crate::changes::{Change, Record, note};
-use crate::octas::{OCTAS, shown_octa};
-use crate::registers::{shown_global, shown_special};
-use crate::stacked::{Stacked, stacked_changes};
+use crate::octas::{OCTAS, show_octa};
+use crate::registers::{show_global, show_special};
+use crate::stacked::{Stacked, find_stacked_changes};
 use mx_core::{Machine, machines_keep_the_invariant};
 use mx_word::{NoMemory, Sequence};
 use std::alloc::Global;
@@ -28,7 +28,7 @@ fn special_values(alloc: Global, machine: &Machine) -> Result<Sequence<Change>, 
             &mut changes,
             u64::from(code),
             0,
-            shown_special(machine, code),
+            show_special(machine, code),
         )?;
     }
     Ok(changes)
@@ -42,12 +42,7 @@ fn global_values(alloc: Global, machine: &Machine) -> Result<Sequence<Change>, N
     machines_keep_the_invariant(machine);
     let mut changes = Sequence::new(alloc);
     for k in 0..256u16 {
-        note(
-            &mut changes,
-            u64::from(k),
-            0,
-            shown_global(machine, k as u8),
-        )?;
+        note(&mut changes, u64::from(k), 0, show_global(machine, k as u8))?;
     }
     Ok(changes)
 }
@@ -62,7 +57,7 @@ fn octa_values(alloc: Global, machine: &Machine) -> Result<Sequence<Change>, NoM
     while n < OCTAS {
         match machine.next_nonzero(8 * n) {
             Some((at, _)) => {
-                note(&mut changes, at / 8, 0, shown_octa(machine, at / 8))?;
+                note(&mut changes, at / 8, 0, show_octa(machine, at / 8))?;
                 n = at / 8 + 1;
             }
             None => return Ok(changes),
@@ -83,7 +78,7 @@ pub(crate) fn start_changes(alloc: Global, machine: &Machine) -> Result<(Record,
     let global = global_values(alloc, machine)?;
     let octas = octa_values(alloc, machine)?;
     let mut registers = Stacked::new(alloc);
-    let stacked = stacked_changes(alloc, &mut registers, machine, 0, 0, 0)?;
+    let stacked = find_stacked_changes(alloc, &mut registers, machine, 0, 0, 0)?;
     let record = Record {
         next: machine.pc(),
         special,

@@ -10,7 +10,7 @@ use crate::changes::Record;
 use crate::octas::octa_changes;
 use crate::reach::{kept_count, reach_of};
 use crate::registers::{global_changes, special_changes};
-use crate::stacked::{Stacked, hidden_count, stacked_changes};
+use crate::stacked::{Stacked, find_stacked_changes, hidden_count};
 use mx_core::{Machine, Trace, machines_are_whole, machines_hold_octas};
 use mx_word::NoMemory;
 use std::alloc::Global;
@@ -38,7 +38,7 @@ pub(crate) fn turn_changes(
     let global = global_changes(alloc, old, new)?;
     let octas = octa_changes(alloc, old, new, reach_of(trace))?;
     let kept = kept_count(trace, before, hidden_count(new));
-    let stacked = stacked_changes(alloc, stacked, new, before, kept, end)?;
+    let stacked = find_stacked_changes(alloc, stacked, new, before, kept, end)?;
     Ok(Record {
         next: old.pc() ^ new.pc(),
         special,

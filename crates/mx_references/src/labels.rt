@@ -50,7 +50,7 @@ fn label_text(alloc: Global, source: &[u8], o: &Occurrence) -> Result<Bytes, NoM
 }
 
 /// Whether a name is the label of a symbol.
-fn is_symbol_label(o: &Occurrence) -> bool
+pub fn is_symbol_label(o: &Occurrence) -> bool
     ensures { result ≡ spec.is_symbol_label o.now }
 {
     match &o.named {

@@ -5,6 +5,6 @@ mod labels;
 mod marks;
 mod uses;
 
-pub use labels::outline;
+pub use labels::{is_symbol_label, outline};
 pub use marks::highlights;
 pub use uses::{definition, name_range, range_text, references};

@@ -64,14 +64,14 @@ zero-read : (i n : ℕ) → get_or (zeros n) i 0 ≡ 0
 unfolding zeros
 zero-read i n = ⊎_elim (λ f. get_or-replicate n i 0 0 f) (λ f. get_or-eq_default (replicate n 0) 0 (omega (arith, length-replicate {A = ℕ} n 0))) (cases_lt i n)
 
-pub filled-behind : (n i : ℕ) (octas : List ℕ) → length octas ≤ i → get_or (filled n octas) i 0 ≡ 0
+pub filled-after : (n i : ℕ) (octas : List ℕ) → length octas ≤ i → get_or (filled n octas) i 0 ≡ 0
 unfolding filled
-filled-behind n i octas f = get_or-append_right octas (zeros (n - length octas)) i 0 f ∙ zero-read (i - length octas) (n - length octas)
+filled-after n i octas f = get_or-append_right octas (zeros (n - length octas)) i 0 f ∙ zero-read (i - length octas) (n - length octas)
 
 -- each octa of the area is below what those that are kept are below
 pub filled-below : (n most : ℕ) (octas : List ℕ) → 0 < most → ((i : ℕ) → get_or octas i 0 < most) → (i : ℕ) → get_or (filled n octas) i 0 < most
-filled-below n most octas f fits i = ⊎_elim (λ e. rw (filled-kept n i octas e) (fits i)) (λ e. rw (filled-behind n i octas e) f) (cases_lt i (length octas))
+filled-below n most octas f fits i = ⊎_elim (λ e. rw (filled-kept n i octas e) (fits i)) (λ e. rw (filled-after n i octas e) f) (cases_lt i (length octas))
 
-pub ruleset areas = (zeros-length, filled-length, filled-none, filled-set, filled-part, filled-take, filled-kept, filled-behind)
+pub ruleset areas = (zeros-length, filled-length, filled-none, filled-set, filled-part, filled-take, filled-kept, filled-after)
 
 pub ruleset growing = (filled-push, length-append)

@@ -4,8 +4,8 @@ use Rattle.std.proofs.lemmas.Bool.Decides.{nat_tests}
 use Rattle.std.proofs.lemmas.List.{append_assoc, append-nil, length-append, length-replicate, length-take-le, take_all, drop_all, drop_more, replicate-append-replicate, set_at}
 use Rattle.std.proofs.Math.ListN.{get_or-append}
 use Rattle.mx_word.specs.Lists.{with_part}
-use Rattle.mx_registers.proofs.Few.{behind}
-use Rattle.mx_registers.proofs.Values.{Stands, stands, locals-bounds}
+use Rattle.mx_registers.proofs.Few.{following}
+use Rattle.mx_registers.proofs.Values.{HasRegisters, registers-has, locals-bounds}
 use Rattle.mx_registers.specs.Bounds.{AreInBounds}
 use Rattle.mx_registers.specs.Parts.{all_values, registers_in, HoldsRegisters}
 use Rattle.mx_registers.specs.Registers.{Registers, results, with_returned}
@@ -50,7 +50,7 @@ registers-written v os n y b f size g =
     let many : length ps ≡ 8 = omega (arith, length-append os (replicate (8 - n) 0), length-replicate {A = ℕ} (8 - n) 0) in
     let to : 0 + length ps ≡ 8 = omega (arith, many) in
     let whole : with_part xs 0 ps ≡ ps ++ drop 8 xs = ap (λ (k : ℕ). ps ++ drop k xs) to in
-    let back : drop 8 xs ≡ replicate (v.first_global - 8) 0 ++ v.globals = behind v 8 f (omega (arith, b.least_global)) in
+    let back : drop 8 xs ≡ replicate (v.first_global - 8) 0 ++ v.globals = following v 8 f (omega (arith, b.least_global)) in
     let sum : (8 - n) + (v.first_global - 8) ≡ suc (v.first_global - (n + 1)) = omega (arith, b.least_global) in
     let joined : replicate {A = ℕ} (8 - n) 0 ++ replicate (v.first_global - 8) 0 ≡ 0 ∷ replicate (v.first_global - (n + 1)) 0 =
     replicate-append-replicate (8 - n) (v.first_global - 8) 0 ∙ ap (λ k. replicate {A = ℕ} k 0) sum in
@@ -66,7 +66,7 @@ results-few ls zero f g = refl
 results-few ls (suc zero) f g = grind (arith, nat_tests)
 results-few ls (suc (suc x)) f g = absurd (omega arith)
 
--- after the octas that came back stands the result, or a 0 that is no local
+-- after the octas that came back comes the result, or a 0 that is no local
 last-result : (v : Registers) (os : List ℕ) (n x : ℕ) → AreInBounds v → n < 8 → x ≤ 1 → x ≤ length v.locals → os ++ (if x == 0 then 0 else get_or (all_values v) 0 0) ∷ (replicate (v.first_global - (n + 1)) 0 ++ v.globals) ≡ (os ++ results v.locals x) ++ replicate (v.first_global - (n + x)) 0 ++ v.globals
 last-result v os n zero b g one among =
     let zs : List ℕ = 0 ∷ replicate (v.first_global - (n + 1)) 0 in
@@ -90,8 +90,8 @@ returned-values v os n x b f size g one among =
     ap (λ k. (os ++ rs) ++ replicate (v.first_global - k) 0 ++ v.globals) (sym many) ∙ ap (λ (ls : List ℕ). ls ++ replicate (v.first_global - length ls) 0 ++ v.globals) (sym below) in
     registers-written v os n _ b f size g ∙ last-result v os n x b g one among ∙ shown
 
-pub returned-stands : (i : Inside) (octas zs : List ℕ) (n x : ℕ) → HoldsRegisters i → length octas ≡ 8 → n < 8 → length (registers_in i).locals ≤ 8 → x ≤ 1 → x ≤ length (registers_in i).locals → zs ≡ set (with_part i.values 0 (take n octas ++ replicate (8 - n) 0)) n (if x == 0 then 0 else get_or i.values 0 0) → Stands (record i { values = zs; local_count = n + x }) (with_returned (registers_in i) (take n octas) x)
-returned-stands i octas zs n x h all f few one among ez =
+pub returned-has : (i : Inside) (octas zs : List ℕ) (n x : ℕ) → HoldsRegisters i → length octas ≡ 8 → n < 8 → length (registers_in i).locals ≤ 8 → x ≤ 1 → x ≤ length (registers_in i).locals → zs ≡ set (with_part i.values 0 (take n octas ++ replicate (8 - n) 0)) n (if x == 0 then 0 else get_or i.values 0 0) → HasRegisters (record i { values = zs; local_count = n + x }) (with_returned (registers_in i) (take n octas) x)
+returned-has i octas zs n x h all f few one among ez =
     let v : Registers = registers_in i in
     let os : List ℕ = take n octas in
     let rs : List ℕ = results v.locals x in
@@ -101,4 +101,4 @@ returned-stands i octas zs n x h all f few one among ez =
     let below : take v.first_global (os ++ rs) ≡ os ++ rs = take_all v.first_global (os ++ rs) (omega (arith, h.in_bounds.least_global)) in
     let locals : n + x ≡ length (take v.first_global (os ++ rs)) = sym (ap length below ∙ many) in
     let values : zs ≡ all_values (with_returned v os x) = ez ∙ ap (λ (vs : List ℕ). set (with_part vs 0 (os ++ replicate (8 - n) 0)) n (if x == 0 then 0 else get_or vs 0 0)) h.all_shown ∙ returned-values v os n x h.in_bounds few size f one among in
-    stands (with_returned v os x) zs (n + x) i.first_global (locals-bounds v (take v.first_global (os ++ rs)) h.in_bounds (omega (arith, h.in_bounds.least_global))) values locals refl
+    registers-has (with_returned v os x) zs (n + x) i.first_global (locals-bounds v (take v.first_global (os ++ rs)) h.in_bounds (omega (arith, h.in_bounds.least_global))) values locals refl

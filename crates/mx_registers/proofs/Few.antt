@@ -4,7 +4,7 @@ use Rattle.std.proofs.lemmas.Bool.{cases_lt}
 use Rattle.std.proofs.lemmas.List.{append-nil, append_assoc, take-append-drop, length-append, length-replicate, length-drop, length-take, length-take-le, take_at, take_all, take-take, take-append-le, take-replicate, drop_at, drop_all, drop-append-le, drop-drop, drop-replicate, replicate-append-replicate, set-append_right, set_split}
 use Rattle.std.proofs.Math.Seq.{take-append-add, drop-append-add}
 use Rattle.mx_word.specs.Lists.{with_part}
-use Rattle.mx_registers.proofs.Values.{Stands, stands, from-bounds}
+use Rattle.mx_registers.proofs.Values.{HasRegisters, registers-has, from-bounds}
 use Rattle.mx_registers.specs.Bounds.{AreInBounds}
 use Rattle.mx_registers.specs.Parts.{all_values, registers_in, HoldsRegisters, with_zeros_at}
 use Rattle.mx_registers.specs.Registers.{Registers, registers_below, registers_from}
@@ -48,8 +48,8 @@ first_below v n few f = ⊎_elim (λ e. longer e) (λ e. shorter e) (cases_lt (l
 -- MOVED AT ONCE
 
 -- what is above the locals
-pub behind : (v : Registers) (m : ℕ) → length v.locals ≤ m → m ≤ v.first_global → drop m (all_values v) ≡ replicate (v.first_global - m) 0 ++ v.globals
-behind v m f g =
+pub following : (v : Registers) (m : ℕ) → length v.locals ≤ m → m ≤ v.first_global → drop m (all_values v) ≡ replicate (v.first_global - m) 0 ++ v.globals
+following v m f g =
     let l : ℕ = length v.locals in
     let zs : List ℕ = replicate (v.first_global - l) 0 in
     let split : l + (m - l) ≡ m = omega arith in
@@ -71,7 +71,7 @@ moved v n c few b ec fc fn = ⊎_elim (λ e. all e) (λ e. some e) (cases_lt (le
     all e =
         let none : drop n v.locals ≡ [] = drop_all n v.locals (omega arith) in
         let count : few - c ≡ few = omega arith in
-        rw (none, count) (ap (take few) (behind v n (omega arith) (omega arith)) ∙ zeros-first few (v.first_global - n) v.globals (omega arith))
+        rw (none, count) (ap (take few) (following v n (omega arith) (omega arith)) ∙ zeros-first few (v.first_global - n) v.globals (omega arith))
 
     some : n ≤ length v.locals → take few (drop n (all_values v)) ≡ drop n v.locals ++ replicate (few - c) 0
     some e =
@@ -93,19 +93,19 @@ few-values v n c few zs b ec fc fn ez =
     let low : take few (ps ++ drop few xs) ≡ ps = take_at ps (drop few xs) few size in
     let split : few + (m - few) ≡ m = omega arith in
     let high : drop m (ps ++ drop few xs) ≡ replicate (v.first_global - m) 0 ++ v.globals =
-    ap (λ k. drop k (ps ++ drop few xs)) (sym split) ∙ sym (drop-drop (m - few) few (ps ++ drop few xs)) ∙ ap (drop (m - few)) (drop_at ps (drop few xs) few size) ∙ drop-drop (m - few) few xs ∙ ap (λ k. drop k xs) split ∙ behind v m (omega arith) (omega (arith, b.locals_below_globals)) in
+    ap (λ k. drop k (ps ++ drop few xs)) (sym split) ∙ sym (drop-drop (m - few) few (ps ++ drop few xs)) ∙ ap (drop (m - few)) (drop_at ps (drop few xs) few size) ∙ drop-drop (m - few) few xs ∙ ap (λ k. drop k xs) split ∙ following v m (omega arith) (omega (arith, b.locals_below_globals)) in
     let two : replicate {A = ℕ} (m - few) 0 ++ replicate (v.first_global - m) 0 ≡ replicate (v.first_global - few) 0 = replicate-append-replicate (m - few) (v.first_global - m) 0 ∙ ap (λ k. replicate {A = ℕ} k 0) (omega (arith, b.locals_below_globals)) in
     let joined : replicate {A = ℕ} (few - c) 0 ++ (replicate (m - few) 0 ++ replicate (v.first_global - m) 0) ≡ replicate (v.first_global - c) 0 = ap (λ (ws : List ℕ). replicate (few - c) 0 ++ ws) two ∙ replicate-append-replicate (few - c) (v.first_global - few) 0 ∙ ap (λ k. replicate {A = ℕ} k 0) (omega arith) in
     rw (ez, whole, low, high, count, ← joined) (simp append_assoc)
 
-pub few-stands : (i : Inside) (n c few : ℕ) (zs : List ℕ) → HoldsRegisters i → c ≡ i.local_count - n → c ≤ few → n + few ≤ i.first_global → zs ≡ with_zeros_at (with_part i.values 0 (take few (drop n i.values))) few (max i.local_count few) → Stands (record i { values = zs; local_count = c }) (registers_from (registers_in i) n)
-few-stands i n c few zs h ec fc fn ez =
+pub few-has : (i : Inside) (n c few : ℕ) (zs : List ℕ) → HoldsRegisters i → c ≡ i.local_count - n → c ≤ few → n + few ≤ i.first_global → zs ≡ with_zeros_at (with_part i.values 0 (take few (drop n i.values))) few (max i.local_count few) → HasRegisters (record i { values = zs; local_count = c }) (registers_from (registers_in i) n)
+few-has i n c few zs h ec fc fn ez =
     let v : Registers = registers_in i in
     let e : i.local_count ≡ length v.locals = sym h.all_locals in
     let size : c ≡ length (drop n v.locals) = omega (arith, length-drop n v.locals, h.all_locals) in
     let es : zs ≡ with_zeros_at (with_part (all_values v) 0 (take few (drop n (all_values v)))) few (max (length v.locals) few) =
     ez ∙ ap (λ (xs : List ℕ). with_zeros_at (with_part xs 0 (take few (drop n xs))) few (max i.local_count few)) h.all_shown ∙ ap (λ l. with_zeros_at (with_part (all_values v) 0 (take few (drop n (all_values v)))) few (max l few)) e in
-    stands (registers_from v n) _ _ _ (from-bounds v n h.in_bounds) (few-values v n c few zs h.in_bounds (omega arith) fc fn es) size refl
+    registers-has (registers_from v n) _ _ _ (from-bounds v n h.in_bounds) (few-values v n c few zs h.in_bounds (omega arith) fc fn es) size refl
 
 -- nothing is cleared where few were local
 pub zeros-none : (xs : List ℕ) (l few : ℕ) → l ≤ few → with_zeros_at xs few (max l few) ≡ xs

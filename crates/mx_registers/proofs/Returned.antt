@@ -58,11 +58,11 @@ alone-placed xs main count hole h e =
 parts-placed : (xs ys zs octas rs : List ℕ) → ys ≡ with_part xs (length octas) rs → length octas ≤ length xs → zs ≡ with_part ys 0 octas → zs ≡ (octas ++ rs) ++ drop (length (octas ++ rs)) xs
 parts-placed xs ys zs octas rs ey f ez =
     let k : ℕ = length octas in
-    let behind : drop k ys ≡ rs ++ drop (k + length rs) xs =
+    let following : drop k ys ≡ rs ++ drop (k + length rs) xs =
     ap (drop k) ey ∙ ap (drop k) (append_assoc (take k xs) rs (drop (k + length rs) xs)) ∙ drop_at (take k xs) _ k (length-take-le k xs f) in
     let size : length (octas ++ rs) ≡ k + length rs = length-append octas rs in
     let place : 0 + k ≡ k = omega arith in
-    rw size (ez ∙ ap (λ n. octas ++ drop n ys) place ∙ ap (λ ws. octas ++ ws) behind ∙ sym (append_assoc octas rs (drop (k + length rs) xs)))
+    rw size (ez ∙ ap (λ n. octas ++ drop n ys) place ∙ ap (λ ws. octas ++ ws) following ∙ sym (append_assoc octas rs (drop (k + length rs) xs)))
 
 -- what is below G once octas and results came back
 returned-front : (octas rs : List ℕ) (room : ℕ) → length octas ≤ room → take room (octas ++ rs) ≡ octas ++ take (room - length octas) rs
@@ -81,7 +81,7 @@ drop-zeros xs l n f g e =
     ap (drop l) e ∙ drop_at (take l xs) _ l size ∙ ap (λ m. replicate {A = ℕ} (length xs - m) 0) size in
     ap (λ m. drop m xs) (sym s) ∙ sym (drop-drop (n - l) l xs) ∙ ap (drop (n - l)) rest ∙ drop-replicate (n - l) (length xs - l) 0 ∙ ap (λ m. replicate {A = ℕ} m 0) (omega arith)
 
--- where no local stood above them
+-- where no local was above them
 pub returned-above : (xs ys zs octas rs : List ℕ) (l t : ℕ) → l ≤ length xs → length octas < length xs → Zeros xs l → ys ≡ with_part xs (length octas) (take (length xs - length octas) rs) → zs ≡ with_part ys 0 octas → t ≡ length octas + length (take (length xs - length octas) rs) → l ≤ t → zs ≡ with_zeros (take (length xs) (octas ++ rs)) (length xs)
 returned-above xs ys zs octas rs l t f g z ey ez et h =
     let qs : List ℕ = take (length xs - length octas) rs in
@@ -90,7 +90,7 @@ returned-above xs ys zs octas rs l t f g z ey ez et h =
     let zeros : drop (length (octas ++ qs)) xs ≡ replicate (length xs - length (octas ++ qs)) 0 = drop-zeros xs l (length (octas ++ qs)) f (omega arith) z in
     rw (returned-front octas rs (length xs) (omega arith)) (whole ∙ ap (λ ws. (octas ++ qs) ++ ws) zeros)
 
--- where locals stood above them, and were cleared
+-- where locals were above them, and were cleared
 pub returned-below : (xs ys zs ws octas rs : List ℕ) (l t : ℕ) → l ≤ length xs → length octas < length xs → Zeros xs l → ys ≡ with_part xs (length octas) (take (length xs - length octas) rs) → zs ≡ with_part ys 0 octas → t ≡ length octas + length (take (length xs - length octas) rs) → t < l → ws ≡ with_zeros_at zs t l → ws ≡ with_zeros (take (length xs) (octas ++ rs)) (length xs)
 returned-below xs ys zs ws octas rs l t f g z ey ez et h ew =
     let qs : List ℕ = take (length xs - length octas) rs in

@@ -27,13 +27,13 @@ take-front v b = take_at (front v) v.globals v.first_global (length-front v b)
 pub drop-front : (v : Registers) → AreInBounds v → drop v.first_global (all_values v) ≡ v.globals
 drop-front v b = drop_at (front v) v.globals v.first_global (length-front v b)
 
--- the fields hold, and stand for these registers
-abbrev pub Stands : Inside → Registers → Type 0
-Stands i v = HoldsRegisters i × (registers_in i ≡ v)
+-- the fields hold, and mean these registers
+abbrev pub HasRegisters : Inside → Registers → Type 0
+HasRegisters i v = HoldsRegisters i × (registers_in i ≡ v)
 
 -- so do those with the array of all values
-pub stands : (v : Registers) (xs : List ℕ) (l g : ℕ) → AreInBounds v → xs ≡ all_values v → l ≡ length v.locals → g ≡ v.first_global → Stands (record { values = xs; local_count = l; first_global = g }) v
-stands v xs l g b e el eg =
+pub registers-has : (v : Registers) (xs : List ℕ) (l g : ℕ) → AreInBounds v → xs ≡ all_values v → l ≡ length v.locals → g ≡ v.first_global → HasRegisters (record { values = xs; local_count = l; first_global = g }) v
+registers-has v xs l g b e el eg =
     let view : registers_in (record { values = xs; local_count = l; first_global = g }) ≡ v = rw (e, el, eg, take-locals v, drop-front v b) refl in
     let holds : HoldsRegisters (record { values = xs; local_count = l; first_global = g }) = record {
       in_bounds = subst AreInBounds (sym view) b;
@@ -222,36 +222,36 @@ globals-bounds v g b f least most =
 count-of : (i : Inside) → HoldsRegisters i → i.local_count ≡ length (registers_in i).locals
 count-of i h = sym h.all_locals
 
-pub set-stands : (i : Inside) (k x : ℕ) → HoldsRegisters i → is_marginal (registers_in i) k ≡ false → Stands (record i { values = set i.values k x }) (with_value (registers_in i) k x)
-set-stands i k x h m =
+pub set-has : (i : Inside) (k x : ℕ) → HoldsRegisters i → is_marginal (registers_in i) k ≡ false → HasRegisters (record i { values = set i.values k x }) (with_value (registers_in i) k x)
+set-has i k x h m =
     let v : Registers = registers_in i in
     let local : k < v.first_global → k < length v.locals = grind (arith, nat_tests) in
-    stands (with_value v k x) _ _ _ (with_value-bounds v k x h.in_bounds) (ap (λ xs. set xs k x) h.all_shown ∙ set-values v k x h.in_bounds) (count-of i h ∙ sym (locals-kept v k x local)) (sym (same-global v k x))
+    registers-has (with_value v k x) _ _ _ (with_value-bounds v k x h.in_bounds) (ap (λ xs. set xs k x) h.all_shown ∙ set-values v k x h.in_bounds) (count-of i h ∙ sym (locals-kept v k x local)) (sym (same-global v k x))
 
-pub add-stands : (i : Inside) (k x : ℕ) → HoldsRegisters i → is_marginal (registers_in i) k ≡ true → Stands (record i { values = set i.values k x; local_count = k + 1 }) (with_value (registers_in i) k x)
-add-stands i k x h m =
+pub add-has : (i : Inside) (k x : ℕ) → HoldsRegisters i → is_marginal (registers_in i) k ≡ true → HasRegisters (record i { values = set i.values k x; local_count = k + 1 }) (with_value (registers_in i) k x)
+add-has i k x h m =
     let v : Registers = registers_in i in
     let below : k < v.first_global = grind (arith, nat_tests) in
     let above : length v.locals ≤ k = grind (arith, nat_tests) in
-    stands (with_value v k x) _ _ _ (with_value-bounds v k x h.in_bounds) (ap (λ xs. set xs k x) h.all_shown ∙ set-values v k x h.in_bounds) (sym (locals-grown v k x below above)) (sym (same-global v k x))
+    registers-has (with_value v k x) _ _ _ (with_value-bounds v k x h.in_bounds) (ap (λ xs. set xs k x) h.all_shown ∙ set-values v k x h.in_bounds) (sym (locals-grown v k x below above)) (sym (same-global v k x))
 
-pub cut-stands : (i : Inside) (l : ℕ) (xs : List ℕ) → HoldsRegisters i → l ≤ length (registers_in i).locals → xs ≡ with_zeros_at i.values l i.local_count → Stands (record i { values = xs; local_count = l }) (with_locals_cut (registers_in i) l)
-cut-stands i l xs h f e =
+pub cut-has : (i : Inside) (l : ℕ) (xs : List ℕ) → HoldsRegisters i → l ≤ length (registers_in i).locals → xs ≡ with_zeros_at i.values l i.local_count → HasRegisters (record i { values = xs; local_count = l }) (with_locals_cut (registers_in i) l)
+cut-has i l xs h f e =
     let v : Registers = registers_in i in
-    stands (with_locals_cut v l) _ _ _ (cut-bounds v l h.in_bounds f) (e ∙ ap (λ ys. with_zeros_at ys l i.local_count) h.all_shown ∙ ap (λ n. with_zeros_at (all_values v) l n) (count-of i h) ∙ cut-values v l h.in_bounds f) (sym (length-take-le l v.locals f)) refl
+    registers-has (with_locals_cut v l) _ _ _ (cut-bounds v l h.in_bounds f) (e ∙ ap (λ ys. with_zeros_at ys l i.local_count) h.all_shown ∙ ap (λ n. with_zeros_at (all_values v) l n) (count-of i h) ∙ cut-values v l h.in_bounds f) (sym (length-take-le l v.locals f)) refl
 
 -- how many locals stay
 pub stays : (i : Inside) (n c : ℕ) → HoldsRegisters i → c ≡ length (registers_in i).locals - n → c ≡ i.local_count - n
 stays i n c h e = rw (count-of i h) e
 
-pub from-stands : (i : Inside) (n c : ℕ) (ys zs : List ℕ) → HoldsRegisters i → c ≡ i.local_count - n → ys ≡ take 0 i.values ++ take (i.local_count - (i.local_count - c)) (drop (i.local_count - c) i.values) ++ drop (0 + (i.local_count - (i.local_count - c))) i.values → zs ≡ with_zeros_at ys c i.local_count → Stands (record i { values = zs; local_count = c }) (registers_from (registers_in i) n)
-from-stands i n c ys zs h ec ey ez =
+pub from-has : (i : Inside) (n c : ℕ) (ys zs : List ℕ) → HoldsRegisters i → c ≡ i.local_count - n → ys ≡ take 0 i.values ++ take (i.local_count - (i.local_count - c)) (drop (i.local_count - c) i.values) ++ drop (0 + (i.local_count - (i.local_count - c))) i.values → zs ≡ with_zeros_at ys c i.local_count → HasRegisters (record i { values = zs; local_count = c }) (registers_from (registers_in i) n)
+from-has i n c ys zs h ec ey ez =
     let v : Registers = registers_in i in
     let size : c ≡ length (drop n v.locals) = omega (arith, length-drop n v.locals, h.all_locals) in
     let e = count-of i h in
-    stands (registers_from v n) _ _ _ (from-bounds v n h.in_bounds) (from-values v n c i.values ys zs h.in_bounds (rw e at ec) h.all_shown (rw e at ey) (rw e at ez)) size refl
+    registers-has (registers_from v n) _ _ _ (from-bounds v n h.in_bounds) (from-values v n c i.values ys zs h.in_bounds (rw e at ec) h.all_shown (rw e at ey) (rw e at ez)) size refl
 
-pub globals-stands : (i : Inside) (g to : ℕ) (xs : List ℕ) → HoldsRegisters i → length (registers_in i).locals ≤ g → 32 ≤ g → g ≤ 255 → to ≡ max g i.first_global → xs ≡ with_zeros_at i.values i.first_global to → Stands (record i { values = xs; first_global = g }) (with_globals_from (registers_in i) g)
-globals-stands i g to xs h f least most et e =
+pub globals-has : (i : Inside) (g to : ℕ) (xs : List ℕ) → HoldsRegisters i → length (registers_in i).locals ≤ g → 32 ≤ g → g ≤ 255 → to ≡ max g i.first_global → xs ≡ with_zeros_at i.values i.first_global to → HasRegisters (record i { values = xs; first_global = g }) (with_globals_from (registers_in i) g)
+globals-has i g to xs h f least most et e =
     let v : Registers = registers_in i in
-    stands (with_globals_from v g) _ _ _ (globals-bounds v g h.in_bounds f least most) (e ∙ ap (λ ys. with_zeros_at ys i.first_global to) h.all_shown ∙ globals-values v g to h.in_bounds f et) (count-of i h) refl
+    registers-has (with_globals_from v g) _ _ _ (globals-bounds v g h.in_bounds f least most) (e ∙ ap (λ ys. with_zeros_at ys i.first_global to) h.all_shown ∙ globals-values v g to h.in_bounds f et) (count-of i h) refl

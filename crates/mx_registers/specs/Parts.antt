@@ -42,6 +42,6 @@ pub record HoldsHidden (i : HiddenInside) : Type 0 where
   pub has_limit : i.limit ≡ limit_for i.spilled
   pub has_list : i.limit ≤ i.list.room
 
--- zeros in place of what stands from one place up to another
+-- zeros in place of the octas from one place up to another
 abbrev pub with_zeros_at : List ℕ → ℕ → ℕ → List ℕ
 with_zeros_at items from to = take from items ++ replicate (to - from) 0 ++ drop to items

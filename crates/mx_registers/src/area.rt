@@ -61,7 +61,7 @@ impl Area {
         }
     }
 
-    /// Tells that each octa is below 2^64. It does nothing.
+    /// States that each octa is below 2^64. It does nothing.
     #[inline(always)]
     pub(crate) fn know_octas(&self)
         ensures { (i : ℕ) → slice_index self.now i < 2 ^ 64 }

@@ -1,4 +1,4 @@
-//! The hidden octas: a list of all of them, and the stack area, where the older ones stand too.
+//! The hidden octas: a list of all of them, and the stack area, where the older ones are, too.
 
 ghost use Rattle.std.specs.Prelude.{◌≡◌, ◌≤◌, ◌<◌, ◌+◌, ◌-◌, ◌^◌, ◌++◌, [], ◌∷◌, ℕ, IfOk, OnErr, Err, length, take, drop};
 ghost use Rattle.std.specs.Prelude.{None, IfSome, slice_index, nat_le, ◌&&◌};
@@ -121,7 +121,7 @@ impl Hidden {
         self.stack.octa(i)
     }
 
-    /// Tells that each octa of the stack area is below 2^64. It does nothing.
+    /// States that each octa of the stack area is below 2^64. It does nothing.
     #[inline(always)]
     pub fn know_stack(&self)
         ensures { (i : ℕ) → slice_index self.now.stack i < 2 ^ 64 }
@@ -129,7 +129,7 @@ impl Hidden {
         self.stack.know_octas();
     }
 
-    /// Tells that each hidden octa and each octa of the stack area is below 2^64. It does nothing.
+    /// States that each hidden octa and each octa of the stack area is below 2^64. It does nothing.
     #[tactic(auto, using(crate::proofs::OctaLists::parts))]
     #[inline(always)]
     pub fn know_octas(&self)

@@ -17,7 +17,7 @@ pub(crate) fn append(list: &mut Vec<u64>, items: &[u64])
     };
 }
 
-/// Zeros in place of what stands from `from` up to `to`.
+/// Zeros in place of the octas from `from` up to `to`.
 #[inline]
 pub(crate) fn fill_with_zeros(items: &mut [u64], from: usize, to: usize)
     requires forward { from ≤ to }
@@ -36,7 +36,7 @@ pub(crate) fn copy_to(items: &mut [u64], place: usize, others: &[u64])
     items[place..place + others.len()].copy_from_slice(others);
 }
 
-/// What stands from `from` up to `to`, once more from `place` on.
+/// The octas from `from` up to `to`, once more from `place` on.
 #[inline(always)]
 pub(crate) fn copy_within(items: &mut [u64], from: usize, to: usize, place: usize)
     requires forward { from ≤ to }

@@ -71,7 +71,7 @@ impl Visible {
         self.first_global
     }
 
-    /// Tells that what each register has is below 2^64. It does nothing.
+    /// States that what each register has is below 2^64. It does nothing.
     #[tactic(auto, using(crate::proofs::OctaLists::parts))]
     #[inline(always)]
     pub fn know_octas(&self)
@@ -290,7 +290,7 @@ impl Visible {
     }
 }
 
-/// As many registers as are copied at once, from the place `n` on, become the first ones, and zeros stand
+/// As many registers as are copied at once, from the place `n` on, become the first ones, and there are zeros
 /// between them and the place `l`.
 #[inline(always)]
 fn move_few(values: &mut [u64], n: usize, l: usize)

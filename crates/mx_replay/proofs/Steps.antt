@@ -11,7 +11,7 @@ use Rattle.mx_word.specs.Results.{map_ok}
 use Rattle.mx_outcome.specs.declared.outcome.Outcome.{Outcome}
 use Rattle.mx_outcome.specs.declared.outcome.Outcome.TheVariants as outcome
 use Rattle.mx_plan.specs.Calls.{host}
-use Rattle.mx_plan.specs.Clauses.{CarriesOut}
+use Rattle.mx_plan.specs.Clauses.{CarriesOutOnHost}
 use Rattle.mx_plan.specs.Plan.{end_of}
 use Rattle.mx_begin.specs.BeginPlans.{begin_plan}
 use Rattle.mx_run.specs.WildRuns.{window_machine}
@@ -45,7 +45,7 @@ pub start-refused : (p : Program) (why : Outcome) (m : HostModel) → (Err why, 
 unfolding step_of
 start-refused p why m e = ap (run_from 0) (sym e)
 
--- BEHIND SOME TURNS
+-- AFTER SOME TURNS
 
 -- a step, and this many turns from it
 from-by : (i j : ℕ) (s : State) (m : HostModel) (t : Then (Result State Outcome)) → run_from i t ≡ Ok (ended Spent s m) → run_from (i + j) t ≡ Ok (run j no_flags false s m)
@@ -122,7 +122,7 @@ pub ruleset nearing = (reached-before)
 -- THE CALL THAT BEGINS
 
 pub begun-told : (p : Program) (words : List (List ℕ)) (m k : HostModel) (r : Result State Outcome) → words ≡ map string_bytes p.words → m ≡ host_of p → r ≢ Err outcome.OutOfMemory →
-    CarriesOut (Some m) (Some k) (Err outcome.OutOfMemory) r (begin_plan window_machine words p.order p.form) → (r, k) ≡ start_of p
+    CarriesOutOnHost (Some m) (Some k) (Err outcome.OutOfMemory) r (begin_plan window_machine words p.order p.form) → (r, k) ≡ start_of p
 unfolding tells contents
 begun-told p words m k r w e ne h =
     (h refl).ending ne ∙ ap (λ ws. end_of host (begin_plan window_machine ws p.order p.form) m) w ∙ ap (end_of host (begin_plan window_machine (map string_bytes p.words) p.order p.form)) e

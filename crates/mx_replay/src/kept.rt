@@ -124,7 +124,7 @@ impl Kept {
         ensures { (p : Program) → AreSteps p self.old → AreSteps p self.new }
     {
         let visits = mem::replace(&mut self.visits, Sequence::new(self.alloc));
-        self.visits = thinned(self.alloc, visits, self.stride, from);
+        self.visits = thin_visits(self.alloc, visits, self.stride, from);
     }
 
     /// Drops the steps that are not at a multiple of the stride, where too many are kept.
@@ -202,7 +202,7 @@ fn is_left(visit: &Visit, stride: u64, from: u64) -> bool
 
 /// Those of some steps that are at a multiple of the stride, or before a step.
 #[tactic(auto, using(crate::proofs::Keeping::keeping))]
-fn thinned(alloc: Global, visits: Sequence<Visit>, stride: u64, from: u64) -> Sequence<Visit>
+fn thin_visits(alloc: Global, visits: Sequence<Visit>, stride: u64, from: u64) -> Sequence<Visit>
     requires { 0 < stride }
     ensures { (p : Program) → AreSteps p visits → AreSteps p result }
 {

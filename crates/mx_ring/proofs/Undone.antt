@@ -101,8 +101,8 @@ none-undone v = ap (λ u. given_back (given_back u 255 (value_of v 255)) 255 (va
 -- HIDDEN OCTAS
 
 -- the octas in the ring are those after the spilled ones
-behind : (h : HiddenPart) (xs : List ℕ) → h.spilled ≤ length h.stack → drop h.spilled (take h.spilled h.stack ++ xs) ≡ xs
-behind h xs f = drop_at (take h.spilled h.stack) xs h.spilled (length-take-le h.spilled h.stack f)
+following : (h : HiddenPart) (xs : List ℕ) → h.spilled ≤ length h.stack → drop h.spilled (take h.spilled h.stack ++ xs) ≡ xs
+following h xs f = drop_at (take h.spilled h.stack) xs h.spilled (length-take-le h.spilled h.stack f)
 
 -- what stays and what is gone make the octas in the ring
 stay-gone : (xs ys : List ℕ) (n : ℕ) → take n ys ≡ take n xs → take n ys ++ drop n xs ≡ xs
@@ -110,7 +110,7 @@ stay-gone xs ys n e = ap (λ zs. zs ++ drop n xs) e ∙ take-append-drop n xs
 
 pub hidden-kept : (h : HiddenPart) (n : ℕ) → h.spilled ≤ length h.stack → put_back h h.spilled [] n (drop n h.resident) ≡ h
 unfolding put_back
-hidden-kept h n f = rw (nothing-put h.stack h.spilled, behind h h.resident f) (ap (λ (xs : List ℕ). record h { resident = xs }) (take-append-drop n h.resident))
+hidden-kept h n f = rw (nothing-put h.stack h.spilled, following h h.resident f) (ap (λ (xs : List ℕ). record h { resident = xs }) (take-append-drop n h.resident))
 
 -- octas are hidden, and the oldest spill
 pub grown-back : (h : HiddenPart) (octas : List ℕ) (n : ℕ) → Fits (with_hidden h octas) (2 ^ 20) → Fits h (2 ^ 20) → n ≤ length (with_hidden h octas).resident →
@@ -123,7 +123,7 @@ grown-back h octas n f g low =
     let room : h.spilled + n ≤ length h.stack = omega (arith, f.area, f.has_room, low, count) in
     let same : octas_of (with_spilled (with_hidden h octas) n) ≡ take h.spilled h.stack ++ (h.resident ++ octas) = spilled-octas (with_hidden h octas) (2 ^ 20) n f low in
     let left : take (length h.resident) (drop h.spilled (octas_of (with_spilled (with_hidden h octas) n))) ≡ take (length h.resident) h.resident =
-    ap (λ xs. take (length h.resident) (drop h.spilled xs)) same ∙ ap (take (length h.resident)) (behind h (h.resident ++ octas) low') ∙ take-append-le (length h.resident) h.resident octas (omega arith) in
+    ap (λ xs. take (length h.resident) (drop h.spilled xs)) same ∙ ap (take (length h.resident)) (following h (h.resident ++ octas) low') ∙ take-append-le (length h.resident) h.resident octas (omega arith) in
     rw (part-back h.stack (take n (h.resident ++ octas)) h.spilled n size room) (ap (λ (xs : List ℕ). record h { resident = xs }) (stay-gone h.resident _ (length h.resident) left))
 
 pub nothing-spilled : (h : HiddenPart) → with_spilled h 0 ≡ h
@@ -160,7 +160,7 @@ first-back h m n f g =
     high : h.spilled ≤ m → take n (drop h.spilled (take (min h.spilled m) h.stack ++ take (m - h.spilled) h.resident)) ≡ take n h.resident
     high e =
         let same : min h.spilled m ≡ h.spilled = omega arith in
-        rw same (ap (take n) (behind h (take (m - h.spilled) h.resident) f) ∙ take-take n (m - h.spilled) h.resident g)
+        rw same (ap (take n) (following h (take (m - h.spilled) h.resident) f) ∙ take-take n (m - h.spilled) h.resident g)
 
 -- the first m octas of the stack area are the hidden ones
 pub read-back : (h : HiddenPart) (m : ℕ) → put_back (with_stack_first h m) h.spilled [] 0 (drop 0 h.resident) ≡ h

@@ -1,11 +1,11 @@
 -- Notes: what a work of the register stack overwrites, kept so that the stack before it can be told from the one after it.
-use Rattle.std.specs.Prelude.{ℕ, ◌+◌, ◌-◌, ◌^◌, ◌≡◌, ◌≤◌, ◌<◌, nat_lt, if◌then◌else◌, Option, None, Some, Result, Ok, Err, List, length, take, drop, slice_index}
+use Rattle.std.specs.Prelude.{ℕ, ◌+◌, ◌-◌, ◌^◌, ◌≡◌, ◌≤◌, ◌<◌, nat_lt, if◌then◌else◌, Option, None, Some, Result, Ok, Err, List, [], length, take, drop, slice_index}
 use Rattle.mx_registers.specs.Bounds.{AreInBounds}
 use Rattle.mx_ring.specs.Bounds.{IsRing}
 use Rattle.mx_ring.specs.Calls.{set_answer, push_answer, pop_answer, save_answer, unsave_answer}
 use Rattle.mx_ring.specs.Frames.{frame_length}
 use Rattle.mx_registers.specs.HiddenPart.{HiddenPart, octas_of, with_spilled, with_octa, put_back}
-use Rattle.mx_registers.specs.Registers.{Registers, is_marginal, value_of, with_value, with_locals_cut, push_number}
+use Rattle.mx_registers.specs.Registers.{Registers, is_marginal, value_of, with_value, with_locals_cut, with_returned, push_number}
 use Rattle.mx_ring.specs.Stack.{Stack, with_register, pushed, popped, hole_in, saved, unsaved, stack_index, cut_to, with_global_start, with_stack_octa}
 use Rattle.mx_ring.specs.Window.{Window}
 use Rattle.mx_registers.specs.declared.fault.RingFault.{RingFault}
@@ -58,10 +58,11 @@ IsGiven (Err fault) = ⊥
 
 -- NOTES
 
--- what registers were: L, and what $k and $255 had; or all of them
+-- what registers were: L, and what $k and $255 had; or all of them; or the local ones
 pub data RegistersWere : Type 0 where
   some : ℕ → ℕ → ℕ → ℕ → RegistersWere
   all : Registers → RegistersWere
+  local : List ℕ → RegistersWere
 
 pub record RingWas : Type 0 where
   -- the registers
@@ -86,6 +87,7 @@ given_back v k x = if is_marginal v k then v else with_value v k x
 abbrev pub registers_undone : RegistersWere → Registers → Registers
 registers_undone (some l k x y) v = given_back (given_back (with_locals_cut v l) k x) 255 y
 registers_undone (all r) v = r
+registers_undone (local octas) v = with_returned v octas 0
 
 -- the octa that was overwritten is back
 abbrev pub octa_undone : Option (ℕ × ℕ) → HiddenPart → HiddenPart
@@ -151,11 +153,26 @@ ring_noted_stored i k w = record (ring_noted (Set k 0) w) {
   octa = Some (i, octa_after_spill w.hidden (spilled_by (Set k 0) w) i);
 }
 
+-- a call that leaves so many of the hidden octas in the ring, spills none and changes local registers alone
+abbrev pub called_with : ℕ → Window → RingWas
+called_with stays w = record {
+  registers = local w.visible.locals;
+  spilled = w.hidden.spilled;
+  over = [];
+  stays = stays;
+  gone = drop stays w.hidden.resident;
+  octa = None;
+}
+
+unfoldable pub call_noted : RingWork → Window → RingWas
+call_noted work w = called_with (staying work w) w
+
 -- WHERE A NOTE FITS
 
 abbrev pub LocalsFit : RegistersWere → Registers → Type 0
 LocalsFit (some l k x y) v = l ≤ length v.locals
 LocalsFit (all r) v = AreInBounds r
+LocalsFit (local octas) v = Unit {0}
 
 abbrev pub OctaFits : Option (ℕ × ℕ) → Type 0
 OctaFits None = Unit {0}

@@ -36,7 +36,7 @@ abbrev pub spilled_count : Stack → ℕ
 spilled_count (listed r) = 0
 spilled_count (windowed w) = w.hidden.spilled
 
--- the list that a window stands for, as a stack
+-- the list that a window represents, as a stack
 abbrev pub list_of : Window → Stack
 list_of w = listed (as_list w)
 

@@ -17,6 +17,6 @@ pub record Window : Type 0 where
 abbrev pub window_at_start : ℕ → Window
 window_at_start size = record { size = size; hidden = nothing_hidden; visible = registers_at_start }
 
--- the list that a window stands for
+-- the list that a window represents
 unfoldable pub as_list : Window → RegisterList
 as_list w = record { hidden = octas_of w.hidden; visible = w.visible }

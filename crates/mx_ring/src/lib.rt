@@ -4,6 +4,7 @@
 //! TAOCP 1, Fascicle 1, section 1.4.1'.
 #![tactic(auto)]
 
+mod call_note;
 mod frame;
 mod hiding;
 mod laws;
@@ -11,6 +12,7 @@ mod notes;
 mod ring;
 mod saved;
 
+pub use call_note::CallNote;
 pub use laws::{
     calls_go_as_lists, calls_keep_rings, frames_come_back, frames_go_as_lists, frames_keep_rings,
     lists_show_the_same, pushes_go_by_place, refusals_are_those_of_lists,

@@ -3,10 +3,10 @@
 ghost use Rattle.std.specs.Prelude.{◌≡◌, ◌<◌, ◌^◌, ℕ, length, IfOk, OnErr, Err};
 ghost use Rattle.mx_ring.specs.Bounds.{IsRing};
 ghost use Rattle.mx_ring.specs.NoteParts.{before_in};
-ghost use Rattle.mx_ring.specs.Notes.{worked, WorkNeeds, work_answer, ring_noted, ring_noted_stored, registers_noted};
-ghost use Rattle.mx_ring.specs.Notes.{TakesBack, IsGiven, LocalsFit, FitsHidden, registers_undone, hidden_undone, given_back, some, all};
+ghost use Rattle.mx_ring.specs.Notes.{WorkNeeds, ring_noted, registers_noted};
+ghost use Rattle.mx_ring.specs.Notes.{TakesBack, LocalsFit, FitsHidden, registers_undone, hidden_undone, given_back, some, all};
+ghost use Rattle.mx_ring.specs.Laws.{Sets, SetsAndStores, SetsBoth, StoreIsUndone, Stores, WorkIsGiven, Works};
 ghost use Rattle.mx_registers.specs.Registers.{value_of};
-ghost use Rattle.mx_ring.specs.Stack.{windowed, with_register, with_stack_octa};
 ghost use Rattle.mx_ring.specs.Window.{Window};
 ghost use Rattle.mx_ring.specs.declared.notes.RingWork.{RingWork};
 ghost use Rattle.mx_ring.specs.declared.notes.RingWork.TheVariants.{Set};
@@ -153,27 +153,26 @@ fn all_registers(alloc: Global, visible: &Visible) -> Result<Before, RingFault>
 /// What a call notes takes the stack after it back to the one before it: every register, every hidden octa, the number
 /// of spilled ones, and every octa of the stack area.
 pub fn notes_take_back()
-    ensures { (w v : Window) (work : RingWork) → IsRing w → WorkNeeds work w → IsGiven (work_answer work (windowed w))
-        → windowed v ≡ worked work (windowed w) → TakesBack (ring_noted work w) v w }
+    ensures { (w v : Window) (work : RingWork) → IsRing w → WorkNeeds work w → WorkIsGiven work w
+        → Works work w v → TakesBack (ring_noted work w) v w }
 {}
 
 /// The note of a value for $X takes back, too, what a trip does after it: it gives $255 a value.
 pub fn notes_take_trips_back()
-    ensures { (w u v : Window) (k x y : ℕ) → IsRing w → windowed u ≡ with_register (windowed w) k x
-        → windowed v ≡ with_register (windowed u) 255 y → TakesBack (ring_noted (Set k x) w) v w }
+    ensures { (w u v : Window) (k x y : ℕ) → IsRing w → Sets w k x u → Sets u 255 y v
+        → TakesBack (ring_noted (Set k x) w) v w }
 {}
 
 /// The note of an octa of the stack area and of $k takes both back: a store, and a value for $k after it.
 pub fn notes_take_stores_back()
-    ensures { (w u v : Window) (i z k x : ℕ) → IsRing w → i < 2 ^ 20 → windowed u ≡ with_stack_octa (windowed w) i z
-        → windowed v ≡ with_register (windowed u) k x → TakesBack (ring_noted_stored i k w) v w }
+    ensures { (w u v : Window) (i z k x : ℕ) → IsRing w → i < 2 ^ 20 → Stores w i z u → Sets u k x v
+        → StoreIsUndone i k w v }
 {}
 
 /// One note takes back what a step does: it gives $k a value, an octa of the stack area another one, and $255 a value.
 pub fn notes_take_steps_back()
-    ensures value { (w v : Window) (k x y : ℕ) → IsRing w
-        → windowed v ≡ with_register (with_register (windowed w) k x) 255 y → TakesBack (ring_noted (Set k x) w) v w }
-    ensures octa { (w v : Window) (i z k x y : ℕ) → IsRing w → i < 2 ^ 20
-        → windowed v ≡ with_register (with_stack_octa (with_register (windowed w) k x) i z) 255 y
-        → TakesBack (ring_noted_stored i k w) v w }
+    ensures value { (w v : Window) (k x y : ℕ) → IsRing w → SetsBoth w k x y v
+        → TakesBack (ring_noted (Set k x) w) v w }
+    ensures octa { (w v : Window) (i z k x y : ℕ) → IsRing w → i < 2 ^ 20 → SetsAndStores w k x i z y v
+        → StoreIsUndone i k w v }
 {}

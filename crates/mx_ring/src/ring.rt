@@ -19,6 +19,7 @@ ghost use Rattle.mx_ring.specs.Window.{window_at_start};
 ghost use Rattle.mx_word.specs.Ranges.{AreOctas};
 
 mod back;
+mod calls;
 mod copy;
 
 use crate::frame::{frame_at, specials_at};
@@ -120,7 +121,7 @@ impl Ring {
         STACK_SEGMENT + 8 * self.hidden.spilled_count() as u64
     }
 
-    /// Tells that the stack area has 2^20 octas, each below 2^64. It does nothing.
+    /// States that the stack area has 2^20 octas, each below 2^64. It does nothing.
     #[inline(always)]
     pub fn know_stack_area(&self)
         ensures octas { (i : ℕ) → slice_index self.now.hidden.stack i < 2 ^ 64 }
@@ -129,7 +130,7 @@ impl Ring {
         self.hidden.know_stack();
     }
 
-    /// Tells that each register, each hidden one and each octa of the stack area is below 2^64. It does
+    /// States that each register, each hidden one and each octa of the stack area is below 2^64. It does
     /// nothing.
     #[inline(always)]
     pub fn know_octas(&self)
@@ -149,6 +150,14 @@ impl Ring {
         ensures list { result ≡ register (list_of self.now) k }
     {
         self.visible.get(k)
+    }
+
+    /// Whether $k is neither local nor global.
+    #[inline(always)]
+    pub fn is_marginal(&self, k: u8) -> bool
+        ensures { result ≡ is_marginal self.now.visible k }
+    {
+        self.visible.is_marginal(k)
     }
 
     /// Gives $k a value. A register that is neither local nor global becomes local, and those below
@@ -310,7 +319,7 @@ impl Ring {
     }
 
     /// POP: the registers that were hidden last come back, and X results follow them. The first
-    /// result is the last of them that was given, and stands where the number was. Afterwards L is
+    /// result is the last of them that was given, and is where the number was. Afterwards L is
     /// at most G.
     ///
     /// Errors: `Underflow` exactly where nothing is hidden, or less than the number says; then

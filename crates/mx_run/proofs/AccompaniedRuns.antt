@@ -3,14 +3,14 @@ use Rattle.std.proofs.Common.{◌≡◌, ◌≢◌, ◌<◌, ◌≤◌, ◌+◌,
 use Rattle.std.specs.Prelude.{Option, Result, ◌⊎◌}
 use Rattle.mx_word.specs.Lists.{IsFront}
 use Rattle.mx_host.specs.HostModel.{HostModel, tells, contents}
-use Rattle.mx_plan.specs.Clauses.{Stands}
+use Rattle.mx_plan.specs.Clauses.{KeepsHost}
 use Rattle.mx_plan.specs.Held.{KeepsStreams}
 use Rattle.mx_plan.specs.Plan.{Comes, Stops, end_of, end_after}
 use Rattle.mx_plan.proofs.Plans.{end_bind}
 use Rattle.mx_core.specs.Bounds.{as_list_state}
 use Rattle.mx_core.specs.State.{State}
 use Rattle.mx_run.specs.AccompaniedRuns.{AfterSteps, ComesAccompanied}
-use Rattle.mx_run.specs.Clauses.{EndsAsList, GoesAsList, IsRun}
+use Rattle.mx_run.specs.Clauses.{EndsAsList, GoesAsList, IsRunBetween}
 use Rattle.mx_run.specs.RunCourses.{RunsBoth, RestsBoth}
 use Rattle.mx_run.specs.RunPlans.{RunPlan, RunWorld, running, ended_world, run_next, run_plan, step_plan}
 use Rattle.mx_run.specs.Runs.{Ended, IsLater, ended, ended_by, no_flags, run}
@@ -107,7 +107,7 @@ all-streams n v w Spent c = run-streams v w _ _ (plain n v w _ c (λ e. absurd (
 all-streams n v w OutOfMemory c = stopped-streams n v w (c.stopping refl)
 
 pub accompanied-is : (old new : Option HostModel) (earlier later n : ℕ) (s t : State) (r : End) → (IsTrue (tells old) → ComesAccompanied n (s, contents old) (t, contents new) r) →
-    EndsAsList old new s t r (λ u m. run_by list_machine n no_flags false u m) → IsLater n s t → Stands old new earlier later → IsRun old new earlier later s t n no_flags false r
+    EndsAsList old new s t r (λ u m. run_by list_machine n no_flags false u m) → IsLater n s t → KeepsHost old new earlier later → IsRunBetween old new earlier later s t n no_flags false r
 accompanied-is old new earlier later n s t r c l b h = record {
   told = λ is ne. run-told n no_flags false s t _ _ r (plain n _ _ r (c is) ne) ne;
   front = λ is o. stopped-front n s t _ _ ((c is).stopping o);

@@ -82,7 +82,7 @@ free-lacking entries s m h e = with-none entries (s, m) (s, m) _ h (record { end
 
 pub ruleset freely = (free-went, free-stopped, free-lacking)
 
--- ---- want of memory
+-- ---- where memory runs out
 
 went-on : (Next : State → Type 0) (s t : State) (x : Stepped) → (advance.Went, t) ≡ advanced s x → SparesOn Next x → Next t
 went-on Next s t (went u trace) e h = subst Next (sym (ap (λ p. p.1) e)) h

@@ -72,12 +72,12 @@ unfolding run run_plan end_of
 none-made s m = refl
 
 -- after the first turn, of which this many may follow
-abbrev behind : ℕ → ℕ → Turn → Ended
-behind i pc t = ended_by (end_of running (run_next (run_plan i no_flags false) (end_of_turn no_flags pc (turn_answer t).0)) ((turn_answer t).1, (turn_answer t).2))
+abbrev following : ℕ → ℕ → Turn → Ended
+following i pc t = ended_by (end_of running (run_next (run_plan i no_flags false) (end_of_turn no_flags pc (turn_answer t).0)) ((turn_answer t).1, (turn_answer t).2))
 
-by-turn : (i : ℕ) (s : State) (m : HostModel) (t : Turn) → turn s m ≡ t → run (suc i) no_flags false s m ≡ behind i s.pc t
+by-turn : (i : ℕ) (s : State) (m : HostModel) (t : Turn) → turn s m ≡ t → run (suc i) no_flags false s m ≡ following i s.pc t
 unfolding run run_plan step_plan ended_turn look turn_plan bind end_of running
-by-turn i s m t e = ap (behind i s.pc) e
+by-turn i s m t e = ap (following i s.pc) e
 
 pub run-went : (i : ℕ) (s t : State) (m n : HostModel) (trace : Trace) → turn s m ≡ went_on t n trace → run (suc i) no_flags false s m ≡ run i no_flags false t n
 unfolding run

@@ -1,4 +1,4 @@
--- A turn that is not wild goes the same for a window and for the list that it stands for.
+-- A turn that is not wild goes the same for a window and for the list that it represents.
 use Rattle.std.proofs.Common.{◌≡◌, ℕ, ◌%◌, ◌≤◌, ◌^◌, Bool, true, false, cond, List, [], arith, refl, sym, subst, ◌∙◌, ap}
 use Rattle.std.specs.Prelude.{◌||◌}
 use Rattle.std.proofs.lemmas.Bool.Decides.{nat_tests}

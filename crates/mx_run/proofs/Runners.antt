@@ -4,12 +4,12 @@ use Rattle.std.specs.Prelude.{Option, Result}
 use Rattle.mx_word.specs.Lists.{IsFront}
 use Rattle.mx_host.specs.HostModel.{HostModel, tells, contents}
 use Rattle.mx_host.specs.Keeping.{Keeps}
-use Rattle.mx_plan.specs.Clauses.{Stands}
+use Rattle.mx_plan.specs.Clauses.{KeepsHost}
 use Rattle.mx_plan.specs.Held.{KeepsStreams}
 use Rattle.mx_plan.specs.Plan.{Comes}
 use Rattle.mx_core.specs.State.{State}
-use Rattle.mx_run.specs.Clauses.{IsRun, IsTurn}
-use Rattle.mx_run.specs.RunCourses.{CarriesOutBothRuns}
+use Rattle.mx_run.specs.Clauses.{IsRunBetween, IsTurnBetween}
+use Rattle.mx_run.specs.RunCourses.{CarriesOutOnBothMachines}
 use Rattle.mx_run.specs.RunPlans.{RunPlan, RunWorld, running, turn_plan, run_plan, SparesMemory, SparesAfter, SparesStep}
 use Rattle.mx_run.specs.Runs.{FlagsOf, IsLater, ended, run}
 use Rattle.mx_run.specs.Turns.{turn_answer, turn}
@@ -42,7 +42,7 @@ run-streams v w (end.Traced trace) p c = ended-streams v w _ _ p c (λ e. absurd
 run-streams v w end.Spent p c = ended-streams v w _ _ p c (λ e. absurd (cc))
 run-streams v w end.OutOfMemory p c = streams-stop p w v (c.stopping refl)
 
-pub keeps-by : (old new : Option HostModel) (earlier later : ℕ) → Stands old new earlier later → (IsTrue (tells old) → KeepsStreams (contents old) (contents new)) → Keeps old new earlier later
+pub keeps-by : (old new : Option HostModel) (earlier later : ℕ) → KeepsHost old new earlier later → (IsTrue (tells old) → KeepsStreams (contents old) (contents new)) → Keeps old new earlier later
 keeps-by old new earlier later h k = record {
   telling = h.0;
   counting = h.1;
@@ -53,11 +53,11 @@ keeps-by old new earlier later h k = record {
 }
 
 pub turn-keeps : (old new : Option HostModel) (earlier later : ℕ) (s u : State) (r : TurnAnswer) (p : RunPlan TurnAnswer) →
-    (IsTrue (tells old) → Comes running (s, contents old) (u, contents new) answer.OutOfMemory r p) → Stands old new earlier later → Keeps old new earlier later
+    (IsTrue (tells old) → Comes running (s, contents old) (u, contents new) answer.OutOfMemory r p) → KeepsHost old new earlier later → Keeps old new earlier later
 turn-keeps old new earlier later s u r p c h = keeps-by old new earlier later h (λ t. turn-streams (s, contents old) (u, contents new) r p (c t))
 
 pub run-keeps : (old new : Option HostModel) (earlier later : ℕ) (s u : State) (r : End) (p : RunPlan End) →
-    (IsTrue (tells old) → Comes running (s, contents old) (u, contents new) end.OutOfMemory r p) → Stands old new earlier later → Keeps old new earlier later
+    (IsTrue (tells old) → Comes running (s, contents old) (u, contents new) end.OutOfMemory r p) → KeepsHost old new earlier later → Keeps old new earlier later
 run-keeps old new earlier later s u r p c h = keeps-by old new earlier later h (λ t. run-streams (s, contents old) (u, contents new) r p (c t))
 
 -- ---- a turn
@@ -70,7 +70,7 @@ turn-begun s t m n r c e = subst (λ (p : TurnAnswer × RunWorld). IsFront n.out
 
 -- what holds of a turn by its plan
 pub turn-is : (old new : Option HostModel) (earlier later : ℕ) (s u : State) (r : TurnAnswer) → HasWindow s → (IsTrue (tells old) → Comes running (s, contents old) (u, contents new) answer.OutOfMemory r turn_plan) →
-    IsLater 1 s u → Stands old new earlier later → IsTurn old new earlier later s u r
+    IsLater 1 s u → KeepsHost old new earlier later → IsTurnBetween old new earlier later s u r
 turn-is old new earlier later s u r w c b h = record {
   plan = c;
   told = λ t ne. turn-told s u _ _ r (c t) ne;
@@ -96,8 +96,8 @@ pub run-begun : (n : ℕ) (f : FlagsOf) (pass : Bool) (s t : State) (m k : HostM
 run-begun n f pass s t m k r c e = subst (λ (p : End × RunWorld). IsFront k.output p.1.1.output) (run-end n f pass s m) (output-front (run_plan n f pass) (t, k) (s, m) (c.stopping e))
 
 -- what holds of a run by its plan over both machines
-pub run-is : (old new : Option HostModel) (earlier later n : ℕ) (f : FlagsOf) (pass : Bool) (s u : State) (r : End) → CarriesOutBothRuns old new s u end.OutOfMemory r (run_plan n f pass) →
-    IsLater n s u → Stands old new earlier later → IsRun old new earlier later s u n f pass r
+pub run-is : (old new : Option HostModel) (earlier later n : ℕ) (f : FlagsOf) (pass : Bool) (s u : State) (r : End) → CarriesOutOnBothMachines old new s u end.OutOfMemory r (run_plan n f pass) →
+    IsLater n s u → KeepsHost old new earlier later → IsRunBetween old new earlier later s u n f pass r
 run-is old new earlier later n f pass s u r c b h = record {
   told = λ t ne. run-told n f pass s u _ _ r (c t).window ne;
   front = λ t e. run-begun n f pass s u _ _ r (c t).window e;
@@ -106,7 +106,7 @@ run-is old new earlier later n f pass s u r c b h = record {
   keeps = run-keeps old new earlier later s u r (run_plan n f pass) (λ t. (c t).window) h;
 }
 
--- ---- want of memory, for the loops
+-- ---- where memory runs out, for the loops
 
 pub spares-begun : (n : ℕ) (s : State) → SparesMemory n s → SparesMemory (n - 0) s
 spares-begun n s h = let all : n - 0 ≡ n = omega arith in rw all h

@@ -5,6 +5,7 @@ use Rattle.mx_host.specs.HostModel.{HostModel, tells, contents}
 use Rattle.mx_plan.specs.Plan.{Stops, end_of}
 use Rattle.mx_plan.specs.Wild.{Course}
 use Rattle.mx_core.specs.Bounds.{as_list_state}
+use Rattle.mx_core.specs.Kept.{Kept, state_of}
 use Rattle.mx_core.specs.State.{State}
 use Rattle.mx_run.specs.RunPlans.{RunWorld, running, run_plan}
 use Rattle.mx_run.specs.Runs.{ended, no_flags, run}
@@ -25,11 +26,11 @@ pub record ComesAccompanied (n : ℕ) (old new : RunWorld) (result : End) : Type
   pub ending : result ≢ OutOfMemory → (result, new) ≡ end_of running (run_plan n no_flags false) old
   pub stopping : result ≡ OutOfMemory → Stops running new (run_plan n no_flags false) old ⊎ AfterSteps n old new
 
--- the same holds over a host that tells its contents
-abbrev pub CarriesOutAccompanied : Option HostModel → Option HostModel → State → State → ℕ → End → Type 0
-CarriesOutAccompanied old new before after n result =
-    IsTrue (tells old) → ComesAccompanied n (before, contents old) (after, contents new) result
+-- the same holds over a host that tells its contents: `told` is what it tells; the host and the machine are those before and after
+abbrev pub CarriesOutAccompanied : {H : Type 0} → (H → Option HostModel) → H → H → Kept → Kept → ℕ → End → Type 0
+CarriesOutAccompanied told old new before after n result =
+    IsTrue (tells (told old)) → ComesAccompanied n (state_of before, contents (told old)) (state_of after, contents (told new)) result
 
--- what the list machine comes to in at most n steps, with no flags, from the list that a state stands for
+-- what the list machine comes to in at most n steps, with no flags, from the list that a state represents
 abbrev pub list_run : Option HostModel → State → ℕ → Course End RunWorld
 list_run old before n = run_by list_machine n no_flags false (as_list_state before) (contents old)

@@ -1,4 +1,4 @@
--- How a run ends: at a break, which the flags of tetras stand for, or otherwise; and with what it leaves (MMIXware, the part on MMIX-SIM,
+-- How a run ends: at a break, which the flags of tetras mean, or otherwise; and with what it leaves (MMIXware, the part on MMIX-SIM,
 -- the commands `b`, `t` and `c`).
 use Rattle.std.specs.Prelude.{ℕ, ◌+◌, ◌/◌, ◌&&◌, Bool, false, if◌then◌else◌, nat_lt, Option, None, Some}
 use Rattle.mx_host.specs.HostModel.{HostModel}

@@ -13,7 +13,7 @@ use Rattle.mx_run.specs.declared.flags.Flags.{Flags}
 abbrev pub has_flag : Flags → Bool
 has_flag f = f.r || f.w || f.x || f.t
 
--- the flag of a tetra that a break of a kind stands for
+-- the flag of a tetra that a break of a kind means
 abbrev pub break_flag : BreakKind → Flags → Bool
 break_flag Read f = f.r
 break_flag Write f = f.w

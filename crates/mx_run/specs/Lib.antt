@@ -10,3 +10,4 @@ pub mod Counts
 pub mod RunPlans
 pub mod AccompaniedRuns
 pub mod RunCourses
+pub mod Laws

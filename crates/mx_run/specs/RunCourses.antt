@@ -25,8 +25,8 @@ abbrev pub RunsBoth : {A : Type 0} → RunWorld → RunWorld → A → A → Run
 RunsBoth old new none result plan = ComesBoth running (run_goes list_machine) as_list_world IsUntouched WritesOn old new none result plan
 
 -- the same holds over a host that tells its contents
-abbrev pub CarriesOutBothRuns : {A : Type 0} → Option HostModel → Option HostModel → State → State → A → A → RunPlan A → Type 0
-CarriesOutBothRuns old new before after none result plan = IsTrue (tells old) → RunsBoth (before, contents old) (after, contents new) none result plan
+abbrev pub CarriesOutOnBothMachines : {A : Type 0} → Option HostModel → Option HostModel → State → State → A → A → RunPlan A → Type 0
+CarriesOutOnBothMachines old new before after none result plan = IsTrue (tells old) → RunsBoth (before, contents old) (after, contents new) none result plan
 
 -- what is left of a run over both machines
 abbrev pub RestsBoth : {A : Type 0} → RunPlan A → RunWorld → RunPlan A → RunWorld → Type 0

@@ -130,7 +130,7 @@ unfoldable pub SparesMemory : ℕ → State → Type 0
 SparesMemory zero s = Unit {0}
 SparesMemory (suc n) s = (step_needs_page s ≡ false) × SparesOn (SparesMemory n) (step s)
 
--- what is left of that where this was answered and this state left, and steps are still to be made: no want of memory, and
+-- what is left of that where this was answered and this state left, and steps are still to be made: no memory that runs out, and
 -- the same of the steps that follow
 abbrev pub SparesAfter : ℕ → TurnAnswer → State → Type 0
 SparesAfter n (answer.Went trace) t = SparesMemory n t

@@ -1,5 +1,5 @@
 -- Turns that look at rS or at the memory of the register stack; runs of the machine over a window, and of the machine
--- over the list that it stands for.
+-- over the list that it represents.
 use Rattle.std.specs.Prelude.{ℕ, ◌||◌, Bool, false}
 use Rattle.mx_host.specs.HostModel.{HostModel}
 use Rattle.mx_plan.specs.Wild.{Course, ends, course, unless_wild}
@@ -30,7 +30,7 @@ turn_is_wild s = is_wild s || trap_touches s (step s)
 
 -- BOTH MACHINES
 
--- the two machines: over a window of registers, and over the unbounded list that it stands for
+-- the two machines: over a window of registers, and over the unbounded list that it represents
 pub data MachineKind : Type 0 where
   window_machine : MachineKind
   list_machine : MachineKind

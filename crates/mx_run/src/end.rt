@@ -2,7 +2,7 @@
 
 use mx_core::Trace;
 
-/// What a break stands for: memory that is read or written, or an instruction that is next.
+/// What a break means: memory that is read or written, or an instruction that is next.
 #[derive(Clone, Copy, Debug, PartialEq, Eq)]
 pub enum BreakKind {
     Read,

@@ -24,8 +24,7 @@ pub fn go_by_flags<H: Host>(
     n: u64,
     pass: bool,
 ) -> End
-    ensures { TakesSteps (H.told host.old) (H.told host.new) (H.faults host.old) (H.faults host.new) (state_of machine.old)
-        (state_of machine.new) n (flags_at flags.now) pass result }
+    ensures { TakesSteps H.told H.faults host.old host.new machine.old machine.new n (flags_at flags.now) pass result }
 {
     let mut first = pass;
     for turn in 0..n {
@@ -46,8 +45,7 @@ pub fn go_freely<H: Host>(
     n: u64,
 ) -> End
     requires { flags.now ≡ [] }
-    ensures { TakesSteps (H.told host.old) (H.told host.new) (H.faults host.old) (H.faults host.new) (state_of machine.old)
-        (state_of machine.new) n (flags_at flags.now) true result }
+    ensures { TakesSteps H.told H.faults host.old host.new machine.old machine.new n (flags_at flags.now) true result }
 {
     let mut left = n;
     loop {
@@ -70,11 +68,10 @@ pub fn go_freely<H: Host>(
 /// written to standard output is a front of what the run writes.
 #[tactic(auto)]
 pub fn run_freely<H: Host>(alloc: Global, machine: &mut Machine, host: &mut H, n: u64) -> End
-    ensures plan { CarriesOutRun (H.told host.old) (H.told host.new) (state_of machine.old) (state_of machine.new)
-        End.OutOfMemory result (run_plan n no_flags false) }
+    ensures plan { CarriesOutRun H.told host.old host.new machine.old machine.new End.OutOfMemory result
+        (run_plan n no_flags false) }
     ensures spared { SparesMemory n (state_of machine.old) → result ≢ End.OutOfMemory }
-    ensures run { IsRun (H.told host.old) (H.told host.new) (H.faults host.old) (H.faults host.new) (state_of machine.old)
-        (state_of machine.new) n no_flags false result }
+    ensures run { IsRun H.told H.faults host.old host.new machine.old machine.new n no_flags false result }
 {
     let flags = FlagMap::new(alloc);
     go_freely(alloc, machine, &flags, host, n)

@@ -1,5 +1,5 @@
 //! What holds of runs over their definitions alone. A machine over a window and the one over the list
-//! that its register stack stands for go the same way, as long as nothing looks at rS or at the
+//! that its register stack represents go the same way, as long as nothing looks at rS or at the
 //! memory of the register stack.
 
 ghost use Rattle.std.specs.Prelude.{◌≡◌, ◌≢◌, ◌+◌, ◌&&◌, ◌==◌, ℕ, suc, Bool, true, false};
@@ -12,22 +12,23 @@ ghost use Rattle.mx_word.specs.Lists.{IsFront};
 ghost use Rattle.mx_word.specs.Ranges.{AreOctas};
 ghost use Rattle.mx_core.specs.Bounds.{IsMachine, as_list_state};
 ghost use Rattle.mx_core.specs.State.{State};
-ghost use Rattle.mx_run.specs.RunPlans.{RunPlan, RunWorld, ended_world, run_plan, running};
+ghost use Rattle.mx_run.specs.Laws.{TurnsAlike, free_run, plan_end};
+ghost use Rattle.mx_run.specs.RunPlans.{RunPlan, RunWorld, ended_world, running};
 ghost use Rattle.mx_run.specs.Runs.{Ended, FlagsOf, no_flags, ended, run, IsLater};
 ghost use Rattle.mx_run.specs.Turns.{went_on, halts, stops, turn};
 ghost use Rattle.mx_run.specs.declared.end.End.{End};
 ghost use Rattle.mx_run.specs.declared.end.End.TheVariants.{Halted, Spent, Stopped};
 ghost use Rattle.mx_code.specs.declared.trace.Trace.{Trace};
 ghost use Rattle.mx_run.specs.WildRuns.{MachineKind, window_machine, ends_wild, run_by, run_ended};
-ghost use Rattle.mx_run.specs.WildRuns.{turn_is_wild, as_list_turn, state_after};
+ghost use Rattle.mx_run.specs.WildRuns.{turn_is_wild, state_after};
 
 /// A turn that is not wild, where nothing was touched, comes to the same with the same trace and the
-/// same host model, and leaves the list that the next state stands for, and nothing touched. It is wild
+/// same host model, and leaves the list that the next state represents, and nothing touched. It is wild
 /// for the one where it is for the other.
 #[tactic(auto, using(crate::proofs::ListTurns::turns))]
 pub fn turns_go_as_lists()
     ensures turn { (s : State) (w : Window) (m : HostModel) → IsMachine s w → AreOctas w.hidden.stack
-        → s.touched ≡ false → turn_is_wild s ≡ false → turn (as_list_state s) m ≡ as_list_turn (turn s m) }
+        → s.touched ≡ false → turn_is_wild s ≡ false → TurnsAlike s m }
     ensures wild { (s : State) (w : Window) → IsMachine s w → s.touched ≡ false
         → turn_is_wild (as_list_state s) ≡ turn_is_wild s }
     ensures untouched { (s : State) (m : HostModel) → s.touched ≡ false → turn_is_wild s ≡ false
@@ -37,8 +38,8 @@ pub fn turns_go_as_lists()
 /// The run of the machine over a window always ends.
 #[tactic(auto, using(crate::proofs::BothMachines::windows))]
 pub fn windows_are_never_wild()
-    ensures { (n : ℕ) (f : FlagsOf) (pass : Bool) (s : State) (m : HostModel)
-        → run_by window_machine n f pass s m ≡ run_ended (run n f pass s m) }
+    ensures { (n : ℕ) (f : FlagsOf) (p : Bool) (s : State) (m : HostModel)
+        → run_by window_machine n f p s m ≡ run_ended (run n f p s m) }
 {}
 
 /// A run only adds to standard output.
@@ -54,16 +55,16 @@ pub fn runs_add_to_output()
 pub fn runs_go_turn_by_turn()
     ensures spent { (kind : MachineKind) (s : State) (m : HostModel)
         → run_by kind 0 no_flags false s m ≡ run_ended (ended Spent s m) }
-    ensures wild { (kind : MachineKind) (n : ℕ) (s : State) (m : HostModel) → ends_wild kind s ≡ true
-        → run_by kind (suc n) no_flags false s m ≡ meets_wild (s, m) }
+    ensures wild { (k : MachineKind) (n : ℕ) (s : State) (m : HostModel) → ends_wild k s ≡ true
+        → free_run k (suc n) s m ≡ meets_wild (s, m) }
     ensures went { (kind : MachineKind) (n : ℕ) (s t : State) (m k : HostModel) (trace : Trace) → ends_wild kind s ≡ false
-        → turn s m ≡ went_on t k trace → run_by kind (suc n) no_flags false s m ≡ run_by kind n no_flags false t k }
+        → turn s m ≡ went_on t k trace → free_run kind (suc n) s m ≡ free_run kind n t k }
     ensures halted { (kind : MachineKind) (n status : ℕ) (s t : State) (m k : HostModel) → ends_wild kind s ≡ false
         → turn s m ≡ halts status t k
-        → run_by kind (suc n) no_flags false s m ≡ run_ended (ended (Halted status) t k) }
+        → free_run kind (suc n) s m ≡ run_ended (ended (Halted status) t k) }
     ensures stopped { (kind : MachineKind) (n reason : ℕ) (s t : State) (m k : HostModel) → ends_wild kind s ≡ false
         → turn s m ≡ stops reason t k
-        → run_by kind (suc n) no_flags false s m ≡ run_ended (ended (Stopped s.pc reason) t k) }
+        → free_run kind (suc n) s m ≡ run_ended (ended (Stopped s.pc reason) t k) }
 {}
 
 /// A run of i + j steps is that of i steps and, where all of these are made, that of j steps from where it led: of either
@@ -80,13 +81,13 @@ pub fn runs_follow_each_other()
         → run_by kind i f pass s m ≡ meets_wild w → run_by kind (i + j) f pass s m ≡ meets_wild w }
 {}
 
-/// A run is what its plan comes to. Where a plan over turns stops for want of memory, it only added to
+/// A run is what its plan comes to. Where a plan over turns stops because memory runs out, it only added to
 /// standard output, and what is there is a front of what would be there at its end; the slots of
 /// the tool lead where they led.
 #[tactic(auto, using(crate::proofs::HeldRuns::laws, crate::proofs::PlanEnds::ends))]
 pub fn runs_are_their_plans()
-    ensures ending { (n : ℕ) (f : FlagsOf) (pass : Bool) (s : State) (m : HostModel)
-        → end_of running (run_plan n f pass) (s, m) ≡ ended_world (run n f pass s m) }
+    ensures ending { (n : ℕ) (f : FlagsOf) (p : Bool) (s : State) (m : HostModel)
+        → plan_end n f p s m ≡ ended_world (run n f p s m) }
     ensures stopping { (p : RunPlan End) (v w : RunWorld) → Stops running v p w → KeepsStreams w.1 v.1 }
     ensures front { (p : RunPlan End) (v w : RunWorld) → Stops running v p w
         → OnlyAdds v.1 (end_of running p w).1.1 }

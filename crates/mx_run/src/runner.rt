@@ -97,8 +97,7 @@ impl Runner {
     /// calls that it made; what was written to standard output is a front of what the turn writes.
     #[tactic(auto, using(crate::proofs::Runners::turns))]
     pub fn step<H: Host>(&mut self, host: &mut H) -> TurnAnswer
-        ensures turn { IsTurn (H.told host.old) (H.told host.new) (H.faults host.old) (H.faults host.new)
-            (state_of self.old.machine) (state_of self.new.machine) result }
+        ensures turn { IsTurn H.told H.faults host.old host.new self.old.machine self.new.machine result }
         ensures spared { SparesMemory 1 (state_of self.old.machine) → result ≢ TurnAnswer.OutOfMemory }
         ensures flags { self.new.flags ≡ self.old.flags }
     {
@@ -114,11 +113,11 @@ impl Runner {
     /// written to standard output is a front of what the run writes.
     #[tactic(auto)]
     pub fn go<H: Host>(&mut self, host: &mut H, n: u64, pass: bool) -> End
-        ensures plan { CarriesOutRun (H.told host.old) (H.told host.new) (state_of self.old.machine)
-            (state_of self.new.machine) End.OutOfMemory result (run_plan n (flags_at self.old.flags) pass) }
+        ensures plan { CarriesOutRun H.told host.old host.new self.old.machine self.new.machine End.OutOfMemory
+            result (run_plan n (flags_at self.old.flags) pass) }
         ensures spared { SparesMemory n (state_of self.old.machine) → result ≢ End.OutOfMemory }
-        ensures run { IsRun (H.told host.old) (H.told host.new) (H.faults host.old) (H.faults host.new)
-            (state_of self.old.machine) (state_of self.new.machine) n (flags_at self.old.flags) pass result }
+        ensures run { IsRun H.told H.faults host.old host.new self.old.machine self.new.machine n
+            (flags_at self.old.flags) pass result }
         ensures flags { self.new.flags ≡ self.old.flags }
     {
         if self.flags.is_empty() {

@@ -1,9 +1,8 @@
 //! A step of a run.
 
-ghost use Rattle.std.specs.Prelude.{◌≡◌, ◌≢◌, ◌/◌, ◌&&◌, not, [], IsTrue, true};
+ghost use Rattle.std.specs.Prelude.{◌≡◌, ◌/◌, ◌&&◌, not, [], IsTrue, true};
 ghost use Rattle.mx_core.specs.Kept.{state_of};
-ghost use Rattle.mx_core.specs.Step.{step};
-ghost use Rattle.mx_core.specs.Way.Stepping.{advanced, step_needs_page};
+ghost use Rattle.mx_core.specs.Way.Stepping.{HasAdvanced, step_needs_page};
 ghost use Rattle.mx_run.specs.Clauses.{TakesStep};
 ghost use Rattle.mx_run.specs.FlagMaps.{flags_at};
 ghost use Rattle.mx_run.specs.RunPlans.{ended_turn, step_plan};
@@ -27,8 +26,8 @@ pub fn run_step<H: Host>(
     host: &mut H,
     pass: bool,
 ) -> Result<(), End>
-    ensures step { TakesStep (H.told host.old) (H.told host.new) (H.faults host.old) (H.faults host.new) (state_of machine.old)
-        (state_of machine.new) result (step_plan (flags_at flags.now) pass) }
+    ensures step { TakesStep H.told H.faults host.old host.new machine.old machine.new result
+        (step_plan (flags_at flags.now) pass) }
     ensures has_window { HasWindow (state_of machine.old) }
 {
     know_window(machine);
@@ -59,8 +58,8 @@ fn turn_and_end<H: Host>(
     flags: &FlagMap,
     host: &mut H,
 ) -> Result<(), End>
-    ensures { TakesStep (H.told host.old) (H.told host.new) (H.faults host.old) (H.faults host.new) (state_of machine.old)
-        (state_of machine.new) result (ended_turn (flags_at flags.now) (state_of machine.old).pc) }
+    ensures { TakesStep H.told H.faults host.old host.new machine.old machine.new result
+        (ended_turn (flags_at flags.now) (state_of machine.old).pc) }
 {
     let pc = machine.pc();
     let answer = make_turn(alloc, machine, host);
@@ -78,11 +77,10 @@ pub fn step_over<H: Host>(
     last: Advance,
 ) -> Result<(), End>
     requires free { flags.now ≡ [] }
-    requires came { last ≢ Advance.OutOfMemory →
-        (last, state_of machine.old) ≡ advanced (state_of machine.old) (step (state_of machine.old)) }
+    requires came { HasAdvanced last machine.old machine.old }
     requires there { last ≡ Advance.OutOfMemory → IsTrue (step_needs_page (state_of machine.old)) }
-    ensures step { TakesStep (H.told host.old) (H.told host.new) (H.faults host.old) (H.faults host.new) (state_of machine.old)
-        (state_of machine.new) result (step_plan (flags_at flags.now) true) }
+    ensures step { TakesStep H.told H.faults host.old host.new machine.old machine.new result
+        (step_plan (flags_at flags.now) true) }
     ensures has_window { HasWindow (state_of machine.old) }
 {
     know_window(machine);

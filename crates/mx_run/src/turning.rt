@@ -2,7 +2,7 @@
 
 ghost use Rattle.std.specs.Prelude.{◌≡◌, ◌≢◌, ℕ, suc, false};
 ghost use Rattle.mx_host.specs.HostModel.{HostModel};
-ghost use Rattle.mx_plan.specs.Clauses.{CarriesOutBoth, Stands};
+ghost use Rattle.mx_plan.specs.Clauses.{CarriesOutOnSpace, KeepsHost};
 ghost use Rattle.mx_core.specs.Kept.{state_of};
 ghost use Rattle.mx_core.specs.MachineSpace.{machine_contents, IsWholeSpace};
 ghost use Rattle.mx_core.specs.Step.{calls, step};
@@ -29,8 +29,7 @@ use std::alloc::Global;
 /// calls that it made; what was written to standard output is a front of what the turn writes.
 #[inline]
 pub fn turn<H: Host>(alloc: Global, machine: &mut Machine, host: &mut H) -> TurnAnswer
-    ensures turn { IsTurn (H.told host.old) (H.told host.new) (H.faults host.old) (H.faults host.new)
-        (state_of machine.old) (state_of machine.new) result }
+    ensures turn { IsTurn H.told H.faults host.old host.new machine.old machine.new result }
     ensures has_window { HasWindow (state_of machine.old) }
     ensures spared { (n : ℕ) → SparesMemory (suc n) (state_of machine.old) → SparesAfter n result (state_of machine.new) }
 {
@@ -40,12 +39,12 @@ pub fn turn<H: Host>(alloc: Global, machine: &mut Machine, host: &mut H) -> Turn
 /// A turn of the machine over a host.
 #[tactic(auto, using(crate::proofs::TurnAnswers::turns, crate::proofs::TurnAnswers::sparing, crate::proofs::Later::stepping))]
 pub(crate) fn make_turn<H: Host>(alloc: Global, machine: &mut Machine, host: &mut H) -> TurnAnswer
-    ensures told { CarriesOutRun (H.told host.old) (H.told host.new) (state_of machine.old) (state_of machine.new)
-        TurnAnswer.OutOfMemory result turn_plan }
+    ensures told { CarriesOutRun H.told host.old host.new machine.old machine.new TurnAnswer.OutOfMemory result
+        turn_plan }
     ensures has_window { HasWindow (state_of machine.old) }
     ensures spared { (n : ℕ) → SparesMemory (suc n) (state_of machine.old) → SparesAfter n result (state_of machine.new) }
     ensures bound { IsLater 1 (state_of machine.old) (state_of machine.new) }
-    ensures stands { Stands (H.told host.old) (H.told host.new) (H.faults host.old) (H.faults host.new) }
+    ensures keeps { KeepsHost (H.told host.old) (H.told host.new) (H.faults host.old) (H.faults host.new) }
 {
     know_window(machine);
     match machine.step() {
@@ -68,11 +67,11 @@ pub fn trap_turn<H: Host>(
     call: &TrapCall,
 ) -> TurnAnswer
     requires { step (state_of machine.old) ≡ calls call.now }
-    ensures told { CarriesOutRun (H.told host.old) (H.told host.new) (state_of machine.old) (state_of machine.new)
-        TurnAnswer.OutOfMemory result turn_plan }
+    ensures told { CarriesOutRun H.told host.old host.new machine.old machine.new TurnAnswer.OutOfMemory result
+        turn_plan }
     ensures same { spec.may_change result ≡ false → state_of machine.new ≡ state_of machine.old }
     ensures bound { IsLater 1 (state_of machine.old) (state_of machine.new) }
-    ensures stands { Stands (H.told host.old) (H.told host.new) (H.faults host.old) (H.faults host.new) }
+    ensures keeps { KeepsHost (H.told host.old) (H.told host.new) (H.faults host.old) (H.faults host.new) }
 {
     let looks = touches(machine, call);
     let answer = do_trap(alloc, machine, host, call);
@@ -87,12 +86,12 @@ fn do_trap<H: Host>(
     host: &mut H,
     call: &TrapCall,
 ) -> TrapAnswer
-    ensures told { CarriesOutBoth (H.told host.old) (H.told host.new) (machine_contents (state_of machine.old))
+    ensures told { CarriesOutOnSpace (H.told host.old) (H.told host.new) (machine_contents (state_of machine.old))
         (machine_contents (state_of machine.new)) TrapAnswer.OutOfMemory result (trap_plan call.now) }
     ensures whole { IsWholeSpace (state_of machine.new) }
     ensures same { spec.moves_bytes result ≡ false → state_of machine.new ≡ state_of machine.old }
     ensures steps { (state_of machine.new).steps ≡ (state_of machine.old).steps }
-    ensures stands { Stands (H.told host.old) (H.told host.new) (H.faults host.old) (H.faults host.new) }
+    ensures keeps { KeepsHost (H.told host.old) (H.told host.new) (H.faults host.old) (H.faults host.new) }
 {
     machines_are_whole(machine);
     let answer = trap(alloc, machine, host, call);

@@ -5,7 +5,7 @@ ghost use Rattle.mx_run.specs.WildRuns.{HasWindow};
 
 use mx_core::{Machine, machines_are_whole, machines_keep_the_invariant};
 
-/// Tells that a machine is one over a window of octas. It does nothing.
+/// States that a machine is one over a window of octas. It does nothing.
 #[tactic(auto, using(crate::proofs::Areas::windows))]
 #[inline(always)]
 pub fn know_window(machine: &Machine)

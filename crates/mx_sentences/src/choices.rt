@@ -13,8 +13,8 @@ use mx_advice::{
 };
 use mx_foreign::advice_on;
 use mx_marks::{
-    Field, Likeness, Room, find_similar_label, from_field, is_code_label, is_label,
-    is_read_through, leading_word, operands_at, operation_at, room_at, skip_past_comma,
+    Field, Likeness, Room, cut_leading_word, find_similar_label, from_field, is_code_label,
+    is_label, is_read_through, operands_at, operation_at, room_at, skip_past_comma,
 };
 use mx_ops::find;
 use mx_word::is_letter;
@@ -163,8 +163,8 @@ fn is_indented(line: &[u8], place: usize) -> bool
     ensures { result ≡ spec.is_indented line.now place }
 {
     let statement = &line[place..];
-    leading_word(statement).is_empty()
-        && find(leading_word(from_field(Field::Operands, statement))).is_some()
+    cut_leading_word(statement).is_empty()
+        && find(cut_leading_word(from_field(Field::Operands, statement))).is_some()
 }
 
 /// What the word is that the statement at a place has for an operation.

@@ -1,4 +1,4 @@
-//! The lines that tell a step and the state.
+//! The lines that print a step and the state.
 
 ghost use Rattle.std.specs.Prelude.{◌≡◌, ◌++◌, IfOk, OnOk, codes, decimal};
 ghost use Rattle.mx_text.specs.Numbers as numbers;

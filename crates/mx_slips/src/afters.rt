@@ -80,7 +80,7 @@ fn digit_count(text: &[u8]) -> usize
 }
 
 /// How many bytes this many digits have with the sign before them.
-fn signed_length(count: usize) -> usize
+fn measure_signed(count: usize) -> usize
     requires { count < 2 ^ 63 }
     ensures { result ≡ spec.signed_length count }
 {
@@ -107,8 +107,8 @@ fn operand_length(text: &[u8]) -> usize
     };
     match *b {
         b if is_digit(b) => digit_count(text),
-        b'#' => signed_length(hexadecimal_count(more)),
-        b'$' => signed_length(digit_count(more)),
+        b'#' => measure_signed(hexadecimal_count(more)),
+        b'$' => measure_signed(digit_count(more)),
         b'\'' => constant_length(more),
         _ => 0,
     }

@@ -123,7 +123,7 @@ fn line_with(
     })
 }
 
-/// The number of the next line; want of memory where there is none, which no source is long enough for.
+/// The number of the next line; out of memory where there is none, which no source is long enough for.
 fn next_number(number: u32) -> Result<u32, NoMemory>
     ensures { IfOk result (λ next. next ≡ number + 1) }
 {
@@ -135,7 +135,7 @@ fn next_number(number: u32) -> Result<u32, NoMemory>
 
 /// The lines of a source that loads these tetras.
 #[tactic(auto, using(crate::proofs::SourceTurns::lines))]
-fn loaded_lines(
+fn find_loaded_lines(
     alloc: Global,
     loads: &[Sequence<Cell>],
     source: &[u8],
@@ -161,7 +161,7 @@ fn loaded_lines(
 pub fn read_lines(alloc: Global, source: &[u8]) -> Result<SourceLines, NoMemory>
     ensures { IfOk result (λ lines. lines ≡ spec.unloaded_lines source.now) }
 {
-    loaded_lines(alloc, &[], source)
+    find_loaded_lines(alloc, &[], source)
 }
 
 /// The lines of a source of which it is known whether it is refused.
@@ -174,7 +174,7 @@ pub fn collect_lines_of(
     ensures { IfOk result (λ lines. lines ≡ spec.source_lines source.now) }
 {
     let loads = loads_if(alloc, is_accepted, source)?;
-    loaded_lines(alloc, loads.as_slice(), source)
+    find_loaded_lines(alloc, loads.as_slice(), source)
 }
 
 /// The lines of a source.

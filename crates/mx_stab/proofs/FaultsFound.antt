@@ -27,7 +27,7 @@ table-cond : (bytes : List ℕ) (b : Bool) (fault : StabFault) (a : Answer) → 
 table-cond bytes b fault a h1 h2 = grind arith
 
 -- a reading after these first bytes
-record Behind (bytes : List ℕ) (k : ℕ) (front : List ℕ) (s : Reading) : Type 0 where
+record IsAfter (bytes : List ℕ) (k : ℕ) (front : List ℕ) (s : Reading) : Type 0 where
   split : bytes ≡ front ++ s.rest
   place : s.at ≡ length front
   are : AreBytes s.rest
@@ -35,10 +35,10 @@ record Behind (bytes : List ℕ) (k : ℕ) (front : List ℕ) (s : Reading) : Ty
   few : length s.rest ≤ k
 
 abbrev Finds : List ℕ → ℕ → (List ℕ → Reading → Answer) → Type 0
-Finds bytes k inner = (front path : List ℕ) (s : Reading) → Behind bytes k front s → IsDue front path s.found → InTable bytes (inner path s)
+Finds bytes k inner = (front path : List ℕ) (s : Reading) → IsAfter bytes k front s → IsDue front path s.found → InTable bytes (inner path s)
 
-behind-part : (bytes : List ℕ) (k : ℕ) (front part : List ℕ) (s u : Reading) (symbols : List Symbol) → Behind bytes k front s → Between s u part symbols → Behind bytes k (front ++ part) u
-behind-part bytes k front part s u symbols h b = record {
+after-part : (bytes : List ℕ) (k : ℕ) (front part : List ℕ) (s u : Reading) (symbols : List Symbol) → IsAfter bytes k front s → Between s u part symbols → IsAfter bytes k (front ++ part) u
+after-part bytes k front part s u symbols h b = record {
   split = h.split ∙ ap (λ r. front ++ r) b.split ∙ sym (append_assoc front part u.rest);
   place = omega (arith, h.place, b.place, length-append front part);
   are = below-rest s u part symbols b h.are;
@@ -50,12 +50,12 @@ behind-part bytes k front part s u symbols h b = record {
 record InNode (bytes : List ℕ) (k : ℕ) (front path : List ℕ) (before : List Symbol) (at : ℕ) (part : List ℕ) (s : Reading) : Type 0 where
   due : IsDue front path before
   node-place : at ≡ length front
-  behind : Behind bytes k (front ++ part) s
+  following : IsAfter bytes k (front ++ part) s
 
 node-split : (bytes : List ℕ) (k : ℕ) (front path : List ℕ) (before : List Symbol) (at : ℕ) (part : List ℕ) (s : Reading) → InNode bytes k front path before at part s → bytes ≡ front ++ (part ++ s.rest)
-node-split bytes k front path before at part s n = n.behind.split ∙ append_assoc front part s.rest
+node-split bytes k front path before at part s n = n.following.split ∙ append_assoc front part s.rest
 
-end-is : (bytes : List ℕ) (k : ℕ) (front : List ℕ) (s : Reading) → Behind bytes k front s → s.at + length s.rest ≡ length bytes
+end-is : (bytes : List ℕ) (k : ℕ) (front : List ℕ) (s : Reading) → IsAfter bytes k front s → s.at + length s.rest ≡ length bytes
 end-is bytes k front s h = omega (arith, h.place, ap length h.split, length-append front s.rest)
 
 further : (bytes : List ℕ) (k : ℕ) (front path : List ℕ) (before : List Symbol) (at : ℕ) (part more : List ℕ) (s u : Reading) (symbols : List Symbol) → InNode bytes k front path before at part s → Between s u more symbols →
@@ -63,7 +63,7 @@ further : (bytes : List ℕ) (k : ℕ) (front path : List ℕ) (before : List Sy
 further bytes k front path before at part more s u symbols n b = record {
   due = n.due;
   node-place = n.node-place;
-  behind = subst (λ f. Behind bytes k f u) (append_assoc front part more) (behind-part bytes k (front ++ part) more s u symbols n.behind b);
+  following = subst (λ f. IsAfter bytes k f u) (append_assoc front part more) (after-part bytes k (front ++ part) more s u symbols n.following b);
 }
 
 -- the rows of the table for the node
@@ -111,7 +111,7 @@ serial-found : (bytes : List ℕ) (k : ℕ) (front path : List ℕ) (before : Li
 serial-found bytes k front path before at m node name s value told left None some n h hv e b is =
     let whole = node-split bytes k front path before at node s n ∙ ap (λ r. front ++ (node ++ r)) e ∙ ap (λ r. front ++ r) (sym (append_assoc node told left)) in
     cut bytes front path (node ++ told ++ left) before (s.at + length s.rest) whole n.due
-    (EndsWithin.at_serial m node name s.found value told left h hv (no-end 0 left is)) some (end-is bytes k (front ++ node) s n.behind)
+    (EndsWithin.at_serial m node name s.found value told left h hv (no-end 0 left is)) some (end-is bytes k (front ++ node) s n.following)
 serial-found bytes k front path before at m node name s value told left (Some (serial, more)) some n h hv e b is =
     let c = serial-cut 0 serial left more b is in
     let rest = node ++ told ++ c.front ++ (c.last + 128) ∷ more in
@@ -146,10 +146,10 @@ symbol-found bytes k front path before at m node name s some n h = one (m % 16 =
         let told = take size s.rest in
         let left = drop size s.rest in
         let both : s.rest ≡ told ++ left = sym (take-append-drop size s.rest) in
-        let all : AreBytes (told ++ left) = subst (AreBytes) both n.behind.are in
+        let all : AreBytes (told ++ left) = subst (AreBytes) both n.following.are in
         table-cond bytes (nat_lt (length s.rest) size) (Truncated (s.at + length s.rest)) _
         (λ few. cut bytes front path (node ++ s.rest) before _ (node-split bytes k front path before at node s n) n.due
-        (EndsWithin.at_value m node name s.rest s.found h (e refl) (ltb-true (length s.rest) size few)) some (end-is bytes k (front ++ node) s n.behind))
+        (EndsWithin.at_value m node name s.rest s.found h (e refl) (ltb-true (length s.rest) size few)) some (end-is bytes k (front ++ node) s n.following))
         (λ fits. let kind = e refl in serial-found bytes k front path before at m node name s (value_of (m % 16) told) told left (serial_after 0 left) some n h
         (value-spelt (m % 16) told (omega (arith, kind)) (omega arith) (length-take-le size s.rest (ltb-false (length s.rest) size fits)) (all-front (λ d. d < 256) told left all))
         both (all-back (λ d. d < 256) told left all) refl)
@@ -163,7 +163,7 @@ missing : (bytes : List ℕ) (k : ℕ) (front path : List ℕ) (before : List Sy
     UpToLeft path before m node s.found → HasCharacter m → length s.rest < 1 + table.flag 0x80 m → n ≡ s.at + length s.rest → FaultOf bytes (Truncated n)
 missing bytes k front path before at m node s n some i h there few place =
     cut bytes front path (node ++ s.rest) before n (node-split bytes k front path before at node s i) i.due (EndsWithin.at_character m node s.rest s.found h there few) some
-    (place ∙ end-is bytes k (front ++ node) s i.behind)
+    (place ∙ end-is bytes k (front ++ node) s i.following)
 
 one_byte-found : (bytes : List ℕ) (k : ℕ) (front path : List ℕ) (before : List Symbol) (at m : ℕ) (node : List ℕ) (a : ℕ) (found : List Symbol) (rest : List ℕ) → 0 < length bytes →
     InNode bytes k front path before at node (record { at = a; rest = rest; found = found }) → UpToLeft path before m node found → HasCharacter m → CharacterInTable bytes (reading.one_byte a found rest)
@@ -177,7 +177,7 @@ two_bytes-found bytes k front path before at m node a found (high ∷ []) some n
 two_bytes-found bytes k front path before at m node a found (high ∷ low ∷ rest) some n h there mark = one (is_wide_character (wide_number high low)) refl
   where
     one : (b : Bool) → is_wide_character (wide_number high low) ≡ b →
-        CharacterInTable bytes (cond b (Ok (record { name = encode_utf8 (wide_number high low); behind = record { at = a + 2; rest = rest; found = found } })) (Err (Wide at)))
+        CharacterInTable bytes (cond b (Ok (record { name = encode_utf8 (wide_number high low); following = record { at = a + 2; rest = rest; found = found } })) (Err (Wide at)))
     one true e = tt
     one false e = placed Wide bytes front (node ++ high ∷ low ∷ rest) at (node-split bytes k front path before at node _ n) n.node-place
         (FaultOf.wide front path _ before n.due (LacksWide.no_character m high low node rest found h there mark (λ t. cc (e, t))))
@@ -195,22 +195,22 @@ wide-bit : {name character : List ℕ} (m : ℕ) → SpellsCharacter (0x80 * fla
 wide-bit {name} {character} m h = subst (λ f. SpellsCharacter (0x80 * f) name character) (bit-is 0x80 m) h
 
 -- a node that was read to the end of its symbol
-record SymbolBehind (path : List ℕ) (before : List Symbol) (m : ℕ) (node name : List ℕ) (s w : Reading) : Type 0 where
+record SymbolIsAfter (path : List ℕ) (before : List Symbol) (m : ℕ) (node name : List ℕ) (s w : Reading) : Type 0 where
   part : List ℕ
   own : List Symbol
   between : Between s w part own
   is : UpToSymbol path before m (node ++ part) name w.found
 
-symbol-behind : (path : List ℕ) (before : List Symbol) (m : ℕ) (node name : List ℕ) (s w : Reading) → UpToCharacter path before m node name s.found → SymbolRead (m % 16) name s w → AreDistinct w.found →
-    SymbolBehind path before m node name s w
-symbol-behind path before m node name s w h (SymbolRead.no-symbol none k) d = record {
+symbol-after : (path : List ℕ) (before : List Symbol) (m : ℕ) (node name : List ℕ) (s w : Reading) → UpToCharacter path before m node name s.found → SymbolRead (m % 16) name s w → AreDistinct w.found →
+    SymbolIsAfter path before m node name s w
+symbol-after path before m node name s w h (SymbolRead.no-symbol none k) d = record {
   part = [];
   own = [];
   between = k;
   is = subst (λ b. UpToSymbol path before m b name w.found) (sym (append-nil node))
       (subst (λ f. UpToSymbol path before m node name f) (sym (k.grown ∙ append-nil s.found)) (UpToSymbol.none path before m node name s.found h none));
 }
-symbol-behind path before m node name s w h (SymbolRead.one-symbol value serial told counted hv hs k) d = record {
+symbol-after path before m node name s w h (SymbolRead.one-symbol value serial told counted hv hs k) d = record {
   part = told ++ counted;
   own = record { name = name; value = value; serial = serial } ∷ [];
   between = k;
@@ -222,7 +222,7 @@ symbol-behind path before m node name s w h (SymbolRead.one-symbol value serial 
 -- what belongs to the character of a node
 module _ (bytes : List ℕ) (some : 0 < length bytes) (k : ℕ) (inner : List ℕ → Reading → Answer) (finds : Finds bytes k inner) (sounds : Sounds inner) where
   up-to-character : (path : List ℕ) (before : List Symbol) (m : ℕ) (node : List ℕ) (s : Reading) (c : Character) → UpToLeft path before m node s.found → HasCharacter m →
-      (r : CharacterRead (0x80 * flag (has 0x80 m)) s c) → length (path ++ c.name) ≤ 1024 → UpToCharacter path before m (node ++ r.bytes) (path ++ c.name) c.behind.found
+      (r : CharacterRead (0x80 * flag (has 0x80 m)) s c) → length (path ++ c.name) ≤ 1024 → UpToCharacter path before m (node ++ r.bytes) (path ++ c.name) c.following.found
   up-to-character path before m node s c h there r short =
       subst (λ f. UpToCharacter path before m (node ++ r.bytes) (path ++ c.name) f) (sym (r.between.grown ∙ append-nil s.found))
       (UpToCharacter.character path before m node s.found c.name r.bytes h there (wide-bit m r.is) short)
@@ -230,11 +230,11 @@ module _ (bytes : List ℕ) (some : 0 < length bytes) (k : ℕ) (inner : List �
   middle-found : (front path : List ℕ) (before : List Symbol) (at m : ℕ) (node name : List ℕ) (s w : Reading) → InNode bytes k front path before at node s → UpToCharacter path before m node name s.found →
       symbol (m % 16) at name s ≡ Ok w → InTable bytes (part_if (has 0x20 m) (inner name) w)
   middle-found front path before at m node name s w n h e =
-      let r = symbol-read (m % 16) at name s w (omega arith) n.behind.are e in
-      let d = read-distinct (m % 16) name s w r n.behind.distinct in
-      let b = symbol-behind path before m node name s w h r d in
+      let r = symbol-read (m % 16) at name s w (omega arith) n.following.are e in
+      let d = read-distinct (m % 16) name s w r n.following.distinct in
+      let b = symbol-after path before m node name s w h r d in
       let f = further bytes k front path before at node b.part s w b.own n b.between in
-      table-if bytes (has 0x20 m) (inner name) w (λ there. finds (front ++ (node ++ b.part)) name w f.behind
+      table-if bytes (has 0x20 m) (inner name) w (λ there. finds (front ++ (node ++ b.part)) name w f.following
       (IsDue.middle front path before m (node ++ b.part) name w.found n.due b.is (eqb-true (table.flag 0x20 m) 1 there)))
     where
       read-distinct : (kind : ℕ) (name : List ℕ) (s w : Reading) → SymbolRead kind name s w → AreDistinct s.found → AreDistinct w.found
@@ -246,24 +246,24 @@ module _ (bytes : List ℕ) (some : 0 < length bytes) (k : ℕ) (inner : List �
   part-found front path before at m node s (Err fault) n h there t r = t
   part-found front path before at m node s (Ok c) n h there t r =
       let q = r c refl in
-      let f = further bytes k front path before at node q.bytes s c.behind [] n q.between in
+      let f = further bytes k front path before at node q.bytes s c.following [] n q.between in
       table-cond bytes (nat_lt 1024 (length (path ++ c.name))) (TooLong at) _
-      (λ long. placed TooLong bytes front (node ++ q.bytes ++ c.behind.rest) at (node-split bytes k front path before at (node ++ q.bytes) c.behind f) n.node-place
-      (FaultOf.too_long front path _ before n.due (IsTooDeep.path_is m node c.name q.bytes c.behind.rest s.found h there (wide-bit m q.is) (ltb-true 1024 (length (path ++ c.name)) long))))
+      (λ long. placed TooLong bytes front (node ++ q.bytes ++ c.following.rest) at (node-split bytes k front path before at (node ++ q.bytes) c.following f) n.node-place
+      (FaultOf.too_long front path _ before n.due (IsTooDeep.path_is m node c.name q.bytes c.following.rest s.found h there (wide-bit m q.is) (ltb-true 1024 (length (path ++ c.name)) long))))
       (λ short. let u = up-to-character path before m node s c h there q (ltb-false 1024 (length (path ++ c.name)) short) in
-      table-then bytes (part_if (has 0x20 m) (inner (path ++ c.name))) (symbol (m % 16) at (path ++ c.name) c.behind)
-      (symbol-found bytes k front path before at m (node ++ q.bytes) (path ++ c.name) c.behind some f u)
-      (λ w e. middle-found front path before at m (node ++ q.bytes) (path ++ c.name) c.behind w f u e))
+      table-then bytes (part_if (has 0x20 m) (inner (path ++ c.name))) (symbol (m % 16) at (path ++ c.name) c.following)
+      (symbol-found bytes k front path before at m (node ++ q.bytes) (path ++ c.name) c.following some f u)
+      (λ w e. middle-found front path before at m (node ++ q.bytes) (path ++ c.name) c.following w f u e))
 
   character-found : (front path : List ℕ) (before : List Symbol) (at m : ℕ) (node : List ℕ) (s : Reading) → InNode bytes k front path before at node s → UpToLeft path before m node s.found → HasCharacter m →
       InTable bytes (reading.character inner at m path s)
   character-found front path before at m node s n h there =
       part-found front path before at m node s (character_of at m s) n h there (character_of-found bytes k front path before at m node s some n h there)
-      (λ d e. character_of-read at m s d n.behind.are e)
+      (λ d e. character_of-read at m s d n.following.are e)
 
   -- after what belongs to a character
   right-found : (front path : List ℕ) (before : List Symbol) (at m : ℕ) (node name : List ℕ) (found : List Symbol) (middle : List ℕ) (below : List Symbol) (v : Reading) → IsDue front path before →
-      UpToSymbol path before m node name found → IsSubtrie (table.flag 0x20 m) name middle below → v.found ≡ found ++ below → table.flag 0x10 m ≡ 1 → Behind bytes k (front ++ (node ++ middle)) v → InTable bytes (inner path v)
+      UpToSymbol path before m node name found → IsSubtrie (table.flag 0x20 m) name middle below → v.found ≡ found ++ below → table.flag 0x10 m ≡ 1 → IsAfter bytes k (front ++ (node ++ middle)) v → InTable bytes (inner path v)
   right-found front path before at m node name found middle below v due u hm grown right b =
       finds (front ++ (node ++ middle)) path v b (subst (λ f. IsDue (front ++ (node ++ middle)) path f) (sym grown)
       (IsDue.right front path before m node name found middle below due u hm (subst AreDistinct grown b.distinct) right))
@@ -274,24 +274,24 @@ module _ (bytes : List ℕ) (some : 0 < length bytes) (k : ℕ) (inner : List �
       let f = further bytes k front path before at node (character ++ middle) s v below n b in
       let u = UpToSymbol.none path before m (node ++ character) (path ++ name) s.found (UpToCharacter.character path before m node s.found name character h there (wide-bit m spelt) fits) none in
       right-found front path before at m (node ++ character) (path ++ name) s.found middle below v n.due u (subst (λ l. IsSubtrie l (path ++ name) middle below) (bit-is 0x20 m) hm) b.grown right
-      (subst (λ p. Behind bytes k (front ++ p) v) (sym (append_assoc node character middle)) f.behind)
+      (subst (λ p. IsAfter bytes k (front ++ p) v) (sym (append_assoc node character middle)) f.following)
   named-right front path before at m node s v n h there (NameRead.a-name name character value serial told counted middle below spelt fits hv hs hm b) right =
       let own : Symbol = record { name = path ++ name; value = value; serial = serial } in
       let f = further bytes k front path before at node (character ++ ((told ++ counted) ++ middle)) s v (own ∷ below) n b in
       let grown : v.found ≡ (s.found ++ own ∷ []) ++ below = b.grown ∙ sym (append_assoc s.found (own ∷ []) below) in
       let u = UpToSymbol.symbol path before m (node ++ character) (path ++ name) s.found value serial told counted
       (UpToCharacter.character path before m node s.found name character h there (wide-bit m spelt) fits) hv hs
-      (distinct-front (s.found ++ own ∷ []) below (subst AreDistinct grown f.behind.distinct)) in
+      (distinct-front (s.found ++ own ∷ []) below (subst AreDistinct grown f.following.distinct)) in
       right-found front path before at m (node ++ character ++ told ++ counted) (path ++ name) (s.found ++ own ∷ []) middle below v n.due u
       (subst (λ l. IsSubtrie l (path ++ name) middle below) (bit-is 0x20 m) hm) grown right
-      (subst (λ p. Behind bytes k (front ++ p) v) (in-node node character told counted middle) f.behind)
+      (subst (λ p. IsAfter bytes k (front ++ p) v) (in-node node character told counted middle) f.following)
     where
       in-node : (node character told counted middle : List ℕ) → node ++ (character ++ ((told ++ counted) ++ middle)) ≡ (node ++ character ++ told ++ counted) ++ middle
       in-node node character told counted middle = simp append_assoc
 
   -- what is in a node after its left subtrie
   rest-found : (front path : List ℕ) (before : List Symbol) (at m : ℕ) (node : List ℕ) (s : Reading) → InNode bytes k front path before at node s → UpToLeft path before m node s.found → InTable bytes (node_rest inner at m path s)
-  rest-found front path before at m node s n h = one (has_character m) (has-one m) (has-none m) (λ v e. character-read inner sounds at m path s v n.behind.are e)
+  rest-found front path before at m node s n h = one (has_character m) (has-one m) (has-none m) (λ v e. character-read inner sounds at m path s v n.following.are e)
     where
       one : (b : Bool) → (b ≡ true → HasCharacter m) → (b ≡ false → ¬ HasCharacter m) → ((v : Reading) → reading.character inner at m path s ≡ Ok v → NameRead m path s v) →
           InTable bytes (and_then (part_if (has 0x10 m) (inner path)) (part_if b (reading.character inner at m path) s))
@@ -299,26 +299,26 @@ module _ (bytes : List ℕ) (some : 0 < length bytes) (k : ℕ) (inner : List �
           table-then bytes (part_if (has 0x10 m) (inner path)) (reading.character inner at m path s) (character-found front path before at m node s n h (some refl))
           (λ v e. table-if bytes (has 0x10 m) (inner path) v (λ right. named-right front path before at m node s v n h (some refl) (read v e) (eqb-true (table.flag 0x10 m) 1 right)))
       one false some none read =
-          table-if bytes (has 0x10 m) (inner path) s (λ right. finds (front ++ node) path s n.behind
+          table-if bytes (has 0x10 m) (inner path) s (λ right. finds (front ++ node) path s n.following
           (IsDue.right_of_bare front path before m node s.found n.due h (none refl) (eqb-true (table.flag 0x10 m) 1 right)))
 
-  left-found : (front path : List ℕ) (before : List Symbol) (at m : ℕ) (s u : Reading) → at ≡ length front → IsDue front path before → Behind bytes k (front ++ m ∷ []) s → s.found ≡ before → ¬ IsWideBare m →
+  left-found : (front path : List ℕ) (before : List Symbol) (at m : ℕ) (s u : Reading) → at ≡ length front → IsDue front path before → IsAfter bytes k (front ++ m ∷ []) s → s.found ≡ before → ¬ IsWideBare m →
       part_if (has 0x40 m) (inner path) s ≡ Ok u → InTable bytes (node_rest inner at m path u)
   left-found front path before at m s u place due b same narrow e =
       let left = sounds-if (has 0x40 m) inner sounds path s u b.are e in
-      let n : InNode bytes k front path before at (m ∷ []) s = record { due = due; node-place = place; behind = b } in
+      let n : InNode bytes k front path before at (m ∷ []) s = record { due = due; node-place = place; following = b } in
       let f = further bytes k front path before at (m ∷ []) left.bytes s u left.symbols n left.between in
       let grown : u.found ≡ before ++ left.symbols = left.between.grown ∙ ap (λ f. f ++ left.symbols) same in
       rest-found front path before at m (m ∷ left.bytes) u f (subst (λ f. UpToLeft path before m (m ∷ left.bytes) f) (sym grown)
-      (UpToLeft.left path before m left.bytes left.symbols narrow (subst (λ l. IsSubtrie l path left.bytes left.symbols) (bit-is 0x40 m) left.is) (subst AreDistinct grown f.behind.distinct)))
+      (UpToLeft.left path before m left.bytes left.symbols narrow (subst (λ l. IsSubtrie l path left.bytes left.symbols) (bit-is 0x40 m) left.is) (subst AreDistinct grown f.following.distinct)))
 
-  node-found : (front path : List ℕ) (at : ℕ) (found : List Symbol) (rest : List ℕ) → Behind bytes (suc k) front (record { at = at; rest = rest; found = found }) → IsDue front path found →
+  node-found : (front path : List ℕ) (at : ℕ) (found : List Symbol) (rest : List ℕ) → IsAfter bytes (suc k) front (record { at = at; rest = rest; found = found }) → IsDue front path found →
       InTable bytes (node inner path at found rest)
   node-found front path at found [] b due =
       cut bytes front path [] found at b.split due EndsWithin.at_byte some (omega (arith, end-is bytes (suc k) front _ b))
   node-found front path at found (m ∷ rest) b due =
       let s : Reading = record { at = at + 1; rest = rest; found = found } in
-      let next : Behind bytes k (front ++ m ∷ []) s = record {
+      let next : IsAfter bytes k (front ++ m ∷ []) s = record {
         split = b.split ∙ sym (append_assoc front (m ∷ []) rest);
         place = omega (arith, b.place, length-append front (m ∷ []));
         are = b.are.1;

@@ -3,7 +3,7 @@ use Rattle.std.proofs.Common.{◌≡◌, ◌≢◌, ℕ, ◌+◌, ◌*◌, ◌%�
 use Rattle.mx_stab.proofs.Words.{cond-false, cond-true, lt-ltb, lt-leb, le-leb, bytes_eq-Decides, Symbol, StabFault, Truncated, Padding, Wide, Twice, TooLong, BadSerial, CountsTooFar, EndsWithin, FaultOf, HasCharacter, IsDue, IsTooDeep, LacksWide, NamesAgain, UpToCharacter, UpToLeft, flag, AreBelow, AreDistinct, IsSubtrie, number, Reading, Answer, and_then, part_if, is_among, value_size, serial_after, symbol_with, symbol, has, is_wide_bare, character_of, character_part, with_character, node_rest, next_subtrie, is_padding, symbols_at_end, start, trie_answer, nat_tests}
 use Rattle.mx_stab.specs.Faults.{place_of}
 use Rattle.mx_stab.specs.Reading as reading
-use Rattle.mx_stab.proofs.NodeParts.{behind-character, behind-left, behind-symbol, character-none, character-there, not-bare, there, wide-bare}
+use Rattle.mx_stab.proofs.NodeParts.{after-left, character-none, character-there, following-character, following-symbol, not-bare, there, wide-bare}
 use Rattle.mx_stab.proofs.Parts.{next-node}
 use Rattle.mx_stab.proofs.Sound.{padding-zeros}
 use Rattle.mx_stab.proofs.Whole.{character-is, read-some, serial-fits, serial-spelt, serial-told, some-bytes, symbol-valued, tells-subtrie}
@@ -23,20 +23,20 @@ due-met (IsDue.left front path before m h narrow left) rest fault e =
     ∙ ap (λ at. next_subtrie path (due_at at rest before)) (sym (length-append front (m ∷ []))) ∙ e))
 due-met (IsDue.middle front path before m node name found h k below) rest fault e =
     ap (λ bytes. next_subtrie [] (start bytes)) (append_assoc front node rest)
-    ∙ due-met h (node ++ rest) fault (behind-symbol k (length front) rest
+    ∙ due-met h (node ++ rest) fault (following-symbol k (length front) rest
     ∙ ap (and_then (part_if (has 0x10 m) (next_subtrie path))) (there (next_subtrie name) (due_at (length front + length node) rest found) below
     ∙ ap (λ at. next_subtrie name (due_at at rest found)) (sym (length-append front node)) ∙ e))
 due-met (IsDue.right_of_bare front path before m node found h k none right) rest fault e =
     let s = due_at (length front + length node) rest found in
     ap (λ bytes. next_subtrie [] (start bytes)) (append_assoc front node rest)
-    ∙ due-met h (node ++ rest) fault (behind-left k (length front) rest
+    ∙ due-met h (node ++ rest) fault (after-left k (length front) rest
     ∙ ap (λ b. and_then (part_if (has 0x10 m) (next_subtrie path)) (part_if b (reading.character next_subtrie (length front) m path) s)) (character-none m none)
     ∙ there (next_subtrie path) s right
     ∙ ap (λ at. next_subtrie path (due_at at rest found)) (sym (length-append front node)) ∙ e)
 due-met (IsDue.right front path before m node name found middle symbols h k below distinct right) rest fault e =
     let s = due_at (length front + length node) (middle ++ rest) found in
     ap (λ bytes. next_subtrie [] (start bytes)) (append_assoc front (node ++ middle) rest ∙ ap (λ bytes. front ++ bytes) (append_assoc node middle rest))
-    ∙ due-met h (node ++ (middle ++ rest)) fault (behind-symbol k (length front) (middle ++ rest)
+    ∙ due-met h (node ++ (middle ++ rest)) fault (following-symbol k (length front) (middle ++ rest)
     ∙ ap (and_then (part_if (has 0x10 m) (next_subtrie path))) (tells-subtrie below s rest refl distinct)
     ∙ there (next_subtrie path) (due_at (length front + length node + length middle) rest (found ++ symbols)) right
     ∙ ap (λ at. next_subtrie path (due_at at rest (found ++ symbols))) (omega (arith, length-append front (node ++ middle), length-append node middle)) ∙ e)
@@ -44,7 +44,7 @@ due-met (IsDue.right front path before m node name found middle symbols h k belo
 -- at the character of a node
 at-character : {path : List ℕ} {before : List Symbol} {m : ℕ} {node : List ℕ} {found : List Symbol} → UpToLeft path before m node found → HasCharacter m → (at : ℕ) (rest : List ℕ) →
     next_subtrie path (due_at at (node ++ rest) before) ≡ and_then (part_if (has 0x10 m) (next_subtrie path)) (reading.character next_subtrie at m path (due_at (at + length node) rest found))
-at-character {path} {before} {m} {node} {found} h some at rest = cc (behind-left h at rest, character-there m some)
+at-character {path} {before} {m} {node} {found} h some at rest = cc (after-left h at rest, character-there m some)
 
 marked : (m : ℕ) → flag 0x80 m ≡ 1 → has 0x80 m ≡ true
 marked m h = ap (λ n. n == 1) h
@@ -62,7 +62,7 @@ at-serial : {path : List ℕ} {before : List Symbol} {m : ℕ} {node name : List
     next_subtrie path (due_at at (node ++ told ++ rest) before) ≡ and_then (part_if (has 0x10 m) (next_subtrie path)) (and_then (part_if (has 0x20 m) (next_subtrie name)) a)
 at-serial {path} {before} {m} {node} {name} {found} h told at rest a e =
     ap (λ bytes. next_subtrie path (due_at at bytes before)) (append_assoc node told rest)
-    ∙ behind-character h at (told ++ rest)
+    ∙ following-character h at (told ++ rest)
     ∙ ap (λ a. and_then (part_if (has 0x10 m) (next_subtrie path)) (and_then (part_if (has 0x20 m) (next_subtrie name)) a)) e
 
 -- the bytes end within a node
@@ -73,7 +73,7 @@ ends-met {path} (EndsWithin.at_character m node rest found h some few) at =
     ∙ ap (λ c. and_then (part_if (has 0x10 m) (next_subtrie path)) (with_character (character_part next_subtrie at m path) c)) (cut-character at m (at + length node) found rest few)
     ∙ ap (λ n. Err (Truncated n)) (omega (arith, length-append node rest))
 ends-met {path} (EndsWithin.at_value m node name rest found h some few) at =
-    grind (arith, nat_tests, behind-character h at rest, lt-ltb (length rest) (value_size (m % 16)) few, length-append node rest)
+    grind (arith, nat_tests, following-character h at rest, lt-ltb (length rest) (value_size (m % 16)) few, length-append node rest)
 ends-met {path} (EndsWithin.at_serial m node name found value told digits h v below) at =
     let s = due_at (at + length node) (told ++ digits) found in
     at-serial h told at digits _ (symbol-valued (m % 16) at name value told digits s v refl ∙ ap (symbol_with at name value s) (no-serial 0 digits below))
@@ -124,8 +124,8 @@ no-padding : (rest : List ℕ) → ((zeros : ℕ) → zeros ≤ 3 → rest ≢ r
 no-padding rest h = search (rules, padding-zeros)
 
 -- other bytes after a trie
-read-behind : (trie rest : List ℕ) (symbols : List Symbol) → IsSubtrie 1 [] trie symbols → AreDistinct symbols → is_padding rest ≡ false → trie_answer (trie ++ rest) ≡ Err (Padding (length trie))
-read-behind trie rest symbols h distinct none =
+read-after : (trie rest : List ℕ) (symbols : List Symbol) → IsSubtrie 1 [] trie symbols → AreDistinct symbols → is_padding rest ≡ false → trie_answer (trie ++ rest) ≡ Err (Padding (length trie))
+read-after trie rest symbols h distinct none =
     read-some (trie ++ rest) (omega (arith, length-append trie rest, some-bytes h (omega arith)))
     ∙ ap symbols_at_end (tells-subtrie h (start (trie ++ rest)) rest refl distinct)
     ∙ cond-false (is_padding rest) _ _ none ∙ ap (λ n. Err (Padding n)) (zero-add (length trie))
@@ -136,7 +136,7 @@ fault-met (FaultOf.cut_off front path rest before h k some) =
     read-some (front ++ rest) some
     ∙ ap symbols_at_end (due-met h rest (Truncated (length front + length rest)) (ends-met k (length front)))
     ∙ ap (λ n. Err (Truncated n)) (sym (length-append front rest))
-fault-met (FaultOf.padding trie rest symbols h distinct none) = read-behind trie rest symbols h distinct (no-padding rest none)
+fault-met (FaultOf.padding trie rest symbols h distinct none) = read-after trie rest symbols h distinct (no-padding rest none)
 fault-met (FaultOf.wide front path rest before h k) = read-fault (front ++ rest) (Wide (length front)) (λ e. cc) (due-met h rest _ (wide-met k (length front)))
 fault-met (FaultOf.twice front path rest before h k) = read-fault (front ++ rest) (Twice (length front)) (λ e. cc) (due-met h rest _ (again-met k (length front)))
 fault-met (FaultOf.too_long front path rest before h k) = read-fault (front ++ rest) (TooLong (length front)) (λ e. cc) (due-met h rest _ (deep-met k (length front)))

@@ -5,7 +5,7 @@ use Rattle.std.proofs.Math.Seq.{take-suc}
 use Rattle.mx_stab.specs.Grammar.IsSubtrie.{none, bare, passage, symbol}
 use Rattle.mx_stab.specs.Grammar.IsTrie.{empty, whole}
 use Rattle.mx_stab.specs.Grammar.SpellsCharacter.{one_byte}
-use Rattle.mx_stab.proofs.Orders.{AreInOrder, Below, all-front, all-back, in-order, order-front, order-back, no-front-behind, in-order-distinct}
+use Rattle.mx_stab.proofs.Orders.{AreInOrder, Below, all-front, all-back, in-order, order-front, order-back, no-front-after, in-order-distinct}
 use Rattle.mx_stab.proofs.Groups.{has_symbols-groups_of, trie-none}
 use Rattle.mx_stab.proofs.Spelt.{spell-value, spell-serial}
 
@@ -71,7 +71,7 @@ goes-on path s t u v e b = elim (cases_lt (length path + 1) (length t.name)) [
   | inl l ↦ l
   | inr l ↦
       let same : take (length path + 1) s.name ≡ t.name = next-path path s u ∙ ap (λ x. path ++ x ∷ []) (sym e) ∙ sym (next-path path t v) ∙ take-whole (length path + 1) t.name l in
-      absurd (no-front-behind (length path + 1) s.name t.name b same)
+      absurd (no-front-after (length path + 1) s.name t.name b same)
 ]
 
 more-below : (path : List ℕ) (s : Symbol) (more : List Symbol) → Under path s → AreUnder path more →

@@ -37,21 +37,21 @@ pub there : {n : ℕ} (part : Reading → Answer) (s : Reading) → n ≡ 1 → 
 there part s e = ap (λ n. part_if (n == 1) part s) e
 
 -- after the left subtrie of a node
-pub behind-left : {path : List ℕ} {before : List Symbol} {m : ℕ} {bytes : List ℕ} {found : List Symbol} → UpToLeft path before m bytes found → (at : ℕ) (rest : List ℕ) →
+pub after-left : {path : List ℕ} {before : List Symbol} {m : ℕ} {bytes : List ℕ} {found : List Symbol} → UpToLeft path before m bytes found → (at : ℕ) (rest : List ℕ) →
     next_subtrie path (record { at = at; rest = bytes ++ rest; found = before }) ≡ node_rest next_subtrie at m path (record { at = at + length bytes; rest = rest; found = found })
-behind-left (UpToLeft.left path before m left symbols narrow h distinct) at rest =
+after-left (UpToLeft.left path before m left symbols narrow h distinct) at rest =
     next-node path at before (m ∷ left ++ rest) ∙ cond-false (is_wide_bare m) _ _ (not-bare m narrow)
     ∙ ap (and_then (node_rest next_subtrie at m path)) (tells-subtrie h (record { at = at + 1; rest = left ++ rest; found = before }) rest refl distinct)
     ∙ ap (λ place. node_rest next_subtrie at m path (record { at = place; rest = rest; found = before ++ symbols })) (omega arith)
 
 -- after its character
-pub behind-character : {path : List ℕ} {before : List Symbol} {m : ℕ} {bytes name : List ℕ} {found : List Symbol} → UpToCharacter path before m bytes name found → (at : ℕ) (rest : List ℕ) →
+pub following-character : {path : List ℕ} {before : List Symbol} {m : ℕ} {bytes name : List ℕ} {found : List Symbol} → UpToCharacter path before m bytes name found → (at : ℕ) (rest : List ℕ) →
     next_subtrie path (record { at = at; rest = bytes ++ rest; found = before }) ≡ and_then (part_if (has 0x10 m) (next_subtrie path))
     (and_then (part_if (has 0x20 m) (next_subtrie name)) (symbol (m % 16) at name (record { at = at + length bytes; rest = rest; found = found })))
-behind-character (UpToCharacter.character path before m front found name character h some spelt short) at rest =
+following-character (UpToCharacter.character path before m front found name character h some spelt short) at rest =
     let s : Reading = record { at = at + length front; rest = character ++ rest; found = found } in
     ap (λ bytes. next_subtrie path (record { at = at; rest = bytes; found = before })) (append_assoc front character rest)
-    ∙ behind-left h at (character ++ rest)
+    ∙ after-left h at (character ++ rest)
     ∙ ap (and_then (part_if (has 0x10 m) (next_subtrie path)))
     (ap (λ b. part_if b (reading.character next_subtrie at m path) s) (character-there m some)
     ∙ ap (with_character (character_part next_subtrie at m path)) (character-is spelt at m s rest (omega arith) refl)
@@ -59,16 +59,16 @@ behind-character (UpToCharacter.character path before m front found name charact
     ∙ ap (λ place. and_then (part_if (has 0x20 m) (next_subtrie (path ++ name))) (symbol (m % 16) at (path ++ name) (record { at = place; rest = rest; found = found }))) (omega (arith, length-append front character)))
 
 -- after its symbol
-pub behind-symbol : {path : List ℕ} {before : List Symbol} {m : ℕ} {bytes name : List ℕ} {found : List Symbol} → UpToSymbol path before m bytes name found → (at : ℕ) (rest : List ℕ) →
+pub following-symbol : {path : List ℕ} {before : List Symbol} {m : ℕ} {bytes name : List ℕ} {found : List Symbol} → UpToSymbol path before m bytes name found → (at : ℕ) (rest : List ℕ) →
     next_subtrie path (record { at = at; rest = bytes ++ rest; found = before }) ≡ and_then (part_if (has 0x10 m) (next_subtrie path))
     (part_if (has 0x20 m) (next_subtrie name) (record { at = at + length bytes; rest = rest; found = found }))
-behind-symbol (UpToSymbol.none path before m bytes name found h no-name) at rest =
-    behind-character h at rest
+following-symbol (UpToSymbol.none path before m bytes name found h no-name) at rest =
+    following-character h at rest
     ∙ ap (λ k. and_then (part_if (has 0x10 m) (next_subtrie path)) (and_then (part_if (has 0x20 m) (next_subtrie name)) (symbol k at name (record { at = at + length bytes; rest = rest; found = found })))) no-name
-behind-symbol (UpToSymbol.symbol path before m front name found value serial told counted h hv hs distinct) at rest =
+following-symbol (UpToSymbol.symbol path before m front name found value serial told counted h hv hs distinct) at rest =
     let own : Symbol = record { name = name; value = value; serial = serial } in
     ap (λ bytes. next_subtrie path (record { at = at; rest = bytes; found = before })) (in-line front told counted rest)
-    ∙ behind-character h at ((told ++ counted) ++ rest)
+    ∙ following-character h at ((told ++ counted) ++ rest)
     ∙ ap (λ a. and_then (part_if (has 0x10 m) (next_subtrie path)) (and_then (part_if (has 0x20 m) (next_subtrie name)) a))
     (tells-symbol (m % 16) serial at name value told counted hv hs (record { at = at + length front; rest = (told ++ counted) ++ rest; found = found }) rest refl distinct)
     ∙ ap (λ place. and_then (part_if (has 0x10 m) (next_subtrie path)) (part_if (has 0x20 m) (next_subtrie name) (record { at = place; rest = rest; found = found ++ own ∷ [] })))

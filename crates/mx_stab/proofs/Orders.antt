@@ -25,23 +25,23 @@ abbrev pub AreInOrder : List Symbol → Type 0
 AreInOrder [] = Unit {0}
 AreInOrder (s ∷ more) = AllByRecursion (λ (t : Symbol). Below s.name t.name) more × AreInOrder more
 
-names-behind : (name : List ℕ) (more : List Symbol) → AllByRecursion (λ y. slice_cmp nat_cmp name y ≡ Less) (map (λ (s : Symbol). s.name) more) → AllByRecursion (λ (t : Symbol). Below name t.name) more
-names-behind name [] h = tt
-names-behind name (t ∷ more) h = (h.0, names-behind name more h.1)
+names-after : (name : List ℕ) (more : List Symbol) → AllByRecursion (λ y. slice_cmp nat_cmp name y ≡ Less) (map (λ (s : Symbol). s.name) more) → AllByRecursion (λ (t : Symbol). Below name t.name) more
+names-after name [] h = tt
+names-after name (t ∷ more) h = (h.0, names-after name more h.1)
 
-behind-names : (name : List ℕ) (more : List Symbol) → AllByRecursion (λ (t : Symbol). Below name t.name) more → AllByRecursion (λ y. slice_cmp nat_cmp name y ≡ Less) (map (λ (s : Symbol). s.name) more)
-behind-names name [] h = tt
-behind-names name (t ∷ more) h = (h.0, behind-names name more h.1)
+after-names : (name : List ℕ) (more : List Symbol) → AllByRecursion (λ (t : Symbol). Below name t.name) more → AllByRecursion (λ y. slice_cmp nat_cmp name y ≡ Less) (map (λ (s : Symbol). s.name) more)
+after-names name [] h = tt
+after-names name (t ∷ more) h = (h.0, after-names name more h.1)
 
 pub in-order : (symbols : List Symbol) → InByteOrder symbols → AreInOrder symbols
 unfolding IsStrictlySortedBy
 in-order [] h = tt
-in-order (s ∷ more) h = (names-behind s.name more h.0, in-order more h.1)
+in-order (s ∷ more) h = (names-after s.name more h.0, in-order more h.1)
 
 pub in-byte-order : (symbols : List Symbol) → AreInOrder symbols → InByteOrder symbols
 unfolding IsStrictlySortedBy
 in-byte-order [] h = tt
-in-byte-order (s ∷ more) h = (behind-names s.name more h.0, in-byte-order more h.1)
+in-byte-order (s ∷ more) h = (after-names s.name more h.0, in-byte-order more h.1)
 
 pub order-front : (xs ys : List Symbol) → AreInOrder (xs ++ ys) → AreInOrder xs
 order-front [] ys h = tt
@@ -66,17 +66,17 @@ not-same (a ∷ xs) (b ∷ ys) h e =
 not-same a b h e = absurd (cc)
 
 -- no name is below one that it begins with
-pub no-front-behind : (n : ℕ) (a b : List ℕ) → Below a b → take n a ≡ b → ⊥
-no-front-behind n [] [] h e = absurd (cc)
-no-front-behind zero [] (b ∷ ys) h e = absurd (cc)
-no-front-behind (suc n) (a ∷ xs) (b ∷ ys) h e =
+pub no-front-after : (n : ℕ) (a b : List ℕ) → Below a b → take n a ≡ b → ⊥
+no-front-after n [] [] h e = absurd (cc)
+no-front-after zero [] (b ∷ ys) h e = absurd (cc)
+no-front-after (suc n) (a ∷ xs) (b ∷ ys) h e =
     let first : a ≡ b = cc in
     let rest : take n xs ≡ ys = cc in
     elim (below-first a b xs ys h) [
       | inl l ↦ absurd (omega (arith, first, l))
-      | inr p ↦ no-front-behind n xs ys p.1 rest
+      | inr p ↦ no-front-after n xs ys p.1 rest
     ]
-no-front-behind n a b h e = absurd (cc)
+no-front-after n a b h e = absurd (cc)
 
 distinct-first : (s : Symbol) (more : List Symbol) → AllByRecursion (λ (t : Symbol). Below s.name t.name) more → AllByRecursion (λ (t : Symbol). s.name ≢ t.name) more
 distinct-first s [] h = tt

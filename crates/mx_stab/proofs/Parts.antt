@@ -25,26 +25,26 @@ reads-if : (b : Bool) (part : Reading → Answer) → Reads part → Reads (part
 reads-if b part h = grind arith
 
 -- a serial number leaves less
-abbrev pub LeavesBehind : ℕ → Option (ℕ × List ℕ) → Type 0
-LeavesBehind n None = Unit {0}
-LeavesBehind n (Some (serial, more)) = length more ≤ n
+abbrev pub LeavesAtMost : ℕ → Option (ℕ × List ℕ) → Type 0
+LeavesAtMost n None = Unit {0}
+LeavesAtMost n (Some (serial, more)) = length more ≤ n
 
-pub behind-more : (n m : ℕ) (r : Option (ℕ × List ℕ)) → n ≤ m → LeavesBehind n r → LeavesBehind m r
-behind-more n m r h1 h2 = grind arith
+pub after-more : (n m : ℕ) (r : Option (ℕ × List ℕ)) → n ≤ m → LeavesAtMost n r → LeavesAtMost m r
+after-more n m r h1 h2 = grind arith
 
-pub serial-leaves : (x : ℕ) (bytes : List ℕ) → LeavesBehind (length bytes) (serial_after x bytes)
+pub serial-leaves : (x : ℕ) (bytes : List ℕ) → LeavesAtMost (length bytes) (serial_after x bytes)
 serial-leaves x [] = tt
 serial-leaves x (b ∷ more) = grind (arith, nat_tests, serial-leaves (x * 128 + b) more)
 
-symbol_with-leaves : (n node : ℕ) (name : List ℕ) (value : Value) (s : Reading) (r : Option (ℕ × List ℕ)) → LeavesBehind n r → Leaves n (symbol_with node name value s r)
+symbol_with-leaves : (n node : ℕ) (name : List ℕ) (value : Value) (s : Reading) (r : Option (ℕ × List ℕ)) → LeavesAtMost n r → Leaves n (symbol_with node name value s r)
 symbol_with-leaves n node name value s r h = grind arith
 
 symbol-reads : (kind node : ℕ) (name : List ℕ) → Reads (symbol kind node name)
-symbol-reads kind node name s = search (rules, leaves-cond, symbol_with-leaves, behind-more, length-drop, serial-leaves)
+symbol-reads kind node name s = search (rules, leaves-cond, symbol_with-leaves, after-more, length-drop, serial-leaves)
 
 -- a character leaves less
 abbrev LeavesCharacter : ℕ → Result Character StabFault → Type 0
-LeavesCharacter n (Ok c) = length c.behind.rest ≤ n
+LeavesCharacter n (Ok c) = length c.following.rest ≤ n
 LeavesCharacter n (Err fault) = Unit {0}
 
 one_byte-leaves : (at : ℕ) (found : List Symbol) (bytes : List ℕ) → LeavesCharacter (length bytes) (one_byte at found bytes)

@@ -183,12 +183,12 @@ sounds-if false inner h path s t b e = record { bytes = []; symbols = []; betwee
 pub record CharacterRead (wide : ℕ) (s : Reading) (c : Character) : Type 0 where
   pub bytes : List ℕ
   pub is : SpellsCharacter wide c.name bytes
-  pub between : Between s c.behind bytes []
+  pub between : Between s c.following bytes []
 
 one_byte-read : (at : ℕ) (found : List Symbol) (bytes : List ℕ) (c : Character) → AreBytes bytes → reading.one_byte at found bytes ≡ Ok c → CharacterRead 0 (record { at = at; rest = bytes; found = found }) c
 one_byte-read at found [] c b e = absurd (cc)
 one_byte-read at found (d ∷ rest) c b e =
-    let own : Character = record { name = d ∷ []; behind = record { at = at + 1; rest = rest; found = found } } in
+    let own : Character = record { name = d ∷ []; following = record { at = at + 1; rest = rest; found = found } } in
     let same : own ≡ c = cc in
     subst (CharacterRead 0 (record { at = at; rest = d ∷ rest; found = found })) same
     (record { bytes = d ∷ []; is = grammar.SpellsCharacter.one_byte d b.0; between = record { split = refl; place = refl; grown = sym (append-nil found); distinct = λ d. d } })
@@ -197,7 +197,7 @@ two_bytes-read : (node at : ℕ) (found : List Symbol) (bytes : List ℕ) (c : C
 two_bytes-read node at found (high ∷ low ∷ rest) c b e = one (is_wide_character (wide_number high low)) refl e
   where
     own : Character
-    own = record { name = encode_utf8 (wide_number high low); behind = record { at = at + 2; rest = rest; found = found } }
+    own = record { name = encode_utf8 (wide_number high low); following = record { at = at + 2; rest = rest; found = found } }
 
     one : (p : Bool) → is_wide_character (wide_number high low) ≡ p → cond p (Ok own) (Err (Wide node)) ≡ Ok c → CharacterRead 0x80 (record { at = at; rest = high ∷ low ∷ rest; found = found }) c
     one false is e = absurd (cc)
@@ -229,8 +229,8 @@ one-byte at c rest found = record { split = refl; place = refl; grown = sym (app
 below-name : (m : ℕ) (path : List ℕ) (s t : Reading) → NameRead m path s t → AreBytes s.rest → AreBytes t.rest
 below-name m path s t h1 h2 = search (rules, below-rest)
 
-symbol-then : (inner : List ℕ → Reading → Answer) → Sounds inner → (m : ℕ) (path : List ℕ) (s : Reading) (c : Character) (u t : Reading) → CharacterRead (0x80 * flag (has 0x80 m)) s c → length (path ++ c.name) ≤ 1024 → AreBytes c.behind.rest →
-    SymbolRead (m % 16) (path ++ c.name) c.behind u → part_if (has 0x20 m) (inner (path ++ c.name)) u ≡ Ok t → NameRead m path s t
+symbol-then : (inner : List ℕ → Reading → Answer) → Sounds inner → (m : ℕ) (path : List ℕ) (s : Reading) (c : Character) (u t : Reading) → CharacterRead (0x80 * flag (has 0x80 m)) s c → length (path ++ c.name) ≤ 1024 → AreBytes c.following.rest →
+    SymbolRead (m % 16) (path ++ c.name) c.following u → part_if (has 0x20 m) (inner (path ++ c.name)) u ≡ Ok t → NameRead m path s t
 symbol-then inner h m path s c u t spelt short b (no-symbol none k) e =
     let w = sounds-if (has 0x20 m) inner h (path ++ c.name) u t (below-rest _ u [] [] k b) e in
     no-name c.name spelt.bytes w.bytes w.symbols spelt.is short none w.is
@@ -246,11 +246,11 @@ character_part-read : (inner : List ℕ → Reading → Answer) → Sounds inner
 character_part-read inner h place m path s (Err fault) t b r e = absurd (cc)
 character_part-read inner h place m path s (Ok c) t b r e =
     let k = r c refl in
-    let b1 = below-rest s c.behind k.bytes [] k.between b in
+    let b1 = below-rest s c.following k.bytes [] k.between b in
     let short = not-refused (nat_lt 1024 (length (path ++ c.name))) _ _ t e in
-    let w = went-through (part_if (has 0x20 m) (inner (path ++ c.name))) (symbol (m % 16) place (path ++ c.name) c.behind) t short.1 in
+    let w = went-through (part_if (has 0x20 m) (inner (path ++ c.name))) (symbol (m % 16) place (path ++ c.name) c.following) t short.1 in
     symbol-then inner h m path s c w.middle t k (ltb-false 1024 (length (path ++ c.name)) short.0) b1
-    (symbol-read (m % 16) place (path ++ c.name) c.behind w.middle (omega arith) b1 w.first) w.second
+    (symbol-read (m % 16) place (path ++ c.name) c.following w.middle (omega arith) b1 w.first) w.second
 
 pub character-read : (inner : List ℕ → Reading → Answer) → Sounds inner → (place m : ℕ) (path : List ℕ) (s t : Reading) → AreBytes s.rest → reading.character inner place m path s ≡ Ok t → NameRead m path s t
 character-read inner h place m path s t b e = character_part-read inner h place m path s (character_of place m s) t b (λ d is. character_of-read place m s d b is) e

@@ -63,7 +63,7 @@ after-symbol path name = grind (arith, common_steps, nat_tests)
 -- what is in a node after its left subtrie, by its character
 after-character : (node m : ℕ) (path : List ℕ) (s : Reading) (c : Result Character StabFault) → c ≡ character_of node m s → has_character m ≡ true →
     with_path path (node_rest next_subtrie node m path s) ≡ and_next (after_character (length path) node m) (longer_path path c)
-after-character node m path s (Ok c) e h = grind (arith, nat_tests, after-symbol path c.name m (symbol (m % 16) node (path ++ c.name) c.behind))
+after-character node m path s (Ok c) e h = grind (arith, nat_tests, after-symbol path c.name m (symbol (m % 16) node (path ++ c.name) c.following))
 after-character node m path s (Err fault) e h = cc
 
 pub rest-went : (before : List Due) (old new : Point) (came : Progress) (depth node m : ℕ) → has_character m ≡ true → depth ≡ length old.path → Ok new ≡ longer_path old.path (character_of node m old.reading) →
@@ -76,16 +76,16 @@ pub symbol-went : (before due : List Due) (old new : Point) (depth node m : ℕ)
 symbol-went before due old new depth node m l e noted = search (rules, all-append, cond-false, le-ltb)
 
 -- one part that was due was taken
-taken-behind : (before whole : List Due) (next : Due) (p : Point) → whole ≡ before ++ next ∷ [] → after_all whole p ≡ and_next (after_all before) (after_due next p)
-taken-behind before whole next p e = ap (λ due. after_all due p) e ∙ all-append before (next ∷ []) p
+taken-after : (before whole : List Due) (next : Due) (p : Point) → whole ≡ before ++ next ∷ [] → after_all whole p ≡ and_next (after_all before) (after_due next p)
+taken-after before whole next p e = ap (λ due. after_all due p) e ∙ all-append before (next ∷ []) p
 
 pub taken-same : (before after whole : List Due) (next : Due) (p q : Point) (w : Answer) → whole ≡ before ++ next ∷ [] → after_all after q ≡ and_next (after_all before) (after_due next p) →
     reading_of (after_all whole p) ≡ w → reading_of (after_all after q) ≡ w
-taken-same before after whole next p q w e h k = ap reading_of (h ∙ sym (taken-behind before whole next p e)) ∙ k
+taken-same before after whole next p q w e h k = ap reading_of (h ∙ sym (taken-after before whole next p e)) ∙ k
 
 pub taken-failed : (before whole : List Due) (next : Due) (p : Point) (w : Answer) (fault : StabFault) → whole ≡ before ++ next ∷ [] → Err fault ≡ and_next (after_all before) (after_due next p) →
     reading_of (after_all whole p) ≡ w → Err fault ≡ w
-taken-failed before whole next p w fault e h k = ap reading_of (h ∙ sym (taken-behind before whole next p e)) ∙ k
+taken-failed before whole next p w fault e h k = ap reading_of (h ∙ sym (taken-after before whole next p e)) ∙ k
 
 pub taken-less : (before after whole : List Due) (next : Due) (p q : Point) → whole ≡ before ++ next ∷ [] → weight q after < weight p before + due_weight next → weight q after < weight p whole
 taken-less before after whole next p q e h = search (rules, all_weight-push)

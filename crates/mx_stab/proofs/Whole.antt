@@ -39,7 +39,7 @@ is-wide : {wide : ℕ} {name character : List ℕ} → SpellsCharacter wide name
 is-wide h1 = search rules
 
 pub character-is : {wide : ℕ} {name character : List ℕ} → SpellsCharacter wide name character → (node m : ℕ) (s : Reading) (more : List ℕ) → m / 0x80 % 2 ≡ wide / 0x80 → s.rest ≡ character ++ more →
-    character_of node m s ≡ Ok (record { name = name; behind = record { at = s.at + length character; rest = more; found = s.found } })
+    character_of node m s ≡ Ok (record { name = name; following = record { at = s.at + length character; rest = more; found = s.found } })
 character-is (grammar.SpellsCharacter.one_byte c small) node m s more w e =
     let narrow : has 0x80 m ≡ false = ap (λ n. n == 1) w in
     cond-false (has 0x80 m) _ _ narrow ∙ ap (reading.one_byte s.at s.found) e
@@ -47,7 +47,7 @@ character-is (grammar.SpellsCharacter.two_bytes high low h l good) node m s more
     let wide : has 0x80 m ≡ true = ap (λ n. n == 1) w in
     ap (λ b. cond b (reading.two_bytes node s.at s.found s.rest) (reading.one_byte s.at s.found s.rest)) wide
     ∙ ap (reading.two_bytes node s.at s.found) e
-    ∙ ap (λ b. cond b (Ok (record { name = encode_utf8 (wide_number high low); behind = record { at = s.at + 2; rest = more; found = s.found } })) (Err (Wide node))) good
+    ∙ ap (λ b. cond b (Ok (record { name = encode_utf8 (wide_number high low); following = record { at = s.at + 2; rest = more; found = s.found } })) (Err (Wide node))) good
 
 tells-character : (wide node m : ℕ) (path name character bs : List ℕ) (xs : List Symbol) → SpellsCharacter wide name character → m / 0x80 % 2 ≡ wide / 0x80 → length (path ++ name) ≤ 1024 →
     Tells (λ s. and_then (part_if (has 0x20 m) (next_subtrie (path ++ name))) (symbol (m % 16) node (path ++ name) s)) bs xs →

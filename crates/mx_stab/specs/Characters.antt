@@ -5,7 +5,7 @@ use Rattle.std.specs.Prelude.{ℕ, ◌+◌, ◌*◌, Bool, ◌&&◌, ◌||◌, n
 abbrev pub wide_number : ℕ → ℕ → ℕ
 wide_number high low = high * 256 + low
 
--- whether a number is a character of two bytes: those below #80 take one, and from #d800 to #dfff stand surrogates
+-- whether a number is a character of two bytes: those below #80 take one, and from #d800 to #dfff are surrogates
 abbrev pub is_wide_character : ℕ → Bool
 is_wide_character code = nat_le 0x80 code && (nat_lt code 0xd800 || nat_le 0xe000 code)
 

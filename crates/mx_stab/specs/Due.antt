@@ -61,7 +61,7 @@ after_character depth node m p =
 
 -- a path with a character at its end
 abbrev pub longer_path : List ℕ → Result Character StabFault → Progress
-longer_path path (Ok c) = Ok (record { path = path ++ c.name; reading = c.behind })
+longer_path path (Ok c) = Ok (record { path = path ++ c.name; reading = c.following })
 longer_path path (Err fault) = Err fault
 
 -- the progress after a step, unless it was refused

@@ -22,7 +22,7 @@ abbrev pub IsWideBare : ℕ → Type 0
 IsWideBare m = (flag 0x80 m ≡ 1) × ¬ HasCharacter m
 
 -- a node with the byte m, to the end of its left subtrie: the path to it and the symbols before it; its bytes so far,
--- and all symbols so far, among which no name stands twice
+-- and all symbols so far, among which no name is there twice
 pub data UpToLeft : List ℕ → List Symbol → ℕ → List ℕ → List Symbol → Type 0 where
   left : (path : List ℕ) (before : List Symbol) (m : ℕ) (left : List ℕ) (symbols : List Symbol) → ¬ IsWideBare m →
       IsSubtrie (flag 0x40 m) path left symbols → AreDistinct (before ++ symbols) →

@@ -38,7 +38,7 @@ pub data SpellsSerial : ℕ → List ℕ → Type 0 where
       SpellsSerial (number 128 (front ++ last ∷ [])) (front ++ (last + 128) ∷ [])
 
 -- a character, with the bit that it puts into a node's byte m and the bytes that it adds to a name: one
--- byte stands for itself, two bytes for the UTF-8 form of their number
+-- byte means itself, two bytes for the UTF-8 form of their number
 pub data SpellsCharacter : ℕ → List ℕ → List ℕ → Type 0 where
   one_byte : (c : ℕ) → c < 256 → SpellsCharacter 0 (c ∷ []) (c ∷ [])
   two_bytes : (high low : ℕ) → high < 256 → low < 256 → IsTrue (is_wide_character (wide_number high low)) →
@@ -68,7 +68,7 @@ pub data IsSubtrie : ℕ → List ℕ → List ℕ → List Symbol → Type 0 wh
       ((wide + 0x40 * l + 0x20 * m + 0x10 * r + kind) ∷ left ++ character ++ told ++ counted ++ middle ++ right)
       (before ++ record { name = path ++ name; value = value; serial = serial } ∷ below ++ after)
 
--- no name stands twice
+-- no name is there twice
 abbrev pub AreDistinct : List Symbol → Type 0
 AreDistinct [] = Unit {0}
 AreDistinct (s ∷ more) = AllByRecursion (λ (t : Symbol). s.name ≢ t.name) more × AreDistinct more

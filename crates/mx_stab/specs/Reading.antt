@@ -87,13 +87,13 @@ is_wide_bare m = has 0x80 m && not (has_character m)
 -- what a character adds to a name, and the reading after it
 pub record Character : Type 0 where
   pub name : List ℕ
-  pub behind : Reading
+  pub following : Reading
 
 -- a character of one byte
 abbrev pub one_byte : ℕ → List Symbol → List ℕ → Result Character StabFault
 one_byte at found [] = Err (Truncated at)
 one_byte at found (c ∷ rest) =
-    Ok (record { name = c ∷ []; behind = record { at = at + 1; rest = rest; found = found } })
+    Ok (record { name = c ∷ []; following = record { at = at + 1; rest = rest; found = found } })
 
 -- a character of two bytes
 abbrev pub two_bytes : ℕ → ℕ → List Symbol → List ℕ → Result Character StabFault
@@ -103,7 +103,7 @@ two_bytes node at found (high ∷ low ∷ rest) =
     if is_wide_character (wide_number high low)
     then Ok (record {
       name = encode_utf8 (wide_number high low);
-      behind = record { at = at + 2; rest = rest; found = found };
+      following = record { at = at + 2; rest = rest; found = found };
     })
     else Err (Wide node)
 
@@ -121,7 +121,7 @@ character_of node m s = if has 0x80 m then two_bytes_of node s else one_byte_of 
 abbrev pub character_part : (List ℕ → Reading → Answer) → ℕ → ℕ → List ℕ → Character → Answer
 character_part inner node m path c =
     if nat_lt 1024 (length (path ++ c.name)) then Err (TooLong node)
-    else and_then (part_if (has 0x20 m) (inner (path ++ c.name))) (symbol (m % 16) node (path ++ c.name) c.behind)
+    else and_then (part_if (has 0x20 m) (inner (path ++ c.name))) (symbol (m % 16) node (path ++ c.name) c.following)
 
 abbrev pub with_character : (Character → Answer) → Result Character StabFault → Answer
 with_character part (Ok c) = part c

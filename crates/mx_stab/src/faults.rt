@@ -10,7 +10,7 @@ use mx_word::NoMemory;
 pub enum StabFault {
     /// The bytes end within the trie; the place is their length.
     Truncated(u64),
-    /// After the trie stand four or more bytes, or one that is not zero; the place is that of the
+    /// Four or more bytes follow the trie, or one that is not zero; the place is that of the
     /// first byte after the trie.
     Padding(u64),
     /// A node with the bit #80 that has no character, or whose character is below #80 or from #d800

@@ -1,4 +1,4 @@
-//! The symbols that were read, and the search among their names.
+//! The symbols that were read, and how a name is found among them.
 
 ghost use Rattle.std.specs.Prelude.{◌≡◌, ℕ, List, [], ◌∷◌, ◌++◌, ◌||◌, IfOk, OnOk, OnErr, bytes_eq};
 ghost use Rattle.mx_stab.specs.Names.{HasNames, is_above, is_key};

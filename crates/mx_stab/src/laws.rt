@@ -17,8 +17,8 @@ ghost use Rattle.mx_stab.specs.declared.faults.StabFault.{StabFault};
 /// The trie that is written of symbols, with up to three zeros after it, is one that the grammar
 /// gives these symbols.
 pub fn writing_is_the_grammar()
-    ensures { (symbols : List Symbol) (zeros : ℕ) → InByteOrder symbols → AllByRecursion IsNamed symbols → zeros ≤ 3 →
-        IsTrie (trie_of symbols ++ replicate zeros 0) symbols }
+    ensures { (ss : List Symbol) (n : ℕ) → InByteOrder ss → AllByRecursion IsNamed ss → n ≤ 3 →
+        IsTrie (trie_of ss ++ replicate n 0) ss }
 {}
 
 /// Bytes are read as these symbols exactly where the grammar gives them.
@@ -39,14 +39,14 @@ pub fn faults_are_the_table()
     ensures fault { (bytes : List ℕ) (fault : StabFault) → AreBytes bytes →
         (trie_fault bytes ≡ Some fault) ↔ FaultOf bytes fault }
     ensures some { (bytes : List ℕ) → AreBytes bytes →
-        ((symbols : List Symbol) × IsTrie bytes symbols) ⊎ ((fault : StabFault) × FaultOf bytes fault) }
+        ((ss : List Symbol) × IsTrie bytes ss) ⊎ ((f : StabFault) × FaultOf bytes f) }
     ensures one { (bytes : List ℕ) (fault other : StabFault) → FaultOf bytes fault → FaultOf bytes other →
         fault ≡ other }
     ensures within { (bytes : List ℕ) (fault : StabFault) → FaultOf bytes fault →
         IfSome (place_of fault) (λ at. at ≤ length bytes) }
 {}
 
-/// A trie tells one list of symbols.
+/// A trie gives one list of symbols.
 pub fn a_trie_tells_one_list()
     ensures { (bytes : List ℕ) (symbols others : List Symbol) → IsTrie bytes symbols → IsTrie bytes others →
         symbols ≡ others }
@@ -54,8 +54,8 @@ pub fn a_trie_tells_one_list()
 
 /// What is written of symbols is read as these symbols, also with up to three zeros after it.
 pub fn what_is_written_is_read()
-    ensures { (symbols : List Symbol) (zeros : ℕ) → InByteOrder symbols → AllByRecursion IsNamed symbols → zeros ≤ 3 →
-        trie_answer (trie_of symbols ++ replicate zeros 0) ≡ Ok symbols }
+    ensures { (ss : List Symbol) (n : ℕ) → InByteOrder ss → AllByRecursion IsNamed ss → n ≤ 3 →
+        trie_answer (trie_of ss ++ replicate n 0) ≡ Ok ss }
 {}
 
 /// The symbols of a trie have distinct names of 1 to 1,024 bytes.
@@ -64,11 +64,11 @@ pub fn names_of_a_trie_are_distinct()
         AreDistinct symbols × AllByRecursion IsNamed symbols }
 {}
 
-/// No fewer bytes tell a value of any kind, and no fewer digits a serial number, than those that are
+/// No fewer bytes give a value of any kind, and no fewer digits a serial number, than those that are
 /// written.
 pub fn fewest_bytes_are_written()
-    ensures values { (kind : ℕ) (value : values.Value) (bytes : List ℕ) → SpellsValue kind value bytes →
-        length (value_bytes value) ≤ length bytes }
+    ensures values { (kind : ℕ) (v : values.Value) (bytes : List ℕ) → SpellsValue kind v bytes →
+        length (value_bytes v) ≤ length bytes }
     ensures serials { (serial : ℕ) (bytes : List ℕ) → SpellsSerial serial bytes →
         length (serial_bytes serial) ≤ length bytes }
 {}

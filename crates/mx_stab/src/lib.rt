@@ -1,6 +1,6 @@
 //! Symbol tries of object files.
 //!
-//! A trie tells the complete names of a program's symbols with their values and serial numbers. A
+//! A trie gives the complete names of a program's symbols with their values and serial numbers. A
 //! node is a byte m, a left subtrie, a character of one or two bytes, a value with a serial number
 //! where a name ends with that character, a middle subtrie of longer names, and a right subtrie
 //! (MMIXware, "The symbol table" in MMIXAL).

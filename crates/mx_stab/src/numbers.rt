@@ -28,14 +28,14 @@ fn append(bytes: &mut Vec<u8>, from: &[u8]) -> Result<(), NoMemory>
     Ok(())
 }
 
-/// Whether a pure value is told by what it exceeds 2^61 by.
+/// Whether a pure value is given by what it exceeds 2^61 by.
 fn is_offset(x: u64) -> bool
     ensures { result ≡ spec.is_offset x }
 {
     0x2000_0000_0000_0000 <= x && x < 0x2001_0000_0000_0000
 }
 
-/// How many bytes tell an octa, from 1 to 8.
+/// How many bytes give an octa, from 1 to 8.
 fn octa_size(x: u64) -> u8
     ensures value { result ≡ length (spec.octa_digits x) }
     ensures most { result ≤ 8 }

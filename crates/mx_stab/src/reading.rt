@@ -321,7 +321,7 @@ fn read_all<'a>(alloc: Global, bytes: &'a [u8]) -> Result<Reader<'a>, StabFault>
     Ok(reader)
 }
 
-/// The symbols of a trie; no bytes tell none.
+/// The symbols of a trie; no bytes give none.
 fn symbols_of(alloc: Global, bytes: &[u8]) -> Result<Symbols, StabFault>
     ensures { result ≢ Err StabFault.OutOfMemory → result ≡ spec.trie_answer bytes.now }
 {
@@ -332,14 +332,14 @@ fn symbols_of(alloc: Global, bytes: &[u8]) -> Result<Symbols, StabFault>
 }
 
 /// The symbols of a trie, in its order: first those of a left subtrie, then a node's own, then
-/// those of its middle and of its right subtrie. No bytes tell no symbols. A character of two bytes
+/// those of its middle and of its right subtrie. No bytes give no symbols. A character of two bytes
 /// adds its UTF-8 form to the names. It is not recursive, and notes one part for each node that is
 /// not read to its end.
 ///
 /// Errors: the first fault that is met where the bytes are read from the left. A node is refused as
 /// `Wide` at its byte m or at its character, then as `TooLong`, and as `BadSerial` and then as
-/// `Twice` at the end of its serial number; a missing byte is `Truncated` at once, and what stands
-/// after the trie is `Padding` last. `OutOfMemory` is the one free answer.
+/// `Twice` at the end of its serial number; a missing byte is `Truncated` at once, and what follows
+/// the trie is `Padding` last. `OutOfMemory` is the one free answer.
 pub fn read(alloc: Global, bytes: &[u8]) -> Result<Symbols, StabFault>
     ensures answer { result ≢ Err StabFault.OutOfMemory → result ≡ spec.trie_answer bytes.now }
     ensures grammar { IfOk result (λ symbols. IsTrie bytes.now symbols) }

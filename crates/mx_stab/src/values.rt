@@ -11,7 +11,7 @@ use mx_word::Value;
 /// Serial numbers from here on are too large.
 pub const TOO_LARGE: u64 = 0x1_0000_0000;
 
-/// How many bytes tell a value of a kind.
+/// How many bytes give a value of a kind.
 pub fn value_size(kind: u8) -> usize
     requires { kind < 16 }
     ensures value { result ≡ spec.value_size kind }
@@ -26,7 +26,7 @@ pub fn value_size(kind: u8) -> usize
     }
 }
 
-/// The number that one more byte tells.
+/// The number that one more byte gives.
 fn with_byte(x: u64, b: u8) -> u64
     requires { x < 2 ^ 56 }
     ensures value { result ≡ x * 256 + b }
@@ -35,7 +35,7 @@ fn with_byte(x: u64, b: u8) -> u64
     x * 256 + u64::from(b)
 }
 
-/// The number that bytes tell.
+/// The number that bytes give.
 fn number_of_bytes(bytes: &[u8]) -> u64
     requires { length bytes.now ≤ 8 }
     ensures value { result ≡ grammar.number 256 bytes.now }
@@ -50,7 +50,7 @@ fn number_of_bytes(bytes: &[u8]) -> u64
     x
 }
 
-/// The value of a kind that these bytes tell.
+/// The value of a kind that these bytes give.
 pub fn value_of_kind(kind: u8, bytes: &[u8]) -> Value
     requires kind { kind < 16 }
     requires size { length bytes.now ≡ spec.value_size kind }

@@ -6,7 +6,7 @@ use Rattle.mx_start.specs.Start.{first_text, texts_end, pool_octas}
 abbrev pub as_octa : ℕ → Option ℕ
 as_octa n = if nat_lt n (2 ^ 64) then Some n else None
 
--- where the first text stands and the last one ends, the latter an octa
+-- where the first text is and the last one ends, the latter an octa
 abbrev pub places_of : List (List ℕ) → Option (ℕ × ℕ)
 places_of texts =
     if nat_lt (texts_end (first_text texts) texts) (2 ^ 64) then Some (first_text texts, texts_end (first_text texts) texts)

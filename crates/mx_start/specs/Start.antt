@@ -22,7 +22,7 @@ text_size text = 8 * (length text / 8 + 1)
 abbrev pub text_octas : List ℕ → List ℕ
 text_octas text = octas_of (text ++ replicate (text_size text - length text) 0)
 
--- where texts stand, one after the other, and where they end
+-- where texts are, one after the other, and where they end
 abbrev pub text_addresses : ℕ → List (List ℕ) → List ℕ
 text_addresses at [] = []
 text_addresses at (text ∷ texts) = at ∷ text_addresses (at + text_size text) texts

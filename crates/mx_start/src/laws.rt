@@ -20,7 +20,7 @@ ghost use Rattle.mx_core.specs.State.{State};
 /// At the start the octas of the arguments are in the pool segment, from its first address on, and
 /// all else in memory is the image's; the arguments end below the stack segment.
 #[tactic(auto, using(crate::proofs::MemoryAtStart::starting))]
-pub fn arguments_stand_in_the_pool()
+pub fn arguments_are_in_the_pool()
     ensures { (image : Image) (arguments : List (List ℕ)) (stack : Stack) (s : State) (q : ℕ) →
         start image arguments stack ≡ Some s → pool + 8 * length (pool_octas arguments) ≤ stack_address 0 →
         s.octas q ≡ octa_among image.memory pool (pool_octas arguments) q }
@@ -35,7 +35,7 @@ pub fn starts_are_machines()
         start image arguments (windowed (window_at_start size)) ≡ Some s → IsOverWindow s }
 {}
 
-/// A program starts over the list that the window at the start stands for; its arguments end below the
+/// A program starts over the list that the window at the start represents; its arguments end below the
 /// stack area.
 pub fn starts_go_as_lists()
     ensures { (image : Image) (arguments : List (List ℕ)) (size : ℕ)

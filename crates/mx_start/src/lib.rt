@@ -12,7 +12,7 @@ mod starts;
 pub use fault::StartFault;
 pub use globals::collect_globals;
 pub use laws::{
-    arguments_stand_in_the_pool, bare_machines_start_as_others, starts_are_machines,
+    arguments_are_in_the_pool, bare_machines_start_as_others, starts_are_machines,
     starts_go_as_lists,
 };
 pub use starts::start;

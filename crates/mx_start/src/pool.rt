@@ -20,7 +20,7 @@ fn text_size(text: &[u8]) -> u64
     8 * (text.len() as u64 / 8 + 1)
 }
 
-/// Where the first text stands; nothing where that is no octa.
+/// Where the first text is; nothing where that is no octa.
 fn first_text(texts: &[Bytes]) -> Option<u64>
     ensures { result ≡ as_octa (spec.first_text texts.now) }
 {
@@ -61,7 +61,7 @@ fn append_addresses(octas: &mut Octas, at: u64, texts: &[Bytes]) -> Result<(), N
     Ok(())
 }
 
-/// Adds the octas of bytes; one to seven bytes at the end of them tell none.
+/// Adds the octas of bytes; one to seven bytes at the end of them give none.
 fn append_octas(octas: &mut Octas, bytes: &[u8]) -> Result<(), NoMemory>
     ensures { OnOk result (octas.new ≡ octas.old ++ octas_of bytes.now) }
 {
@@ -103,7 +103,7 @@ fn append_texts(alloc: Global, octas: &mut Octas, texts: &[Bytes]) -> Result<(),
     Ok(())
 }
 
-/// The octas of texts that stand from an address on, and end at another.
+/// The octas of texts from an address on, which end at another.
 fn octas_between(alloc: Global, first: u64, end: u64, texts: &[Bytes]) -> Result<Octas, NoMemory>
     requires first { first ≡ spec.first_text texts.now }
     requires end { end ≡ spec.texts_end first texts.now }
@@ -117,7 +117,7 @@ fn octas_between(alloc: Global, first: u64, end: u64, texts: &[Bytes]) -> Result
     Ok(octas)
 }
 
-/// Where the first text stands and where the last one ends; nothing where that is no octa.
+/// Where the first text is and where the last one ends; nothing where that is no octa.
 fn places(texts: &[Bytes]) -> Option<(u64, u64)>
     ensures { result ≡ places_of texts.now }
 {

@@ -12,8 +12,8 @@ module _ (head reach : ℕ) (is : IsHead head reach) where
   ahead : (distance : ℕ) → result_unwrap_or (forward_word head reach distance) head ≡ bit_xor head (result_unwrap_or (forward_word 0 reach distance) 0)
   ahead distance = grind (arith, ltb-true, xor_zero_r)
 
-  behind : (distance : ℕ) → 0 < distance → result_unwrap_or (backward_word head reach distance) head ≡ bit_xor head (result_unwrap_or (backward_word 0 reach distance) 0)
-  behind distance some = grind (arith, eqb-true, leb-true, xor_zero_r)
+  following : (distance : ℕ) → 0 < distance → result_unwrap_or (backward_word head reach distance) head ≡ bit_xor head (result_unwrap_or (backward_word 0 reach distance) 0)
+  following distance some = grind (arith, eqb-true, leb-true, xor_zero_r)
 
   pub word-joined : (place : ℕ) (target : Option ℕ) → future_word head reach place target ≡ bit_xor head (future_word 0 reach place target)
   word-joined place target = grind (arith, xor_zero_r, leb-false)

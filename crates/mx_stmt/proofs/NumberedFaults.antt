@@ -1,4 +1,4 @@
--- Each fault of a statement that is read or encoded has a number above 0: none is want of memory.
+-- Each fault of a statement that is read or encoded has a number above 0: none is that memory runs out.
 use Rattle.std.proofs.Common.{◌≡◌, ◌<◌, ℕ, ◌+◌, ◌%◌, ◌^◌, ◌==◌, List, [], ◌∷◌, Option, None, ok_or, Ok, Err, arith, rules}
 use Rattle.std.specs.Prelude.{IfErr}
 use Rattle.mx_expr.specs.Faults as expressions

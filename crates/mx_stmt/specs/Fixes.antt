@@ -48,7 +48,7 @@ abbrev pub HasRegisterNumber : Value → Type 0
 HasRegisterNumber (Pure n) = Unit {0}
 HasRegisterNumber (Reg r) = r < 2 ^ 8
 
--- What always holds of what is known at a statement: each register that a symbol or a local label stands for is one of $0
+-- What always holds of what is known at a statement: each register that a symbol or a local label means is one of $0
 -- to $255, and the allocated ones are $32 and above.
 pub record IsSound (k : Known) : Type 0 where
   pub symbols : (name : List ℕ) → IfSome (value_of_name k.names name) HasRegisterNumber

@@ -57,7 +57,7 @@ takes_byte code = nat_le 0x08 code && nat_le code 0x0f
 abbrev pub rounded_last : Known → ℕ → ℕ → ℕ → Tree → Answer Tetra
 rounded_last k code x y z = if takes_byte code then last_form k code x y z else last_register k code x y z
 
--- The address of a memory instruction: `$Y` stands for `$Y,0`, and a pure A for a base and the difference from it.
+-- The address of a memory instruction: `$Y` means `$Y,0`, and a pure A for a base and the difference from it.
 abbrev pub address_word : ℕ → ℕ → Base → ℕ
 address_word code x base = tetra_xyz (code + 1) x base.reg base.above
 

@@ -8,3 +8,4 @@ pub mod Placements
 pub mod Fixes
 pub mod Reading
 pub mod Laid
+pub mod Laws

@@ -8,7 +8,7 @@ use mx_names::{Gregs, NameFault, Names};
 use mx_word::Value;
 use std::alloc::Global;
 
-/// The names, the place that `@` stands for, the global registers that are allocated, and the
+/// The names, the place that `@` means, the global registers that are allocated, and the
 /// allocator.
 #[derive(Clone, Copy)]
 pub struct Env<'a> {

@@ -104,7 +104,7 @@ pub(crate) fn last_after_mode(
     }
 }
 
-/// `$Y`, which stands for `$Y,0`, or a pure address, which stands for a base and the difference from
+/// `$Y`, which means `$Y,0`, or a pure address, which means a base and the difference from
 /// it.
 pub(crate) fn address_form(env: &Env, code: u8, x: u8, a: &Expr) -> Result<Tetra, StmtFault>
     requires digits { HasDigits (tree_of a.now) }

@@ -20,7 +20,7 @@ pub use env::Env;
 pub use faults::StmtFault;
 pub use laws::{
     awaited_names_are_unknown, faults_have_numbers, knowledge_stays_sound, operations_have_names,
-    references_stand_in_their_bytes, registers_are_bytes, targets_join_their_bytes,
+    references_are_in_their_bytes, registers_are_bytes, targets_join_their_bytes,
 };
 pub use placed::{Effect, Placed};
 pub use reader::read_statement;

@@ -4,6 +4,7 @@ ghost use Rattle.std.specs.Prelude.{◌≡◌, ◌≢◌, ◌<◌, [], ◌∷◌
 ghost use Rattle.mx_expr.specs.Tree.{tree_of, trees_of, HasDigits};
 ghost use Rattle.mx_ops.specs.Shapes.{shapes_of};
 ghost use Rattle.mx_stmt.specs.Forms as spec;
+ghost use Rattle.mx_stmt.specs.Forms.{form};
 ghost use Rattle.mx_stmt.specs.Operands.{known_of, no_targets};
 ghost use Rattle.mx_stmt.specs.Reading.{OperandsHaveDigits};
 ghost use Rattle.mx_stmt.specs.Steps.{Answers};
@@ -22,7 +23,7 @@ fn one_operand(env: &Env, shape: Shape, code: u8, n: &Expr) -> Result<Tetra, Stm
     requires digits { HasDigits (tree_of n.now) }
     requires second { IsTrue (spec.has_second shape) → code < 254 }
     ensures { Answers result (
-        spec.form no_targets (known_of env.now) shape code (tree_of n.now ∷ [])) }
+        form no_targets (known_of env.now) shape code (tree_of n.now ∷ [])) }
 {
     match shape {
         Shape::Jump => jump_form(env, code, n),
@@ -44,7 +45,7 @@ fn two_operands(
     requires digits_last { HasDigits (tree_of last.now) }
     requires second { IsTrue (spec.has_second shape) → code < 254 }
     ensures { Answers result (
-        spec.form no_targets (known_of env.now) shape code (tree_of first.now ∷ tree_of last.now ∷ [])) }
+        form no_targets (known_of env.now) shape code (tree_of first.now ∷ tree_of last.now ∷ [])) }
 {
     match shape {
         Shape::Round => {
@@ -109,7 +110,7 @@ fn three_operands(
     requires digits_z { HasDigits (tree_of z.now) }
     requires second { IsTrue (spec.has_second shape) → code < 254 }
     ensures { Answers result (
-        spec.form no_targets (known_of env.now) shape code (tree_of x.now ∷ tree_of y.now ∷ tree_of z.now ∷ [])) }
+        form no_targets (known_of env.now) shape code (tree_of x.now ∷ tree_of y.now ∷ tree_of z.now ∷ [])) }
 {
     match shape {
         Shape::Three | Shape::Mem => {
@@ -150,7 +151,7 @@ pub(crate) fn instruction(
     requires digits { OperandsHaveDigits operands.now }
     requires second { IsTrue (spec.has_second shape) → code < 254 }
     ensures { Answers result (
-        spec.form no_targets (known_of env.now) shape code (trees_of operands.now)) }
+        form no_targets (known_of env.now) shape code (trees_of operands.now)) }
 {
     match operands {
         [n] => one_operand(env, shape, code, n),

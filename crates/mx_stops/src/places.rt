@@ -41,7 +41,7 @@ pub fn depth(machine: &Machine) -> u64
 }
 
 /// What the register at a place of the register stack has, if it is local; else 0.
-fn stacked_value(machine: &Machine, at: u64) -> u64
+fn read_stacked_value(machine: &Machine, at: u64) -> u64
     ensures { result ≡ spec.stacked_value at (state_of machine.now) }
 {
     let hidden = depth(machine);
@@ -58,7 +58,7 @@ pub fn value_at(machine: &Machine, place: Place) -> u64
 {
     match place {
         Place::Register(k) => machine.register(k),
-        Place::Stacked { at, number: _ } => stacked_value(machine, at),
+        Place::Stacked { at, number: _ } => read_stacked_value(machine, at),
         Place::Octa(a) => { if a < 1 << 63 { machine.octa(a) } else { 0 } }
         Place::Special(code) => { if code < 32 { machine.special(code) } else { 0 } }
     }

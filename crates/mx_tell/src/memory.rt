@@ -138,7 +138,7 @@ fn add_units(
     text.push(b'\n')
 }
 
-/// How many bytes of a text stand from an address on before its end, or before it is too long.
+/// How many bytes a text has from an address on, up to its end, or before it is too long.
 fn text_length(machine: &Machine, from: u64) -> u64 {
     let mut length = 0;
     for i in 0..LONGEST {
@@ -172,13 +172,13 @@ fn add_text_row(
     add_head(text, book, from)?;
     text.extend(b" \"")?;
     add_characters(text, Style::Quoted, bytes.as_slice())?;
-    let behind = from.wrapping_add(length);
+    let following = from.wrapping_add(length);
     if length == LONGEST {
         text.extend(b"\"...\n")?;
-        return Ok(behind);
+        return Ok(following);
     }
     text.extend(b"\"\n")?;
-    Ok(behind.wrapping_add(1))
+    Ok(following.wrapping_add(1))
 }
 
 /// Adds this many texts from an address on, one after the other, and answers the address after them.

@@ -1,4 +1,4 @@
-//! Where a run stands.
+//! Where a run is.
 
 use crate::code::add_code;
 use crate::names::add_place;

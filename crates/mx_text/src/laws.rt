@@ -29,7 +29,7 @@ pub fn names_are_found()
     ensures { (code : ℕ) → code < 256 → operation_of (opcode_name code) ≡ Some (Op.Code (lowest_code code)) }
 {}
 
-/// A text at an address tells its instruction: two tetras with the same text are equal, but for a Y
+/// A text at an address gives its instruction: two tetras with the same text are equal, but for a Y
 /// that has to be 0 and is not shown.
 pub fn texts_tell_their_instruction()
     ensures told { (word other pc : ℕ) → word < 2 ^ 32 → other < 2 ^ 32 → pc < 2 ^ 64 →

@@ -5,12 +5,12 @@ use Rattle.std.specs.Prelude.{Option, Result}
 use Rattle.mx_host.specs.HostModel.{HostModel, Rose}
 use Rattle.mx_host.specs.Keeping.{Keeps}
 use Rattle.mx_host.proofs.Keeping.{keeps-then, keeps-all}
-use Rattle.mx_plan.proofs.Standing.{only-behind, rose-on, stands-kept}
+use Rattle.mx_plan.proofs.KeptHosts.{only-after, rose-on, keeps_host-kept}
 use Rattle.mx_words.specs.declared.order.Order.{Order}
 use Rattle.mx_words.specs.declared.order.WordsFault.{WordsFault}
 use Rattle.mx_outcome.specs.Kinds.{is_usage}
 use Rattle.mx_files.specs.Assembling.{refused_with}
-use Rattle.mx_files.specs.Clauses.{WorksBetween}
+use Rattle.mx_files.specs.Clauses.{DoesPartBetween}
 use Rattle.mx_files.specs.declared.refusal.Refusal.{Refusal}
 use Rattle.mx_files.specs.FilePlans.{lines_plan}
 use Rattle.mx_outcome.specs.declared.outcome.Outcome.{Outcome}
@@ -19,7 +19,8 @@ use Rattle.mx_files.proofs.FileClauses.{end-words, part-keeps}
 use Rattle.mx_files.proofs.Serving.{only-lines}
 use Rattle.mx_begin.specs.Arguments.{Word}
 use Rattle.mx_files.specs.Failing.{FailsOnlyBy}
-use Rattle.mx_top.specs.Causes.{Causes, IsOfMachine}
+use Rattle.mx_begin.specs.Ends.{IsOfMachine}
+use Rattle.mx_top.specs.Causes.{Causes}
 
 -- no call, and an outcome that tells no fault of the host
 pub fails-nowhere : {H : Type 0} (told : H → Option HostModel) (faults : H → ℕ) (h : H) (r : Outcome) → IsOfMachine r → FailsOnlyBy told faults h h r
@@ -37,16 +38,16 @@ pub fails-refused : {H : Type 0} (told : H → Option HostModel) (faults : H →
 fails-refused told faults h r refusal e = fails-nowhere told faults h r (λ x. absurd (cc (e, x)), λ x. absurd (cc (e, x)), ap is_usage e)
 
 -- after a part that keeps what every function does
-pub fails-behind : {H : Type 0} (told : H → Option HostModel) (faults : H → ℕ) (a b c : H) (r : Outcome) → Keeps (told a) (told b) (faults a) (faults b) → FailsOnlyBy told faults b c r → FailsOnlyBy told faults a c r
-fails-behind told faults a b c r kept rest = (
-  only-behind (told a) (told b) (faults a) (faults b) (faults c) HostFault r (stands-kept (told a) (told b) (faults a) (faults b) kept) rest.0,
+pub fails-after : {H : Type 0} (told : H → Option HostModel) (faults : H → ℕ) (a b c : H) (r : Outcome) → Keeps (told a) (told b) (faults a) (faults b) → FailsOnlyBy told faults b c r → FailsOnlyBy told faults a c r
+fails-after told faults a b c r kept rest = (
+  only-after (told a) (told b) (faults a) (faults b) (faults c) HostFault r (keeps_host-kept (told a) (told b) (faults a) (faults b) kept) rest.0,
   λ n e. rose-on (faults a) (faults b) (faults c) kept.counting (rest.1 (λ t. n (subst IsTrue kept.telling t)) e),
   rest.2,
   keeps-then (told a) (told b) (told c) (faults a) (faults b) (faults c) kept rest.3,
 )
 
 -- lines that were not written
-pub fails-lines : {H : Type 0} (told : H → Option HostModel) (faults : H → ℕ) (a b : H) (r : Outcome) (lines : List (List ℕ)) → WorksBetween (told a) (told b) (faults a) (faults b) (Err r) (lines_plan lines) → FailsOnlyBy told faults a b r
+pub fails-lines : {H : Type 0} (told : H → Option HostModel) (faults : H → ℕ) (a b : H) (r : Outcome) (lines : List (List ℕ)) → DoesPartBetween (told a) (told b) (faults a) (faults b) (Err r) (lines_plan lines) → FailsOnlyBy told faults a b r
 fails-lines told faults a b r lines w = (
   λ had e. only-lines (told a) (told b) (faults a) (faults b) (Err r) lines w had (ap Err e),
   λ n e. w.absent n (ap Err e),
@@ -55,7 +56,7 @@ fails-lines told faults a b r lines w = (
 )
 
 -- lines that were written, with an outcome that tells no fault of the host
-pub fails-written : {H : Type 0} (told : H → Option HostModel) (faults : H → ℕ) (a b : H) (r : Outcome) (lines : List (List ℕ)) → IsOfMachine r → WorksBetween (told a) (told b) (faults a) (faults b) (Ok tt) (lines_plan lines) →
+pub fails-written : {H : Type 0} (told : H → Option HostModel) (faults : H → ℕ) (a b : H) (r : Outcome) (lines : List (List ℕ)) → IsOfMachine r → DoesPartBetween (told a) (told b) (faults a) (faults b) (Ok tt) (lines_plan lines) →
     FailsOnlyBy told faults a b r
 fails-written told faults a b r lines of w = (λ had e. absurd (of.0 e), λ n e. absurd (of.1 e), of.2, part-keeps (told a) (told b) (faults a) (faults b) (Ok tt) (lines_plan lines) w)
 
@@ -80,7 +81,7 @@ rose-later k m n a b (inr e) = by (cases_lt k n)
     by (inl h) = inl h
     by (inr h) = let same : n ≡ m = omega (arith, a, b, h) in inr (same ∙ e)
 
--- the causes are those of what was done, where the outcome that is told is its, or want of memory
+-- the causes are those of what was done, where the outcome that is told is its own, or that memory ran out
 pub causes-told : {H : Type 0} (told : H → Option HostModel) (faults : H → ℕ) (a b c : H) (spoken result : Outcome) (words : List Word) → (result ≢ OutOfMemory → result ≡ spoken) →
     Keeps (told b) (told c) (faults b) (faults c) → Causes told faults a b spoken words → Causes told faults a c result words
 causes-told told faults a b c spoken result words same kept was = record {

@@ -19,15 +19,15 @@ use Rattle.mx_outcome.specs.declared.outcome.Outcome.{Outcome}
 use Rattle.mx_top.specs.Endings as end
 use Rattle.mx_top.specs.MachineWork as work
 use Rattle.mx_top.specs.MachineWork.{WorkPlan}
-use Rattle.mx_top.specs.Runs.{outcome_of}
-use Rattle.mx_top.specs.WorkClauses.{HearsWork, PerformsWork, work_by}
+use Rattle.mx_begin.specs.Ends.{outcome_of}
+use Rattle.mx_top.specs.WorkClauses.{DoesWork, HearsWork, work_by}
 use Rattle.mx_top.proofs.Followed.{to-dumped, to-back}
 use Rattle.mx_top.proofs.Heard.{quiet-work}
 use Rattle.mx_top.proofs.ListedPlans.{run-told, reported-told, reported-heard, kept-told, session-told}
 use Rattle.mx_top.proofs.MachinePlans.{told-taking}
 
-pub chosen-work : {H : Type 0} (told : H → Option HostModel) (faults : H → ℕ) (old new : H) (s : State) (r : Outcome) (plan part : WorkPlan Outcome) → plan ≡ part → PerformsWork told faults old new s r part → PerformsWork told faults old new s r plan
-chosen-work told faults old new s r plan part e h = subst (λ (p : WorkPlan Outcome). PerformsWork told faults old new s r p) (sym e) h
+pub chosen-work : {H : Type 0} (told : H → Option HostModel) (faults : H → ℕ) (old new : H) (s : State) (r : Outcome) (plan part : WorkPlan Outcome) → plan ≡ part → DoesWork told faults old new s r part → DoesWork told faults old new s r plan
+chosen-work told faults old new s r plan part e h = subst (λ (p : WorkPlan Outcome). DoesWork told faults old new s r p) (sym e) h
 
 pub chosen-heard : (a : Option HostModel) (s : State) (r : Outcome) (ws left : List Watching) (earlier later : List Report) (plan part : WorkPlan Outcome) → plan ≡ part → HearsWork a s r ws left earlier later part → HearsWork a s r ws left earlier later plan
 chosen-heard a s r ws left earlier later plan part e h = subst (λ (p : WorkPlan Outcome). HearsWork a s r ws left earlier later p) (sym e) h

@@ -3,13 +3,13 @@ use Rattle.std.proofs.Common.{◌≡◌, ◌≢◌, ℕ, List, Bool, true, false
 use Rattle.std.specs.Prelude.{Option, Result}
 use Rattle.mx_host.specs.HostModel.{HostModel, contents}
 use Rattle.mx_plan.specs.Calls.{host, HostPlan}
-use Rattle.mx_plan.specs.Clauses.{CarriesOut}
+use Rattle.mx_plan.specs.Clauses.{CarriesOutOnHost}
 use Rattle.mx_plan.specs.Plan.{returns, end_after}
 use Rattle.mx_plan.proofs.Plans.{end_bind, end_returns, stops_first}
 use Rattle.mx_core.specs.Bounds.{as_list_state}
 use Rattle.mx_core.specs.State.{State}
 use Rattle.mx_outcome.specs.Kinds.{leaves_machine}
-use Rattle.mx_files.specs.Clauses.{WorksBetween}
+use Rattle.mx_files.specs.Clauses.{DoesPartBetween}
 use Rattle.mx_files.specs.FilePlans.{lines_plan}
 use Rattle.mx_outcome.specs.declared.outcome.Outcome.{Outcome}
 use Rattle.mx_outcome.specs.declared.outcome.Outcome.TheVariants.{HostFault, OutOfMemory}
@@ -25,7 +25,7 @@ lacked outcome (Ok u) ne e = absurd (ne e)
 lacked outcome (Err other) ne e = ap Err e
 
 pub written-plan : (a b : Option HostModel) (k m : ℕ) (outcome other : Outcome) (lines : List (List ℕ)) (r : Result (Unit {0}) Outcome) → outcome ≢ OutOfMemory → other ≡ written_with outcome r →
-    WorksBetween a b k m r (lines_plan lines) → CarriesOut a b OutOfMemory other (telling outcome lines)
+    DoesPartBetween a b k m r (lines_plan lines) → CarriesOutOnHost a b OutOfMemory other (telling outcome lines)
 unfolding telling
 written-plan a b k m outcome other lines r well is w = λ t. record {
   ending = λ ne.
@@ -36,21 +36,21 @@ written-plan a b k m outcome other lines r well is w = λ t. record {
 }
 
 -- where none are told
-pub unsaid-plan : (a : Option HostModel) (outcome : Outcome) (p : HostPlan Outcome) (b : Bool) → b ≡ false → outcome ≢ OutOfMemory → CarriesOut a a OutOfMemory outcome (cond b p (returns outcome))
+pub unsaid-plan : (a : Option HostModel) (outcome : Outcome) (p : HostPlan Outcome) (b : Bool) → b ≡ false → outcome ≢ OutOfMemory → CarriesOutOnHost a a OutOfMemory outcome (cond b p (returns outcome))
 unsaid-plan a outcome p true e ne = absurd (cc)
 unsaid-plan a outcome p false e ne = λ t. record { ending = λ no. sym (end_returns host outcome (contents a)); stopping = λ o. absurd (ne o) }
 
 -- ---- the dump
 
-pub undumped-plan : (a : Option HostModel) (wanted : Bool) (outcome : Outcome) (s : State) → (wanted && leaves_machine outcome) ≡ false → outcome ≢ OutOfMemory → CarriesOut a a OutOfMemory outcome (dumped_plan wanted outcome s)
+pub undumped-plan : (a : Option HostModel) (wanted : Bool) (outcome : Outcome) (s : State) → (wanted && leaves_machine outcome) ≡ false → outcome ≢ OutOfMemory → CarriesOutOnHost a a OutOfMemory outcome (dumped_plan wanted outcome s)
 unfolding dumped_plan
 undumped-plan a wanted outcome s e ne = unsaid-plan a outcome (telling outcome (dump_lines s)) (wanted && leaves_machine outcome) e ne
 
 pub dumped-plan : (a b : Option HostModel) (k m : ℕ) (wanted : Bool) (outcome other : Outcome) (s : State) (r : Result (Unit {0}) Outcome) → (wanted && leaves_machine outcome) ≡ true → outcome ≢ OutOfMemory →
-    other ≡ written_with outcome r → WorksBetween a b k m r (lines_plan (dump_lines s)) → CarriesOut a b OutOfMemory other (dumped_plan wanted outcome s)
+    other ≡ written_with outcome r → DoesPartBetween a b k m r (lines_plan (dump_lines s)) → CarriesOutOnHost a b OutOfMemory other (dumped_plan wanted outcome s)
 unfolding dumped_plan
 dumped-plan a b k m wanted outcome other s r e ne is w =
-    subst (λ (x : Bool). CarriesOut a b OutOfMemory other (cond x (telling outcome (dump_lines s)) (returns outcome))) (sym e) (written-plan a b k m outcome other (dump_lines s) r ne is w)
+    subst (λ (x : Bool). CarriesOutOnHost a b OutOfMemory other (cond x (telling outcome (dump_lines s)) (returns outcome))) (sym e) (written-plan a b k m outcome other (dump_lines s) r ne is w)
 
 -- that of the list is the same, where nothing was touched
 pub same-dumped : (wanted : Bool) (outcome : Outcome) (s : State) → s.touched ≡ false → dumped_plan wanted outcome (as_list_state s) ≡ dumped_plan wanted outcome s
@@ -62,7 +62,7 @@ no-dump : (b : Bool) → (b && false) ≡ false
 no-dump true = refl
 no-dump false = refl
 
-pub undumped-fault : (wanted : Bool) (s : State) (a : Option HostModel) → CarriesOut a a OutOfMemory HostFault (dumped_plan wanted HostFault s)
+pub undumped-fault : (wanted : Bool) (s : State) (a : Option HostModel) → CarriesOutOnHost a a OutOfMemory HostFault (dumped_plan wanted HostFault s)
 undumped-fault wanted s a = undumped-plan a wanted HostFault s (no-dump wanted) (λ e. absurd (cc))
 
 -- nor where there was no memory

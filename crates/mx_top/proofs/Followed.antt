@@ -14,7 +14,7 @@ use Rattle.mx_outcome.specs.Kinds.{leaves_machine}
 use Rattle.mx_outcome.specs.declared.outcome.Outcome.{Outcome}
 use Rattle.mx_outcome.specs.declared.outcome.Outcome.TheVariants.{Done, OutOfMemory}
 use Rattle.mx_files.specs.FilePlans.{lines_plan}
-use Rattle.law_gen.specs.Generator.{summary}
+use Rattle.mx_gen.specs.Generator.{summary}
 use Rattle.mx_dump.specs.Dump.{Line, dump_lines}
 use Rattle.mx_top.specs.Endings as end
 use Rattle.mx_top.specs.MachineWork as work
@@ -50,18 +50,18 @@ work-comes plan w p v r to c = record {
 
 -- ---- a plan of the host first
 
-host-goes : (kind : MachineKind) (p : HostPlan Outcome) (w : Work) → worked (course (work_goes kind) (work.on_host p) w) ≡ beside w.told (end_of host p w.host)
-unfolding course work.on_host end_of
+host-goes : (kind : MachineKind) (p : HostPlan Outcome) (w : Work) → worked (course (work_goes kind) (work.host_in_work p) w) ≡ beside w.told (end_of host p w.host)
+unfolding course work.host_in_work end_of
 host-goes kind (returns a) w = refl
 host-goes kind (calls o k) w = host-goes kind (k (host.act o w.host).0) (record w { host = (host.act o w.host).1 })
 
-host-stop : (p : HostPlan Outcome) (v : HostModel) (w : Work) → Stops host v p w.host → Stops working (record w { host = v }) (work.on_host p) w
-unfolding work.on_host Stops working
+host-stop : (p : HostPlan Outcome) (v : HostModel) (w : Work) → Stops host v p w.host → Stops working (record w { host = v }) (work.host_in_work p) w
+unfolding work.host_in_work Stops working
 host-stop (returns a) v w h = absurd h
 host-stop (calls o k) v w (inl e) = inl (refl, e)
 host-stop (calls o k) v w (inr h) = inr (host-stop (k (host.act o w.host).0) v (record w { host = (host.act o w.host).1 }) h)
 
-to-host : (p : HostPlan Outcome) (w : Work) → ComesTo (work.on_host p) w p
+to-host : (p : HostPlan Outcome) (w : Work) → ComesTo (work.host_in_work p) w p
 to-host p w = record { goes = λ kind. host-goes kind p w; stops = λ v h. record { left = record w { host = v }; stops = host-stop p v w h; host = refl } }
 
 to-returns : (outcome : Outcome) (w : Work) → ComesTo (returns outcome) w (returns outcome)
@@ -69,20 +69,20 @@ unfolding course end_of Stops
 to-returns outcome w = record { goes = λ kind. refl; stops = λ v h. absurd h }
 
 bind-goes : {A : Type 0} (kind : MachineKind) (f : A → HostPlan Outcome) (g : A → WorkPlan Outcome) (p : HostPlan A) (w : Work) →
-    ((a : A) (n : HostModel) → worked (course (work_goes kind) (g a) (record w { host = n })) ≡ beside w.told (end_of host (f a) n)) → worked (course (work_goes kind) (bind g (work.on_host p)) w) ≡ beside w.told (end_of host (bind f p) w.host)
-unfolding course bind work.on_host end_of
+    ((a : A) (n : HostModel) → worked (course (work_goes kind) (g a) (record w { host = n })) ≡ beside w.told (end_of host (f a) n)) → worked (course (work_goes kind) (bind g (work.host_in_work p)) w) ≡ beside w.told (end_of host (bind f p) w.host)
+unfolding course bind work.host_in_work end_of
 bind-goes kind f g (returns a) w more = more a w.host
 bind-goes kind f g (calls o k) w more = bind-goes kind f g (k (host.act o w.host).0) (record w { host = (host.act o w.host).1 }) more
 
-bind-stop : {A : Type 0} (f : A → HostPlan Outcome) (g : A → WorkPlan Outcome) (p : HostPlan A) (v : HostModel) (w : Work) → ((a : A) (n : HostModel) → Stops host v (f a) n → WorkStops (g a) (record w { host = n }) v) → Stops host v (bind f p) w.host → WorkStops (bind g (work.on_host p)) w v
-unfolding bind work.on_host Stops working
+bind-stop : {A : Type 0} (f : A → HostPlan Outcome) (g : A → WorkPlan Outcome) (p : HostPlan A) (v : HostModel) (w : Work) → ((a : A) (n : HostModel) → Stops host v (f a) n → WorkStops (g a) (record w { host = n }) v) → Stops host v (bind f p) w.host → WorkStops (bind g (work.host_in_work p)) w v
+unfolding bind work.host_in_work Stops working
 bind-stop f g (returns a) v w more h = more a w.host h
 bind-stop f g (calls o k) v w more (inl e) = record { left = record w { host = v }; stops = inl (refl, e); host = refl }
 bind-stop f g (calls o k) v w more (inr h) =
     let rest = bind-stop f g (k (host.act o w.host).0) v (record w { host = (host.act o w.host).1 }) more h in
     record { left = rest.left; stops = inr rest.stops; host = rest.host }
 
-to-bind : {A : Type 0} (f : A → HostPlan Outcome) (g : A → WorkPlan Outcome) (p : HostPlan A) (w : Work) → ((a : A) (n : HostModel) → ComesTo (g a) (record w { host = n }) (f a)) → ComesTo (bind g (work.on_host p)) w (bind f p)
+to-bind : {A : Type 0} (f : A → HostPlan Outcome) (g : A → WorkPlan Outcome) (p : HostPlan A) (w : Work) → ((a : A) (n : HostModel) → ComesTo (g a) (record w { host = n }) (f a)) → ComesTo (bind g (work.host_in_work p)) w (bind f p)
 to-bind f g p w more = record { goes = λ kind. bind-goes kind f g p w (λ a n. (more a n).goes kind); stops = λ v h. bind-stop f g p v w (λ a n k. (more a n).stops v k) h }
 
 -- ---- a look first
@@ -104,8 +104,8 @@ pub to-dumped : (dump : Bool) (outcome : Outcome) (w : Work) → ComesTo (work.d
 unfolding work.dumped_plan end.dumped_plan working
 to-dumped dump outcome w = by (dump && leaves_machine outcome)
   where
-    by : (b : Bool) → ComesTo (cond b (calling dumping (λ lines. work.on_host (telling outcome lines))) (returns outcome)) w (cond b (telling outcome (dump_lines w.machine)) (returns outcome))
-    by true = to-look (telling outcome (dump_lines w.machine)) dumping (λ lines. work.on_host (telling outcome lines)) w w (dump_lines w.machine) (λ kind. refl) refl refl refl (to-host (telling outcome (dump_lines w.machine)) w)
+    by : (b : Bool) → ComesTo (cond b (calling dumping (λ lines. work.host_in_work (telling outcome lines))) (returns outcome)) w (cond b (telling outcome (dump_lines w.machine)) (returns outcome))
+    by true = to-look (telling outcome (dump_lines w.machine)) dumping (λ lines. work.host_in_work (telling outcome lines)) w w (dump_lines w.machine) (λ kind. refl) refl refl refl (to-host (telling outcome (dump_lines w.machine)) w)
     by false = to-returns outcome w
 
 -- ---- the last steps are taken back
@@ -124,10 +124,10 @@ to-back o outcome w = by (takes_back outcome)
     at : Work
     at = record w { machine = reached w.machine states }
 
-    by : (b : Bool) → ComesTo (cond b (calling (going_back o.last) (λ lines. bind (work.then_dumped o.dump outcome) (work.on_host (lines_plan lines)))) (work.dumped_plan o.dump outcome)) w
+    by : (b : Bool) → ComesTo (cond b (calling (going_back o.last) (λ lines. bind (work.then_dumped o.dump outcome) (work.host_in_work (lines_plan lines)))) (work.dumped_plan o.dump outcome)) w
         (cond b (bind (end.then_dumped o.dump outcome (reached w.machine states)) (lines_plan (state_lines states))) (end.dumped_plan o.dump outcome w.machine))
     by true =
-        to-look (bind (end.then_dumped o.dump outcome (reached w.machine states)) (lines_plan (state_lines states))) (going_back o.last) (λ lines. bind (work.then_dumped o.dump outcome) (work.on_host (lines_plan lines))) w at (state_lines states) (λ kind. refl) refl refl refl
+        to-look (bind (end.then_dumped o.dump outcome (reached w.machine states)) (lines_plan (state_lines states))) (going_back o.last) (λ lines. bind (work.then_dumped o.dump outcome) (work.host_in_work (lines_plan lines))) w at (state_lines states) (λ kind. refl) refl refl refl
         (to-bind (end.then_dumped o.dump outcome (reached w.machine states)) (work.then_dumped o.dump outcome) (lines_plan (state_lines states)) at (λ a n. to-then o.dump outcome (record at { host = n }) a))
     by false = to-dumped o.dump outcome w
 
@@ -140,6 +140,6 @@ to-summed blocks size outcome w = by (is_done outcome)
     line : Line
     line = summary blocks size w.machine.steps (register w.machine.stack 255)
 
-    by : (b : Bool) → ComesTo (cond b (calling (summing blocks size) (λ told. work.on_host (telling (Done 0) (told ∷ [])))) (returns outcome)) w (cond b (telling (Done 0) (line ∷ [])) (returns outcome))
-    by true = to-look (telling (Done 0) (line ∷ [])) (summing blocks size) (λ told. work.on_host (telling (Done 0) (told ∷ []))) w w line (λ kind. refl) refl refl refl (to-host (telling (Done 0) (line ∷ [])) w)
+    by : (b : Bool) → ComesTo (cond b (calling (summing blocks size) (λ told. work.host_in_work (telling (Done 0) (told ∷ [])))) (returns outcome)) w (cond b (telling (Done 0) (line ∷ [])) (returns outcome))
+    by true = to-look (telling (Done 0) (line ∷ [])) (summing blocks size) (λ told. work.host_in_work (telling (Done 0) (told ∷ []))) w w line (λ kind. refl) refl refl refl (to-host (telling (Done 0) (line ∷ [])) w)
     by false = to-returns outcome w

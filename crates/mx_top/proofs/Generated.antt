@@ -1,6 +1,6 @@
 -- The blocks of a generated source, in turn.
 use Rattle.std.proofs.Common.{◌≡◌, ℕ, suc, ◌+◌, List, ◌++◌, arith, append_assoc, append-nil, refl, sym, ap, ◌∙◌}
-use Rattle.law_gen.specs.Generator.{random, next_random, depth, increment, block_with, blocks}
+use Rattle.mx_gen.specs.Generator.{random, next_random, depth, increment, block_with, blocks}
 
 pub random-none : random 0 ≡ 0
 unfolding random

@@ -4,7 +4,7 @@ use Rattle.std.specs.Prelude.{Option, Result}
 use Rattle.std.specs.List.{range_with_len}
 use Rattle.mx_host.specs.HostModel.{HostModel, tells, contents}
 use Rattle.mx_plan.specs.Calls.{host}
-use Rattle.mx_plan.specs.Clauses.{CarriesOut}
+use Rattle.mx_plan.specs.Clauses.{CarriesOutOnHost}
 use Rattle.mx_plan.specs.Plan.{Comes}
 use Rattle.mx_plan.specs.Wild.{Course, course}
 use Rattle.mx_core.specs.Bounds.{as_list_state}
@@ -52,8 +52,8 @@ pub quiet-plan : (a : Option HostModel) (r : Outcome) (ws : List Watching) (earl
 quiet-plan a r ws earlier plan none = (λ t ne. quiet _ ws earlier (none t ne window_machine), λ t ne. either-way _ _ (quiet _ ws earlier (none t ne list_machine)))
 
 -- what is heard in a run that was begun is heard in the whole
-pub begun-heard : (a b : Option HostModel) (r : Outcome) (ws left : List Watching) (earlier later : List Report) (words : List Word) (o : Order) (form : Form) (s : State) → tells b ≡ tells a → CarriesOut a b (Err OutOfMemory) (Ok s) (begin_plan window_machine words o form) →
-    CarriesOut a b (Err OutOfMemory) (Ok (as_list_state s)) (begin_plan list_machine words o form) → HearsWork b s r ws left earlier later (machine_plan o) → HearsPlan a r ws left earlier later (run_file words o form)
+pub begun-heard : (a b : Option HostModel) (r : Outcome) (ws left : List Watching) (earlier later : List Report) (words : List Word) (o : Order) (form : Form) (s : State) → tells b ≡ tells a → CarriesOutOnHost a b (Err OutOfMemory) (Ok s) (begin_plan window_machine words o form) →
+    CarriesOutOnHost a b (Err OutOfMemory) (Ok (as_list_state s)) (begin_plan list_machine words o form) → HearsWork b s r ws left earlier later (machine_plan o) → HearsPlan a r ws left earlier later (run_file words o form)
 begun-heard a b r ws left earlier later words o form s e first listed h = (
   λ t ne. h.0 (tells-then a b e t) ne ∙ ap (λ (c : Course Outcome ProgramWorld). heard_by (told_of c) ws earlier) (begun window_machine s (first t)),
   λ t ne. subst (λ (c : Course Outcome ProgramWorld). UnlessWild (answer_of c) ((left, later) ≡ heard_by (told_of c) ws earlier)) (begun list_machine (as_list_state s) (listed t)) (h.1 (tells-then a b e t) ne),
@@ -62,8 +62,8 @@ begun-heard a b r ws left earlier later words o form s e first listed h = (
     begun : (kind : MachineKind) (x : State) → Comes host (contents a) (contents b) (Err OutOfMemory) (Ok x) (begin_plan kind words o form) → work_by kind (machine_plan o) x (contents b) ≡ course (program_goes kind) (run_file words o form) (contents a, [])
     begun kind x c = ap (begun_by kind (machine_plan o)) (c.ending (λ y. absurd (cc))) ∙ sym (file-course kind words o form (contents a))
 
-pub unbegun-heard : (a b : Option HostModel) (r : Outcome) (ws : List Watching) (earlier : List Report) (words : List Word) (o : Order) (form : Form) → CarriesOut a b (Err OutOfMemory) (Err r) (begin_plan window_machine words o form) →
-    CarriesOut a b (Err OutOfMemory) (Err r) (begin_plan list_machine words o form) → HearsPlan a r ws ws earlier earlier (run_file words o form)
+pub unbegun-heard : (a b : Option HostModel) (r : Outcome) (ws : List Watching) (earlier : List Report) (words : List Word) (o : Order) (form : Form) → CarriesOutOnHost a b (Err OutOfMemory) (Err r) (begin_plan window_machine words o form) →
+    CarriesOutOnHost a b (Err OutOfMemory) (Err r) (begin_plan list_machine words o form) → HearsPlan a r ws ws earlier earlier (run_file words o form)
 unbegun-heard a b r ws earlier words o form first listed = quiet-plan a r ws earlier (run_file words o form) by
   where
     none : (kind : MachineKind) → r ≢ OutOfMemory → Comes host (contents a) (contents b) (Err OutOfMemory) (Err r) (begin_plan kind words o form) → told_by kind (run_file words o form) (contents a) ≡ []

@@ -26,7 +26,8 @@ use Rattle.mx_files.specs.Answers.{Answer, GoesAs}
 use Rattle.mx_outcome.specs.declared.outcome.Outcome.{Outcome}
 use Rattle.mx_top.specs.MachineWork.{Work, WorkPlan, work_goes, calling, stepping, reporting, keeping, sitting, ran, sat}
 use Rattle.mx_top.specs.Product.{ProgramWorld, at_start, worked, answer_of, told_of}
-use Rattle.mx_top.specs.Runs.{outcome_of, session_outcome}
+use Rattle.mx_begin.specs.Ends.{outcome_of}
+use Rattle.mx_top.specs.Runs.{session_outcome}
 use Rattle.mx_top.specs.WorkClauses.{work_by}
 use Rattle.mx_top.proofs.Followed.{ComesTo}
 use Rattle.mx_top.proofs.MachinePlans.{Follow, Made}

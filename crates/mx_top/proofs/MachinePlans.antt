@@ -23,10 +23,11 @@ use Rattle.mx_con.specs.declared.end.SessionEnd.TheVariants as sitting
 use Rattle.mx_watch.specs.Traces.{traces}
 use Rattle.mx_outcome.specs.declared.outcome.Outcome.{Outcome}
 use Rattle.mx_outcome.specs.declared.outcome.Outcome.TheVariants.{OutOfMemory}
-use Rattle.mx_top.specs.MachineWork.{Work, WorkCall, WorkSays, WorkPlan, working, work_goes, on_host, calling, stepping, reporting, keeping, sitting as seated, after_run, after_session}
+use Rattle.mx_top.specs.MachineWork.{Work, WorkCall, WorkSays, WorkPlan, working, work_goes, host_in_work, calling, stepping, reporting, keeping, sitting as seated, after_run, after_session}
 use Rattle.mx_top.specs.Product.{at_start, worked, answer_of, told_of}
-use Rattle.mx_top.specs.Runs.{outcome_of, session_outcome}
-use Rattle.mx_top.specs.WorkClauses.{WorkComes, WorksBoth, left_of, work_by}
+use Rattle.mx_begin.specs.Ends.{outcome_of}
+use Rattle.mx_top.specs.Runs.{session_outcome}
+use Rattle.mx_top.specs.WorkClauses.{CarriesOutWorkOnBoth, WorkComes, left_of, work_by}
 use Rattle.mx_top.proofs.Followed.{ComesTo, work-comes}
 use Rattle.mx_top.proofs.PlainEnds.{ended-well}
 
@@ -169,26 +170,26 @@ session-follows n f g s t m k v end outcome r work follow made ef eo c lacked fo
 
 -- ---- memory that is taken first
 
-taken : (plan : WorkPlan Outcome) (w : Work) (v : HostModel) (r : Outcome) → WorkComes w v r plan → WorkComes w v r (bind (λ (u : Unit {0}). plan) (on_host need))
-unfolding bind on_host need Stops end_of working host
+taken : (plan : WorkPlan Outcome) (w : Work) (v : HostModel) (r : Outcome) → WorkComes w v r plan → WorkComes w v r (bind (λ (u : Unit {0}). plan) (host_in_work need))
+unfolding bind host_in_work need Stops end_of working host
 taken plan w v r c = record { ending = c.ending; stopping = λ e. let s = c.stopping e in record { left = s.left; stops = inr s.stops; host = s.host } }
 
-taken-course : (kind : MachineKind) (plan : WorkPlan Outcome) (w : Work) → course (work_goes kind) (bind (λ (u : Unit {0}). plan) (on_host need)) w ≡ course (work_goes kind) plan w
-unfolding course bind on_host need host working
+taken-course : (kind : MachineKind) (plan : WorkPlan Outcome) (w : Work) → course (work_goes kind) (bind (λ (u : Unit {0}). plan) (host_in_work need)) w ≡ course (work_goes kind) plan w
+unfolding course bind host_in_work need host working
 taken-course kind plan w = refl
 
-pub works-taking : (a b : Option HostModel) (s : State) (r : Outcome) (plan : WorkPlan Outcome) → WorksBoth a b s r plan → WorksBoth a b s r (bind (λ (u : Unit {0}). plan) (on_host need))
+pub works-taking : (a b : Option HostModel) (s : State) (r : Outcome) (plan : WorkPlan Outcome) → CarriesOutWorkOnBoth a b s r plan → CarriesOutWorkOnBoth a b s r (bind (λ (u : Unit {0}). plan) (host_in_work need))
 works-taking a b s r plan h = record {
   window = λ t. taken plan (at_start s (contents a, [])) (contents b) r (h.window t);
   list = λ t ne. subst (λ (c : Course Outcome Work). GoesAs (answer_of (worked c)) r (contents b)) (sym (taken-course list_machine plan (at_start (as_list_state s) (contents a, [])))) (h.list t ne);
 }
 
-pub works-lacks : (a : Option HostModel) (s : State) (plan : WorkPlan Outcome) → WorksBoth a a s OutOfMemory (bind (λ (u : Unit {0}). plan) (on_host need))
-unfolding bind on_host need Stops working host
+pub works-lacks : (a : Option HostModel) (s : State) (plan : WorkPlan Outcome) → CarriesOutWorkOnBoth a a s OutOfMemory (bind (λ (u : Unit {0}). plan) (host_in_work need))
+unfolding bind host_in_work need Stops working host
 works-lacks a s plan = record {
   window = λ t. record { ending = λ ne. absurd (ne refl); stopping = λ e. record { left = at_start s (contents a, []); stops = inl (refl, refl); host = refl } };
   list = λ t ne. absurd (ne refl);
 }
 
-pub told-taking : (kind : MachineKind) (plan : WorkPlan Outcome) (s : State) (m : HostModel) → told_of (work_by kind (bind (λ (u : Unit {0}). plan) (on_host need)) s m) ≡ told_of (work_by kind plan s m)
+pub told-taking : (kind : MachineKind) (plan : WorkPlan Outcome) (s : State) (m : HostModel) → told_of (work_by kind (bind (λ (u : Unit {0}). plan) (host_in_work need)) s m) ≡ told_of (work_by kind plan s m)
 told-taking kind plan s m = ap (λ (c : Course Outcome Work). told_of (worked c)) (taken-course kind plan (at_start s (m, [])))

@@ -11,7 +11,7 @@ use Rattle.mx_run.specs.declared.turn_answer.TurnAnswer.{TurnAnswer}
 use Rattle.mx_run.specs.declared.turn_answer.TurnAnswer.TheVariants as answer
 use Rattle.mx_run.proofs.FreeTurns.{trace-free}
 use Rattle.mx_outcome.specs.declared.outcome.Outcome.TheVariants.{OutOfMemory}
-use Rattle.mx_top.specs.Runs.{outcome_of}
+use Rattle.mx_begin.specs.Ends.{outcome_of}
 
 abbrev IsPlain : End → Type 0
 IsPlain (ending.Broke kind at traced) = ⊥

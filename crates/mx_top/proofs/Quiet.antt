@@ -9,7 +9,7 @@ use Rattle.mx_mmo.specs.Image.{Image}
 use Rattle.mx_core.specs.State.{State}
 use Rattle.mx_run.specs.WildRuns.{MachineKind}
 use Rattle.mx_words.specs.declared.order.Order.{Order}
-use Rattle.law_gen.specs.Generator.{generated}
+use Rattle.mx_gen.specs.Generator.{generated}
 use Rattle.mx_files.specs.FilePlans.{Part}
 use Rattle.mx_files.specs.Schedules.{schedule_plan}
 use Rattle.mx_files.specs.Sources.{source_meaning}
@@ -22,7 +22,7 @@ use Rattle.mx_begin.specs.declared.images.Form.TheVariants.{Object}
 use Rattle.mx_top.specs.Endings as end
 use Rattle.mx_top.specs.MachineWork as work
 use Rattle.mx_top.specs.MachineWork.{generated_work}
-use Rattle.mx_top.specs.Product.{ProgramPlan, on_host, on_part, taking, work_on, run_source, run_text, turns_on, turns_from, object_file, multi_file, told_of}
+use Rattle.mx_top.specs.Product.{ProgramPlan, host_in_program, on_part, taking, work_on, run_source, run_text, turns_on, turns_from, object_file, multi_file, told_of}
 use Rattle.mx_top.specs.Runs.{generator_steps}
 use Rattle.mx_top.specs.WorkClauses.{told_by}
 use Rattle.mx_top.proofs.Followed.{to-summed}
@@ -31,7 +31,7 @@ use Rattle.mx_top.proofs.TurnsMade.{turns-told}
 use Rattle.mx_top.proofs.WorkParts.{run-on}
 use Rattle.mx_top.proofs.WorkPlans.{host-bind, host-course, returns-course, taking-course}
 
-pub host-quiet : (kind : MachineKind) (p : HostPlan Outcome) (m : HostModel) → told_by kind (on_host p) m ≡ []
+pub host-quiet : (kind : MachineKind) (p : HostPlan Outcome) (m : HostModel) → told_by kind (host_in_program p) m ≡ []
 host-quiet kind p m = ap told_of (host-course kind p (m, []))
 
 pub returns-quiet : (kind : MachineKind) (r : Outcome) (m : HostModel) → told_by kind (returns r) m ≡ []
@@ -40,7 +40,7 @@ returns-quiet kind r m = ap told_of (returns-course kind r (m, []))
 taking-quiet : (kind : MachineKind) (p : ProgramPlan Outcome) (m : HostModel) → told_by kind p m ≡ [] → told_by kind (taking p) m ≡ []
 taking-quiet kind p m none = ap told_of (taking-course kind p (m, [])) ∙ none
 
-part-quiet : {A : Type 0} (kind : MachineKind) (f : A → ProgramPlan Outcome) (p : Part A) (m : HostModel) → ((x : A) (n : HostModel) → told_by kind (f x) n ≡ []) → told_by kind (bind (on_part f) (on_host p)) m ≡ []
+part-quiet : {A : Type 0} (kind : MachineKind) (f : A → ProgramPlan Outcome) (p : Part A) (m : HostModel) → ((x : A) (n : HostModel) → told_by kind (f x) n ≡ []) → told_by kind (bind (on_part f) (host_in_program p)) m ≡ []
 part-quiet {A} kind f p m none = ap told_of (host-bind kind (on_part f) p (m, [])) ∙ by (end_of host p m)
   where
     by : (t : Then (Result A Outcome)) → told_by kind (on_part f t.0) t.1 ≡ []

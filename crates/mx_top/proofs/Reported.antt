@@ -21,7 +21,7 @@ use Rattle.mx_top.proofs.Spoken.{product-is-said}
 use Rattle.mx_watch.specs.WatchedRuns.{UnlessWild}
 use Rattle.mx_top.specs.Reports.{due_reports, watched_product}
 use Rattle.mx_top.specs.Telling.{reports_plan, with_message, with_reports}
-use Rattle.mx_top.specs.WorkClauses.{Doing, KeepsSaying, answer_by}
+use Rattle.mx_top.specs.WorkClauses.{DoneAndTold, KeepsSaying, answer_by}
 use Rattle.mx_top.proofs.Answering.{goes-as}
 
 -- ---- the writes
@@ -79,5 +79,5 @@ unwatched kind words ws m e =
     ap (λ w. watched_product kind words w m) e ∙ ap (λ ts. with_reports ts (product kind words m)) (none-due (order_of words) (product_traces kind words m)) ∙ none-written (product kind words m)
 
 -- where nobody watches none is due
-pub unwatched-doing : (m n : HostModel) (result : Outcome) (work : ProgramPlan Outcome) (due : List Trace → List (List ℕ)) → due ≡ (λ told. []) → Doing m n result work due → Doing m n result work (λ told. [])
-unwatched-doing m n result work due nothing d = subst (λ (f : List Trace → List (List ℕ)). Doing m n result work f) nothing d
+pub unwatched-doing : (m n : HostModel) (result : Outcome) (work : ProgramPlan Outcome) (due : List Trace → List (List ℕ)) → due ≡ (λ told. []) → DoneAndTold m n result work due → DoneAndTold m n result work (λ told. [])
+unwatched-doing m n result work due nothing d = subst (λ (f : List Trace → List (List ℕ)). DoneAndTold m n result work f) nothing d

@@ -7,7 +7,7 @@ use Rattle.mx_host.specs.HostModel.{HostModel, tells, contents}
 use Rattle.mx_host.specs.declared.faults.HostFault.{HostFault}
 use Rattle.mx_host.specs.declared.faults.HostFault.TheVariants as slot
 use Rattle.mx_plan.specs.Calls.{host, HostPlan, need, write_plan}
-use Rattle.mx_plan.specs.Clauses.{CarriesOut}
+use Rattle.mx_plan.specs.Clauses.{CarriesOutOnHost}
 use Rattle.mx_plan.specs.Plan.{returns, bind, end_of, end_after, Stops, IsRest}
 use Rattle.mx_plan.proofs.Plans.{end_bind, end_returns, stops_first, rest_after}
 use Rattle.mx_plan.specs.Wild.{ends}
@@ -46,18 +46,18 @@ lacking (Err slot.Misused) e = absurd (cc)
 pub said-none : (a : Option HostModel) (outcome : Outcome) (text : List ℕ) → text ≡ [] → TellsBy a a outcome (said_plan outcome text)
 said-none a outcome text e = λ t. inl (rw e (sym (end_returns host outcome (contents a))))
 
-written : (b : ℕ) (bs : List ℕ) (old new : Option HostModel) (outcome : Outcome) (w : Result (Unit {0}) HostFault) → is_lacking w ≡ false → CarriesOut old new (Err slot.OutOfMemory) w (write_plan 260 (b ∷ bs)) →
+written : (b : ℕ) (bs : List ℕ) (old new : Option HostModel) (outcome : Outcome) (w : Result (Unit {0}) HostFault) → is_lacking w ≡ false → CarriesOutOnHost old new (Err slot.OutOfMemory) w (write_plan 260 (b ∷ bs)) →
     TellsBy old new outcome (said_plan outcome (b ∷ bs))
 written b bs old new outcome w e c = λ t.
     inl (sym (end_bind host (λ (r : Result (Unit {0}) HostFault). returns outcome) (write_plan 260 (b ∷ bs)) (contents old) ∙ ap (end_after host (λ (r : Result (Unit {0}) HostFault). returns outcome)) (sym ((c t).ending (unlacking w e)))
     ∙ end_returns host outcome (contents new)))
 
-pub said-written : (old new : Option HostModel) (outcome : Outcome) (text : List ℕ) (w : Result (Unit {0}) HostFault) → text ≢ [] → is_lacking w ≡ false → CarriesOut old new (Err slot.OutOfMemory) w (write_plan 260 text) →
+pub said-written : (old new : Option HostModel) (outcome : Outcome) (text : List ℕ) (w : Result (Unit {0}) HostFault) → text ≢ [] → is_lacking w ≡ false → CarriesOutOnHost old new (Err slot.OutOfMemory) w (write_plan 260 text) →
     TellsBy old new outcome (said_plan outcome text)
 said-written old new outcome [] w ne e c = absurd (ne refl)
 said-written old new outcome (b ∷ bs) w ne e c = written b bs old new outcome w e c
 
-pub said-lacking : (old new : Option HostModel) (outcome : Outcome) (text : List ℕ) (w : Result (Unit {0}) HostFault) → text ≢ [] → is_lacking w ≡ true → CarriesOut old new (Err slot.OutOfMemory) w (write_plan 260 text) →
+pub said-lacking : (old new : Option HostModel) (outcome : Outcome) (text : List ℕ) (w : Result (Unit {0}) HostFault) → text ≢ [] → is_lacking w ≡ true → CarriesOutOnHost old new (Err slot.OutOfMemory) w (write_plan 260 text) →
     TellsBy old new OutOfMemory (said_plan outcome text)
 said-lacking old new outcome [] w ne e c = absurd (ne refl)
 said-lacking old new outcome (b ∷ bs) w ne e c = λ t. inr (refl, stops_first host (λ (r : Result (Unit {0}) HostFault). returns outcome) (write_plan 260 (b ∷ bs)) (contents new) (contents old) ((c t).stopping (lacking w e)))
@@ -89,11 +89,11 @@ message-lacks a outcome ne = lacks a outcome (message_of outcome) ne
 
 -- ---- reports
 
-pub report-none : (a : Option HostModel) (text : List ℕ) → text ≡ [] → CarriesOut a a (Err slot.OutOfMemory) (Ok tt) (report_plan text)
+pub report-none : (a : Option HostModel) (text : List ℕ) → text ≡ [] → CarriesOutOnHost a a (Err slot.OutOfMemory) (Ok tt) (report_plan text)
 unfolding report_plan
 report-none a text e = λ t. rw e (record { ending = λ ne. sym (end_returns host (Ok tt) (contents a)); stopping = λ x. absurd (cc) })
 
-pub report-written : (old new : Option HostModel) (text : List ℕ) (w : Result (Unit {0}) HostFault) → text ≢ [] → CarriesOut old new (Err slot.OutOfMemory) w (write_plan 260 text) → CarriesOut old new (Err slot.OutOfMemory) w (report_plan text)
+pub report-written : (old new : Option HostModel) (text : List ℕ) (w : Result (Unit {0}) HostFault) → text ≢ [] → CarriesOutOnHost old new (Err slot.OutOfMemory) w (write_plan 260 text) → CarriesOutOnHost old new (Err slot.OutOfMemory) w (report_plan text)
 unfolding report_plan
 report-written old new [] w ne c = absurd (ne refl)
 report-written old new (b ∷ bs) w ne c = c
@@ -104,14 +104,14 @@ one-more outcome texts i d x inside is =
     at_drop_more (reports_plan outcome) texts i d inside ∙ ap (λ (y : List ℕ). bind (λ (r : Result (Unit {0}) HostFault). reports_plan outcome (drop (i + 1) texts)) (report_plan y)) (sym is)
 
 pub reports-next : (old here new : Option HostModel) (outcome : Outcome) (texts : List (List ℕ)) (i : ℕ) (d x : List ℕ) (w : Result (Unit {0}) HostFault) → i < length texts → x ≡ get_or texts i d → is_lacking w ≡ false → tells here ≡ tells old →
-    CarriesOut here new (Err slot.OutOfMemory) w (report_plan x) → (IsTrue (tells old) → IsRest host (reports_plan outcome (drop i texts)) (contents here) (reports_plan outcome texts) (contents old)) →
+    CarriesOutOnHost here new (Err slot.OutOfMemory) w (report_plan x) → (IsTrue (tells old) → IsRest host (reports_plan outcome (drop i texts)) (contents here) (reports_plan outcome texts) (contents old)) →
     IsTrue (tells old) → IsRest host (reports_plan outcome (drop (i + 1) texts)) (contents new) (reports_plan outcome texts) (contents old)
 reports-next old here new outcome texts i d x w inside is e same c rest = λ t.
     rest_after host (λ (r : Result (Unit {0}) HostFault). reports_plan outcome (drop (i + 1) texts)) (report_plan x) w (contents new) (contents here) (contents old) (reports_plan outcome texts)
     ((c (subst IsTrue (sym same) t)).ending (unlacking w e)) (subst (λ (p : HostPlan Outcome). IsRest host p (contents here) (reports_plan outcome texts) (contents old)) (one-more outcome texts i d x inside is) (rest t))
 
 pub reports-lacking : (old here new : Option HostModel) (outcome : Outcome) (texts : List (List ℕ)) (i : ℕ) (d x : List ℕ) (w : Result (Unit {0}) HostFault) → i < length texts → x ≡ get_or texts i d → is_lacking w ≡ true → tells here ≡ tells old →
-    CarriesOut here new (Err slot.OutOfMemory) w (report_plan x) → (IsTrue (tells old) → IsRest host (reports_plan outcome (drop i texts)) (contents here) (reports_plan outcome texts) (contents old)) →
+    CarriesOutOnHost here new (Err slot.OutOfMemory) w (report_plan x) → (IsTrue (tells old) → IsRest host (reports_plan outcome (drop i texts)) (contents here) (reports_plan outcome texts) (contents old)) →
     TellsBy old new OutOfMemory (reports_plan outcome texts)
 reports-lacking old here new outcome texts i d x w inside is e same c rest = λ t.
     let left = subst (λ (p : HostPlan Outcome). IsRest host p (contents here) (reports_plan outcome texts) (contents old)) (one-more outcome texts i d x inside is) (rest t) in
@@ -133,7 +133,7 @@ reports-said outcome (text ∷ texts) m =
     ap (λ (t : Outcome × HostModel). t.0) (end_bind host (λ (r : Result (Unit {0}) HostFault). reports_plan outcome texts) (report_plan text) m) ∙ reports-said outcome texts (end_of host (report_plan text) m).1
 
 pub telling-told : (left new : HostModel) (result said : Outcome) (texts : List (List ℕ)) → Telling left new result said texts → result ≢ OutOfMemory → ends result new ≡ with_reports texts (with_message (ends said left))
-telling-told left new result said texts h ne = by h.message h.behind
+telling-told left new result said texts h ne = by h.message h.following
   where
     by : Tells left h.between h.spoken (message_plan said) → Tells h.between new result (reports_plan h.spoken texts) → ends result new ≡ with_reports texts (with_message (ends said left))
     by x (inr y) = absurd (ne y.0)

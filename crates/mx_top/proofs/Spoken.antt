@@ -14,7 +14,7 @@ use Rattle.mx_outcome.specs.declared.outcome.Outcome.{Outcome}
 use Rattle.mx_outcome.specs.declared.outcome.Outcome.TheVariants.{OutOfMemory}
 use Rattle.mx_begin.specs.Arguments.{Word}
 use Rattle.mx_top.specs.Product as page
-use Rattle.mx_top.specs.Product.{ProgramCall, ProgramPlan, ProgramWorld, program, program_goes, on_host, on_machine, taking_turns, work_plan, product_course, product, product_traces, answer_of, told_of}
+use Rattle.mx_top.specs.Product.{ProgramCall, ProgramPlan, ProgramWorld, program, program_goes, host_in_program, on_machine, taking_turns, work_plan, product_course, product, product_traces, answer_of, told_of}
 use Rattle.mx_top.specs.Telling.{message_plan, with_message}
 use Rattle.mx_top.specs.WorkClauses.{PlanComes, answer_by, told_by}
 use Rattle.mx_top.proofs.ProgramHeld.{work-front}
@@ -24,7 +24,7 @@ use Rattle.mx_top.proofs.WorkPlans.{host-course}
 -- ---- the message
 
 abbrev said-by : MachineKind → Course Outcome ProgramWorld → Course Outcome ProgramWorld
-said-by kind c = then_on (λ outcome w. course (program_goes kind) (on_host (message_plan outcome)) w) c
+said-by kind c = then_on (λ outcome w. course (program_goes kind) (host_in_program (message_plan outcome)) w) c
 
 pub plain-so : (t : Outcome × HostModel) → ends t.0 t.1 ≡ plainly t
 plain-so (outcome, m) = refl
@@ -39,7 +39,7 @@ said-told kind (meets_wild w) = refl
 
 product-by : (kind : MachineKind) (words : List Word) (m : HostModel) → product_course kind words m ≡ said-by kind (course (program_goes kind) (work_plan words (order_of words)) (m, []))
 unfolding product_course page.product_plan
-product-by kind words m = course_bind (program_goes kind) (λ outcome. on_host (message_plan outcome)) (work_plan words (order_of words)) (m, [])
+product-by kind words m = course_bind (program_goes kind) (λ outcome. host_in_program (message_plan outcome)) (work_plan words (order_of words)) (m, [])
 
 pub product-is-said : (kind : MachineKind) (words : List Word) (m : HostModel) → product kind words m ≡ with_message (answer_by kind (work_plan words (order_of words)) m)
 unfolding product

@@ -4,7 +4,7 @@ use Rattle.std.specs.Prelude.{Option, Result}
 use Rattle.std.proofs.lemmas.List.{take-map}
 use Rattle.mx_host.specs.HostModel.{HostModel, contents}
 use Rattle.mx_plan.specs.Calls.{host, HostPlan}
-use Rattle.mx_plan.specs.Clauses.{CarriesOut}
+use Rattle.mx_plan.specs.Clauses.{CarriesOutOnHost}
 use Rattle.mx_plan.specs.Plan.{bind, end_of, end_after, StopsAfter}
 use Rattle.mx_plan.proofs.Plans.{end_bind, end_returns, stops_first, stops_after}
 use Rattle.mx_back.specs.History.{states_before, states_kept}
@@ -14,7 +14,7 @@ use Rattle.mx_core.specs.Bounds.{as_list_state}
 use Rattle.mx_core.specs.State.{State}
 use Rattle.mx_core.specs.Undoing.{StateWas}
 use Rattle.mx_run.specs.AccompaniedRuns.{list_run}
-use Rattle.mx_files.specs.Clauses.{WorksBetween}
+use Rattle.mx_files.specs.Clauses.{DoesPartBetween}
 use Rattle.mx_files.specs.FilePlans.{lines_plan}
 use Rattle.mx_outcome.specs.declared.outcome.Outcome.{Outcome}
 use Rattle.mx_outcome.specs.declared.outcome.Outcome.TheVariants.{OutOfMemory}
@@ -26,31 +26,31 @@ use Rattle.mx_top.proofs.Dumped.{same-dumped}
 
 -- ---- as plans
 
-by-taken : (a b : Option HostModel) (r : Outcome) (p q : HostPlan Outcome) (x : Bool) → x ≡ true → CarriesOut a b OutOfMemory r p → CarriesOut a b OutOfMemory r (cond x p q)
+by-taken : (a b : Option HostModel) (r : Outcome) (p q : HostPlan Outcome) (x : Bool) → x ≡ true → CarriesOutOnHost a b OutOfMemory r p → CarriesOutOnHost a b OutOfMemory r (cond x p q)
 by-taken a b r p q true e h = h
 by-taken a b r p q false e h = absurd (cc)
 
-pub unbacked-plan : (a b : Option HostModel) (dump : Bool) (outcome r : Outcome) (states : List State) (s : State) → takes_back outcome ≡ false → CarriesOut a b OutOfMemory r (dumped_plan dump outcome s) →
-    CarriesOut a b OutOfMemory r (back_plan dump outcome states s)
+pub unbacked-plan : (a b : Option HostModel) (dump : Bool) (outcome r : Outcome) (states : List State) (s : State) → takes_back outcome ≡ false → CarriesOutOnHost a b OutOfMemory r (dumped_plan dump outcome s) →
+    CarriesOutOnHost a b OutOfMemory r (back_plan dump outcome states s)
 unfolding back_plan
 unbacked-plan a b dump outcome r states s e h =
-    subst (λ (x : Bool). CarriesOut a b OutOfMemory r (cond x (bind (then_dumped dump outcome (reached s states)) (lines_plan (state_lines states))) (dumped_plan dump outcome s))) (sym e) h
+    subst (λ (x : Bool). CarriesOutOnHost a b OutOfMemory r (cond x (bind (then_dumped dump outcome (reached s states)) (lines_plan (state_lines states))) (dumped_plan dump outcome s))) (sym e) h
 
-pub backed-plan : (a b c : Option HostModel) (k m : ℕ) (dump : Bool) (outcome r : Outcome) (states : List State) (s t : State) → takes_back outcome ≡ true → t ≡ reached s states → WorksBetween a b k m (Ok tt) (lines_plan (state_lines states)) →
-    CarriesOut b c OutOfMemory r (dumped_plan dump outcome t) → CarriesOut a c OutOfMemory r (back_plan dump outcome states s)
+pub backed-plan : (a b c : Option HostModel) (k m : ℕ) (dump : Bool) (outcome r : Outcome) (states : List State) (s t : State) → takes_back outcome ≡ true → t ≡ reached s states → DoesPartBetween a b k m (Ok tt) (lines_plan (state_lines states)) →
+    CarriesOutOnHost b c OutOfMemory r (dumped_plan dump outcome t) → CarriesOutOnHost a c OutOfMemory r (back_plan dump outcome states s)
 unfolding back_plan
 backed-plan a b c k m dump outcome r states s t e is w h =
     let follow : Result (Unit {0}) Outcome → HostPlan Outcome = then_dumped dump outcome (reached s states) in
     by-taken a c r (bind follow (lines_plan (state_lines states))) (dumped_plan dump outcome s) (takes_back outcome) e (λ told.
     let first : (Ok tt, contents b) ≡ end_of host (lines_plan (state_lines states)) (contents a) = (w.told told).ending (λ o. absurd (cc)) in
-    let second = subst (λ (u : State). CarriesOut b c OutOfMemory r (dumped_plan dump outcome u)) is h (subst IsTrue (sym w.stands.0) told) in
+    let second = subst (λ (u : State). CarriesOutOnHost b c OutOfMemory r (dumped_plan dump outcome u)) is h (subst IsTrue (sym w.keeps.0) told) in
     record {
       ending = λ ne. second.ending ne ∙ sym (end_bind host follow (lines_plan (state_lines states)) (contents a) ∙ ap (end_after host follow) (sym first));
       stopping = λ o. stops_after host follow (lines_plan (state_lines states)) (contents c) (contents a) (subst (StopsAfter host (contents c) follow) first (second.stopping o));
     })
 
-pub broken-plan : (a b : Option HostModel) (k m : ℕ) (dump : Bool) (outcome other : Outcome) (states : List State) (s : State) → takes_back outcome ≡ true → WorksBetween a b k m (Err other) (lines_plan (state_lines states)) →
-    CarriesOut a b OutOfMemory other (back_plan dump outcome states s)
+pub broken-plan : (a b : Option HostModel) (k m : ℕ) (dump : Bool) (outcome other : Outcome) (states : List State) (s : State) → takes_back outcome ≡ true → DoesPartBetween a b k m (Err other) (lines_plan (state_lines states)) →
+    CarriesOutOnHost a b OutOfMemory other (back_plan dump outcome states s)
 unfolding back_plan
 broken-plan a b k m dump outcome other states s e w =
     let follow : Result (Unit {0}) Outcome → HostPlan Outcome = then_dumped dump outcome (reached s states) in

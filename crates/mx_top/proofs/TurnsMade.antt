@@ -22,7 +22,7 @@ use Rattle.mx_outcome.specs.declared.outcome.Outcome.{Outcome}
 use Rattle.mx_outcome.specs.declared.outcome.Outcome.TheVariants.{OutOfMemory}
 use Rattle.mx_dump.specs.Dump.{Line}
 use Rattle.mx_top.specs.Processors.{multi_lines, multi_outcome, processors_named}
-use Rattle.mx_top.specs.Product.{ProgramPlan, ProgramWorld, program, program_goes, on_host, turns_from, turned, after_turns, joint_at_start, answer_of, told_of}
+use Rattle.mx_top.specs.Product.{ProgramPlan, ProgramWorld, program, program_goes, host_in_program, turns_from, turned, after_turns, joint_at_start, answer_of, told_of}
 use Rattle.mx_top.specs.Telling.{telling}
 use Rattle.mx_top.specs.WorkClauses.{PlanComes, host_of, answer_by}
 use Rattle.mx_top.proofs.TurnsTold.{same-told}
@@ -36,7 +36,7 @@ turned-out turning.Spent = inr (λ e. cc)
 
 -- what follows the turns, by what they answer
 abbrev tell-turns : ℕ → MultiEnd × List Line → ProgramPlan Outcome
-tell-turns n t = on_host (telling (multi_outcome n t.0) t.1)
+tell-turns n t = host_in_program (telling (multi_outcome n t.0) t.1)
 
 pub turns-follow : (o : Order) (schedule : List ℕ) (image : Image) (i : Joint) (m k v : HostModel) (end : MultiEnd) (r : Outcome) → Comes multi (joint_at_start window_machine o.ring image schedule, m) (i, k) turning.OutOfMemory end (turns_plan schedule o.steps schedule) →
     (end ≡ turning.OutOfMemory → (r ≡ OutOfMemory) × (v ≡ k)) → (end ≢ turning.OutOfMemory → Comes host k v OutOfMemory r (telling (multi_outcome o.steps end) (multi_lines o.dump end i))) → PlanComes m v r (turns_from o schedule image)

@@ -4,7 +4,7 @@ use Rattle.std.specs.Prelude.{◌==◌, not, Option, Result, ◌∷◌}
 use Rattle.mx_host.specs.HostModel.{HostModel, tells, contents}
 use Rattle.mx_host.specs.HostAnswer.{Then}
 use Rattle.mx_plan.specs.Calls.{host, HostPlan, need}
-use Rattle.mx_plan.specs.Clauses.{CarriesOut}
+use Rattle.mx_plan.specs.Clauses.{CarriesOutOnHost}
 use Rattle.mx_plan.specs.Plan.{returns, calls, bind, end_of, end_after, Stops, StopsAfter}
 use Rattle.mx_plan.specs.Wild.{Course, ends, meets_wild, then_on, course}
 use Rattle.mx_plan.proofs.Plans.{stops_after}
@@ -17,7 +17,7 @@ use Rattle.mx_words.specs.declared.order.Command.{Command}
 use Rattle.mx_words.specs.declared.order.Command.TheVariants.{Run, Asm, Sim, Gen, Show, Multi}
 use Rattle.mx_words.specs.declared.order.Order.{Order}
 use Rattle.mx_words.specs.declared.order.WordsFault.{WordsFault}
-use Rattle.law_gen.specs.Generator.{generated}
+use Rattle.mx_gen.specs.Generator.{generated}
 use Rattle.mx_files.specs.Answers.{GoesAs}
 use Rattle.mx_files.specs.Assembling.{refused_with}
 use Rattle.mx_files.specs.FilePlans.{on_ok}
@@ -35,8 +35,8 @@ use Rattle.mx_begin.proofs.Beginnings.{begin-by, start-end}
 use Rattle.mx_top.specs.MachineWork as work
 use Rattle.mx_top.specs.MachineWork.{WorkPlan, WorkStops, working, work_goes, generated_work}
 use Rattle.mx_top.specs.Product as page
-use Rattle.mx_top.specs.Product.{ProgramPlan, ProgramWorld, program, program_goes, on_host, on_part, taking, run_on, run_file, run_source, run_text, ordered_plan, work_plan, work_on, worked, at_start, MayStop, answer_of}
-use Rattle.mx_top.specs.WorkClauses.{CarriesOutBoth, PlanStops, WorksBoth, host_of, left_of, work_by, answer_by}
+use Rattle.mx_top.specs.Product.{ProgramPlan, ProgramWorld, program, program_goes, host_in_program, on_part, taking, run_on, run_file, run_source, run_text, ordered_plan, work_plan, work_on, worked, at_start, MayStop, answer_of}
+use Rattle.mx_top.specs.WorkClauses.{CarriesOutProgramOnBoth, PlanStops, CarriesOutWorkOnBoth, host_of, left_of, work_by, answer_by}
 use Rattle.mx_top.proofs.Told.{wanting}
 use Rattle.mx_top.proofs.WindowCourses.{work-window, program-window}
 use Rattle.mx_top.proofs.WorkPlans.{both-host, both-returns, both-lacks, both-taking, goes-by, host-bind, part-ended, taking-course, tells-then}
@@ -49,7 +49,7 @@ ends-alone (meets_wild w) = refl
 
 -- the work that is done on it
 pub run-on : (kind : MachineKind) (ring : ℕ) (args : List Word) (plan : WorkPlan Outcome) (image : Image) (w : ProgramWorld) → course (program_goes kind) (run_on ring args plan image) w ≡ work_on kind plan (started kind ring image args) w
-unfolding course bind on_host need host
+unfolding course bind host_in_program need host
 run-on kind ring args plan image w = ends-alone (work_on kind plan (started kind ring image args) w)
 
 -- over a window: what comes of it
@@ -65,11 +65,11 @@ left-by plan s m = ap (λ c. host-in (worked c)) (work-window plan (at_start s (
 
 -- a machine that starts on an image
 start-stops : (ring : ℕ) (args : List Word) (plan : WorkPlan Outcome) (image : Image) (r : Result State Outcome) (m v : HostModel) → r ≡ started window_machine ring image args → MayStop plan r (m, []) v → Stops program (v, []) (run_on ring args plan image) (m, [])
-unfolding bind on_host need Stops program host end_of
+unfolding bind host_in_program need Stops program host end_of
 start-stops ring args plan image r m v is s = inr (inl (subst (λ (x : Result State Outcome). MayStop plan x (m, []) v) is s))
 
 pub machine-started : (a b : Option HostModel) (r : Outcome) (ring : ℕ) (image : Image) (args : List Word) (plan : WorkPlan Outcome) (s : State) → Ok s ≡ started window_machine ring image args → Ok (as_list_state s) ≡ started list_machine ring image args →
-    WorksBoth a b s r plan → CarriesOutBoth a b r (run_on ring args plan image)
+    CarriesOutWorkOnBoth a b s r plan → CarriesOutProgramOnBoth a b r (run_on ring args plan image)
 machine-started a b r ring image args plan s is listed h = record {
   window = λ t. record {
     ending = λ ne.
@@ -83,7 +83,7 @@ machine-started a b r ring image args plan s is listed h = record {
 }
 
 unstarted-by : (a : Option HostModel) (r : Outcome) (ring : ℕ) (image : Image) (args : List Word) (plan : WorkPlan Outcome) → (r ≢ OutOfMemory → Err r ≡ started window_machine ring image args) → (r ≢ OutOfMemory → Err r ≡ started list_machine ring image args) →
-    (r ≡ OutOfMemory) ⊎ (r ≢ OutOfMemory) → CarriesOutBoth a a r (run_on ring args plan image)
+    (r ≡ OutOfMemory) ⊎ (r ≢ OutOfMemory) → CarriesOutProgramOnBoth a a r (run_on ring args plan image)
 unstarted-by a r ring image args plan is listed (inl e) = rw e (both-lacks a (calls (page.on_machine ring image args plan) (λ outcome. returns outcome)))
 unstarted-by a r ring image args plan is listed (inr ne) = record {
   window = λ t. record {
@@ -96,7 +96,7 @@ unstarted-by a r ring image args plan is listed (inr ne) = record {
 }
 
 pub machine-unstarted : (a : Option HostModel) (r : Outcome) (ring : ℕ) (image : Image) (args : List Word) (plan : WorkPlan Outcome) → (r ≢ OutOfMemory → Err r ≡ started window_machine ring image args) →
-    (r ≢ OutOfMemory → Err r ≡ started list_machine ring image args) → CarriesOutBoth a a r (run_on ring args plan image)
+    (r ≢ OutOfMemory → Err r ≡ started list_machine ring image args) → CarriesOutProgramOnBoth a a r (run_on ring args plan image)
 machine-unstarted a r ring image args plan is listed = unstarted-by a r ring image args plan is listed (wanting r)
 
 -- ---- `run` and `sim`: a machine that has begun, or has not
@@ -126,7 +126,7 @@ file-course kind words o form m =
     by (Err outcome, n) = returns-so kind outcome n
 
 taken-stops : (p : ProgramPlan Outcome) (v m : HostModel) → Stops program (v, []) p (m, []) → Stops program (v, []) (taking p) (m, [])
-unfolding bind on_host need Stops program host end_of
+unfolding bind host_in_program need Stops program host end_of
 taken-stops p v m h = inr h
 
 abbrev state-err : Outcome → HostPlan (Result State Outcome)
@@ -153,8 +153,8 @@ begun-stops words o form m n v r is s = record { heard = []; stops = taken (by (
     name : Word
     name = word_at words o.file
 
-    taken : Stops program (v, []) (bind (on_part (run_on o.ring args plan)) (on_host (image_file_plan form name))) (m, []) → Stops program (v, []) (taking (bind (on_part (run_on o.ring args plan)) (on_host (image_file_plan form name)))) (m, [])
-    taken h = taken-stops (bind (on_part (run_on o.ring args plan)) (on_host (image_file_plan form name))) v m h
+    taken : Stops program (v, []) (bind (on_part (run_on o.ring args plan)) (host_in_program (image_file_plan form name))) (m, []) → Stops program (v, []) (taking (bind (on_part (run_on o.ring args plan)) (host_in_program (image_file_plan form name)))) (m, [])
+    taken h = taken-stops (bind (on_part (run_on o.ring args plan)) (host_in_program (image_file_plan form name))) v m h
 
     from : (t : Then (Result Image Outcome)) → (r, n) ≡ end_after host (on_ok (start_plan window_machine o.ring args)) t → Stops program (v, []) (on_part (run_on o.ring args plan) t.0) (t.1, [])
     from (Ok image, k) e =
@@ -162,35 +162,35 @@ begun-stops words o form m n v r is s = record { heard = []; stops = taken (by (
         start-stops o.ring args plan image (started window_machine o.ring image args) k v refl (subst (λ (x : Then (Result State Outcome)). MayStop plan x.0 (x.1, []) v) at s)
     from (Err outcome, k) e = none-stops outcome v k (subst (λ (x : Then (Result State Outcome)). MayStop plan x.0 (x.1, []) v) (e ∙ err-end outcome k) s)
 
-    by : (t : Then (Result Image Outcome)) → end_of host (image_file_plan form name) m ≡ t → Stops program (v, []) (bind (on_part (run_on o.ring args plan)) (on_host (image_file_plan form name))) (m, [])
+    by : (t : Then (Result Image Outcome)) → end_of host (image_file_plan form name) m ≡ t → Stops program (v, []) (bind (on_part (run_on o.ring args plan)) (host_in_program (image_file_plan form name))) (m, [])
     by (x, k) e =
-        stops_after program (on_part (run_on o.ring args plan)) (on_host (image_file_plan form name)) (v, []) (m, [])
+        stops_after program (on_part (run_on o.ring args plan)) (host_in_program (image_file_plan form name)) (v, []) (m, [])
         (subst (StopsAfter program (v, []) (on_part (run_on o.ring args plan))) (part-ended (image_file_plan form name) x m k (sym e))
         (from (x, k) (is ∙ begin-by window_machine words o form m ∙ ap (end_after host (on_ok (start_plan window_machine o.ring args))) e)))
 
 -- where it does not begin
 image-stops : (o : Order) (args : List Word) (plan : WorkPlan Outcome) (r : Result Image Outcome) (v n : HostModel) → Stops host v (on_ok (start_plan window_machine o.ring args) r) n → Stops program (v, []) (on_part (run_on o.ring args plan) r) (n, [])
-unfolding start_plan bind need on_host Stops program host
+unfolding start_plan bind need host_in_program Stops program host
 image-stops o args plan (Ok image) v n (inl e) = inl e
 image-stops o args plan (Ok image) v n (inr h) = absurd h
 image-stops o args plan (Err outcome) v n h = absurd h
 
 parts-stop : {A B : Type 0} (e : A → HostPlan B) (g : A → ProgramPlan Outcome) (p : HostPlan A) (v m : HostModel) → ((a : A) (n : HostModel) → Stops host v (e a) n → Stops program (v, []) (g a) (n, [])) → Stops host v (bind e p) m →
-    Stops program (v, []) (bind g (on_host p)) (m, [])
-unfolding bind on_host Stops program
+    Stops program (v, []) (bind g (host_in_program p)) (m, [])
+unfolding bind host_in_program Stops program
 parts-stop e g (returns a) v m more h = more a m h
 parts-stop e g (calls o k) v m more (inl l) = inl l
 parts-stop e g (calls o k) v m more (inr h) = inr (parts-stop e g (k (host.act o m).0) v (host.act o m).1 more h)
 
 file-stops : (words : List Word) (o : Order) (form : Form) (m v : HostModel) → Stops host v (begin_plan window_machine words o form) m → Stops program (v, []) (run_file words o form) (m, [])
-unfolding begin_plan run_file bind need on_host Stops program host
+unfolding begin_plan run_file bind need host_in_program Stops program host
 file-stops words o form m v (inl e) = inl e
 file-stops words o form m v (inr h) =
     inr (parts-stop (on_ok (start_plan window_machine o.ring (arguments words o))) (on_part (run_on o.ring (arguments words o) (work.machine_plan o))) (image_file_plan form (word_at words o.file)) v m
     (λ r n k. image-stops o (arguments words o) (work.machine_plan o) r v n k) h)
 
-pub begun-both : (a b c : Option HostModel) (r : Outcome) (words : List Word) (o : Order) (form : Form) (s : State) → tells b ≡ tells a → CarriesOut a b (Err OutOfMemory) (Ok s) (begin_plan window_machine words o form) →
-    CarriesOut a b (Err OutOfMemory) (Ok (as_list_state s)) (begin_plan list_machine words o form) → WorksBoth b c s r (work.machine_plan o) → CarriesOutBoth a c r (run_file words o form)
+pub begun-both : (a b c : Option HostModel) (r : Outcome) (words : List Word) (o : Order) (form : Form) (s : State) → tells b ≡ tells a → CarriesOutOnHost a b (Err OutOfMemory) (Ok s) (begin_plan window_machine words o form) →
+    CarriesOutOnHost a b (Err OutOfMemory) (Ok (as_list_state s)) (begin_plan list_machine words o form) → CarriesOutWorkOnBoth b c s r (work.machine_plan o) → CarriesOutProgramOnBoth a c r (run_file words o form)
 begun-both a b c r words o form s e first listed h = record {
   window = λ t.
       let is = (first t).ending (λ x. absurd (cc)) in
@@ -206,8 +206,8 @@ begun-both a b c r words o form s e first listed h = record {
       (ap (begun_by list_machine (work.machine_plan o)) ((listed t).ending (λ x. absurd (cc))) ∙ sym (file-course list_machine words o form (contents a))) (h.list (tells-then a b e t) ne);
 }
 
-pub unbegun-both : (a b : Option HostModel) (r : Outcome) (words : List Word) (o : Order) (form : Form) → CarriesOut a b (Err OutOfMemory) (Err r) (begin_plan window_machine words o form) →
-    CarriesOut a b (Err OutOfMemory) (Err r) (begin_plan list_machine words o form) → CarriesOutBoth a b r (run_file words o form)
+pub unbegun-both : (a b : Option HostModel) (r : Outcome) (words : List Word) (o : Order) (form : Form) → CarriesOutOnHost a b (Err OutOfMemory) (Err r) (begin_plan window_machine words o form) →
+    CarriesOutOnHost a b (Err OutOfMemory) (Err r) (begin_plan list_machine words o form) → CarriesOutProgramOnBoth a b r (run_file words o form)
 unbegun-both a b r words o form first listed = record {
   window = λ t. record {
     ending = λ ne.
@@ -222,27 +222,27 @@ unbegun-both a b r words o form first listed = record {
 -- ---- `gen`
 
 pub summed-started : (a b : Option HostModel) (r : Outcome) (o : Order) (size : ℕ) (image : Image) (args : List Word) (s : State) → args ≡ codes "gen" ∷ [] → Ok s ≡ started window_machine o.ring image args → Ok (as_list_state s) ≡ started list_machine o.ring image args →
-    WorksBoth a b s r (generated_work o.number size) → CarriesOutBoth a b r (run_source o size (Ok image))
+    CarriesOutWorkOnBoth a b s r (generated_work o.number size) → CarriesOutProgramOnBoth a b r (run_source o size (Ok image))
 summed-started a b r o size image args s is e listed h =
-    subst (λ (x : List Word). CarriesOutBoth a b r (run_on o.ring x (generated_work o.number size) image)) is (machine-started a b r o.ring image args (generated_work o.number size) s e listed h)
+    subst (λ (x : List Word). CarriesOutProgramOnBoth a b r (run_on o.ring x (generated_work o.number size) image)) is (machine-started a b r o.ring image args (generated_work o.number size) s e listed h)
 
 pub summed-unstarted : (a : Option HostModel) (r : Outcome) (o : Order) (size : ℕ) (image : Image) (args : List Word) → args ≡ codes "gen" ∷ [] → (r ≢ OutOfMemory → Err r ≡ started window_machine o.ring image args) → (r ≢ OutOfMemory → Err r ≡ started list_machine o.ring image args) →
-    CarriesOutBoth a a r (run_source o size (Ok image))
+    CarriesOutProgramOnBoth a a r (run_source o size (Ok image))
 summed-unstarted a r o size image args e is listed =
-    subst (λ (x : List Word). CarriesOutBoth a a r (run_on o.ring x (generated_work o.number size) image)) e (machine-unstarted a r o.ring image args (generated_work o.number size) is listed)
+    subst (λ (x : List Word). CarriesOutProgramOnBoth a a r (run_on o.ring x (generated_work o.number size) image)) e (machine-unstarted a r o.ring image args (generated_work o.number size) is listed)
 
-pub generated-run : (a b : Option HostModel) (r : Outcome) (o : Order) (source : List ℕ) (size : ℕ) (image : Image) → size ≡ length source → Ok image ≡ source_meaning source → CarriesOutBoth a b r (run_source o size (Ok image)) → CarriesOutBoth a b r (run_text o source)
+pub generated-run : (a b : Option HostModel) (r : Outcome) (o : Order) (source : List ℕ) (size : ℕ) (image : Image) → size ≡ length source → Ok image ≡ source_meaning source → CarriesOutProgramOnBoth a b r (run_source o size (Ok image)) → CarriesOutProgramOnBoth a b r (run_text o source)
 generated-run a b r o source size image long e h =
     both-taking a b r (run_source o (length source) (source_meaning source))
-    (subst (λ (x : Result Image Refusal). CarriesOutBoth a b r (run_source o (length source) x)) e (subst (λ (n : ℕ). CarriesOutBoth a b r (run_source o n (Ok image))) long h))
+    (subst (λ (x : Result Image Refusal). CarriesOutProgramOnBoth a b r (run_source o (length source) x)) e (subst (λ (n : ℕ). CarriesOutProgramOnBoth a b r (run_source o n (Ok image))) long h))
 
-pub generated-refused : (a : Option HostModel) (r : Outcome) (o : Order) (source : List ℕ) (refusal : Refusal) → Err refusal ≡ source_meaning source → r ≡ refused_with refusal → CarriesOutBoth a a r (run_text o source)
+pub generated-refused : (a : Option HostModel) (r : Outcome) (o : Order) (source : List ℕ) (refusal : Refusal) → Err refusal ≡ source_meaning source → r ≡ refused_with refusal → CarriesOutProgramOnBoth a a r (run_text o source)
 generated-refused a r o source refusal e is =
     both-taking a a r (run_source o (length source) (source_meaning source))
-    (subst (λ (x : Result Image Refusal). CarriesOutBoth a a r (run_source o (length source) x)) e (rw is (both-returns a (refused_with refusal) (λ n. absurd (cc)))))
+    (subst (λ (x : Result Image Refusal). CarriesOutProgramOnBoth a a r (run_source o (length source) x)) e (rw is (both-returns a (refused_with refusal) (λ n. absurd (cc)))))
 
-pub generated-named : (a b : Option HostModel) (r : Outcome) (o : Order) (source text : List ℕ) → text ≡ source → CarriesOutBoth a b r (run_text o text) → CarriesOutBoth a b r (taking (run_text o source))
-generated-named a b r o source text e h = both-taking a b r (run_text o source) (subst (λ (x : List ℕ). CarriesOutBoth a b r (run_text o x)) e h)
+pub generated-named : (a b : Option HostModel) (r : Outcome) (o : Order) (source text : List ℕ) → text ≡ source → CarriesOutProgramOnBoth a b r (run_text o text) → CarriesOutProgramOnBoth a b r (taking (run_text o source))
+generated-named a b r o source text e h = both-taking a b r (run_text o source) (subst (λ (x : List ℕ). CarriesOutProgramOnBoth a b r (run_text o x)) e h)
 
 -- ---- what is made of a machine
 
@@ -269,44 +269,44 @@ stepped-is o i none e = forward-is o false i none e
 
 -- ---- what is ordered
 
-ordered : (a b : Option HostModel) (r : Outcome) (words : List Word) (o : Order) (command : Command) → o.command ≡ command → CarriesOutBoth a b r (ordered_plan words o command) → CarriesOutBoth a b r (ordered_plan words o o.command)
-ordered a b r words o command c h = subst (λ (x : Command). CarriesOutBoth a b r (ordered_plan words o x)) (sym c) h
+ordered : (a b : Option HostModel) (r : Outcome) (words : List Word) (o : Order) (command : Command) → o.command ≡ command → CarriesOutProgramOnBoth a b r (ordered_plan words o command) → CarriesOutProgramOnBoth a b r (ordered_plan words o o.command)
+ordered a b r words o command c h = subst (λ (x : Command). CarriesOutProgramOnBoth a b r (ordered_plan words o x)) (sym c) h
 
-pub run-ordered : (a b : Option HostModel) (r : Outcome) (words : List Word) (o : Order) → o.command ≡ Run → CarriesOutBoth a b r (run_file words o Source) → CarriesOutBoth a b r (ordered_plan words o o.command)
+pub run-ordered : (a b : Option HostModel) (r : Outcome) (words : List Word) (o : Order) → o.command ≡ Run → CarriesOutProgramOnBoth a b r (run_file words o Source) → CarriesOutProgramOnBoth a b r (ordered_plan words o o.command)
 unfolding ordered_plan
 run-ordered a b r words o c h = ordered a b r words o Run c h
 
-pub sim-ordered : (a b : Option HostModel) (r : Outcome) (words : List Word) (o : Order) → o.command ≡ Sim → CarriesOutBoth a b r (run_file words o Object) → CarriesOutBoth a b r (ordered_plan words o o.command)
+pub sim-ordered : (a b : Option HostModel) (r : Outcome) (words : List Word) (o : Order) → o.command ≡ Sim → CarriesOutProgramOnBoth a b r (run_file words o Object) → CarriesOutProgramOnBoth a b r (ordered_plan words o o.command)
 unfolding ordered_plan
 sim-ordered a b r words o c h = ordered a b r words o Sim c h
 
-pub asm-ordered : (a b : Option HostModel) (r : Outcome) (words : List Word) (o : Order) (source object : Word) → o.command ≡ Asm → source ≡ word_at words o.file → object ≡ word_at words o.rest → CarriesOut a b OutOfMemory r (assemble_plan source object) →
-    CarriesOutBoth a b r (ordered_plan words o o.command)
+pub asm-ordered : (a b : Option HostModel) (r : Outcome) (words : List Word) (o : Order) (source object : Word) → o.command ≡ Asm → source ≡ word_at words o.file → object ≡ word_at words o.rest → CarriesOutOnHost a b OutOfMemory r (assemble_plan source object) →
+    CarriesOutProgramOnBoth a b r (ordered_plan words o o.command)
 unfolding ordered_plan
 asm-ordered a b r words o source object c e f h =
     ordered a b r words o Asm c (both-host a b r (assemble_plan (word_at words o.file) (word_at words o.rest))
-    (subst (λ (x : Word). CarriesOut a b OutOfMemory r (assemble_plan x (word_at words o.rest))) e (subst (λ (x : Word). CarriesOut a b OutOfMemory r (assemble_plan source x)) f h)))
+    (subst (λ (x : Word). CarriesOutOnHost a b OutOfMemory r (assemble_plan x (word_at words o.rest))) e (subst (λ (x : Word). CarriesOutOnHost a b OutOfMemory r (assemble_plan source x)) f h)))
 
-pub gen-ordered : (a b : Option HostModel) (r : Outcome) (words : List Word) (o : Order) → o.command ≡ Gen → CarriesOutBoth a b r (taking (run_text o (generated o.number))) → CarriesOutBoth a b r (ordered_plan words o o.command)
+pub gen-ordered : (a b : Option HostModel) (r : Outcome) (words : List Word) (o : Order) → o.command ≡ Gen → CarriesOutProgramOnBoth a b r (taking (run_text o (generated o.number))) → CarriesOutProgramOnBoth a b r (ordered_plan words o o.command)
 unfolding ordered_plan
 gen-ordered a b r words o c h = ordered a b r words o Gen c h
 
-pub show-ordered : (a b : Option HostModel) (r : Outcome) (words : List Word) (o : Order) (name : Word) → o.command ≡ Show → name ≡ word_at words o.file → CarriesOut a b OutOfMemory r (list_plan name) → CarriesOutBoth a b r (ordered_plan words o o.command)
+pub show-ordered : (a b : Option HostModel) (r : Outcome) (words : List Word) (o : Order) (name : Word) → o.command ≡ Show → name ≡ word_at words o.file → CarriesOutOnHost a b OutOfMemory r (list_plan name) → CarriesOutProgramOnBoth a b r (ordered_plan words o o.command)
 unfolding ordered_plan
-show-ordered a b r words o name c e h = ordered a b r words o Show c (both-host a b r (list_plan (word_at words o.file)) (subst (λ (x : Word). CarriesOut a b OutOfMemory r (list_plan x)) e h))
+show-ordered a b r words o name c e h = ordered a b r words o Show c (both-host a b r (list_plan (word_at words o.file)) (subst (λ (x : Word). CarriesOutOnHost a b OutOfMemory r (list_plan x)) e h))
 
 pub multi-ordered : (a b : Option HostModel) (r : Outcome) (words : List Word) (o : Order) (schedule object : Word) → o.command ≡ Multi → schedule ≡ word_at words o.schedule → object ≡ word_at words o.file →
-    CarriesOutBoth a b r (page.multi_file o schedule object) → CarriesOutBoth a b r (ordered_plan words o o.command)
+    CarriesOutProgramOnBoth a b r (page.multi_file o schedule object) → CarriesOutProgramOnBoth a b r (ordered_plan words o o.command)
 unfolding ordered_plan
 multi-ordered a b r words o schedule object c e f h =
-    ordered a b r words o Multi c (subst (λ (x : Word). CarriesOutBoth a b r (page.multi_file o x (word_at words o.file))) e (subst (λ (x : Word). CarriesOutBoth a b r (page.multi_file o schedule x)) f h))
+    ordered a b r words o Multi c (subst (λ (x : Word). CarriesOutProgramOnBoth a b r (page.multi_file o x (word_at words o.file))) e (subst (λ (x : Word). CarriesOutProgramOnBoth a b r (page.multi_file o schedule x)) f h))
 
-pub usage-plan : (a : Option HostModel) (words : List Word) (r : Result Order WordsFault) (fault : WordsFault) → Err fault ≡ r → CarriesOutBoth a a (Usage fault) (work_plan words r)
-usage-plan a words r fault e = subst (λ (x : Result Order WordsFault). CarriesOutBoth a a (Usage fault) (work_plan words x)) e (both-returns a (Usage fault) (λ n. absurd (cc)))
+pub usage-plan : (a : Option HostModel) (words : List Word) (r : Result Order WordsFault) (fault : WordsFault) → Err fault ≡ r → CarriesOutProgramOnBoth a a (Usage fault) (work_plan words r)
+usage-plan a words r fault e = subst (λ (x : Result Order WordsFault). CarriesOutProgramOnBoth a a (Usage fault) (work_plan words x)) e (both-returns a (Usage fault) (λ n. absurd (cc)))
 
-pub ordered-work : (a b : Option HostModel) (r : Outcome) (words : List Word) (x : Result Order WordsFault) (o : Order) → Ok o ≡ x → CarriesOutBoth a b r (ordered_plan words o o.command) → CarriesOutBoth a b r (work_plan words x)
-ordered-work a b r words x o e h = subst (λ (y : Result Order WordsFault). CarriesOutBoth a b r (work_plan words y)) e h
+pub ordered-work : (a b : Option HostModel) (r : Outcome) (words : List Word) (x : Result Order WordsFault) (o : Order) → Ok o ≡ x → CarriesOutProgramOnBoth a b r (ordered_plan words o o.command) → CarriesOutProgramOnBoth a b r (work_plan words x)
+ordered-work a b r words x o e h = subst (λ (y : Result Order WordsFault). CarriesOutProgramOnBoth a b r (work_plan words y)) e h
 
 -- by the bytes of a schedule
-pub object-of : (a b : Option HostModel) (r : Outcome) (o : Order) (object : Word) (bytes text : List ℕ) → text ≡ bytes → CarriesOutBoth a b r (page.object_file o object text) → CarriesOutBoth a b r (page.object_file o object bytes)
-object-of a b r o object bytes text e h = subst (λ (x : List ℕ). CarriesOutBoth a b r (page.object_file o object x)) e h
+pub object-of : (a b : Option HostModel) (r : Outcome) (o : Order) (object : Word) (bytes text : List ℕ) → text ≡ bytes → CarriesOutProgramOnBoth a b r (page.object_file o object text) → CarriesOutProgramOnBoth a b r (page.object_file o object bytes)
+object-of a b r o object bytes text e h = subst (λ (x : List ℕ). CarriesOutProgramOnBoth a b r (page.object_file o object x)) e h

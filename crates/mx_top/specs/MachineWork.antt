@@ -22,11 +22,12 @@ use Rattle.mx_words.specs.declared.order.Order.{Order}
 use Rattle.mx_outcome.specs.Kinds.{leaves_machine}
 use Rattle.mx_outcome.specs.declared.outcome.Outcome.{Outcome}
 use Rattle.mx_outcome.specs.declared.outcome.Outcome.TheVariants.{Done}
-use Rattle.law_gen.specs.Generator.{summary}
+use Rattle.mx_gen.specs.Generator.{summary}
 use Rattle.mx_files.specs.FilePlans.{lines_plan}
 use Rattle.mx_dump.specs.Dump.{Line, dump_lines}
 use Rattle.mx_top.specs.Telling.{telling}
-use Rattle.mx_top.specs.Runs.{generator_steps, outcome_of, session_outcome, is_done, takes_back, state_lines, reached}
+use Rattle.mx_begin.specs.Ends.{outcome_of}
+use Rattle.mx_top.specs.Runs.{generator_steps, session_outcome, is_done, takes_back, state_lines, reached}
 
 -- ---- the world and its calls
 
@@ -119,9 +120,9 @@ work_goes kind other w = ends (work_act other w).0 (work_act other w).1
 abbrev pub WorkPlan : Type 0 → Type 0
 WorkPlan A = Plan WorkCall WorkSays A
 
-unfoldable pub on_host : {A : Type 0} → HostPlan A → WorkPlan A
-on_host (returns a) = returns a
-on_host (calls o k) = calls (of_host o) (λ r. on_host (k r))
+unfoldable pub host_in_work : {A : Type 0} → HostPlan A → WorkPlan A
+host_in_work (returns a) = returns a
+host_in_work (calls o k) = calls (of_host o) (λ r. host_in_work (k r))
 
 -- a call, and what follows its answer
 abbrev pub calling : (o : WorkCall) → (WorkSays o → WorkPlan Outcome) → WorkPlan Outcome
@@ -130,7 +131,7 @@ calling o more = calls o more
 -- ---- the work of `run` and `sim`
 
 unfoldable pub dumped_plan : Bool → Outcome → WorkPlan Outcome
-dumped_plan dump outcome = if dump && leaves_machine outcome then calling dumping (λ lines. on_host (telling outcome lines)) else returns outcome
+dumped_plan dump outcome = if dump && leaves_machine outcome then calling dumping (λ lines. host_in_work (telling outcome lines)) else returns outcome
 
 -- the lines of the states that come back; one that is not written is the outcome
 abbrev pub then_dumped : Bool → Outcome → Result (Unit {0}) Outcome → WorkPlan Outcome
@@ -139,7 +140,7 @@ then_dumped dump outcome (Err other) = returns other
 
 unfoldable pub back_plan : Order → Outcome → WorkPlan Outcome
 back_plan o outcome =
-    if takes_back outcome then calling (going_back o.last) (λ lines. bind (then_dumped o.dump outcome) (on_host (lines_plan lines)))
+    if takes_back outcome then calling (going_back o.last) (λ lines. bind (then_dumped o.dump outcome) (host_in_work (lines_plan lines)))
     else dumped_plan o.dump outcome
 
 -- the user leads the machine through a session
@@ -148,7 +149,7 @@ sitting_plan o = calling (sitting o.steps) (λ end. dumped_plan o.dump (session_
 
 -- its last steps are taken back; the room for what is kept takes memory
 abbrev pub kept_plan : Order → WorkPlan Outcome
-kept_plan o = bind (λ u. calling (keeping o.steps) (λ end. back_plan o (outcome_of o.steps end))) (on_host need)
+kept_plan o = bind (λ u. calling (keeping o.steps) (λ end. back_plan o (outcome_of o.steps end))) (host_in_work need)
 
 -- watchers are told of its steps
 abbrev pub reported_plan : Order → WorkPlan Outcome
@@ -163,7 +164,7 @@ machine_plan o = if o.interactive then sitting_plan o else if not (o.last == 0) 
 -- ---- the work of `gen`: where the program halts, one line tells what came of it
 
 abbrev pub summed_plan : ℕ → ℕ → Outcome → WorkPlan Outcome
-summed_plan blocks size outcome = if is_done outcome then calling (summing blocks size) (λ line. on_host (telling (Done 0) (line ∷ []))) else returns outcome
+summed_plan blocks size outcome = if is_done outcome then calling (summing blocks size) (λ line. host_in_work (telling (Done 0) (line ∷ []))) else returns outcome
 
 abbrev pub generated_work : ℕ → ℕ → WorkPlan Outcome
 generated_work blocks size = calling (stepping generator_steps) (λ end. summed_plan blocks size (outcome_of generator_steps end))

@@ -32,13 +32,13 @@ stop_text who turning.Spent = codes " running"
 stop_text who turning.OutOfMemory = codes " running"
 
 -- one that has halted did so with the low byte of its $255
-abbrev pub standing_text : MultiEnd → Joint → ℕ → List ℕ
-standing_text end j who =
+abbrev pub status_text : MultiEnd → Joint → ℕ → List ℕ
+status_text end j who =
     if has_halted j.halted who then codes " halted " ++ decimal (register (processor j who).stack 255 % 256) else stop_text who end
 
 abbrev pub processor_text : MultiEnd → Joint → ℕ → Line
 processor_text end j who =
-    codes "processor " ++ decimal who ++ standing_text end j who ++ codes " steps " ++ decimal (processor j who).steps ++ codes "\n"
+    codes "processor " ++ decimal who ++ status_text end j who ++ codes " steps " ++ decimal (processor j who).steps ++ codes "\n"
 
 abbrev pub processor_line : MultiEnd → Joint → ℕ → List Line
 processor_line end j who = processor_text end j who ∷ []

@@ -20,7 +20,7 @@ use Rattle.mx_words.specs.declared.order.Command.{Command}
 use Rattle.mx_words.specs.declared.order.Command.TheVariants.{Run, Asm, Sim, Gen, Show, Multi}
 use Rattle.mx_words.specs.declared.order.Order.{Order}
 use Rattle.mx_words.specs.declared.order.WordsFault.{WordsFault}
-use Rattle.law_gen.specs.Generator.{generated}
+use Rattle.mx_gen.specs.Generator.{generated}
 use Rattle.mx_files.specs.Answers.{Answer}
 use Rattle.mx_files.specs.Assembling.{refused_with}
 use Rattle.mx_files.specs.ObjectPlans.{assemble_plan, list_plan}
@@ -126,13 +126,13 @@ program_goes kind (taking_turns ring image schedule steps dump) w =
 abbrev pub ProgramPlan : Type 0 → Type 0
 ProgramPlan A = Plan ProgramCall ProgramSays A
 
-unfoldable pub on_host : {A : Type 0} → HostPlan A → ProgramPlan A
-on_host (returns a) = returns a
-on_host (calls o k) = calls (of_host o) (λ r. on_host (k r))
+unfoldable pub host_in_program : {A : Type 0} → HostPlan A → ProgramPlan A
+host_in_program (returns a) = returns a
+host_in_program (calls o k) = calls (of_host o) (λ r. host_in_program (k r))
 
 -- memory is taken, and then this follows
 abbrev pub taking : ProgramPlan Outcome → ProgramPlan Outcome
-taking p = bind (λ u. p) (on_host need)
+taking p = bind (λ u. p) (host_in_program need)
 
 -- a part on files is done, and then this follows what it gives; or it ends the work
 abbrev pub on_part : {A : Type 0} → (A → ProgramPlan Outcome) → Result A Outcome → ProgramPlan Outcome
@@ -147,7 +147,7 @@ run_on ring arguments work image = taking (calls (on_machine ring image argument
 
 -- `run` and `sim`: a source is assembled or an object loaded, and its machine is run; its arguments take memory, too
 unfoldable pub run_file : List Word → Order → Form → ProgramPlan Outcome
-run_file words o form = taking (bind (on_part (run_on o.ring (arguments words o) (machine_plan o))) (on_host (image_file_plan form (word_at words o.file))))
+run_file words o form = taking (bind (on_part (run_on o.ring (arguments words o) (machine_plan o))) (host_in_program (image_file_plan form (word_at words o.file))))
 
 -- `gen`: a source that is made is assembled and run
 abbrev pub run_source : Order → ℕ → Result Image Refusal → ProgramPlan Outcome
@@ -159,23 +159,23 @@ run_text o source = taking (run_source o (length source) (source_meaning source)
 
 -- `multi`: the object is read where the schedule is in order, and its processors run
 abbrev pub turns_from : Order → List ℕ → Image → ProgramPlan Outcome
-turns_from o schedule image = calls (taking_turns o.ring image schedule o.steps o.dump) (λ t. on_host (telling (multi_outcome o.steps t.0) t.1))
+turns_from o schedule image = calls (taking_turns o.ring image schedule o.steps o.dump) (λ t. host_in_program (telling (multi_outcome o.steps t.0) t.1))
 
 abbrev pub turns_on : Order → List ℕ → Image → ProgramPlan Outcome
 turns_on o schedule image = taking (turns_from o schedule image)
 
 abbrev pub object_file : Order → Word → List ℕ → ProgramPlan Outcome
-object_file o object schedule = bind (on_part (turns_on o schedule)) (on_host (image_file_plan Object object))
+object_file o object schedule = bind (on_part (turns_on o schedule)) (host_in_program (image_file_plan Object object))
 
 abbrev pub multi_file : Order → Word → Word → ProgramPlan Outcome
-multi_file o schedule object = bind (on_part (object_file o object)) (on_host (schedule_plan schedule))
+multi_file o schedule object = bind (on_part (object_file o object)) (host_in_program (schedule_plan schedule))
 
 unfoldable pub ordered_plan : List Word → Order → Command → ProgramPlan Outcome
 ordered_plan words o Run = run_file words o Source
 ordered_plan words o Sim = run_file words o Object
-ordered_plan words o Asm = on_host (assemble_plan (word_at words o.file) (word_at words o.rest))
+ordered_plan words o Asm = host_in_program (assemble_plan (word_at words o.file) (word_at words o.rest))
 ordered_plan words o Gen = taking (run_text o (generated o.number))
-ordered_plan words o Show = on_host (list_plan (word_at words o.file))
+ordered_plan words o Show = host_in_program (list_plan (word_at words o.file))
 ordered_plan words o Multi = multi_file o (word_at words o.schedule) (word_at words o.file)
 
 -- ---- THE WORDS, and the message of the outcome
@@ -185,7 +185,7 @@ work_plan words (Err fault) = returns (Usage fault)
 work_plan words (Ok o) = ordered_plan words o o.command
 
 unfoldable pub product_plan : List Word → ProgramPlan Outcome
-product_plan words = bind (λ outcome. on_host (message_plan outcome)) (work_plan words (order_of words))
+product_plan words = bind (λ outcome. host_in_program (message_plan outcome)) (work_plan words (order_of words))
 
 -- ---- THE PRODUCT
 

@@ -1,23 +1,12 @@
--- What a run and a session are to the program: the outcomes that they come to, and the states that come back after a run.
+-- What a run and a session are to the program: the outcome that a session comes to, and the states that come back after a run.
 use Rattle.std.specs.Prelude.{ℕ, ◌^◌, Bool, true, false, List, [], ◌∷◌, map}
 use Rattle.mx_core.specs.State.{State}
-use Rattle.mx_run.specs.declared.end.End.{End}
-use Rattle.mx_run.specs.declared.end.End.TheVariants as ending
 use Rattle.mx_show.specs.Texts.{ended, state_text}
 use Rattle.mx_con.specs.declared.end.SessionEnd.{SessionEnd}
 use Rattle.mx_con.specs.declared.end.SessionEnd.TheVariants as sitting
 use Rattle.mx_dump.specs.Dump.{Line}
 use Rattle.mx_outcome.specs.declared.outcome.Outcome.{Outcome}
 use Rattle.mx_outcome.specs.declared.outcome.Outcome.TheVariants.{Done, HostFault, Stopped, StepsSpent, Quit, ConsoleLimit, OutOfMemory}
-
--- the outcome of a run of at most this many steps; without flags a run does not break
-abbrev pub outcome_of : ℕ → End → Outcome
-outcome_of steps (ending.Halted status) = Done status
-outcome_of steps (ending.Stopped pc reason) = Stopped pc reason
-outcome_of steps (ending.Broke kind at traced) = OutOfMemory
-outcome_of steps (ending.Traced trace) = OutOfMemory
-outcome_of steps ending.Spent = StepsSpent steps
-outcome_of steps ending.OutOfMemory = OutOfMemory
 
 -- a generated program makes at most this many steps
 abbrev pub generator_steps : ℕ

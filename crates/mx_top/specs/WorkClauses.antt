@@ -6,7 +6,7 @@ use Rattle.mx_host.specs.declared.faults.HostFault.{HostFault}
 use Rattle.mx_host.specs.declared.faults.HostFault.TheVariants as slot
 use Rattle.mx_plan.specs.Plan.{Comes, Stops, end_of}
 use Rattle.mx_plan.specs.Calls.{host, HostPlan}
-use Rattle.mx_plan.specs.Clauses.{CarriesOut}
+use Rattle.mx_plan.specs.Clauses.{CarriesOutOnHost}
 use Rattle.mx_plan.specs.Wild.{Course, course}
 use Rattle.mx_code.specs.declared.trace.Trace.{Trace}
 use Rattle.mx_core.specs.Bounds.{as_list_state}
@@ -33,14 +33,14 @@ pub record PlanStops (plan : ProgramPlan Outcome) (m v : HostModel) : Type 0 whe
   pub heard : List Trace
   pub stops : Stops program (v, heard) plan (m, [])
 
--- Unless there was no memory, the outcome and the host are its end; where there was none, the calls that were completed stay, of one that
--- lacked it what it leaves then, and nothing else changed.
+-- What comes of it, as `Comes` says it, of a host and an outcome alone: what watchers heard is left out.
 pub record PlanComes (old new : HostModel) (result : Outcome) (plan : ProgramPlan Outcome) : Type 0 where
   pub ending : result ≢ OutOfMemory → (result, new) ≡ host_of (end_of program plan (old, []))
   pub stopping : result ≡ OutOfMemory → PlanStops plan old new
 
-abbrev pub CarriesOutWork : Option HostModel → Option HostModel → Outcome → ProgramPlan Outcome → Type 0
-CarriesOutWork old new result plan = IsTrue (tells old) → PlanComes (contents old) (contents new) result plan
+-- a call carries out such a plan, where the host tells its contents
+abbrev pub CarriesOutProgram : Option HostModel → Option HostModel → Outcome → ProgramPlan Outcome → Type 0
+CarriesOutProgram old new result plan = IsTrue (tells old) → PlanComes (contents old) (contents new) result plan
 
 -- what it comes to by the kind of its machines, and what watchers are told
 abbrev pub answer_by : MachineKind → ProgramPlan Outcome → HostModel → Answer
@@ -49,15 +49,20 @@ answer_by kind plan m = answer_of (course (program_goes kind) plan (m, []))
 abbrev pub told_by : MachineKind → ProgramPlan Outcome → HostModel → List Trace
 told_by kind plan m = told_of (course (program_goes kind) plan (m, []))
 
--- So it is over a window of registers; and over the unbounded list that this stands for, up to what is wild.
-pub record CarriesOutBoth (old new : Option HostModel) (result : Outcome) (plan : ProgramPlan Outcome) : Type 0 where
-  pub window : CarriesOutWork old new result plan
+-- So it is over a window of registers; and over the unbounded list that this represents, up to what is wild.
+pub record CarriesOutProgramOnBoth (old new : Option HostModel) (result : Outcome) (plan : ProgramPlan Outcome) : Type 0 where
+  pub window : CarriesOutProgram old new result plan
   pub list : AnswersAsList old new result (λ m. answer_by list_machine plan m)
 
--- A part of the program, of the host before and after: its plan is carried out over both, and it fails only so.
-pub record Performs {H : Type 0} (told : H → Option HostModel) (faults : H → ℕ) (old new : H) (result : Outcome) (plan : ProgramPlan Outcome) : Type 0 where
-  pub both : CarriesOutBoth (told old) (told new) result plan
+-- A part of the program is done, of the host before and after: `Both` says of its plan that it is carried out over both, and it fails
+-- only so.
+pub record DoesProgramPart {H : Type 0} (told : H → Option HostModel) (faults : H → ℕ) (old new : H) (result : Outcome) (Both : Type 0) : Type 0 where
+  pub both : Both
   pub causes : FailsOnlyBy told faults old new result
+
+abbrev pub DoesProgram : {H : Type 0} → (H → Option HostModel) → (H → ℕ) → H → H → Outcome → ProgramPlan Outcome → Type 0
+DoesProgram told faults old new result plan =
+    DoesProgramPart told faults old new result (CarriesOutProgramOnBoth (told old) (told new) result plan)
 
 abbrev pub HearsPlan : Option HostModel → Outcome → List Watching → List Watching → List Report → List Report → ProgramPlan Outcome → Type 0
 HearsPlan old result watchers left earlier later plan =
@@ -76,13 +81,13 @@ pub record WorkComes (w : Work) (new : HostModel) (result : Outcome) (work : Wor
 abbrev pub work_by : MachineKind → WorkPlan Outcome → State → HostModel → Course Outcome ProgramWorld
 work_by kind work s m = work_on kind work (Ok s) (m, [])
 
-pub record WorksBoth (old new : Option HostModel) (s : State) (result : Outcome) (work : WorkPlan Outcome) : Type 0 where
+pub record CarriesOutWorkOnBoth (old new : Option HostModel) (s : State) (result : Outcome) (work : WorkPlan Outcome) : Type 0 where
   pub window : IsTrue (tells old) → WorkComes (at_start s (contents old, [])) (contents new) result work
   pub list : AnswersAsList old new result (λ m. answer_of (work_by list_machine work (as_list_state s) m))
 
-pub record PerformsWork {H : Type 0} (told : H → Option HostModel) (faults : H → ℕ) (old new : H) (s : State) (result : Outcome) (work : WorkPlan Outcome) : Type 0 where
-  pub both : WorksBoth (told old) (told new) s result work
-  pub causes : FailsOnlyBy told faults old new result
+abbrev pub DoesWork : {H : Type 0} → (H → Option HostModel) → (H → ℕ) → H → H → State → Outcome → WorkPlan Outcome → Type 0
+DoesWork told faults old new s result work =
+    DoesProgramPart told faults old new result (CarriesOutWorkOnBoth (told old) (told new) s result work)
 
 abbrev pub HearsWork : Option HostModel → State → Outcome → List Watching → List Watching → List Report → List Report → WorkPlan Outcome → Type 0
 HearsWork old s result watchers left earlier later work =
@@ -92,9 +97,9 @@ HearsWork old s result watchers left earlier later work =
 -- ---- WHAT FOLLOWS
 
 -- What follows an outcome: nothing, where that is that there was no memory, and else a plan of the host.
-pub record Follows {H : Type 0} (told : H → Option HostModel) (faults : H → ℕ) (old new : H) (outcome result : Outcome) (work : HostPlan Outcome) : Type 0 where
+pub record DoesNext {H : Type 0} (told : H → Option HostModel) (faults : H → ℕ) (old new : H) (outcome result : Outcome) (work : HostPlan Outcome) : Type 0 where
   pub lacked : outcome ≡ OutOfMemory → (result ≡ OutOfMemory) × (new ≡ old)
-  pub plan : outcome ≢ OutOfMemory → CarriesOut (told old) (told new) OutOfMemory result work
+  pub plan : outcome ≢ OutOfMemory → CarriesOutOnHost (told old) (told new) OutOfMemory result work
   pub causes : FailsOnlyBy told faults old new result
 
 -- Over such a host an outcome is told: the plan comes to its end, or memory runs out in it, which is then the outcome. Its own
@@ -122,7 +127,7 @@ pub record Telling (left new : HostModel) (result said : Outcome) (texts : List 
   pub between : HostModel
   pub spoken : Outcome
   pub message : Tells left between spoken (message_plan said)
-  pub behind : Tells between new result (reports_plan spoken texts)
+  pub following : Tells between new result (reports_plan spoken texts)
 
 abbrev pub TellsAll : Option HostModel → Option HostModel → Outcome → Outcome → List (List ℕ) → Type 0
 TellsAll old new result said texts = IsTrue (tells old) → Telling (contents old) (contents new) result said texts
@@ -135,8 +140,8 @@ IsTold outcome due said texts =
     ⊎ (((outcome ≢ OutOfMemory) × (due ≢ [])) × ((said ≡ OutOfMemory) × (texts ≡ [])))
 
 -- What the program does, where these reports are due by the traces that watchers are told: the work comes to an outcome and leaves
--- the host and the traces so, or it stops for want of memory; and what it came to is told.
-pub record Doing (old new : HostModel) (result : Outcome) (work : ProgramPlan Outcome) (due : List Trace → List (List ℕ)) : Type 0 where
+-- the host and the traces so, or it stops because memory runs out; and what it came to is told.
+pub record DoneAndTold (old new : HostModel) (result : Outcome) (work : ProgramPlan Outcome) (due : List Trace → List (List ℕ)) : Type 0 where
   pub left : HostModel
   pub heard : List Trace
   pub outcome : Outcome
@@ -146,5 +151,5 @@ pub record Doing (old new : HostModel) (result : Outcome) (work : ProgramPlan Ou
   pub reports : IsTold outcome (due heard) said texts
   pub told : Telling left new result said texts
 
-abbrev pub Does : Option HostModel → Option HostModel → Outcome → ProgramPlan Outcome → (List Trace → List (List ℕ)) → Type 0
-Does old new result work due = IsTrue (tells old) → Doing (contents old) (contents new) result work due
+abbrev pub DoesAndTells : Option HostModel → Option HostModel → Outcome → ProgramPlan Outcome → (List Trace → List (List ℕ)) → Type 0
+DoesAndTells old new result work due = IsTrue (tells old) → DoneAndTold (contents old) (contents new) result work due

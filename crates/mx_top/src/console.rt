@@ -3,9 +3,9 @@
 ghost use Rattle.std.specs.Prelude.{◌≡◌, ◌≢◌, false};
 ghost use Rattle.mx_core.specs.Kept.{state_of};
 ghost use Rattle.mx_top.specs.Runs as spec;
-ghost use Rattle.mx_top.specs.Causes.{IsOfMachine};
+ghost use Rattle.mx_begin.specs.Ends.{IsOfMachine};
 ghost use Rattle.mx_top.specs.MachineWork as work;
-ghost use Rattle.mx_top.specs.WorkClauses.{PerformsWork};
+ghost use Rattle.mx_top.specs.WorkClauses.{DoesWork};
 
 use crate::ending::tell_end;
 use mx_con::{SessionEnd, session};
@@ -36,7 +36,7 @@ fn session_outcome(steps: u64, end: SessionEnd) -> Outcome
 /// Lets the user run a machine that was started, in a session of the console.
 pub fn run_session<H: Host>(alloc: Global, host: &mut H, order: &Order, machine: Machine) -> Outcome
     requires { (state_of machine).touched ≡ false }
-    ensures { PerformsWork H.told H.faults host.old host.new (state_of machine) result
+    ensures { DoesWork H.told H.faults host.old host.new (state_of machine) result
         (work.sitting_plan order.now) }
 {
     let mut runner = Runner::new(alloc, machine);

@@ -3,9 +3,9 @@
 ghost use Rattle.std.specs.Prelude.{◌≡◌, ◌&&◌};
 ghost use Rattle.mx_core.specs.Kept.{state_of};
 ghost use Rattle.mx_outcome.specs.Kinds.{leaves_machine};
-ghost use Rattle.mx_top.specs.Causes.{IsOfMachine};
+ghost use Rattle.mx_begin.specs.Ends.{IsOfMachine};
 ghost use Rattle.mx_top.specs.Endings as plans;
-ghost use Rattle.mx_top.specs.WorkClauses.{Follows};
+ghost use Rattle.mx_top.specs.WorkClauses.{DoesNext};
 
 use mx_core::Machine;
 use mx_dump::dump;
@@ -29,7 +29,7 @@ pub fn tell_end<H: Host>(
     outcome: Outcome,
 ) -> Outcome
     requires { IsOfMachine outcome }
-    ensures { Follows H.told H.faults host.old host.new outcome result
+    ensures { DoesNext H.told H.faults host.old host.new outcome result
         (plans.dumped_plan wanted outcome (state_of machine.now)) }
 {
     if !is_dumped(wanted, outcome) {

@@ -5,19 +5,19 @@ ghost use Rattle.mx_core.specs.Kept.{state_of};
 ghost use Rattle.mx_start.specs.Start.{pool, pool_octas};
 ghost use Rattle.mx_load.specs.Kept.{image_of};
 ghost use Rattle.mx_ring.specs.Stack.{stack_address};
-ghost use Rattle.law_gen.specs.Generator as generator;
+ghost use Rattle.mx_gen.specs.Generator.{generated};
 ghost use Rattle.mx_files.specs.Failing.{FailsOnlyBy};
-ghost use Rattle.mx_top.specs.Causes.{IsOfMachine};
+ghost use Rattle.mx_begin.specs.Ends.{IsOfMachine};
 ghost use Rattle.mx_top.specs.Endings as plans;
 ghost use Rattle.mx_top.specs.MachineWork as work;
 ghost use Rattle.mx_top.specs.Product as page;
+ghost use Rattle.mx_top.specs.Product.{taking};
 ghost use Rattle.mx_top.specs.Runs as spec;
-ghost use Rattle.mx_top.specs.WorkClauses.{Follows, Performs, PerformsWork};
-ghost use Rattle.mx_plan.specs.Clauses.{CarriesOut};
+ghost use Rattle.mx_top.specs.WorkClauses.{DoesNext, DoesProgram, DoesWork};
+ghost use Rattle.mx_plan.specs.Clauses.{CarriesOutOnHost};
 
 use crate::generator::{format_summary, generate_source};
-use crate::run::outcome_of;
-use mx_begin::start_machine;
+use mx_begin::{outcome_of, start_machine};
 use mx_core::Machine;
 use mx_files::{SourceFault, load_source, write_line};
 use mx_host::Host;
@@ -39,7 +39,7 @@ fn put_summary<H: Host>(
     size: u64,
     machine: &Machine,
 ) -> Outcome
-    ensures plan { CarriesOut (H.told host.old) (H.told host.new) Outcome.OutOfMemory result
+    ensures plan { CarriesOutOnHost (H.told host.old) (H.told host.new) Outcome.OutOfMemory result
         (plans.summed_plan blocks size (Outcome.Done 0) (state_of machine.now)) }
     ensures causes { FailsOnlyBy H.told H.faults host.old host.new result }
 {
@@ -70,7 +70,7 @@ fn sum_up<H: Host>(
     outcome: Outcome,
 ) -> Outcome
     requires { IsOfMachine outcome }
-    ensures { Follows H.told H.faults host.old host.new outcome result
+    ensures { DoesNext H.told H.faults host.old host.new outcome result
         (plans.summed_plan blocks size outcome (state_of machine.now)) }
 {
     if !is_done(outcome) {
@@ -88,7 +88,7 @@ fn run_summed<H: Host>(
     machine: Machine,
 ) -> Outcome
     requires { (state_of machine).touched ≡ false }
-    ensures { PerformsWork H.told H.faults host.old host.new (state_of machine) result
+    ensures { DoesWork H.told H.faults host.old host.new (state_of machine) result
         (work.generated_work blocks size) }
 {
     let mut runner = Runner::new(alloc, machine);
@@ -122,7 +122,7 @@ fn run_generated<H: Host>(
     size: u64,
     image: Image,
 ) -> Outcome
-    ensures { Performs H.told H.faults host.old host.new result
+    ensures { DoesProgram H.told H.faults host.old host.new result
         (page.run_source order.now size (Ok (image_of image))) }
 {
     let arguments = match generator_arguments(alloc) {
@@ -137,7 +137,7 @@ fn run_generated<H: Host>(
 
 /// Runs a source that was generated.
 fn run_text<H: Host>(alloc: Global, host: &mut H, order: &Order, text: &[u8]) -> Outcome
-    ensures { Performs H.told H.faults host.old host.new result (page.run_text order.now text.now) }
+    ensures { DoesProgram H.told H.faults host.old host.new result (page.run_text order.now text.now) }
 {
     match load_source(alloc, text) {
         Ok(image) => run_generated(alloc, host, order, text.len() as u64, image),
@@ -149,8 +149,8 @@ fn run_text<H: Host>(alloc: Global, host: &mut H, order: &Order, text: &[u8]) ->
 /// Generates a source with as many blocks as are ordered, runs it, and writes what came of it.
 pub fn generate<H: Host>(alloc: Global, host: &mut H, order: &Order) -> Outcome
     requires { order.now.number ≤ 10000 }
-    ensures { Performs H.told H.faults host.old host.new result
-        (page.taking (page.run_text order.now (generator.generated order.now.number))) }
+    ensures { DoesProgram H.told H.faults host.old host.new result
+        (taking (page.run_text order.now (generated order.now.number))) }
 {
     match generate_source(alloc, order.number) {
         Ok(text) => run_text(alloc, host, order, text.as_slice()),

@@ -1,7 +1,7 @@
 //! The source that `gen` makes, and the line that tells what came of it.
 
 ghost use Rattle.std.specs.Prelude.{◌≡◌, ◌≤◌, ◌<◌, ◌+◌, ◌++◌, ◌^◌, OnOk, IfOk};
-ghost use Rattle.law_gen.specs.Generator as spec;
+ghost use Rattle.mx_gen.specs.Generator as spec;
 
 use mx_text::add_decimal;
 use mx_word::{Bytes, NoMemory};
@@ -46,7 +46,7 @@ fn add_blocks(text: &mut Bytes, n: u64) -> Result<(), NoMemory>
 }
 
 /// The source with this many blocks.
-#[tactic(auto, unfolding(law_gen::specs::Generator::generated))]
+#[tactic(auto, unfolding(mx_gen::specs::Generator::generated))]
 pub fn generate_source(alloc: Global, n: u64) -> Result<Bytes, NoMemory>
     requires { n ≤ 10000 }
     ensures { IfOk result (λ text. text ≡ spec.generated n) }

@@ -3,17 +3,17 @@
 ghost use Rattle.std.specs.Prelude.{◌≡◌, ◌≤◌, ◌∷◌, [], false, IfOk, length, min, take};
 ghost use Rattle.mx_back.specs.History.{AreNotesOf, states_before};
 ghost use Rattle.mx_core.specs.Kept.{state_of};
-ghost use Rattle.mx_files.specs.Clauses.{Works};
+ghost use Rattle.mx_files.specs.Clauses.{DoesPart};
 ghost use Rattle.mx_files.specs.FilePlans.{lines_plan};
-ghost use Rattle.mx_top.specs.Causes.{IsOfMachine};
+ghost use Rattle.mx_begin.specs.Ends.{IsOfMachine};
 ghost use Rattle.mx_top.specs.Endings as plans;
 ghost use Rattle.mx_top.specs.MachineWork as work;
 ghost use Rattle.mx_top.specs.Runs as spec;
-ghost use Rattle.mx_top.specs.WorkClauses.{Follows, PerformsWork};
+ghost use Rattle.mx_top.specs.WorkClauses.{DoesNext, DoesWork};
 
 use crate::ending::tell_end;
-use crate::run::outcome_of;
 use mx_back::{Back, BackFault, run_kept};
+use mx_begin::outcome_of;
 use mx_core::Machine;
 use mx_files::write_line;
 use mx_host::Host;
@@ -59,7 +59,7 @@ fn step_back(machine: &mut Machine, back: &mut Back)
 
 /// Writes the line of a machine's state.
 fn put_state<H: Host>(alloc: Global, host: &mut H, machine: &Machine) -> Result<(), Outcome>
-    ensures { Works H.told H.faults host.old host.new result
+    ensures { DoesPart H.told H.faults host.old host.new result
         (lines_plan (spec.state_lines (state_of machine.now ∷ []))) }
 {
     match state_line(alloc, machine) {
@@ -78,7 +78,7 @@ fn put_states<H: Host>(
 ) -> Result<(), Outcome>
     requires few { count ≤ length back.old }
     requires noted { AreNotesOf back.old (state_of machine.old) }
-    ensures written { Works H.told H.faults host.old host.new result
+    ensures written { DoesPart H.told H.faults host.old host.new result
         (lines_plan (spec.state_lines (take count (states_before back.old (state_of machine.old))))) }
     ensures reached { IfOk result (λ done. state_of machine.new
         ≡ spec.reached (state_of machine.old) (take count (states_before back.old (state_of machine.old)))) }
@@ -105,7 +105,7 @@ fn tell_back<H: Host>(
 ) -> Outcome
     requires noted { AreNotesOf back.old (state_of machine.old) }
     requires machine { IsOfMachine outcome }
-    ensures { Follows H.told H.faults host.old host.new outcome result
+    ensures { DoesNext H.told H.faults host.old host.new outcome result
         (plans.back_plan order.now.dump outcome (take order.now.last (states_before back.old (state_of machine.old)))
         (state_of machine.old)) }
 {
@@ -122,7 +122,7 @@ fn tell_back<H: Host>(
 /// Makes the steps of a machine that was started, in one run whose last steps are kept, and takes some of them back.
 pub fn run_back<H: Host>(alloc: Global, host: &mut H, order: &Order, machine: Machine) -> Outcome
     requires { (state_of machine).touched ≡ false }
-    ensures { PerformsWork H.told H.faults host.old host.new (state_of machine) result (work.kept_plan order.now) }
+    ensures { DoesWork H.told H.faults host.old host.new (state_of machine) result (work.kept_plan order.now) }
 {
     let mut machine = machine;
     let mut back = match Back::new(alloc) {

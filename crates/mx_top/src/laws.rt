@@ -5,7 +5,7 @@ ghost use Rattle.mx_plan.specs.Plan.{Stops, end_of};
 ghost use Rattle.mx_outcome.specs.declared.outcome.Outcome.{Outcome};
 ghost use Rattle.mx_top.specs.Product.{ProgramPlan, ProgramWorld, program};
 
-/// Where a plan of the program stops for want of memory, it only added to standard output, and what is there is a
+/// Where a plan of the program stops because memory runs out, it only added to standard output, and what is there is a
 /// front of what would be there at its end; the slots of the tool lead where they led.
 #[tactic(auto, using(crate::proofs::ProgramHeld::stopping))]
 pub fn plans_stop_on_their_way()

@@ -2,7 +2,7 @@
 
 ghost use Rattle.std.specs.Prelude.{◌≡◌, ◌<◌, ◌++◌, ◌^◌, IfOk, OnOk};
 ghost use Rattle.mx_core.specs.Way.Search.{IsNextBetween};
-ghost use Rattle.mx_files.specs.Clauses.{Works};
+ghost use Rattle.mx_files.specs.Clauses.{DoesPart};
 ghost use Rattle.mx_files.specs.FilePlans.{lines_plan};
 ghost use Rattle.mx_multi.specs.Joint.{joint_of, processor_count};
 ghost use Rattle.mx_top.specs.Processors as spec;
@@ -45,9 +45,9 @@ fn add_stop(text: &mut Bytes, who: u8, end: MultiEnd) -> Result<(), NoMemory>
 }
 
 /// Adds what became of a processor.
-fn add_standing(text: &mut Bytes, multi: &Multi, end: MultiEnd, who: u8) -> Result<(), NoMemory>
+fn add_status(text: &mut Bytes, multi: &Multi, end: MultiEnd, who: u8) -> Result<(), NoMemory>
     requires { who < processor_count multi.now }
-    ensures { OnOk result (text.new ≡ text.old ++ spec.standing_text end (joint_of multi.now) who) }
+    ensures { OnOk result (text.new ≡ text.old ++ spec.status_text end (joint_of multi.now) who) }
 {
     if multi.halted(who) {
         text.extend(b" halted ")?;
@@ -63,7 +63,7 @@ fn processor_text(alloc: Global, multi: &Multi, end: MultiEnd, who: u8) -> Resul
 {
     let mut text = Bytes::copy(alloc, b"processor ")?;
     add_decimal(&mut text, u64::from(who))?;
-    add_standing(&mut text, multi, end, who)?;
+    add_status(&mut text, multi, end, who)?;
     text.extend(b" steps ")?;
     add_decimal(&mut text, multi.processor(who).steps())?;
     text.extend(b"\n")?;
@@ -79,7 +79,7 @@ fn put_processor<H: Host>(
     who: u8,
 ) -> Result<(), Outcome>
     requires { who < processor_count multi.now }
-    ensures { Works H.told H.faults host.old host.new result
+    ensures { DoesPart H.told H.faults host.old host.new result
         (lines_plan (spec.processor_line end (joint_of multi.now) who)) }
 {
     match processor_text(alloc, multi, end, who) {
@@ -97,7 +97,7 @@ fn put_processors<H: Host>(
     count: u8,
 ) -> Result<(), Outcome>
     requires { processor_count multi.now ≡ count }
-    ensures { Works H.told H.faults host.old host.new result
+    ensures { DoesPart H.told H.faults host.old host.new result
         (lines_plan (spec.processor_lines end (joint_of multi.now))) }
 {
     for who in 0..count {
@@ -141,7 +141,7 @@ fn next_shown(multi: &Multi, from: u64) -> Option<(u64, u64)>
 
 /// Writes the lines of the octas of the one memory.
 fn put_memory<H: Host>(alloc: Global, host: &mut H, multi: &Multi) -> Result<(), Outcome>
-    ensures { Works H.told H.faults host.old host.new result
+    ensures { DoesPart H.told H.faults host.old host.new result
         (lines_plan (spec.memory_lines (joint_of multi.now).memory)) }
 {
     let mut from = 0u64;
@@ -165,7 +165,7 @@ pub fn put_all<H: Host>(
     dump: bool,
 ) -> Result<(), Outcome>
     requires { processor_count multi.now ≡ count }
-    ensures { Works H.told H.faults host.old host.new result
+    ensures { DoesPart H.told H.faults host.old host.new result
         (lines_plan (spec.multi_lines dump end (joint_of multi.now))) }
 {
     match put_processors(alloc, host, multi, end, count) {

@@ -3,7 +3,7 @@
 ghost use Rattle.std.specs.Prelude.{◌≡◌, ◌≢◌, ◌≤◌, [], Err, IfErr, IfOk, map, string_bytes};
 ghost use Rattle.mx_words.specs.Orders.{order_of};
 ghost use Rattle.mx_plan.specs.Calls.{write_plan};
-ghost use Rattle.mx_plan.specs.Clauses.{CarriesOut};
+ghost use Rattle.mx_plan.specs.Clauses.{CarriesOutOnHost};
 ghost use Rattle.mx_top.specs.Telling as tells;
 ghost use Rattle.mx_top.specs.Reports as spec;
 ghost use Rattle.mx_top.specs.Reports.{AreAsked};
@@ -20,7 +20,7 @@ use std::alloc::Global;
 /// The reports that the words ask for: of the watchers that are left of this many, and those that are kept.
 ///
 /// Errors: out of memory, where the words ask for some.
-fn asked_reports(
+fn collect_asked_reports(
     alloc: Global,
     words: &[String],
     count: usize,
@@ -69,7 +69,7 @@ pub fn reports_after(
     if count == 0 {
         return Ok(Texts::new(alloc));
     }
-    asked_reports(alloc, words, count, watchers, kept)
+    collect_asked_reports(alloc, words, count, watchers, kept)
 }
 
 /// Writes bytes to the tool's standard error.
@@ -77,7 +77,7 @@ pub fn reports_after(
 /// Errors: those of the write.
 #[tactic(auto, unfolding(mx_plan::specs::Calls::write_plan, mx_plan::specs::Calls::host, mx_plan::specs::Plan::end_of, mx_plan::specs::Plan::Stops, mx_host::specs::HostAnswer::write_answer))]
 pub fn write_error<H: Host>(host: &mut H, text: &[u8]) -> Result<(), HostFault>
-    ensures plan { CarriesOut (H.told host.old) (H.told host.new) (Err HostFault.OutOfMemory) result
+    ensures plan { CarriesOutOnHost (H.told host.old) (H.told host.new) (Err HostFault.OutOfMemory) result
         (write_plan 260 text.now) }
     ensures keeps { KeepsSaying H.told H.faults host.old host.new }
 {
@@ -88,7 +88,7 @@ pub fn write_error<H: Host>(host: &mut H, text: &[u8]) -> Result<(), HostFault>
 ///
 /// Errors: those of the write.
 fn put_report<H: Host>(host: &mut H, text: &[u8]) -> Result<(), HostFault>
-    ensures plan { CarriesOut (H.told host.old) (H.told host.new) (Err HostFault.OutOfMemory) result
+    ensures plan { CarriesOutOnHost (H.told host.old) (H.told host.new) (Err HostFault.OutOfMemory) result
         (tells.report_plan text.now) }
     ensures keeps { KeepsSaying H.told H.faults host.old host.new }
 {

@@ -2,40 +2,25 @@
 
 ghost use Rattle.std.specs.Prelude.{◌≡◌, false, map};
 ghost use Rattle.mx_core.specs.Kept.{state_of};
-ghost use Rattle.mx_top.specs.Causes.{IsOfMachine};
 ghost use Rattle.mx_top.specs.MachineWork as work;
-ghost use Rattle.mx_top.specs.Runs as spec;
-ghost use Rattle.mx_top.specs.WorkClauses.{HearsWork, PerformsWork};
+ghost use Rattle.mx_top.specs.WorkClauses.{DoesWork, HearsWork};
 
 use crate::console::run_session;
 use crate::ending::tell_end;
 use crate::last::run_back;
+use mx_begin::outcome_of;
 use mx_core::Machine;
 use mx_host::Host;
 use mx_outcome::Outcome;
-use mx_run::{End, Runner};
-use mx_watch::{Reports, Watcher, watched_run};
+use mx_run::Runner;
+use mx_watch::{Reports, Watcher, run_with_watchers};
 use mx_words::Order;
 use std::alloc::Global;
-
-/// The outcome of a run of at most this many steps, by its end. Without flags a run does not break.
-pub fn outcome_of(steps: u64, end: End) -> Outcome
-    ensures value { result ≡ spec.outcome_of steps end }
-    ensures memory { end ≡ End.OutOfMemory → result ≡ Outcome.OutOfMemory }
-    ensures machine { IsOfMachine result }
-{
-    match end {
-        End::Halted(status) => Outcome::Done(status),
-        End::Stopped { pc, reason } => Outcome::Stopped { pc, reason },
-        End::Spent => Outcome::StepsSpent { steps },
-        End::Broke { .. } | End::Traced(_) | End::OutOfMemory => Outcome::OutOfMemory,
-    }
-}
 
 /// Makes the steps of a machine that was started, in one run.
 fn run_steps<H: Host>(alloc: Global, host: &mut H, order: &Order, machine: Machine) -> Outcome
     requires { (state_of machine).touched ≡ false }
-    ensures { PerformsWork H.told H.faults host.old host.new (state_of machine) result (work.stepped_plan order.now) }
+    ensures { DoesWork H.told H.faults host.old host.new (state_of machine) result (work.stepped_plan order.now) }
 {
     let mut runner = Runner::new(alloc, machine);
     let end = runner.go(host, order.steps, false);
@@ -58,13 +43,13 @@ fn run_told<H: Host>(
     kept: &mut Reports,
 ) -> Outcome
     requires { (state_of machine).touched ≡ false }
-    ensures part { PerformsWork H.told H.faults host.old host.new (state_of machine) result
+    ensures part { DoesWork H.told H.faults host.old host.new (state_of machine) result
         (work.reported_plan order.now) }
     ensures heard { HearsWork (H.told host.old) (state_of machine) result (map meaning watchers.old.items)
         (map meaning watchers.new.items) kept.old kept.new (work.reported_plan order.now) }
 {
     let mut machine = machine;
-    let end = watched_run(alloc, &mut machine, host, order.steps, watchers, kept);
+    let end = run_with_watchers(alloc, &mut machine, host, order.steps, watchers, kept);
     tell_end(
         alloc,
         host,
@@ -85,7 +70,7 @@ pub fn run_machine<H: Host>(
     kept: &mut Reports,
 ) -> Outcome
     requires { (state_of machine).touched ≡ false }
-    ensures part { PerformsWork H.told H.faults host.old host.new (state_of machine) result
+    ensures part { DoesWork H.told H.faults host.old host.new (state_of machine) result
         (work.machine_plan order.now) }
     ensures heard { HearsWork (H.told host.old) (state_of machine) result (map meaning watchers.old.items)
         (map meaning watchers.new.items) kept.old kept.new (work.machine_plan order.now) }

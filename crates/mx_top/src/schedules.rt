@@ -8,10 +8,10 @@ ghost use Rattle.mx_multi.specs.Joint.{NoneTouched, joint_of, processor_count};
 ghost use Rattle.mx_multi.specs.Schedules.{AreNames};
 ghost use Rattle.mx_files.specs.Schedules.{AreEight};
 ghost use Rattle.mx_top.specs.Processors as spec;
-ghost use Rattle.mx_top.specs.Causes.{IsOfMachine};
+ghost use Rattle.mx_begin.specs.Ends.{IsOfMachine};
 ghost use Rattle.mx_top.specs.Product as page;
 ghost use Rattle.mx_top.specs.Telling as tells;
-ghost use Rattle.mx_top.specs.WorkClauses.{Follows, Performs};
+ghost use Rattle.mx_top.specs.WorkClauses.{DoesNext, DoesProgram};
 
 use crate::processors::put_all;
 use mx_begin::{Form, read_image};
@@ -70,7 +70,7 @@ fn tell_turns<H: Host>(
     count: u8,
 ) -> Outcome
     requires { processor_count multi.now ≡ count }
-    ensures { Follows H.told H.faults host.old host.new (spec.multi_outcome order.now.steps end) result
+    ensures { DoesNext H.told H.faults host.old host.new (spec.multi_outcome order.now.steps end) result
         (tells.telling (spec.multi_outcome order.now.steps end)
         (spec.multi_lines order.now.dump end (joint_of multi.now))) }
 {
@@ -96,7 +96,7 @@ fn run_started<H: Host>(
     requires names { AreNames count schedule.now }
     requires untouched { NoneTouched (joint_of multi).processors }
     ensures { (image : mmo.Image) → joint_of multi ≡ page.joint_at_start window_machine order.now.ring image schedule.now →
-        Performs H.told H.faults host.old host.new result (page.turns_from order.now schedule.now image) }
+        DoesProgram H.told H.faults host.old host.new result (page.turns_from order.now schedule.now image) }
 {
     let mut multi = multi;
     let end = run_turns(alloc, &mut multi, host, schedule, order.steps);
@@ -112,7 +112,7 @@ fn run_image<H: Host>(
     image: Image,
 ) -> Outcome
     requires { AreEight schedule.now }
-    ensures { Performs H.told H.faults host.old host.new result
+    ensures { DoesProgram H.told H.faults host.old host.new result
         (page.turns_on order.now schedule.now (image_of image)) }
 {
     let count = count_processors(schedule);
@@ -131,7 +131,7 @@ fn object_file<H: Host>(
     name: &[u8],
 ) -> Outcome
     requires { AreEight schedule.now }
-    ensures { Performs H.told H.faults host.old host.new result
+    ensures { DoesProgram H.told H.faults host.old host.new result
         (page.object_file order.now name.now schedule.now) }
 {
     match read_image(alloc, host, Form::Object, name) {
@@ -148,7 +148,7 @@ pub fn run_scheduled<H: Host>(
     schedule: &[u8],
     object: &[u8],
 ) -> Outcome
-    ensures { Performs H.told H.faults host.old host.new result
+    ensures { DoesProgram H.told H.faults host.old host.new result
         (page.multi_file order.now schedule.now object.now) }
 {
     match read_schedule(alloc, host, schedule) {

@@ -6,7 +6,7 @@ ghost use Rattle.mx_top.specs.Causes.{Causes};
 ghost use Rattle.mx_top.specs.ProgramClauses.{AnswersOverList, AnswersOverListWatched, Produces, ProducesWatched};
 ghost use Rattle.mx_top.specs.Product as page;
 ghost use Rattle.mx_top.specs.Telling as tells;
-ghost use Rattle.mx_top.specs.WorkClauses.{CarriesOutBoth, HearsPlan, KeepsSaying, Performs, TellsAll, TellsBy};
+ghost use Rattle.mx_top.specs.WorkClauses.{CarriesOutProgramOnBoth, DoesProgram, HearsPlan, KeepsSaying, TellsAll, TellsBy};
 
 use crate::generation::generate;
 use crate::reports::{is_lacking, put_reports, reports_after, write_error};
@@ -34,7 +34,7 @@ fn run_ordered<H: Host>(
 ) -> Outcome
     requires file { order.now.file < length words.now }
     requires rest { order.now.rest ≤ length words.now }
-    ensures part { Performs H.told H.faults host.old host.new result
+    ensures part { DoesProgram H.told H.faults host.old host.new result
         (page.run_file (map string_bytes words.now) order.now form) }
     ensures heard { HearsPlan (H.told host.old) result (map meaning watchers.old.items) (map meaning watchers.new.items)
         kept.old kept.new (page.run_file (map string_bytes words.now) order.now form) }
@@ -59,7 +59,7 @@ fn carry_order<H: Host>(
     requires schedule { order.now.schedule < length words.now }
     requires object { order.now.command ≡ Command.Asm → order.now.rest < length words.now }
     requires blocks { order.now.number ≤ 10000 }
-    ensures part { Performs H.told H.faults host.old host.new result
+    ensures part { DoesProgram H.told H.faults host.old host.new result
         (page.ordered_plan (map string_bytes words.now) order.now order.now.command) }
     ensures heard { HearsPlan (H.told host.old) result (map meaning watchers.old.items) (map meaning watchers.new.items)
         kept.old kept.new (page.ordered_plan (map string_bytes words.now) order.now order.now.command) }
@@ -93,7 +93,7 @@ fn do_command<H: Host>(
     watchers: &mut Vec<Box<dyn Watcher>>,
     kept: &mut Reports,
 ) -> Outcome
-    ensures both { CarriesOutBoth (H.told host.old) (H.told host.new) result
+    ensures both { CarriesOutProgramOnBoth (H.told host.old) (H.told host.new) result
         (page.work_plan (map string_bytes words.now) (order_of (map string_bytes words.now))) }
     ensures heard { HearsPlan (H.told host.old) result (map meaning watchers.old.items) (map meaning watchers.new.items)
         kept.old kept.new (page.work_plan (map string_bytes words.now) (order_of (map string_bytes words.now))) }
@@ -160,7 +160,7 @@ pub fn mmixware_watched<H: Host>(
 ) -> Outcome
     ensures product { ProducesWatched (H.told host.old) (H.told host.new) result (map string_bytes words.now)
         (map meaning watchers.old.items) (map meaning watchers.new.items) }
-    ensures headline { AnswersOverListWatched (H.told host.old) (H.told host.new) result (map string_bytes words.now)
+    ensures headline { AnswersOverListWatched H.told host.old host.new result (map string_bytes words.now)
         (map meaning watchers.old.items) }
     ensures causes { Causes H.told H.faults host.old host.new result (map string_bytes words.now) }
 {

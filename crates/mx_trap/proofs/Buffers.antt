@@ -17,16 +17,16 @@ pub bytes-more : (f : ℕ → ℕ) (a n : ℕ) → bytes_from f a (n + 1) ≡ by
 unfolding bytes_from
 bytes-more f a n = map-range_with_len_more f a n (a + n) refl
 
-pub bytes-behind : (f : ℕ → ℕ) (a n k : ℕ) → drop k (bytes_from f a (k + n)) ≡ bytes_from f (a + k) n
+pub bytes-after : (f : ℕ → ℕ) (a n k : ℕ) → drop k (bytes_from f a (k + n)) ≡ bytes_from f (a + k) n
 unfolding bytes_from
-bytes-behind f a n zero =
+bytes-after f a n zero =
     let e : a + 0 ≡ a = omega arith in
     let z : 0 + n ≡ n = omega arith in
     rw (e, z) refl
-bytes-behind f a n (suc k) =
+bytes-after f a n (suc k) =
     let e : a + suc k ≡ a + 1 + k = omega arith in
     let z : suc k + n ≡ suc (k + n) = omega arith in
-    rw (e, z) (bytes-behind f (a + 1) n k)
+    rw (e, z) (bytes-after f (a + 1) n k)
 
 pub bytes-none : (f : ℕ → ℕ) (a : ℕ) → bytes_from f a 0 ≡ []
 unfolding bytes_from

@@ -189,10 +189,10 @@ pieces-steady (suc k) slot bytes moved m h =
 
 -- ---- all pieces
 
-behind : (more one : HostModel → Then Written) → ((n : HostModel) → more (still n) ≡ one (still n)) → (w : Written) (n : HostModel) → write_next more (w, still n) ≡ write_next one (w, still n)
-behind more one h Whole n = h n
-behind more one h (Short k) n = refl
-behind more one h OutOfMemory n = refl
+following : (more one : HostModel → Then Written) → ((n : HostModel) → more (still n) ≡ one (still n)) → (w : Written) (n : HostModel) → write_next more (w, still n) ≡ write_next one (w, still n)
+following more one h Whole n = h n
+following more one h (Short k) n = refl
+following more one h OutOfMemory n = refl
 
 pieces-joined : (k slot : ℕ) (bytes : List ℕ) (moved : ℕ) (m : HostModel) → write_pieces k slot bytes moved (still m) ≡ write_piece slot bytes moved (still m)
 unfolding write_pieces
@@ -203,7 +203,7 @@ pieces-joined (suc k) slot bytes moved m =
     let t : Then Written = write_piece slot first moved (still m) in
     let is : (t.0, still t.1) ≡ t = (piece-steady slot first moved (still m) refl).0 in
     ap (write_next (write_pieces k slot others (moved + 4096))) (sym is)
-    ∙ behind (write_pieces k slot others (moved + 4096)) (write_piece slot others (moved + 4096)) (λ n. pieces-joined k slot others (moved + 4096) n) t.0 t.1
+    ∙ following (write_pieces k slot others (moved + 4096)) (write_piece slot others (moved + 4096)) (λ n. pieces-joined k slot others (moved + 4096) n) t.0 t.1
     ∙ ap (write_next (write_piece slot others (moved + 4096))) is
     ∙ piece-joined m slot first others moved (moved + 4096)
     ∙ ap (λ xs. write_piece slot xs moved (still m)) (take-append-drop 4096 bytes)

@@ -10,7 +10,7 @@ use Rattle.mx_host.specs.Keeping.{Keeps}
 use Rattle.mx_host.proofs.Still.{still}
 use Rattle.mx_plan.specs.Plan.{Comes}
 use Rattle.mx_plan.specs.Calls.{SpaceCall, putting, space, Both, BothPlan, both}
-use Rattle.mx_plan.specs.Clauses.{Stands}
+use Rattle.mx_plan.specs.Clauses.{KeepsHost}
 use Rattle.mx_plan.specs.Counts.{NoneFailed, unscheduled}
 use Rattle.mx_plan.specs.Held.{Held, KeepsStreams}
 use Rattle.mx_plan.proofs.HeldLaws.{held-end}
@@ -143,7 +143,7 @@ come-streams {Rest} v w (Stopped why) p c = rw (ap (λ (t : TrapAnswer × Both R
 come-streams {Rest} v w OutOfMemory p c = streams-stop p w v (c.stopping refl)
 
 pub trap-keeps : {Rest : Type 0} (s t : Contents Rest) (old new : Option HostModel) (earlier later : ℕ) (value : TrapAnswer) (p : BothPlan TrapAnswer) →
-    (IsTrue (tells old) → Comes both (s, contents old) (t, contents new) OutOfMemory value p) → Stands old new earlier later → Keeps old new earlier later
+    (IsTrue (tells old) → Comes both (s, contents old) (t, contents new) OutOfMemory value p) → KeepsHost old new earlier later → Keeps old new earlier later
 trap-keeps s t old new earlier later value p c h = record {
   telling = h.0;
   counting = h.1;

@@ -8,7 +8,7 @@ use Rattle.mx_trap.specs.Requests.{bytes_from}
 use Rattle.mx_trap.specs.Moves.{whole_pieces, written, write_pieces, write_piece, write_next}
 use Rattle.mx_trap.specs.declared.writes.Written.{Written}
 use Rattle.mx_trap.specs.declared.writes.Written.TheVariants.{Whole}
-use Rattle.mx_trap.proofs.Buffers.{bytes-length, bytes-front, bytes-behind}
+use Rattle.mx_trap.proofs.Buffers.{bytes-length, bytes-front, bytes-after}
 
 -- one piece more than of what follows the first
 pub more-pieces : (n : ℕ) → 4096 < n → (n - 1) / 4096 ≡ suc ((n - 4096 - 1) / 4096)
@@ -38,7 +38,7 @@ left-more slot f start size moved h =
     let less : n - 4096 ≡ k = omega (arith, h) in
     let on : start + moved + 4096 ≡ start + (moved + 4096) = omega arith in
     let front : drop 4096 (bytes_from f (start + moved) n) ≡ bytes_from f (start + (moved + 4096)) k =
-    ap (λ x. drop 4096 (bytes_from f (start + moved) x)) (sym all) ∙ bytes-behind f (start + moved) k 4096 ∙ ap (λ x. bytes_from f x k) on in
+    ap (λ x. drop 4096 (bytes_from f (start + moved) x)) (sym all) ∙ bytes-after f (start + moved) k 4096 ∙ ap (λ x. bytes_from f x k) on in
     rw (more-pieces n h, bytes-front f (start + moved) n 4096 (omega (arith, h)), front, less) refl
 
 pub left-last : (slot : ℕ) (f : ℕ → ℕ) (start size moved : ℕ) → size - moved ≤ 4096 →

@@ -1,4 +1,4 @@
--- Where stored bytes stand.
+-- Where stored bytes are.
 use Rattle.std.proofs.Common.{◌≡◌, ℕ, suc, ◌+◌, ◌-◌, ◌<◌, Bool, true, false, cond, List, [], ◌∷◌, length, get_or, Ok, Err, refl, ◌∙◌, arith}
 use Rattle.std.specs.Prelude.{Result, ◌==◌, ◌&&◌, nat_le, nat_lt, not}
 use Rattle.std.proofs.lemmas.Bool.Decides.{nat_tests}
@@ -80,20 +80,20 @@ next-rest : {Rest : Type 0} (bs : List ℕ) (a : ℕ) (s : Contents Rest) (t : S
 next-rest {Rest} bs a s (Ok u, n) first others = others n ∙ first
 next-rest {Rest} bs a s (Err e, n) first others = first
 
-pub stored-stand : {Rest : Type 0} (bytes : List ℕ) (a : ℕ) (s : Contents Rest) (q : ℕ) → (bytes_stored bytes a s).0 ≡ Ok tt → (bytes_stored bytes a s).1.bytes q ≡ stored_byte bytes a s.bytes q
+pub stored-there : {Rest : Type 0} (bytes : List ℕ) (a : ℕ) (s : Contents Rest) (q : ℕ) → (bytes_stored bytes a s).0 ≡ Ok tt → (bytes_stored bytes a s).1.bytes q ≡ stored_byte bytes a s.bytes q
 unfolding bytes_stored
-stored-stand [] a s q h = let none : (nat_le a q && nat_lt q (a + 0)) ≡ false = grind (arith, nat_tests) in rw none refl
-stored-stand (b ∷ bs) a s q h = next-put b bs a q s (byte_stored a b s) (λ g. byte-put s a b q g) (λ n g. stored-stand bs (a + 1) n q g) h
+stored-there [] a s q h = let none : (nat_le a q && nat_lt q (a + 0)) ≡ false = grind (arith, nat_tests) in rw none refl
+stored-there (b ∷ bs) a s q h = next-put b bs a q s (byte_stored a b s) (λ g. byte-put s a b q g) (λ n g. stored-there bs (a + 1) n q g) h
 
 pub stored-rest : {Rest : Type 0} (bytes : List ℕ) (a : ℕ) (s : Contents Rest) → (bytes_stored bytes a s).1.rest ≡ s.rest
 unfolding bytes_stored
 stored-rest [] a s = refl
 stored-rest (b ∷ bs) a s = next-rest bs a s (byte_stored a b s) (byte-rest s a b) (λ n. stored-rest bs (a + 1) n)
 
-pub end-stands : {Rest : Type 0} (bytes : List ℕ) (a : ℕ) (s : Contents Rest) (q : ℕ) → (end_of space (moves.bytes_stored bytes a) s).0 ≡ Ok tt → (end_of space (moves.bytes_stored bytes a) s).1.bytes q ≡ stored_byte bytes a s.bytes q
-end-stands bytes a s q = rw (bytes-same bytes a s) (stored-stand bytes a s q)
+pub end-there : {Rest : Type 0} (bytes : List ℕ) (a : ℕ) (s : Contents Rest) (q : ℕ) → (end_of space (moves.bytes_stored bytes a) s).0 ≡ Ok tt → (end_of space (moves.bytes_stored bytes a) s).1.bytes q ≡ stored_byte bytes a s.bytes q
+end-there bytes a s q = rw (bytes-same bytes a s) (stored-there bytes a s q)
 
 pub end-rest : {Rest : Type 0} (bytes : List ℕ) (a : ℕ) (s : Contents Rest) → (end_of space (moves.bytes_stored bytes a) s).1.rest ≡ s.rest
 end-rest bytes a s = rw (bytes-same bytes a s) (stored-rest bytes a s)
 
-pub ruleset storing = (end-stands, end-rest)
+pub ruleset storing = (end-there, end-rest)

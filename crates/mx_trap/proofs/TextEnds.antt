@@ -83,8 +83,8 @@ before-end bytes a other l z = on (is_negative a) (bytes a == 0) (grind (arith, 
     on : (b c : Bool) → b ≡ false → c ≡ false → by_tests b c other ≡ other
     on b c e f = rw (e, f) refl
 
-behind : (room : ℕ) (bytes : ℕ → ℕ) (a n : ℕ) → IsText (suc room) bytes a (suc n) → IsText room bytes (a + 1) n
-behind room bytes a n t =
+following : (room : ℕ) (bytes : ℕ → ℕ) (a n : ℕ) → IsText (suc room) bytes a (suc n) → IsText room bytes (a + 1) n
+following room bytes a n t =
     let past : a + suc n ≡ a + 1 + n = omega arith in
     record { nonzero = rest; end = ap bytes (sym past) ∙ t.end; below = omega (arith, past, t.below); few = omega (arith, t.few) }
   where
@@ -105,7 +105,7 @@ only (suc room) bytes a (suc n) t =
     let size : n + 1 ≡ suc n = omega arith in
     text-some room bytes a
     ∙ before-end bytes a _ (omega (arith, t.below)) (subst (λ q. bytes q ≢ 0) here (t.nonzero 0 (omega arith)))
-    ∙ ap (map_ok (λ k. k + 1)) (only room bytes (a + 1) n (behind room bytes a n t)) ∙ ap Ok size
+    ∙ ap (map_ok (λ k. k + 1)) (only room bytes (a + 1) n (following room bytes a n t)) ∙ ap Ok size
 
 -- ---- the two stops
 

@@ -4,7 +4,7 @@ use Rattle.mx_mem.specs.Space.{Contents}
 use Rattle.mx_host.specs.HostModel.{HostModel}
 use Rattle.mx_alu.specs.declared.call.TrapCall.{TrapCall}
 use Rattle.mx_plan.specs.Calls.{BothPlan, HostPlan}
-use Rattle.mx_plan.specs.Clauses.{CarriesOut, CarriesOutBoth, Stands}
+use Rattle.mx_plan.specs.Clauses.{CarriesOutOnHost, CarriesOutOnSpace, KeepsHost}
 use Rattle.mx_trap.specs.Requests.{request_of}
 use Rattle.mx_trap.specs.declared.answer.TrapAnswer.{TrapAnswer}
 use Rattle.mx_trap.specs.declared.answer.TrapAnswer.TheVariants.{Value, Halt, Stopped, OutOfMemory}
@@ -33,16 +33,16 @@ StopsFirst holds first last old new call answer =
 -- A trap is carried out on a space and over a host; `says` is what the host tells.
 abbrev pub CarriesOutTrap : {M H Rest : Type 0} → (M → Contents Rest) → (H → Option HostModel) → M → M → H → H → TrapAnswer → BothPlan TrapAnswer → Type 0
 CarriesOutTrap holds says first last old new result plan =
-    CarriesOutBoth (says old) (says new) (holds first) (holds last) OutOfMemory result plan
+    CarriesOutOnSpace (says old) (says new) (holds first) (holds last) OutOfMemory result plan
 
 -- the same of a part of a trap, which gives something or ends it
-abbrev pub CarriesOutPart : {M H A Rest : Type 0} → (M → Contents Rest) → (H → Option HostModel) → M → M → H → H → Result A TrapAnswer → BothPlan (Result A TrapAnswer) → Type 0
-CarriesOutPart holds says first last old new result plan =
-    CarriesOutBoth (says old) (says new) (holds first) (holds last) (Err OutOfMemory) result plan
+abbrev pub CarriesOutTrapPart : {M H A Rest : Type 0} → (M → Contents Rest) → (H → Option HostModel) → M → M → H → H → Result A TrapAnswer → BothPlan (Result A TrapAnswer) → Type 0
+CarriesOutTrapPart holds says first last old new result plan =
+    CarriesOutOnSpace (says old) (says new) (holds first) (holds last) (Err OutOfMemory) result plan
 
 -- A service is done over a host, where `says` is what that tells and `faults` its count of faults. Over one that tells its contents, the plan
--- is carried out; if the trap stops here, then for one page too many; and what stands of a host stands.
-pub record Fulfils {Host : Type 0} (says : Host → Option HostModel) (faults : Host → ℕ) (old new : Host) (result : TrapAnswer) (plan : HostPlan TrapAnswer) : Type 0 where
-  pub told : CarriesOut (says old) (says new) OutOfMemory result plan
+-- is carried out; if the trap stops here, then for one page too many; and what is kept of a host is kept.
+pub record DoesService {Host : Type 0} (says : Host → Option HostModel) (faults : Host → ℕ) (old new : Host) (result : TrapAnswer) (plan : HostPlan TrapAnswer) : Type 0 where
+  pub told : CarriesOutOnHost (says old) (says new) OutOfMemory result plan
   pub stops : StopsByPages result
-  pub stands : Stands (says old) (says new) (faults old) (faults new)
+  pub keeps : KeepsHost (says old) (says new) (faults old) (faults new)

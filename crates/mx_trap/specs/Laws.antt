@@ -35,7 +35,7 @@ pub record ComesTo {Rest : Type 0} (t : Leaves TrapAnswer Rest) (value : TrapAns
   pub space : t.1 ≡ s
   pub model : unscheduled t.2 ≡ unscheduled m
 
--- the byte at an address, once these bytes stand from a on
+-- the byte at an address, once these bytes are there from a on
 abbrev pub stored_byte : List ℕ → ℕ → (ℕ → ℕ) → ℕ → ℕ
 stored_byte bytes a old q = if nat_le a q && nat_lt q (a + length bytes) then get_or bytes (q - a) 0 else old q
 

@@ -4,7 +4,7 @@ use Rattle.std.specs.Prelude.{ℕ, zero, suc, ◌+◌, ◌<◌, ◌≤◌, ◌^�
 use Rattle.std.specs.List.{range_with_len}
 use Rattle.mx_word.specs.Results.{map_ok}
 use Rattle.mx_word.specs.Words.{signed_value}
-use Rattle.mx_mem.specs.Space.{is_negative, octa_of}
+use Rattle.mx_mem.specs.Space.{Contents, is_negative, octa_of}
 use Rattle.mx_alu.specs.declared.call.TrapCall.{TrapCall}
 use Rattle.mx_trap.specs.Services.{service_of}
 use Rattle.mx_trap.specs.declared.answer.TrapStop.{TrapStop}
@@ -17,6 +17,10 @@ use Rattle.mx_trap.specs.declared.requests.Request.TheVariants.{Ending, Opening,
 -- the bytes at n addresses, from a on
 unfoldable pub bytes_from : (ℕ → ℕ) → ℕ → ℕ → List ℕ
 bytes_from bytes a n = map bytes (range_with_len a n)
+
+-- the same of a space: `holds` is what it holds
+abbrev pub bytes_held : {M Rest : Type 0} → (M → Contents Rest) → M → ℕ → ℕ → List ℕ
+bytes_held holds space a n = bytes_from (holds space).bytes a n
 
 -- the most bytes of a buffer, and of a text before its zero byte
 abbrev pub most_bytes : ℕ

@@ -25,7 +25,7 @@ pub enum TrapStop {
     WideTrap,
     /// The size, or the text before its zero byte, is above 2^24 bytes.
     TransferTooLarge,
-    /// A byte was to be stored on one page too many. The bytes stored before stand.
+    /// A byte was to be stored on one page too many. The bytes stored before it stay.
     TrapPagesFull,
     /// X is not 0, Y is above 10, or it is Halt with Z not 0.
     UnknownTrap,

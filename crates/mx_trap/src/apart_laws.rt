@@ -27,6 +27,6 @@ pub fn calls_go_apart<M: Space, N: Space>()
 pub fn calls_keep_contents<M: Space>()
     ensures rest { (s : Contents M.Rest) (m : HostModel) (call : TrapCall)
         → (trap_answer s m call).1.rest ≡ s.rest }
-    ensures pages { (s : Contents M.Rest) (m : HostModel) (call : TrapCall) → s.page_count ≤ 65536
-        → (trap_answer s m call).1.page_count ≤ 65536 }
+    ensures pages { (s : Contents M.Rest) (m : HostModel) (c : TrapCall) → s.page_count ≤ 65536
+        → (trap_answer s m c).1.page_count ≤ 65536 }
 {}

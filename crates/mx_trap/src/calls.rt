@@ -2,7 +2,7 @@
 
 ghost use Rattle.std.specs.Prelude.{◌≡◌, ◌≢◌, ◌≤◌, IfErr};
 ghost use Rattle.mx_host.specs.Keeping.{Keeps};
-ghost use Rattle.mx_plan.specs.Clauses.{Stands};
+ghost use Rattle.mx_plan.specs.Clauses.{KeepsHost};
 ghost use Rattle.mx_trap.specs.Clauses.{CarriesOutTrap, StopsByPages, StopsFirst};
 ghost use Rattle.mx_trap.specs.FileTraps as spec;
 ghost use Rattle.mx_trap.specs.Requests.{IsInBounds};
@@ -34,7 +34,7 @@ pub fn trap<M: Space, H: Host>(
         (spec.trap_plan call.now) }
     ensures stops { StopsFirst M.contents memory.old memory.new host.old host.new call.now result }
     ensures rest { (M.contents memory.new).rest ≡ (M.contents memory.old).rest }
-    ensures stands { Stands (H.told host.old) (H.told host.new) (H.faults host.old) (H.faults host.new) }
+    ensures keeps { KeepsHost (H.told host.old) (H.told host.new) (H.faults host.old) (H.faults host.new) }
 {
     let slot = (call.word % 256) as u16;
     match request_of(memory, call) {
@@ -58,7 +58,7 @@ fn do_request<M: Space, H: Host>(
         (spec.carried_out slot (M.contents memory.old).bytes request) }
     ensures stops { StopsByPages result }
     ensures rest { (M.contents memory.new).rest ≡ (M.contents memory.old).rest }
-    ensures stands { Stands (H.told host.old) (H.told host.new) (H.faults host.old) (H.faults host.new) }
+    ensures keeps { KeepsHost (H.told host.old) (H.told host.new) (H.faults host.old) (H.faults host.new) }
 {
     match request {
         Request::Ending => TrapAnswer::Halt,

@@ -3,8 +3,8 @@
 ghost use Rattle.std.specs.Prelude.{◌≡◌, ◌≤◌};
 ghost use Rattle.mx_plan.specs.Calls.{open_plan};
 ghost use Rattle.mx_plan.specs.Plan.{bind};
-ghost use Rattle.mx_trap.specs.Clauses.{Fulfils};
-ghost use Rattle.mx_trap.specs.Requests.{AreInBounds, bytes_from};
+ghost use Rattle.mx_trap.specs.Clauses.{DoesService};
+ghost use Rattle.mx_trap.specs.Requests.{AreInBounds, bytes_held};
 ghost use Rattle.mx_trap.specs.FileTraps as spec;
 
 use crate::answer::TrapAnswer;
@@ -31,8 +31,8 @@ pub fn fopen<M: Space, H: Host>(
 ) -> TrapAnswer
     requires slot { slot ≤ 255 }
     requires bounds { AreInBounds at size }
-    ensures { Fulfils H.told H.faults host.old host.new result
-        (spec.fopen slot (bytes_from (M.contents memory.now).bytes at size) mode) }
+    ensures { DoesService H.told H.faults host.old host.new result
+        (spec.fopen slot (bytes_held M.contents memory.now at size) mode) }
 {
     let Some(mode) = mode_of(mode) else {
         return TrapAnswer::Value(MINUS_ONE);
@@ -47,7 +47,7 @@ pub fn fopen<M: Space, H: Host>(
 #[tactic(auto, using(mx_plan::proofs::Plans::plans))]
 fn open_file<H: Host>(host: &mut H, slot: u16, name: &[u8], mode: Mode) -> TrapAnswer
     requires { slot ≤ 255 }
-    ensures { Fulfils H.told H.faults host.old host.new result
+    ensures { DoesService H.told H.faults host.old host.new result
         (bind spec.done_value (open_plan slot name.now mode)) }
 {
     match open(host, slot, name, mode) {
@@ -75,7 +75,7 @@ fn mode_of(number: u64) -> Option<Mode>
 #[tactic(auto, using(mx_plan::proofs::Plans::plans), unfolding(crate::specs::FileTraps::fclose))]
 pub fn fclose<H: Host>(host: &mut H, slot: u16) -> TrapAnswer
     requires { slot ≤ 255 }
-    ensures { Fulfils H.told H.faults host.old host.new result (spec.fclose slot) }
+    ensures { DoesService H.told H.faults host.old host.new result (spec.fclose slot) }
 {
     match close(host, slot) {
         Ok(()) => TrapAnswer::Value(0),
@@ -88,7 +88,7 @@ pub fn fclose<H: Host>(host: &mut H, slot: u16) -> TrapAnswer
 #[tactic(auto, using(mx_plan::proofs::Plans::plans), unfolding(crate::specs::FileTraps::fseek))]
 pub fn fseek<H: Host>(host: &mut H, slot: u16, to: i64) -> TrapAnswer
     requires { slot ≤ 255 }
-    ensures { Fulfils H.told H.faults host.old host.new result (spec.fseek slot to) }
+    ensures { DoesService H.told H.faults host.old host.new result (spec.fseek slot to) }
 {
     match seek(host, slot, to) {
         Ok(()) => TrapAnswer::Value(0),
@@ -102,7 +102,7 @@ pub fn fseek<H: Host>(host: &mut H, slot: u16, to: i64) -> TrapAnswer
 #[tactic(auto, using(mx_plan::proofs::Plans::plans), unfolding(crate::specs::FileTraps::ftell))]
 pub fn ftell<H: Host>(host: &mut H, slot: u16) -> TrapAnswer
     requires { slot ≤ 255 }
-    ensures { Fulfils H.told H.faults host.old host.new result (spec.ftell slot) }
+    ensures { DoesService H.told H.faults host.old host.new result (spec.ftell slot) }
 {
     match tell(host, slot) {
         Ok(place) => TrapAnswer::Value(place),

@@ -68,7 +68,7 @@ pub fn lines_come_with_their_newline<M: Space>()
 /// Bytes that are stored, none of them refused, are at the addresses from a on; every other byte and
 /// the rest of the space are as before.
 #[tactic(auto, using(crate::proofs::StoredBytes::storing))]
-pub fn stored_bytes_stand<M: Space>()
+pub fn stored_bytes_are_there<M: Space>()
     ensures bytes { (bytes : List ℕ) (a : ℕ) (s : Contents M.Rest) (q : ℕ) →
         (end_of space (bytes_stored bytes a) s).0 ≡ Ok tt →
         (end_of space (bytes_stored bytes a) s).1.bytes q ≡ stored_byte bytes a s.bytes q }
@@ -105,8 +105,8 @@ pub fn intervals_meet_the_segment()
 pub fn texts_touch_where_they_are_read()
     ensures found { (bytes : ℕ → ℕ) (a : ℕ) → a < 2 ^ 64 → text_touches bytes a ≡ true →
         (i : ℕ) × LooksAt most_bytes bytes a i × (is_in_stack_segment (a + i) ≡ true) }
-    ensures only { (bytes : ℕ → ℕ) (a i : ℕ) → a < 2 ^ 64 → LooksAt most_bytes bytes a i →
-        is_in_stack_segment (a + i) ≡ true → text_touches bytes a ≡ true }
+    ensures only { (b : ℕ → ℕ) (a i : ℕ) → a < 2 ^ 64 → LooksAt most_bytes b a i →
+        is_in_stack_segment (a + i) ≡ true → text_touches b a ≡ true }
 {}
 
 /// A buffer is good exactly where it has at most 2^24 bytes and each of them lies below 2^63. One of more bytes is

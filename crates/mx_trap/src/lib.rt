@@ -23,7 +23,7 @@ pub use apart_laws::{calls_go_apart, calls_keep_contents};
 pub use calls::trap;
 pub use laws::{
     buffers_are_good_below, intervals_meet_the_segment, lines_come_with_their_newline,
-    pieces_come_to_one_read, pieces_come_to_one_write, stored_bytes_stand,
+    pieces_come_to_one_read, pieces_come_to_one_write, stored_bytes_are_there,
     texts_end_at_the_first_zero, texts_touch_where_they_are_read, traps_end_by_themselves,
     traps_only_add_to_output,
 };

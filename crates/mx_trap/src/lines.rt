@@ -1,10 +1,8 @@
 //! Reading a line of a slot into a space: Fgets.
 
 ghost use Rattle.std.specs.Prelude.{◌≡◌, ◌≢◌, ◌≤◌, ◌<◌, ◌+◌, ◌^◌, length, Ok, Err, IfErr};
-ghost use Rattle.mx_plan.specs.Calls.{space};
-ghost use Rattle.mx_plan.specs.Clauses.{Stands};
-ghost use Rattle.mx_plan.specs.Plan.{Comes};
-ghost use Rattle.mx_trap.specs.Clauses.{CarriesOutPart, CarriesOutTrap, StopsByPages};
+ghost use Rattle.mx_plan.specs.Clauses.{ComesOnSpace, KeepsHost};
+ghost use Rattle.mx_trap.specs.Clauses.{CarriesOutTrap, CarriesOutTrapPart, StopsByPages};
 ghost use Rattle.mx_trap.specs.Moves as spec;
 ghost use Rattle.mx_trap.specs.Requests.{AreInBounds};
 
@@ -30,7 +28,7 @@ pub fn fgets<M: Space, H: Host>(
         (spec.fgets slot at size) }
     ensures stops { StopsByPages result }
     ensures rest { (M.contents memory.new).rest ≡ (M.contents memory.old).rest }
-    ensures stands { Stands (H.told host.old) (H.told host.new) (H.faults host.old) (H.faults host.new) }
+    ensures keeps { KeepsHost (H.told host.old) (H.told host.new) (H.faults host.old) (H.faults host.new) }
 {
     if size == 0 {
         return TrapAnswer::Value(MINUS_ONE);
@@ -55,11 +53,11 @@ fn line_byte<M: Space, H: Host>(
 ) -> Result<bool, TrapAnswer>
     requires slot { slot ≤ 255 }
     requires below { at < 2 ^ 63 }
-    ensures told { CarriesOutPart M.contents H.told memory.old memory.new host.old host.new result
+    ensures told { CarriesOutTrapPart M.contents H.told memory.old memory.new host.old host.new result
         (spec.line_byte slot at) }
     ensures rest { (M.contents memory.new).rest ≡ (M.contents memory.old).rest }
     ensures stops { IfErr result StopsByPages }
-    ensures stands { Stands (H.told host.old) (H.told host.new) (H.faults host.old) (H.faults host.new) }
+    ensures keeps { KeepsHost (H.told host.old) (H.told host.new) (H.faults host.old) (H.faults host.new) }
 {
     let mut byte = [0u8; 1];
     match read(host, slot, &mut byte) {
@@ -74,7 +72,7 @@ fn line_byte<M: Space, H: Host>(
 #[tactic(auto, using(mx_plan::proofs::Plans::plans), unfolding(crate::specs::Moves::byte_put))]
 fn put_byte<M: Space>(memory: &mut M, at: u64, b: u8) -> Result<bool, TrapAnswer>
     requires { at < 2 ^ 63 }
-    ensures told { Comes space (M.contents memory.old) (M.contents memory.new) (Err TrapAnswer.OutOfMemory) result
+    ensures told { ComesOnSpace M.contents memory.old memory.new (Err TrapAnswer.OutOfMemory) result
         (spec.byte_put at b) }
     ensures stops { IfErr result StopsByPages }
     ensures rest { (M.contents memory.new).rest ≡ (M.contents memory.old).rest }
@@ -87,7 +85,7 @@ fn put_byte<M: Space>(memory: &mut M, at: u64, b: u8) -> Result<bool, TrapAnswer
 #[tactic(auto, using(mx_plan::proofs::Plans::plans), unfolding(crate::specs::Moves::line_end))]
 fn end_line<M: Space>(memory: &mut M, at: u64, count: u64) -> TrapAnswer
     requires { at + count < 2 ^ 63 }
-    ensures told { Comes space (M.contents memory.old) (M.contents memory.new) TrapAnswer.OutOfMemory result
+    ensures told { ComesOnSpace M.contents memory.old memory.new TrapAnswer.OutOfMemory result
         (spec.line_end at count) }
     ensures stops { StopsByPages result }
     ensures rest { (M.contents memory.new).rest ≡ (M.contents memory.old).rest }

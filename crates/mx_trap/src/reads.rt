@@ -1,8 +1,8 @@
 //! Reading bytes of a slot into a space, piece by piece: Fread.
 
 ghost use Rattle.std.specs.Prelude.{◌≡◌, ◌≢◌, ◌≤◌, ◌<◌, ◌+◌, ◌^◌, length, Ok, Err, IfOk, IfErr};
-ghost use Rattle.mx_plan.specs.Clauses.{Stands};
-ghost use Rattle.mx_trap.specs.Clauses.{CarriesOutPart, CarriesOutTrap, StopsByPages};
+ghost use Rattle.mx_plan.specs.Clauses.{KeepsHost};
+ghost use Rattle.mx_trap.specs.Clauses.{CarriesOutTrap, CarriesOutTrapPart, StopsByPages};
 ghost use Rattle.mx_trap.specs.Moves as spec;
 ghost use Rattle.mx_trap.specs.Requests.{AreInBounds};
 
@@ -28,7 +28,7 @@ pub fn fread<M: Space, H: Host>(
         (spec.fread slot at size) }
     ensures rest { (M.contents memory.new).rest ≡ (M.contents memory.old).rest }
     ensures stops { StopsByPages result }
-    ensures stands { Stands (H.told host.old) (H.told host.new) (H.faults host.old) (H.faults host.new) }
+    ensures keeps { KeepsHost (H.told host.old) (H.told host.new) (H.faults host.old) (H.faults host.new) }
 {
     let mut buffer = [0u8; 4096];
     let mut moved = 0;
@@ -63,13 +63,13 @@ fn read_piece<M: Space, H: Host>(
 ) -> Result<u64, TrapAnswer>
     requires slot { slot ≤ 255 }
     requires bounds { AreInBounds at (length buffer.old) }
-    ensures told { CarriesOutPart M.contents H.told memory.old memory.new host.old host.new result
+    ensures told { CarriesOutTrapPart M.contents H.told memory.old memory.new host.old host.new result
         (spec.read_piece slot at (length buffer.old) size) }
     ensures count { IfOk result (λ n. n ≤ length buffer.old) }
     ensures length { length buffer.new ≡ length buffer.old }
     ensures rest { (M.contents memory.new).rest ≡ (M.contents memory.old).rest }
     ensures stops { IfErr result StopsByPages }
-    ensures stands { Stands (H.told host.old) (H.told host.new) (H.faults host.old) (H.faults host.new) }
+    ensures keeps { KeepsHost (H.told host.old) (H.told host.new) (H.faults host.old) (H.faults host.new) }
 {
     match read(host, slot, buffer) {
         Ok(count) => {

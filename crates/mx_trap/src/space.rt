@@ -1,8 +1,7 @@
 //! Bytes between a space and a buffer.
 
 ghost use Rattle.std.specs.Prelude.{◌≡◌, ◌≢◌, ◌≤◌, ◌<◌, ◌+◌, ◌^◌, length, Ok, Err, IfOk, IfErr};
-ghost use Rattle.mx_plan.specs.Calls.{space};
-ghost use Rattle.mx_plan.specs.Plan.{Comes};
+ghost use Rattle.mx_plan.specs.Clauses.{ComesOnSpace};
 ghost use Rattle.mx_trap.specs.Clauses.{StopsByPages};
 ghost use Rattle.mx_trap.specs.Moves as spec;
 ghost use Rattle.mx_trap.specs.Requests.{bytes_from, AreInBounds};
@@ -40,7 +39,7 @@ pub fn bytes_at<M: Space>(alloc: Global, memory: &M, at: u64, size: u64) -> Resu
 #[tactic(auto, using(mx_plan::proofs::Plans::plans, crate::proofs::Storing::storing))]
 pub fn store_bytes<M: Space>(memory: &mut M, at: u64, bytes: &[u8]) -> Result<(), TrapAnswer>
     requires { AreInBounds at (length bytes.now) }
-    ensures told { Comes space (M.contents memory.old) (M.contents memory.new) (Err TrapAnswer.OutOfMemory) result
+    ensures told { ComesOnSpace M.contents memory.old memory.new (Err TrapAnswer.OutOfMemory) result
         (spec.bytes_stored bytes.now at) }
     ensures stops { IfErr result StopsByPages }
     ensures rest { (M.contents memory.new).rest ≡ (M.contents memory.old).rest }
@@ -55,7 +54,7 @@ pub fn store_bytes<M: Space>(memory: &mut M, at: u64, bytes: &[u8]) -> Result<()
 #[tactic(auto, using(mx_plan::proofs::Plans::plans), unfolding(crate::specs::Moves::byte_stored))]
 pub fn store_byte<M: Space>(memory: &mut M, at: u64, b: u8) -> Result<(), TrapAnswer>
     requires { at < 2 ^ 63 }
-    ensures told { Comes space (M.contents memory.old) (M.contents memory.new) (Err TrapAnswer.OutOfMemory) result
+    ensures told { ComesOnSpace M.contents memory.old memory.new (Err TrapAnswer.OutOfMemory) result
         (spec.byte_stored at b) }
     ensures stops { IfErr result StopsByPages }
     ensures rest { (M.contents memory.new).rest ≡ (M.contents memory.old).rest }

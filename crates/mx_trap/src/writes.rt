@@ -1,10 +1,10 @@
 //! Writing bytes of a space to a slot, piece by piece: Fwrite and Fputs.
 
 ghost use Rattle.std.specs.Prelude.{◌≡◌, ◌≢◌, ◌≤◌, ◌<◌, ◌+◌, ◌^◌, length, Ok, Err};
-ghost use Rattle.mx_plan.specs.Clauses.{CarriesOut, Stands};
-ghost use Rattle.mx_trap.specs.Clauses.{Fulfils};
+ghost use Rattle.mx_plan.specs.Clauses.{CarriesOutOnHost, KeepsHost};
+ghost use Rattle.mx_trap.specs.Clauses.{DoesService};
 ghost use Rattle.mx_trap.specs.Moves as spec;
-ghost use Rattle.mx_trap.specs.Requests.{bytes_from, AreInBounds};
+ghost use Rattle.mx_trap.specs.Requests.{bytes_held, AreInBounds};
 
 use crate::answer::TrapAnswer;
 use crate::files::MINUS_ONE;
@@ -13,12 +13,12 @@ use mx_host::{Host, HostFault};
 use mx_mem::Space;
 use mx_plan::write;
 
-/// What came of the writing of bytes.
+/// What came of bytes that were to be written.
 #[derive(Clone, Copy)]
 pub enum Written {
     /// All were written.
     Whole,
-    /// A piece was not written, and this many bytes stood in the pieces before it.
+    /// A piece was not written, and the pieces before it have this many bytes.
     Short(u64),
     /// The host found no memory.
     OutOfMemory,
@@ -35,8 +35,8 @@ pub fn fwrite<M: Space, H: Host>(
 ) -> TrapAnswer
     requires slot { slot ≤ 255 }
     requires bounds { AreInBounds at size }
-    ensures { Fulfils H.told H.faults host.old host.new result
-        (spec.fwrite slot (bytes_from (M.contents memory.now).bytes at size)) }
+    ensures { DoesService H.told H.faults host.old host.new result
+        (spec.fwrite slot (bytes_held M.contents memory.now at size)) }
 {
     match write_pieces(memory, host, slot, at, size) {
         Written::Whole => TrapAnswer::Value(0),
@@ -56,8 +56,8 @@ pub fn fputs<M: Space, H: Host>(
 ) -> TrapAnswer
     requires slot { slot ≤ 255 }
     requires bounds { AreInBounds at size }
-    ensures { Fulfils H.told H.faults host.old host.new result
-        (spec.fputs slot (bytes_from (M.contents memory.now).bytes at size)) }
+    ensures { DoesService H.told H.faults host.old host.new result
+        (spec.fputs slot (bytes_held M.contents memory.now at size)) }
 {
     match write_pieces(memory, host, slot, at, size) {
         Written::Whole => TrapAnswer::Value(size),
@@ -77,9 +77,9 @@ fn write_pieces<M: Space, H: Host>(
 ) -> Written
     requires slot { slot ≤ 255 }
     requires bounds { AreInBounds at size }
-    ensures told { CarriesOut (H.told host.old) (H.told host.new) Written.OutOfMemory result
-        (spec.written slot (bytes_from (M.contents memory.now).bytes at size)) }
-    ensures stands { Stands (H.told host.old) (H.told host.new) (H.faults host.old) (H.faults host.new) }
+    ensures told { CarriesOutOnHost (H.told host.old) (H.told host.new) Written.OutOfMemory result
+        (spec.written slot (bytes_held M.contents memory.now at size)) }
+    ensures keeps { KeepsHost (H.told host.old) (H.told host.new) (H.faults host.old) (H.faults host.new) }
 {
     let mut buffer = [0u8; 4096];
     let mut moved = 0;
@@ -112,10 +112,10 @@ fn write_piece<M: Space, H: Host>(
 ) -> Written
     requires slot { slot ≤ 255 }
     requires bounds { AreInBounds at (length buffer.old) }
-    ensures told { CarriesOut (H.told host.old) (H.told host.new) Written.OutOfMemory result
-        (spec.write_piece slot (bytes_from (M.contents memory.now).bytes at (length buffer.old)) moved) }
+    ensures told { CarriesOutOnHost (H.told host.old) (H.told host.new) Written.OutOfMemory result
+        (spec.write_piece slot (bytes_held M.contents memory.now at (length buffer.old)) moved) }
     ensures length { length buffer.new ≡ length buffer.old }
-    ensures stands { Stands (H.told host.old) (H.told host.new) (H.faults host.old) (H.faults host.new) }
+    ensures keeps { KeepsHost (H.told host.old) (H.told host.new) (H.faults host.old) (H.faults host.new) }
 {
     fill(memory, at, buffer);
     match write(host, slot, buffer) {

@@ -3,9 +3,9 @@ use Rattle.std.proofs.Common.{◌≡◌, ℕ, ◌+◌, ◌*◌, ◌/◌, ◌%◌
 use Rattle.mx_mmo.specs.Image.{Image}
 use Rattle.mx_mmo.specs.Meaning.{Loading, Meaningless, after_load, join, join_octa, nothing, take_item, take_items, tetras_before, far_place, with_image}
 use Rattle.mx_mmo.specs.Meaning.Meaningless.{NoFile}
-use Rattle.mx_type.proofs.Words.{Item, Load, Loc, Skip, FixOcta, FixNear, FixFar, File, Line, Spec, Pre, Post, Stab, lambda_after, lambda_behind, lambda_of}
+use Rattle.mx_type.proofs.Words.{Item, Load, Loc, Skip, FixOcta, FixNear, FixFar, File, Line, Spec, Pre, Post, Stab, lambda_after, lambda_following, lambda_of}
 
--- where something stands, lambda is this address
+-- where there is something, lambda is this address
 abbrev LambdaIs : ℕ → Result Loading Meaningless → Type 0
 LambdaIs a (Ok s) = s.lambda ≡ a
 LambdaIs a (Err e) = Unit {0}
@@ -42,8 +42,8 @@ abbrev lambda_in : Result Loading Meaningless → ℕ
 lambda_in (Ok s) = s.lambda
 lambda_in (Err e) = 0
 
-along : (items : List Item) (r : Result Loading Meaningless) (a : ℕ) (t : Loading) → LambdaIs a r → take_items items r ≡ Ok t → lambda_behind a items ≡ t.lambda
-unfolding lambda_behind
+along : (items : List Item) (r : Result Loading Meaningless) (a : ℕ) (t : Loading) → LambdaIs a r → take_items items r ≡ Ok t → lambda_following a items ≡ t.lambda
+unfolding lambda_following
 along [] (Ok s) a t is e = sym is ∙ ap lambda_in e
 along [] (Err f) a t is e = cc e
 along (i ∷ items) (Ok s) a t is e = along items (take_item s i) (lambda_after a i) t (subst (λ b. LambdaIs (lambda_after b i) (take_item s i)) is (moved s i)) e

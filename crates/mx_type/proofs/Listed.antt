@@ -1,23 +1,23 @@
 -- What a lister gives is the listing, and the listing is what a lister gives.
 use Rattle.std.proofs.Common.{◌≡◌, ℕ, ◌+◌, ◌<◌, List, [], ◌∷◌, ◌++◌, Some, None, Ok, Result, refl, sym, ap, subst, ◌∙◌, append_assoc, append-nil, length, get_or, drop, drop-cons, suc, ◌≤◌, arith, codes, decimal}
-use Rattle.mx_type.proofs.Words.{common_steps, flat_map, Symbol, Item, Load, Loc, Skip, FixOcta, FixNear, FixFar, File, Line, Spec, Pre, Post, Stab, IsTrie, hex_digits, lambda_after, lambda_behind, lambda_of, IsLine, bytes_text, ended, stab_line, symbol_line, AreLines, HasListed, IsListing, item_text, items_text, listing_text, tail_text}
+use Rattle.mx_type.proofs.Words.{common_steps, flat_map, Symbol, Item, Load, Loc, Skip, FixOcta, FixNear, FixFar, File, Line, Spec, Pre, Post, Stab, IsTrie, hex_digits, lambda_after, lambda_following, lambda_of, IsLine, bytes_text, ended, stab_line, symbol_line, AreLines, HasListed, IsListing, item_text, items_text, listing_text, tail_text}
 use Rattle.mx_stab.specs.declared.faults.StabFault.{StabFault}
 use Rattle.mx_stab.proofs.Whole.{trie-read}
 use Rattle.mx_type.specs.Lines as Table
 use Rattle.mx_type.specs.Listing.AreLines.{none, next, quiet}
 
 -- one item more
-lambda-more : (a : ℕ) (items : List Item) (item : Item) → lambda_behind a (items ++ item ∷ []) ≡ lambda_after (lambda_behind a items) item
-unfolding lambda_behind
+lambda-more : (a : ℕ) (items : List Item) (item : Item) → lambda_following a (items ++ item ∷ []) ≡ lambda_after (lambda_following a items) item
+unfolding lambda_following
 lambda-more a [] item = refl
 lambda-more a (i ∷ items) item = lambda-more (lambda_after a i) items item
 
-pub text-more : (a : ℕ) (items : List Item) (item : Item) → items_text a (items ++ item ∷ []) ≡ items_text a items ++ item_text (lambda_behind a items) item
-unfolding lambda_behind items_text
+pub text-more : (a : ℕ) (items : List Item) (item : Item) → items_text a (items ++ item ∷ []) ≡ items_text a items ++ item_text (lambda_following a items) item
+unfolding lambda_following items_text
 text-more a [] item = append-nil (item_text a item)
 text-more a (i ∷ items) item =
     ap (λ t. item_text a i ++ t) (text-more (lambda_after a i) items item)
-    ∙ sym (append_assoc (item_text a i) (items_text (lambda_after a i) items) (item_text (lambda_behind (lambda_after a i) items) item))
+    ∙ sym (append_assoc (item_text a i) (items_text (lambda_after a i) items) (item_text (lambda_following (lambda_after a i) items) item))
 
 -- a line of the table is what a lister gives
 apart : (front more : List ℕ) → front ++ 32 ∷ more ≡ (front ++ 32 ∷ []) ++ more
@@ -65,7 +65,7 @@ joined-more lambda a item line items text moved is had = (
 )
 
 pub none-listed : HasListed 0 [] []
-unfolding lambda_behind
+unfolding lambda_following
 none-listed = (refl, none)
 
 nothing-given : [] ≡ items_text 0 []
@@ -88,7 +88,7 @@ text-are front text (i ∷ items) are =
     rw (lambda-more 0 front i, append_assoc front (i ∷ []) items, append_assoc text (item_text (lambda_of front) i) (items_text (lambda_after (lambda_of front) i) items)) at more
 
 pub items-listed : (items : List Item) → AreLines items (items_text 0 items)
-unfolding lambda_behind
+unfolding lambda_following
 items-listed items = text-are [] [] items none
 
 abbrev answer : List Symbol → Result (List Symbol) StabFault

@@ -13,9 +13,9 @@ abbrev until : ℕ → List ℕ → List ℕ
 until c [] = []
 until c (b ∷ more) = cond (eqb b c) [] (b ∷ until c more)
 
-abbrev behind : ℕ → List ℕ → List ℕ
-behind c [] = []
-behind c (b ∷ more) = cond (eqb b c) (b ∷ more) (behind c more)
+abbrev following : ℕ → List ℕ → List ℕ
+following c [] = []
+following c (b ∷ more) = cond (eqb b c) (b ∷ more) (following c more)
 
 abbrev BeginsWith : ℕ → List ℕ → Type 0
 BeginsWith c [] = Unit {0}
@@ -29,10 +29,10 @@ until-cut c [] [] l b = refl
 until-cut c [] (m ∷ more) l b = rw (eqb-same m c b) refl
 until-cut c (d ∷ ds) more l b = rw (not-true (eqb d c) (and_parts (not (eqb d c)) (lacks c ds) l).0, until-cut c ds more (and_parts (not (eqb d c)) (lacks c ds) l).1 b) refl
 
-behind-cut : (c : ℕ) (ds more : List ℕ) → lacks c ds ≡ true → BeginsWith c more → behind c (ds ++ more) ≡ more
-behind-cut c [] [] l b = refl
-behind-cut c [] (m ∷ more) l b = rw (eqb-same m c b) refl
-behind-cut c (d ∷ ds) more l b = rw (not-true (eqb d c) (and_parts (not (eqb d c)) (lacks c ds) l).0) (behind-cut c ds more (and_parts (not (eqb d c)) (lacks c ds) l).1 b)
+after-cut : (c : ℕ) (ds more : List ℕ) → lacks c ds ≡ true → BeginsWith c more → following c (ds ++ more) ≡ more
+after-cut c [] [] l b = refl
+after-cut c [] (m ∷ more) l b = rw (eqb-same m c b) refl
+after-cut c (d ∷ ds) more l b = rw (not-true (eqb d c) (and_parts (not (eqb d c)) (lacks c ds) l).0) (after-cut c ds more (and_parts (not (eqb d c)) (lacks c ds) l).1 b)
 
 -- digits have no blank and no newline
 lacks-both : (c : ℕ) (xs ys : List ℕ) → lacks c xs ≡ true → lacks c ys ≡ true → lacks c (xs ++ ys) ≡ true
@@ -140,12 +140,12 @@ abbrev item_in : List ℕ → Item
 item_in line =
     cond (is_at 0 108 line) (cond (is_at 1 111 line) (Loc (digits_value 16 (drop 5 line))) (Line (digits_value 10 (drop 5 line))))
     (cond (is_at 0 102 line)
-    (cond (is_at 2 108 line) (File (digits_value 10 (until 32 (drop 5 line))) (name_in (behind 32 (drop 5 line))))
+    (cond (is_at 2 108 line) (File (digits_value 10 (until 32 (drop 5 line))) (name_in (following 32 (drop 5 line))))
     (cond (is_at 3 111 line) (FixOcta (digits_value 16 (drop 6 line)))
-    (cond (is_at 4 120 line) (FixFar (digits_value 10 (until 32 (drop 6 line))) (digits_value 16 (drop 1 (behind 32 (drop 6 line)))))
+    (cond (is_at 4 120 line) (FixFar (digits_value 10 (until 32 (drop 6 line))) (digits_value 16 (drop 1 (following 32 (drop 6 line)))))
     (FixNear (digits_value 10 (drop 5 line))))))
     (cond (is_at 0 112 line)
-    (cond (is_at 1 114 line) (Pre (tetras_in (drop 3 line))) (Post (digits_value 10 (until 32 (drop 5 line))) (octas_in (behind 32 (drop 5 line)))))
+    (cond (is_at 1 114 line) (Pre (tetras_in (drop 3 line))) (Post (digits_value 10 (until 32 (drop 5 line))) (octas_in (following 32 (drop 5 line)))))
     (cond (is_at 1 107 line) (Skip (digits_value 10 (drop 5 line)))
     (cond (is_at 1 112 line) (Spec (digits_value 10 (drop 5 line))) Stab))))
 
@@ -193,22 +193,22 @@ far-below bits (inr is) = omega (arith, is)
 far-read : (bits t : ℕ) (rest : List ℕ) → bits < 2 ^ 8 → t < 2 ^ 25 → first_in (item_text 0 (FixFar bits t) ++ rest) ≡ FixFar bits t
 far-read bits t rest lt small =
     ap item_in (line-cut (codes "fixrx " ++ decimal bits ++ next_tetra t) rest (lacks-both 10 (decimal bits) (next_tetra t) (few-lack bits (omega (arith, lt))) (hex-lacks 10 8 t (omega arith))))
-    ∙ ap (λ d. FixFar (digits_value 10 d) (digits_value 16 (drop 1 (behind 32 (decimal bits ++ next_tetra t))))) (until-cut 32 (decimal bits) (next_tetra t) (decimal-lacks 32 bits (omega arith) (omega (arith, lt))) refl)
-    ∙ ap (λ d. FixFar (digits_value 10 (decimal bits)) (digits_value 16 (drop 1 d))) (behind-cut 32 (decimal bits) (next_tetra t) (decimal-lacks 32 bits (omega arith) (omega (arith, lt))) refl)
+    ∙ ap (λ d. FixFar (digits_value 10 d) (digits_value 16 (drop 1 (following 32 (decimal bits ++ next_tetra t))))) (until-cut 32 (decimal bits) (next_tetra t) (decimal-lacks 32 bits (omega arith) (omega (arith, lt))) refl)
+    ∙ ap (λ d. FixFar (digits_value 10 (decimal bits)) (digits_value 16 (drop 1 d))) (after-cut 32 (decimal bits) (next_tetra t) (decimal-lacks 32 bits (omega arith) (omega (arith, lt))) refl)
     ∙ cc (few-read bits (omega (arith, lt)), hex-counted 8 t (omega (arith, small)))
 
 file-read : (n : ℕ) (name : Option (List ℕ)) (rest : List ℕ) → n < 2 ^ 8 → IfSome name IsName → first_in (item_text 0 (File n name) ++ rest) ≡ File n name
 file-read n name rest lt is =
     ap item_in (line-cut (codes "file " ++ decimal n ++ name_text name) rest (lacks-both 10 (decimal n) (name_text name) (few-lack n (omega (arith, lt))) (name-lacks name)))
-    ∙ ap (λ d. File (digits_value 10 d) (name_in (behind 32 (decimal n ++ name_text name)))) (until-cut 32 (decimal n) (name_text name) (decimal-lacks 32 n (omega arith) (omega (arith, lt))) (name-begins name))
-    ∙ ap (λ d. File (digits_value 10 (decimal n)) (name_in d)) (behind-cut 32 (decimal n) (name_text name) (decimal-lacks 32 n (omega arith) (omega (arith, lt))) (name-begins name))
+    ∙ ap (λ d. File (digits_value 10 d) (name_in (following 32 (decimal n ++ name_text name)))) (until-cut 32 (decimal n) (name_text name) (decimal-lacks 32 n (omega arith) (omega (arith, lt))) (name-begins name))
+    ∙ ap (λ d. File (digits_value 10 (decimal n)) (name_in d)) (after-cut 32 (decimal n) (name_text name) (decimal-lacks 32 n (omega arith) (omega (arith, lt))) (name-begins name))
     ∙ cc (few-read n (omega (arith, lt)), name-read name is)
 
 post-read : (g : ℕ) (values rest : List ℕ) → g < 2 ^ 8 → AllByRecursion (λ x. x < 2 ^ 64) values → first_in (item_text 0 (Post g values) ++ rest) ≡ Post g values
 post-read g values rest lt are =
     ap item_in (line-cut (codes "post " ++ decimal g ++ flat_map next_octa values) rest (lacks-both 10 (decimal g) (flat_map next_octa values) (few-lack g (omega (arith, lt))) (octas-lack values)))
-    ∙ ap (λ d. Post (digits_value 10 d) (octas_in (behind 32 (decimal g ++ flat_map next_octa values)))) (until-cut 32 (decimal g) (flat_map next_octa values) (decimal-lacks 32 g (omega arith) (omega (arith, lt))) (octas-begin values))
-    ∙ ap (λ d. Post (digits_value 10 (decimal g)) (octas_in d)) (behind-cut 32 (decimal g) (flat_map next_octa values) (decimal-lacks 32 g (omega arith) (omega (arith, lt))) (octas-begin values))
+    ∙ ap (λ d. Post (digits_value 10 d) (octas_in (following 32 (decimal g ++ flat_map next_octa values)))) (until-cut 32 (decimal g) (flat_map next_octa values) (decimal-lacks 32 g (omega arith) (omega (arith, lt))) (octas-begin values))
+    ∙ ap (λ d. Post (digits_value 10 (decimal g)) (octas_in d)) (after-cut 32 (decimal g) (flat_map next_octa values) (decimal-lacks 32 g (omega arith) (omega (arith, lt))) (octas-begin values))
     ∙ cc (few-read g (omega (arith, lt)), octas-read values are)
 
 load-read : (a t : ℕ) (rest : List ℕ) → t < 2 ^ 32 → first_in (item_text a (Load t) ++ rest) ≡ Load t

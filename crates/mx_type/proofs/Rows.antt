@@ -1,7 +1,7 @@
 -- Worked rows of listings.
 use Rattle.std.proofs.Common.{◌≡◌, ℕ, List, [], ◌∷◌, ◌++◌, Some, None, refl, sym, ap, ◌∙◌, codes}
 use Rattle.std.specs.Fmt.{digits}
-use Rattle.mx_type.proofs.Words.{Symbol, Item, Load, Loc, Skip, FixOcta, FixNear, FixFar, File, Line, Spec, Pre, Post, Stab, IsTrie, hex_digits, lambda_behind, lambda_of, ended, stab_line, symbol_line, AreLines, IsListing, items_text, listing_text}
+use Rattle.mx_type.proofs.Words.{Symbol, Item, Load, Loc, Skip, FixOcta, FixNear, FixFar, File, Line, Spec, Pre, Post, Stab, IsTrie, hex_digits, lambda_following, lambda_of, ended, stab_line, symbol_line, AreLines, IsListing, items_text, listing_text}
 use Rattle.mx_word.specs.declared.symbols.Value.TheVariants.{Pure, Reg}
 use Rattle.mx_text.specs.Instructions.{instruction_text}
 use Rattle.mx_text.proofs.Rows.{backward, nothing_done, stopped}
@@ -50,7 +50,7 @@ lowered = ap (λ t. lowered_lines t (instruction_text 0xf1ffffff 0x108)) nothing
 
 -- lambda is modulo 2^64
 around : lambda_of (Loc 0xfffffffffffffffe ∷ Load 0 ∷ []) ≡ 0
-unfolding lambda_behind
+unfolding lambda_following
 around = refl
 
 -- fixes move nothing
@@ -75,6 +75,6 @@ dotted = refl
 
 -- lines by the table: the address is that of the meaning of the items before
 by_table : AreLines (Loc 0x100 ∷ Skip 4 ∷ []) (codes "loc #0000000000000100\nskip 4\n")
-unfolding lambda_behind hex_digits digits
+unfolding lambda_following hex_digits digits
 by_table = AreLines.next (Loc 0x100 ∷ []) (codes "loc #0000000000000100\n") (Skip 4) (codes "skip 4")
     (AreLines.next [] [] (Loc 0x100) (codes "loc #0000000000000100") AreLines.none (Table.IsLine.loc 0 0x100)) (Table.IsLine.skip 0x100 4)

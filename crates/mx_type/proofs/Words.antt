@@ -11,7 +11,7 @@ unfoldable pub use Rattle.mx_text.specs.Numbers.{hex_digits}
 pub use Rattle.mx_word.specs.Ranges.{AreBytes}
 pub use Rattle.mx_word.specs.declared.symbols.Symbol.{Symbol}
 pub use Rattle.mx_type.specs.Lambda.{lambda_after, lambda_of}
-unfoldable pub use Rattle.mx_type.specs.Lambda.{lambda_behind}
+unfoldable pub use Rattle.mx_type.specs.Lambda.{lambda_following}
 pub use Rattle.mx_type.specs.Lines.{IsLine, bytes_text, ended, next_octa, next_tetra, stab_line, symbol_line}
 pub use Rattle.mx_type.specs.Listing.{AreLines, HasListed, IsListing}
 pub use Rattle.mx_type.specs.Texts.{item_text, listing_text, name_text, tail_text}

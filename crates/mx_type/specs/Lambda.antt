@@ -12,10 +12,10 @@ lambda_after lambda (Skip n) = (lambda + n) % 2 ^ 64
 lambda_after lambda _ = lambda
 
 -- lambda after items, where it was an address before the first of them
-unfoldable pub lambda_behind : ℕ → List Item → ℕ
-lambda_behind lambda [] = lambda
-lambda_behind lambda (item ∷ more) = lambda_behind (lambda_after lambda item) more
+unfoldable pub lambda_following : ℕ → List Item → ℕ
+lambda_following lambda [] = lambda
+lambda_following lambda (item ∷ more) = lambda_following (lambda_after lambda item) more
 
 -- lambda after the items of an object; it starts at 0
 abbrev pub lambda_of : List Item → ℕ
-lambda_of items = lambda_behind 0 items
+lambda_of items = lambda_following 0 items

@@ -6,7 +6,7 @@ use Rattle.std.specs.List.{AllByRecursion}
 use Rattle.std.specs.Result.{result_unwrap_or}
 use Rattle.mx_word.specs.declared.waits.Wait.{Wait}
 use Rattle.mx_mmo.specs.declared.items.Item.{Item}
-unfoldable use Rattle.mx_type.specs.Lambda.{lambda_behind}
+unfoldable use Rattle.mx_type.specs.Lambda.{lambda_following}
 use Rattle.mx_stmt.specs.declared.placed.Placed.{Placed}
 use Rattle.mx_stmt.specs.Placements.{from_place, placed}
 use Rattle.mx_asm.specs.declared.head.Head.{Head}
@@ -24,7 +24,7 @@ use Rattle.mx_asm.proofs.Words.{NameTable, placed-append}
 use Rattle.mx_asm.proofs.EndLaw.{both-none}
 use Rattle.mx_asm.proofs.MeaningStatements.{IsSteady, faultless, laid}
 use Rattle.mx_asm.proofs.MeaningPlaces.{fixed-to}
-use Rattle.mx_view.proofs.LoadedTetras.{IsStill, behind-still, leads-still, bytes-at, bytes-behind, fix-items-still, loads-append, loads_at}
+use Rattle.mx_view.proofs.LoadedTetras.{IsStill, after-still, leads-still, bytes-at, bytes-after, fix-items-still, loads-append, loads_at}
 unfoldable use Rattle.mx_view.specs.Cells.{cells_of}
 
 -- ---- bytes lie nowhere else
@@ -88,11 +88,11 @@ covers final (t ∷ later) earlier h a none steady out =
     let rest : List Item = items_from next (earlier ++ t ∷ []) later in
     let there : loads_at h.lambda (here ++ rest) a ≡ false =
     ap (λ r. loads_at h.lambda (sight_items h earlier t r ++ items_from (sight_head h earlier t r) (earlier ++ t ∷ []) later) a) (sym is.outlined) ∙ out in
-    let apart = neither (loads_at h.lambda here a) (loads_at (lambda_behind h.lambda here) rest a) (sym (loads-append h.lambda here rest a) ∙ there) in
-    let lambda : lambda_behind h.lambda here ≡ next.lambda =
-    ap (lambda_behind h.lambda) st.whole ∙ leads-still h.lambda front.lambda st.fixes bytes st.still ∙ bytes-behind front line p.start p.bytes low in
+    let apart = neither (loads_at h.lambda here a) (loads_at (lambda_following h.lambda here) rest a) (sym (loads-append h.lambda here rest a) ∙ there) in
+    let lambda : lambda_following h.lambda here ≡ next.lambda =
+    ap (lambda_following h.lambda) st.whole ∙ leads-still h.lambda front.lambda st.fixes bytes st.still ∙ bytes-after front line p.start p.bytes low in
     let mine : loads_at front.lambda bytes a ≡ false =
-    sym (behind-still h.lambda front.lambda st.fixes bytes a st.still) ∙ ap (λ is. loads_at h.lambda is a) (sym st.whole) ∙ apart.0 in
+    sym (after-still h.lambda front.lambda st.fixes bytes a st.still) ∙ ap (λ is. loads_at h.lambda is a) (sym st.whole) ∙ apart.0 in
     let outside : p.start ≤ a → a < p.start + length p.bytes → ⊥ = λ from end. let found = bytes-at front line p.start p.bytes a low from end in absurd (cc) in
     let none_here : placed (from_place to.after.start to.after.bytes) a ≡ 0 =
     placed-elsewhere to.after.bytes to.after.start a (λ from end. outside (omega (arith, from, to.fixed.start)) (omega (arith, end, to.fixed.start, to.fixed.count))) in

@@ -132,9 +132,9 @@ lines-hold m before (line ∷ later) a =
     ∙ (λ i. (has-is shown a ∙ shown-all m (length before + 1) line cells (tetra_address a) ∙ sym (has-is cells a)) i || lines-hold m (before ++ line ∷ []) later a i)
     ∙ sym (has-append cells (cells_after All (before ++ line ∷ []) later) a)
 
-all-behind : (P : Cell → Type 0) (xs ys : List Cell) → AllByRecursion P xs → AllByRecursion P ys → AllByRecursion P (xs ++ ys)
-all-behind P [] ys h g = g
-all-behind P (x ∷ xs) ys h g = (h.0, all-behind P xs ys h.1 g)
+all-after : (P : Cell → Type 0) (xs ys : List Cell) → AllByRecursion P xs → AllByRecursion P ys → AllByRecursion P (xs ++ ys)
+all-after P [] ys h g = g
+all-after P (x ∷ xs) ys h g = (h.0, all-after P xs ys h.1 g)
 
 module _ (m : Meaning) (P : Cell → Type 0) (each : (c : Cell) → P (shown_cell m c)) where
   cells-show : (cells : List Cell) → AllByRecursion P (map (shown_cell m) cells)
@@ -145,7 +145,7 @@ module _ (m : Meaning) (P : Cell → Type 0) (each : (c : Cell) → P (shown_cel
   unfolding each_line_once
   lines-show before [] = tt
   lines-show before (line ∷ later) =
-      all-behind P (listed_line m (length before + 1) line (line_cells All before line)).cells (all_tetras (each_line_once m (before ++ line ∷ []) later))
+      all-after P (listed_line m (length before + 1) line (line_cells All before line)).cells (all_tetras (each_line_once m (before ++ line ∷ []) later))
       (cells-show (once (line_cells All before line))) (lines-show (before ++ line ∷ []) later)
 
 -- ---- the law

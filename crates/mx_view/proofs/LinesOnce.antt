@@ -1,12 +1,12 @@
 -- Each line of a source is in its listing once, in order.
 use Rattle.std.proofs.Common.{◌≡◌, ℕ, ◌+◌, List, [], ◌∷◌, ◌++◌, length, append-nil, append_assoc, refl, sym, ap, ◌∙◌, Option, None, Some, Ok, Err}
 use Rattle.mx_line.specs.Lines.{lines_of}
-use Rattle.mx_asm.specs.OnePass.{Standing}
+use Rattle.mx_asm.specs.OnePass.{Status}
 use Rattle.mx_asm.specs.Refusal.{refusal}
 use Rattle.mx_asm.specs.Whole.{Line, lines_refusal, lines_taken}
 use Rattle.mx_asm.specs.declared.refused.Refused.{Refused}
 use Rattle.mx_asm.proofs.EndLaw.{both-none}
-use Rattle.mx_asm.proofs.InTurn.{stands-at, refusal-lasts}
+use Rattle.mx_asm.proofs.InTurn.{taken-at, refusal-lasts}
 use Rattle.mx_view.specs.declared.cells.Cell.{Cell}
 use Rattle.mx_view.specs.declared.cells.Wanted.TheVariants.{All}
 use Rattle.mx_view.specs.ListingParts.{each_line_once}
@@ -20,11 +20,11 @@ lasting front later r e = by (lines_taken front).1 refl
     same : (s : Refused) → Some s ≡ lines_refusal front → s ≡ r
     same s h = cc
 
-    by : (a : Standing) → (lines_taken front).1 ≡ a → lines_refusal (front ++ later) ≡ Some r
-    by (Ok b) is = let h = (stands-at front (Ok b) (sym is)).refusal in absurd (cc)
+    by : (a : Status) → (lines_taken front).1 ≡ a → lines_refusal (front ++ later) ≡ Some r
+    by (Ok b) is = let h = (taken-at front (Ok b) (sym is)).refusal in absurd (cc)
     by (Err s) is =
-        let h = stands-at front (Err s) (sym is) in
-        sym (stands-at (front ++ later) (Err s) (sym (ap (λ p. p.1) (refusal-lasts front later s h)))).refusal ∙ ap (λ q. Some q) (same s h.refusal)
+        let h = taken-at front (Err s) (sym is) in
+        sym (taken-at (front ++ later) (Err s) (sym (ap (λ p. p.1) (refusal-lasts front later s h)))).refusal ∙ ap (λ q. Some q) (same s h.refusal)
 
 open-front : (front later : List Line) → lines_refusal (front ++ later) ≡ None → lines_refusal front ≡ None
 open-front front later none = by (lines_refusal front) refl
@@ -45,13 +45,13 @@ open-line m before line none =
     ∙ listed-of m (length before + 1) line (line_cells All before line)
 
 -- lines after others, where none but the last may be refused
-pub once-behind : (m : Meaning) (before later : List Line) (line : Line) → lines_refusal (before ++ later) ≡ None → listed_after m All before (later ++ line ∷ []) ≡ each_line_once m before (later ++ line ∷ [])
+pub once-after : (m : Meaning) (before later : List Line) (line : Line) → lines_refusal (before ++ later) ≡ None → listed_after m All before (later ++ line ∷ []) ≡ each_line_once m before (later ++ line ∷ [])
 unfolding listed_after each_line_once
-once-behind m before [] line none =
+once-after m before [] line none =
     ap (λ lines. lines ++ []) (open-line m before line (ap lines_refusal (sym (append-nil before)) ∙ none))
-once-behind m before (next ∷ later) line none =
+once-after m before (next ∷ later) line none =
     let open_still : lines_refusal ((before ++ next ∷ []) ++ later) ≡ None = ap lines_refusal (append_assoc before (next ∷ []) later) ∙ none in
-    (λ i. open-line m before next (open-front before (next ∷ later) none) i ++ once-behind m (before ++ next ∷ []) later line open_still i)
+    (λ i. open-line m before next (open-front before (next ∷ later) none) i ++ once-after m (before ++ next ∷ []) later line open_still i)
 
 -- nothing follows a refused line
 closed-lines : (m : Meaning) (before later : List Line) (r : Refused) → lines_refusal before ≡ Some r → listed_after m All before later ≡ []
@@ -75,7 +75,7 @@ once-refused m before later line r none refused =
     ∙ lines-append m [] (before ++ line ∷ []) later
     ∙ ap (λ more. listed_after m All [] (before ++ line ∷ []) ++ more) (closed-lines m (before ++ line ∷ []) later r refused)
     ∙ append-nil (listed_after m All [] (before ++ line ∷ []))
-    ∙ once-behind m [] before line none
+    ∙ once-after m [] before line none
 
 -- all lines, where none is refused
 all-once : (m : Meaning) (before later : List Line) → lines_refusal (before ++ later) ≡ None → listed_after m All before later ≡ each_line_once m before later

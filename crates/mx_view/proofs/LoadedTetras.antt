@@ -7,7 +7,7 @@ use Rattle.mx_word.specs.declared.symbols.Value.TheVariants.{Pure, Reg}
 use Rattle.mx_word.specs.declared.waits.Wait.{Wait}
 use Rattle.mx_mmo.specs.declared.items.Item.{Item}
 use Rattle.mx_mmo.specs.declared.items.Item.TheVariants.{Line, Load, Loc}
-unfoldable use Rattle.mx_type.specs.Lambda.{lambda_behind}
+unfoldable use Rattle.mx_type.specs.Lambda.{lambda_following}
 use Rattle.mx_type.specs.Lines.{tetra_address}
 use Rattle.mx_asm.specs.Emission.{covering, fix_items, lined, located, lowered, moved, onto, byte_items, head_at_bytes, head_at_fixes, told_line}
 unfoldable use Rattle.mx_asm.specs.Fixes.{fixes}
@@ -40,8 +40,8 @@ has-append (x ∷ xs) ys a = ap (λ b. x.address == tetra_address a || b) (has-a
 abbrev pub loads_at : ℕ → List Item → ℕ → Bool
 loads_at lambda items a = has (cells_of All lambda items) a
 
-pub loads-append : (lambda : ℕ) (xs ys : List Item) (a : ℕ) → loads_at lambda (xs ++ ys) a ≡ (loads_at lambda xs a || loads_at (lambda_behind lambda xs) ys a)
-loads-append lambda xs ys a = ap (λ cells. has cells a) (cells-append All lambda xs ys) ∙ has-append (cells_of All lambda xs) (cells_of All (lambda_behind lambda xs) ys) a
+pub loads-append : (lambda : ℕ) (xs ys : List Item) (a : ℕ) → loads_at lambda (xs ++ ys) a ≡ (loads_at lambda xs a || loads_at (lambda_following lambda xs) ys a)
+loads-append lambda xs ys a = ap (λ cells. has cells a) (cells-append All lambda xs ys) ∙ has-append (cells_of All lambda xs) (cells_of All (lambda_following lambda xs) ys) a
 
 -- ---- tetras one after another
 
@@ -59,13 +59,13 @@ tetras-at (t ∷ ts) lambda a m low from to =
     by true e rest = refl
     by false e rest = rest (next-tetra lambda a m e from)
 
-tetras-behind : (ts : List ℕ) (lambda : ℕ) → lambda % 4 ≡ 0 → lambda + 4 * length ts ≤ 2 ^ 63 → lambda_behind lambda (map Load ts) ≡ lambda + 4 * length ts
-unfolding lambda_behind
-tetras-behind [] lambda m low = omega arith
-tetras-behind (t ∷ ts) lambda m low =
+tetras-following : (ts : List ℕ) (lambda : ℕ) → lambda % 4 ≡ 0 → lambda + 4 * length ts ≤ 2 ^ 63 → lambda_following lambda (map Load ts) ≡ lambda + 4 * length ts
+unfolding lambda_following
+tetras-following [] lambda m low = omega arith
+tetras-following (t ∷ ts) lambda m low =
     let next : (4 * (lambda / 4) + 4) % 2 ^ 64 ≡ lambda + 4 = omega (arith, m, low) in
     let sum : lambda + 4 + 4 * length ts ≡ lambda + 4 * length (t ∷ ts) = omega arith in
-    ap (λ n. lambda_behind n (map Load ts)) next ∙ tetras-behind ts (lambda + 4) (omega (arith, m)) (omega (arith, low)) ∙ sum
+    ap (λ n. lambda_following n (map Load ts)) next ∙ tetras-following ts (lambda + 4) (omega (arith, m)) (omega (arith, low)) ∙ sum
 
 -- the first tetra goes to the multiple of 4 below lambda
 same-loads : (ts : List ℕ) (lambda b a : ℕ) → 0 < length ts → lambda / 4 ≡ b / 4 → loads_at lambda (map Load ts) a ≡ loads_at b (map Load ts) a
@@ -73,26 +73,26 @@ unfolding cells_of
 same-loads [] lambda b a some e = absurd (omega (arith, some))
 same-loads (t ∷ ts) lambda b a some e = ap (λ n. has (record { address = 4 * n; tetra = t } ∷ [] ++ cells_of All ((4 * n + 4) % 2 ^ 64) (map Load ts)) a) e
 
-same-behind : (ts : List ℕ) (lambda b : ℕ) → 0 < length ts → lambda / 4 ≡ b / 4 → lambda_behind lambda (map Load ts) ≡ lambda_behind b (map Load ts)
-unfolding lambda_behind
-same-behind [] lambda b some e = absurd (omega (arith, some))
-same-behind (t ∷ ts) lambda b some e = ap (λ n. lambda_behind ((4 * n + 4) % 2 ^ 64) (map Load ts)) e
+same-following : (ts : List ℕ) (lambda b : ℕ) → 0 < length ts → lambda / 4 ≡ b / 4 → lambda_following lambda (map Load ts) ≡ lambda_following b (map Load ts)
+unfolding lambda_following
+same-following [] lambda b some e = absurd (omega (arith, some))
+same-following (t ∷ ts) lambda b some e = ap (λ n. lambda_following ((4 * n + 4) % 2 ^ 64) (map Load ts)) e
 
 -- ---- items that load nothing
 
-pub record IsStill (lambda : ℕ) (items : List Item) (behind : ℕ) : Type 0 where
+pub record IsStill (lambda : ℕ) (items : List Item) (following : ℕ) : Type 0 where
   pub none : cells_of All lambda items ≡ []
-  pub moved : lambda_behind lambda items ≡ behind
+  pub moved : lambda_following lambda items ≡ following
 
 -- after such items another list loads as it does from where they lead to
-pub behind-still : (lambda behind : ℕ) (xs ys : List Item) (a : ℕ) → IsStill lambda xs behind → loads_at lambda (xs ++ ys) a ≡ loads_at behind ys a
+pub after-still : (lambda following : ℕ) (xs ys : List Item) (a : ℕ) → IsStill lambda xs following → loads_at lambda (xs ++ ys) a ≡ loads_at following ys a
 unfolding has
-behind-still lambda behind xs ys a h =
+after-still lambda following xs ys a h =
     loads-append lambda xs ys a
     ∙ (λ i. has (h.none i) a || loads_at (h.moved i) ys a)
 
-pub leads-still : (lambda behind : ℕ) (xs ys : List Item) → IsStill lambda xs behind → lambda_behind lambda (xs ++ ys) ≡ lambda_behind behind ys
-leads-still lambda behind xs ys h = lambda-append lambda xs ys ∙ ap (λ n. lambda_behind n ys) h.moved
+pub leads-still : (lambda following : ℕ) (xs ys : List Item) → IsStill lambda xs following → lambda_following lambda (xs ++ ys) ≡ lambda_following following ys
+leads-still lambda following xs ys h = lambda-append lambda xs ys ∙ ap (λ n. lambda_following n ys) h.moved
 
 both-still : (a b c : ℕ) (xs ys : List Item) → IsStill a xs b → IsStill b ys c → IsStill a (xs ++ ys) c
 both-still a b c xs ys h g = record {
@@ -101,7 +101,7 @@ both-still a b c xs ys h g = record {
 }
 
 nothing-still : (lambda : ℕ) → IsStill lambda [] lambda
-unfolding cells_of lambda_behind
+unfolding cells_of lambda_following
 nothing-still lambda = record { none = refl; moved = refl }
 
 -- where a statement's first tetra goes, and the line that is told
@@ -109,7 +109,7 @@ abbrev placed_lambda : ℕ → ℕ → ℕ
 placed_lambda lambda start = cond (lowered lambda == lowered start) lambda (lowered start)
 
 located-still : (lambda start : ℕ) → IsStill lambda (located lambda start) (placed_lambda lambda start)
-unfolding cells_of lambda_behind
+unfolding cells_of lambda_following
 located-still lambda start = by (lowered lambda == lowered start)
   where
     by : (b : Bool) → IsStill lambda (cond b [] (Loc (lowered start) ∷ [])) (cond b lambda (lowered start))
@@ -117,7 +117,7 @@ located-still lambda start = by (lowered lambda == lowered start)
     by false = record { none = refl; moved = refl }
 
 lined-still : (lambda in_force line : ℕ) → IsStill lambda (lined in_force line) lambda
-unfolding cells_of lambda_behind
+unfolding cells_of lambda_following
 lined-still lambda in_force line = by (in_force == told_line line)
   where
     by : (b : Bool) → IsStill lambda (cond b [] (Line (told_line line) ∷ [])) lambda
@@ -139,25 +139,25 @@ bytes-at h line start (b ∷ bytes) a low from to =
     let e = covering-length start (b ∷ bytes) in
     let below = low (omega arith) in
     let front = both-still h.lambda (placed_lambda h.lambda start) (placed_lambda h.lambda start) (located h.lambda start) (lined h.line line) (located-still h.lambda start) (lined-still (placed_lambda h.lambda start) h.line line) in
-    behind-still h.lambda (placed_lambda h.lambda start) (located h.lambda start ++ lined h.line line) (map Load (covering start (b ∷ bytes))) a front
+    after-still h.lambda (placed_lambda h.lambda start) (located h.lambda start ++ lined h.line line) (map Load (covering start (b ∷ bytes))) a front
     ∙ same-loads (covering start (b ∷ bytes)) (placed_lambda h.lambda start) (lowered start) a (some-tetras start b bytes) (located-at h.lambda start)
     ∙ tetras-at (covering start (b ∷ bytes)) (lowered start) a (omega arith) (omega (arith, e, below)) (omega (arith, from)) (omega (arith, e, to))
 
-pub bytes-behind : (h : Head) (line start : ℕ) (bytes : List ℕ) → (0 < length bytes → start + length bytes ≤ 0x6000_0000_0000_0000) → lambda_behind h.lambda (byte_items h line start bytes) ≡ (head_at_bytes h line start bytes).lambda
-bytes-behind h line start [] low = (nothing-still h.lambda).moved
-bytes-behind h line start (b ∷ bytes) low =
+pub bytes-after : (h : Head) (line start : ℕ) (bytes : List ℕ) → (0 < length bytes → start + length bytes ≤ 0x6000_0000_0000_0000) → lambda_following h.lambda (byte_items h line start bytes) ≡ (head_at_bytes h line start bytes).lambda
+bytes-after h line start [] low = (nothing-still h.lambda).moved
+bytes-after h line start (b ∷ bytes) low =
     let e = covering-length start (b ∷ bytes) in
     let below = low (omega arith) in
     let front = both-still h.lambda (placed_lambda h.lambda start) (placed_lambda h.lambda start) (located h.lambda start) (lined h.line line) (located-still h.lambda start) (lined-still (placed_lambda h.lambda start) h.line line) in
     leads-still h.lambda (placed_lambda h.lambda start) (located h.lambda start ++ lined h.line line) (map Load (covering start (b ∷ bytes))) front
-    ∙ same-behind (covering start (b ∷ bytes)) (placed_lambda h.lambda start) (lowered start) (some-tetras start b bytes) (located-at h.lambda start)
-    ∙ tetras-behind (covering start (b ∷ bytes)) (lowered start) (omega arith) (omega (arith, e, below))
+    ∙ same-following (covering start (b ∷ bytes)) (placed_lambda h.lambda start) (lowered start) (some-tetras start b bytes) (located-at h.lambda start)
+    ∙ tetras-following (covering start (b ∷ bytes)) (lowered start) (omega arith) (omega (arith, e, below))
     ∙ omega (arith, e)
 
 -- ---- the records of a label
 
 fix-still : (value : Value) (w : Wait) (fix : Item) (lambda : ℕ) → fix_of value w ≡ Ok fix → IsStill lambda (fix ∷ []) lambda
-unfolding cells_of lambda_behind
+unfolding cells_of lambda_following
 fix-still value w fix lambda e = grind (arith, nat_tests)
 
 fixes-still : (line : ℕ) (value : Value) (waits : List Wait) (items : List Item) (lambda : ℕ) → fixes line value waits ≡ Ok items → IsStill lambda items lambda
@@ -173,7 +173,7 @@ fixes-still line value (w ∷ waits) items lambda e = by (fix_of value w) (fixes
         subst (λ is. IsStill lambda is lambda) same (both-still lambda lambda lambda (fix ∷ []) more (fix-still value w fix lambda f) (rest more later))
 
 pub fix-items-still : (h : Head) (line : ℕ) (value : Value) (waits : List Wait) (items : List Item) → fix_items h.lambda line value waits ≡ Ok items → IsStill h.lambda items (head_at_fixes h value waits).lambda
-unfolding fixes cells_of lambda_behind
+unfolding fixes cells_of lambda_following
 fix-items-still h line value [] items e = let same : [] ≡ items = cc in subst (λ is. IsStill h.lambda is h.lambda) same (nothing-still h.lambda)
 fix-items-still h line (Reg r) (w ∷ waits) items e = absurd (registers-refused (fixes line (Reg r) (w ∷ waits)) refl e)
   where

@@ -68,11 +68,11 @@ apart-joined c (d ∷ cells) h =
 
 apart-pushed : (cells : List Cell) (c : Cell) → AreApart cells → is_loaded_at cells c.address ≡ false → AreApart (cells ++ c ∷ [])
 apart-pushed [] c h e = (refl, tt)
-apart-pushed (d ∷ cells) c h e = (first, apart-pushed cells c h.1 (behind (d.address == c.address) e))
+apart-pushed (d ∷ cells) c h e = (first, apart-pushed cells c h.1 (following (d.address == c.address) e))
   where
-    behind : (b : Bool) → (b || is_loaded_at cells c.address) ≡ false → is_loaded_at cells c.address ≡ false
-    behind true f = absurd (cc)
-    behind false f = f
+    following : (b : Bool) → (b || is_loaded_at cells c.address) ≡ false → is_loaded_at cells c.address ≡ false
+    following true f = absurd (cc)
+    following false f = f
 
     apart : (c.address == d.address) ≡ false
     apart = grind (arith, nat_tests)

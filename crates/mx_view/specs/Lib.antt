@@ -7,3 +7,4 @@ pub mod Mending
 pub mod Refusals
 pub mod Loads
 pub mod ListingParts
+pub mod Laws

@@ -60,17 +60,17 @@ fn lambda_after(lambda: u64, item: &Item) -> u64
 }
 
 /// Lambda after items, where it was an address before the first of them.
-#[tactic(auto, unfolding(mx_type::specs::Lambda::lambda_behind))]
-pub(crate) fn lambda_behind(lambda: u64, items: &[Item]) -> u64
-    ensures { result ≡ lambdas.lambda_behind lambda items.now }
+#[tactic(auto, unfolding(mx_type::specs::Lambda::lambda_following))]
+pub(crate) fn lambda_following(lambda: u64, items: &[Item]) -> u64
+    ensures { result ≡ lambdas.lambda_following lambda items.now }
 {
-    let mut behind = lambda;
+    let mut following = lambda;
     let mut rest = items;
     while let [item, others @ ..] = rest {
-        behind = lambda_after(behind, item);
+        following = lambda_after(following, item);
         rest = others;
     }
-    behind
+    following
 }
 
 /// Adds the tetra of an item, if it loads one that is wanted.
@@ -101,11 +101,11 @@ pub(crate) fn cells_of(
     ensures { IfOk result (λ cells. cells ≡ spec.cells_of wanted lambda items.now) }
 {
     let mut cells = Cells::new(alloc);
-    let mut behind = lambda;
+    let mut following = lambda;
     let mut rest = items;
     while let [item, others @ ..] = rest {
-        add_cell(&mut cells, wanted, behind, item)?;
-        behind = lambda_after(behind, item);
+        add_cell(&mut cells, wanted, following, item)?;
+        following = lambda_after(following, item);
         rest = others;
     }
     Ok(cells)

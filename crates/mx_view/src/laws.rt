@@ -1,23 +1,21 @@
 //! What holds of every listing.
 
-ghost use Rattle.std.specs.Prelude.{◌≡◌, ◌≢◌, ◌<◌, ◌≤◌, ◌-◌, ◌^◌, ◌++◌, ◌∷◌, [], true, ℕ, List, None, Ok, Some, drop, length};
+ghost use Rattle.std.specs.Prelude.{◌≡◌, ◌<◌, ◌≤◌, ◌-◌, ◌^◌, ◌++◌, ◌∷◌, [], true, ℕ, List, None, Ok, Some, drop, length};
 ghost use Rattle.std.specs.List.{AllPairs, Contains};
 ghost use Rattle.mx_word.specs.Ranges.{AreBytes};
-ghost use Rattle.mx_line.specs.Lines.{lines_of};
-ghost use Rattle.mx_mem.specs.Memory.{tetra_of};
-ghost use Rattle.mx_asm.specs.Entries.{source_entries, statements_in};
-ghost use Rattle.mx_asm.specs.Image.{image, symbols_of};
+ghost use Rattle.mx_asm.specs.Image.{symbols_of};
+ghost use Rattle.mx_asm.specs.Laws.{statements_of};
 ghost use Rattle.mx_asm.specs.Pages.{run_refusal};
 ghost use Rattle.mx_asm.specs.Refusal.{refusal};
 ghost use Rattle.mx_asm.specs.Whole.{Line, lines_items, lines_refusal};
 ghost use Rattle.mx_asm.specs.declared.refused.Refused.{Refused};
-ghost use Rattle.mx_files.specs.Sources.{source_meaning};
 ghost use Rattle.mx_files.specs.declared.refusal.Refusal.{Refusal};
 ghost use Rattle.mx_view.specs.Cells.{cells_of};
-ghost use Rattle.mx_view.specs.ListingParts.{each_line_once, lines_at_address, tetra_shown_at, all_tetras};
+ghost use Rattle.mx_view.specs.Laws.{AreApart, ListsEachLine, ListsImage, ShowsImage};
+ghost use Rattle.mx_view.specs.ListingParts.{each_line_once, lines_at_address};
 ghost use Rattle.mx_view.specs.Listing.{added_items, cells_after, listed_after, lines_listed, refusal_in, symbols_listed};
 ghost use Rattle.mx_view.specs.Refusals.{IsEarlier, faults_in, refusals_of};
-ghost use Rattle.mx_view.specs.Rows.{Meaning, is_loaded_at, listed_line, shown};
+ghost use Rattle.mx_view.specs.Rows.{Meaning, is_loaded_at, listed_line};
 ghost use Rattle.mx_view.specs.declared.cells.Cell.{Cell};
 ghost use Rattle.mx_view.specs.declared.cells.Wanted.TheVariants.{All, Holding};
 
@@ -34,9 +32,9 @@ pub fn every_loaded_tetra_is_listed()
 /// A line that is listed shows the tetra of each address that it loads, and no address twice.
 pub fn a_line_shows_each_tetra_once()
     ensures once { (m : Meaning) (number : ℕ) (line : Line) (cells : List Cell) →
-        AllPairs (λ (c d : Cell). c.address ≢ d.address) (listed_line m number line cells).cells }
-    ensures all { (m : Meaning) (number : ℕ) (line : Line) (cells : List Cell) (a : ℕ) →
-        is_loaded_at (listed_line m number line cells).cells a ≡ is_loaded_at cells a }
+        AreApart (listed_line m number line cells).cells }
+    ensures all { (m : Meaning) (n : ℕ) (l : Line) (cells : List Cell) (a : ℕ) →
+        is_loaded_at (listed_line m n l cells).cells a ≡ is_loaded_at cells a }
 {}
 
 /// Of an address those lines are shown that the listing has with a tetra that holds it, each with this tetra alone.
@@ -51,10 +49,9 @@ pub fn the_listed_tetra_that_holds_an_address_is_shown()
 #[tactic(auto, using(crate::proofs::TwoPassViews::views))]
 pub fn the_image_and_the_symbols_are_shown()
     ensures tetra { (source : List ℕ) (c : Cell) → run_refusal source ≡ None → c.address < 2 ^ 63 →
-        shown (source_meaning source) c
-        ≡ tetra_of ((image (statements_in (source_entries source))).memory c.address) c.address }
-    ensures symbols { (source : List ℕ) → AreBytes source → run_refusal source ≡ None →
-        symbols_listed source ≡ symbols_of (statements_in (source_entries source)) }
+        ShowsImage source c }
+    ensures symbols { (text : List ℕ) → AreBytes text → run_refusal text ≡ None →
+        symbols_listed text ≡ symbols_of (statements_of text) }
 {}
 
 /// The tetras of a listing, joined, are the image: of a source that is not refused when it is run, the image of the
@@ -62,8 +59,7 @@ pub fn the_image_and_the_symbols_are_shown()
 #[tactic(auto, using(crate::proofs::JoinedTetras::joining))]
 pub fn the_listing_is_the_image()
     ensures { (source : List ℕ) (a : ℕ) → AreBytes source → run_refusal source ≡ None → a < 2 ^ 63 →
-        tetra_of ((image (statements_in (source_entries source))).memory a) a
-        ≡ tetra_shown_at (all_tetras (lines_listed All source)) a }
+        ListsImage source a }
 {}
 
 /// Each line of a source that is not refused is listed once, in order, with its number, its text and its tetras. Of a
@@ -71,7 +67,7 @@ pub fn the_listing_is_the_image()
 #[tactic(auto, using(crate::proofs::LinesOnce::each_once))]
 pub fn each_line_is_listed_once_in_order()
     ensures accepted { (source : List ℕ) (m : Meaning) → refusal source ≡ None →
-        listed_after m All [] (lines_of source) ≡ each_line_once m [] (lines_of source) }
+        ListsEachLine m source }
     ensures refused { (m : Meaning) (before later : List Line) (line : Line) (r : Refused) →
         lines_refusal before ≡ None → lines_refusal (before ++ line ∷ []) ≡ Some r →
         listed_after m All [] (before ++ line ∷ later) ≡ each_line_once m [] (before ++ line ∷ []) }

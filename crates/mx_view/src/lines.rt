@@ -38,7 +38,7 @@ fn choose_tetra(meaning: &Meaning, cell: Cell) -> u32
 }
 
 /// A cell with the tetra that is shown.
-fn shown_cell(meaning: &Meaning, cell: Cell) -> Cell
+fn show_cell(meaning: &Meaning, cell: Cell) -> Cell
     ensures { result ≡ spec.shown_cell (spec.meaning_in meaning.now) cell }
 {
     Cell {
@@ -53,7 +53,7 @@ fn add_shown(shown: &mut Cells, meaning: &Meaning, cells: &[Cell]) -> Result<(),
         shown.new ≡ shown.old ++ map (spec.shown_cell (spec.meaning_in meaning.now)) cells.now) }
 {
     for cell in cells {
-        shown.push(shown_cell(meaning, *cell))?;
+        shown.push(show_cell(meaning, *cell))?;
     }
     Ok(())
 }

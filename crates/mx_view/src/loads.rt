@@ -7,7 +7,7 @@ ghost use Rattle.mx_type.specs.Lambda as lambdas;
 ghost use Rattle.mx_view.specs.InTurn as turns;
 ghost use Rattle.mx_view.specs.Loads as spec;
 
-use crate::cells::{Cells, Wanted, cells_of, lambda_behind};
+use crate::cells::{Cells, Wanted, cells_of, lambda_following};
 use mx_asm::Assembler;
 use mx_line::cut_line;
 use mx_mmo::Items;
@@ -29,14 +29,14 @@ fn add_load(
     ensures load { OnOk result (
         loads.new ≡ loads.old ++ spec.load_at lambda.old assembler.old line.now ∷ []) }
     ensures lambda { OnOk result (
-        lambda.new ≡ lambdas.lambda_behind lambda.old (turns.items_at assembler.old line.now)) }
-    ensures standing { OnOk result (assembler.new ≡ turns.standing_at assembler.old line.now) }
+        lambda.new ≡ lambdas.lambda_following lambda.old (turns.items_at assembler.old line.now)) }
+    ensures status { OnOk result (assembler.new ≡ turns.status_at assembler.old line.now) }
 {
     let mut items = Items::new(alloc);
     take_line(assembler, &mut items, line)?;
     let cells = cells_of(alloc, Wanted::All, *lambda, items.as_slice())?;
     loads.push(cells)?;
-    *lambda = lambda_behind(*lambda, items.as_slice());
+    *lambda = lambda_following(*lambda, items.as_slice());
     Ok(())
 }
 

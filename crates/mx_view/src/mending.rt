@@ -112,7 +112,7 @@ fn finish(alloc: Global, s: &mut Search) -> Result<Looked, NoMemory>
     ensures looked { IfOk result (λ looked. spec.is_found s.old s.old.walk.front ≡ spec.is_found_by s.new looked) }
     ensures fewer { IfOk result (λ looked. (next : List ℕ) → looked ≡ Next next → s.new.left < s.old.left) }
 {
-    let source = Bytes::copy(alloc, s.walk.taken_lines())?;
+    let source = Bytes::copy(alloc, s.walk.read_taken_lines())?;
     match s.walk.finish(alloc)? {
         Some(refused) => look(alloc, s, source.as_slice(), refused),
         None if s.left == 0 => Ok(Looked::Ended(None, true)),

@@ -77,7 +77,7 @@ fn add_rest(text: &mut Bytes, cells: &[Cell]) -> Result<(), NoMemory>
 }
 
 /// The tetras after the first one.
-fn behind_first(cells: &[Cell]) -> &[Cell]
+fn after_first_cell(cells: &[Cell]) -> &[Cell]
     ensures { result.now ≡ drop 1 cells.now }
 {
     match cells {
@@ -93,7 +93,7 @@ fn add_rows(alloc: Global, text: &mut Bytes, line: &ListedLine) -> Result<(), No
     add_first(text, line.cells.as_slice())?;
     text.extend(b"  ")?;
     add_numbered(alloc, text, line.number, line.text.as_slice())?;
-    add_rest(text, behind_first(line.cells.as_slice()))
+    add_rest(text, after_first_cell(line.cells.as_slice()))
 }
 
 /// Adds the rows of lines.

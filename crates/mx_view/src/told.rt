@@ -2,7 +2,6 @@
 
 ghost use Rattle.std.specs.Prelude.{◌≡◌, ◌++◌, IfOk, OnOk};
 ghost use Rattle.std.specs.List.{flat_map};
-ghost use Rattle.mx_outcome.specs.Messages.{numbered_fault};
 ghost use Rattle.mx_view.specs.Listing.{refusal_in};
 ghost use Rattle.mx_view.specs.Refusals as spec;
 
@@ -10,7 +9,7 @@ use crate::checking::{ToldFault, tell_faults};
 use crate::view::Sheet;
 use mx_files::Refusal;
 use mx_marks::add_marks;
-use mx_outcome::fault_name;
+use mx_outcome::add_fault;
 use mx_text::add_decimal;
 use mx_word::{Bytes, NoMemory};
 use std::alloc::Global;
@@ -77,15 +76,6 @@ fn add_label(text: &mut Bytes, refused: Refusal) -> Result<(), NoMemory>
     }
     text.extend(b" to line ")?;
     add_decimal(text, u64::from(refused.line))
-}
-
-/// Adds the number and the name of a fault.
-fn add_fault(text: &mut Bytes, number: u16) -> Result<(), NoMemory>
-    ensures { OnOk result (text.new ≡ text.old ++ numbered_fault number) }
-{
-    add_decimal(text, u64::from(number))?;
-    text.extend(b" ")?;
-    text.extend(fault_name(number).as_bytes())
 }
 
 /// Adds the number of the line at fault, and the number and the name of the fault.

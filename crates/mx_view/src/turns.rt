@@ -7,7 +7,7 @@ ghost use Rattle.mx_type.specs.Lambda as lambdas;
 ghost use Rattle.mx_view.specs.InTurn as spec;
 ghost use Rattle.mx_view.specs.Rows.{meaning_in};
 
-use crate::cells::{Wanted, cells_of, lambda_behind};
+use crate::cells::{Wanted, cells_of, lambda_following};
 use crate::lines::{ListedLines, Meaning, add_listed};
 use mx_asm::Assembler;
 use mx_line::cut_line;
@@ -30,8 +30,8 @@ fn add_line(
     ensures listed { OnOk result (lines.new ≡ lines.old
         ++ spec.listed_at (meaning_in meaning.now) wanted number lambda.old assembler.old line.now) }
     ensures lambda { OnOk result (
-        lambda.new ≡ lambdas.lambda_behind lambda.old (spec.items_at assembler.old line.now)) }
-    ensures standing { OnOk result (assembler.new ≡ spec.standing_at assembler.old line.now) }
+        lambda.new ≡ lambdas.lambda_following lambda.old (spec.items_at assembler.old line.now)) }
+    ensures status { OnOk result (assembler.new ≡ spec.status_at assembler.old line.now) }
     ensures open { IfOk result (λ is. is ≡ is_ok assembler.new) }
 {
     let mut items = Items::new(alloc);
@@ -46,7 +46,7 @@ fn add_line(
         line,
         cells.as_slice(),
     )?;
-    *lambda = lambda_behind(*lambda, items.as_slice());
+    *lambda = lambda_following(*lambda, items.as_slice());
     Ok(open)
 }
 
@@ -63,8 +63,8 @@ pub(crate) fn add_lines(
     requires open { is_ok assembler.old ≡ true }
     ensures listed { OnOk result (lines.new ≡ lines.old
         ++ spec.listed_in_turn (meaning_in meaning.now) wanted 1 0 assembler.old (lines_of source.now)) }
-    ensures standing { OnOk result (
-        assembler.new ≡ spec.standing_behind assembler.old (lines_of source.now)) }
+    ensures status { OnOk result (
+        assembler.new ≡ spec.status_after_lines assembler.old (lines_of source.now)) }
 {
     let mut rest = source;
     let mut number = 1u32;

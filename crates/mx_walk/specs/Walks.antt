@@ -3,7 +3,7 @@ use Rattle.std.specs.Prelude.{◌≡◌, ◌+◌, ℕ, true, not, ◌==◌, List
 use Rattle.std.specs.List.{AllByRecursion, flat_map, list_all}
 use Rattle.std.specs.Result.{result_err}
 use Rattle.mx_word.specs.Results.{map_ok}
-use Rattle.mx_asm.specs.OnePass.{Standing, opened}
+use Rattle.mx_asm.specs.OnePass.{Status, opened}
 use Rattle.mx_asm.specs.Whole.{Line, assembled_source, lines_taken}
 use Rattle.mx_asm.specs.declared.refused.Refused.{Refused}
 use Rattle.mx_marks.specs.Mending.{with_newline}
@@ -30,14 +30,14 @@ pub record IsText (text : List ℕ) : Type 0 where
 -- ---- a walk
 
 pub record Walk : Type 0 where
-  pub assembler : Standing
+  pub assembler : Status
   pub front : List ℕ
   pub number : ℕ
 
 -- The assembler is that after the lines that were taken, but that it may have added the opening before the first one.
 pub record IsAt (w : Walk) : Type 0 where
   pub text : IsText w.front
-  pub standing : map_ok opened w.assembler ≡ map_ok opened (lines_taken text.lines).1
+  pub status : map_ok opened w.assembler ≡ map_ok opened (lines_taken text.lines).1
   pub number : w.number ≡ length text.lines + 1
 
 -- why a source is refused when it is assembled, if it is

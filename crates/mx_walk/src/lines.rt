@@ -1,9 +1,9 @@
-//! Lines that the assembler takes, and the end of a source, where only want of memory is an error.
+//! Lines that the assembler takes, and the end of a source, where only memory that runs out is an error.
 
 ghost use Rattle.std.specs.Prelude.{◌≡◌, ◌≢◌, [], IfOk, OnOk};
 ghost use Rattle.std.specs.Result.{is_ok};
 ghost use Rattle.mx_asm.specs.Faults.{no_memory};
-ghost use Rattle.mx_asm.specs.OnePass.{end_behind, line_behind};
+ghost use Rattle.mx_asm.specs.OnePass.{end_following, line_following};
 
 use mx_asm::{AsmFault, Assembler, Refused};
 use mx_mmo::Items;
@@ -27,7 +27,7 @@ pub fn take_line(
     items: &mut Items,
     line: &[u8],
 ) -> Result<bool, NoMemory>
-    ensures taken { OnOk result ((items.new, assembler.new) ≡ line_behind items.old assembler.old line.now) }
+    ensures taken { OnOk result ((items.new, assembler.new) ≡ line_following items.old assembler.old line.now) }
     ensures open { IfOk result (λ is. is ≡ is_ok assembler.new) }
 {
     match assembler.line(line, items) {
@@ -44,7 +44,7 @@ pub fn finish_source(
     alloc: Global,
     assembler: &mut Assembler,
 ) -> Result<Result<Bytes, Refused>, NoMemory>
-    ensures { IfOk result (λ ended. ended ≡ (end_behind [] assembler.old).1) }
+    ensures { IfOk result (λ ended. ended ≡ (end_following [] assembler.old).1) }
 {
     let mut items = Items::new(alloc);
     match assembler.finish(&mut items) {

@@ -74,7 +74,7 @@ impl Walk {
     }
 
     /// The lines that were taken, each with a newline.
-    pub fn taken_lines(&self) -> &[u8]
+    pub fn read_taken_lines(&self) -> &[u8]
         ensures { result.now ≡ self.now.front }
     {
         self.front.as_slice()

@@ -8,7 +8,7 @@ use Rattle.mx_code.specs.declared.trace.Trace.{Trace}
 use Rattle.mx_watch.specs.Watching.{Watching, later}
 use Rattle.mx_watch.specs.Listening.{Listening, watched}
 use Rattle.mx_watch.specs.Hearing.{Hears, heard, remains, reported, reports_in_turn}
-use Rattle.mx_watch.specs.Reporting.{report_on, reports_on, texts_now, kept_at, kept_or_next, next_behind, in_places}
+use Rattle.mx_watch.specs.Reporting.{report_on, reports_on, texts_now, kept_at, kept_or_next, next_following, in_places}
 use Rattle.mx_watch.specs.declared.telling.Report.{Report}
 use Rattle.mx_watch.proofs.Passed.{nobody}
 use Rattle.mx_watch.proofs.HearingLaws.{same_parts, left_of_all, kept_of_all}
@@ -111,13 +111,13 @@ differ : (p q : ℕ) → p ≢ q → (p == q) ≡ false
 differ p q ne = grind (arith, common_steps)
 
 -- those after it have greater places
-none-behind : (q : ℕ) (h : List Trace) (k a : ℕ) (ws : List Watching) → q < a → kept_at q (flat_map (reported h k) (zip (range_with_len a (length ws)) ws)) ≡ None
+none-following : (q : ℕ) (h : List Trace) (k a : ℕ) (ws : List Watching) → q < a → kept_at q (flat_map (reported h k) (zip (range_with_len a (length ws)) ws)) ≡ None
 unfolding kept_at either
-none-behind q h k a [] lt = refl
-none-behind q h k a (w ∷ ws) lt =
+none-following q h k a [] lt = refl
+none-following q h k a (w ∷ ws) lt =
     kept-append q (reported h k (a, w)) (flat_map (reported h k) (zip (range_with_len (a + 1) (length ws)) ws))
     ∙ ap (λ o. either o (kept_at q (flat_map (reported h k) (zip (range_with_len (a + 1) (length ws)) ws)))) (other-one q a _ _ (differ a q (λ e. absurd (omega (arith, lt, e)))))
-    ∙ none-behind q h k (a + 1) ws (omega (arith, lt))
+    ∙ none-following q h k (a + 1) ws (omega (arith, lt))
 
 -- ---- all of them
 
@@ -132,17 +132,17 @@ found-kept a ps kept g texts whole some rest = rw some (ap (λ ts. g ∷ ts) res
 abbrev left_texts : List Trace → List (ℕ × Watching) → List (List ℕ)
 left_texts h ws = texts_now (map (λ w. w.1) (flat_map (remains h) ws))
 
-first-of : (h : List Trace) (a : ℕ) (w : Watching) (behind : List (ℕ × Watching)) (ps : List ℕ) (kept : List Report) (whole : List (List ℕ)) (left : List (ℕ × Watching)) (own : List Report) →
-    left ≡ remains h (a, w) → kept_at a kept ≡ kept_at a own → One a (report_on h w) left own → in_places ps kept (left_texts h behind) ≡ whole →
-    in_places (a ∷ ps) kept (texts_now (map (λ w. w.1) (left ++ flat_map (remains h) behind))) ≡ report_on h w ∷ whole
+first-of : (h : List Trace) (a : ℕ) (w : Watching) (following : List (ℕ × Watching)) (ps : List ℕ) (kept : List Report) (whole : List (List ℕ)) (left : List (ℕ × Watching)) (own : List Report) →
+    left ≡ remains h (a, w) → kept_at a kept ≡ kept_at a own → One a (report_on h w) left own → in_places ps kept (left_texts h following) ≡ whole →
+    in_places (a ∷ ps) kept (texts_now (map (λ w. w.1) (left ++ flat_map (remains h) following))) ≡ report_on h w ∷ whole
 unfolding kept_at
-first-of h a w behind ps kept whole left own el e (is_left v l k t) rest =
-    ap (λ ws. in_places (a ∷ ps) kept (texts_now (map (λ (w : ℕ × Watching). w.1) (ws ++ flat_map (remains h) behind)))) l
-    ∙ ap (λ g. in_places (a ∷ ps) kept (g ∷ left_texts h behind)) t
-    ∙ found-left a ps kept (report_on h w) (left_texts h behind) whole (e ∙ ap (kept_at a) k) rest
-first-of h a w behind ps kept whole left own el e (is_kept l k) rest =
-    ap (λ ws. in_places (a ∷ ps) kept (texts_now (map (λ (w : ℕ × Watching). w.1) (ws ++ flat_map (remains h) behind)))) l
-    ∙ found-kept a ps kept (report_on h w) (left_texts h behind) whole (e ∙ ap (kept_at a) k ∙ own-found a (report_on h w)) rest
+first-of h a w following ps kept whole left own el e (is_left v l k t) rest =
+    ap (λ ws. in_places (a ∷ ps) kept (texts_now (map (λ (w : ℕ × Watching). w.1) (ws ++ flat_map (remains h) following)))) l
+    ∙ ap (λ g. in_places (a ∷ ps) kept (g ∷ left_texts h following)) t
+    ∙ found-left a ps kept (report_on h w) (left_texts h following) whole (e ∙ ap (kept_at a) k) rest
+first-of h a w following ps kept whole left own el e (is_kept l k) rest =
+    ap (λ ws. in_places (a ∷ ps) kept (texts_now (map (λ (w : ℕ × Watching). w.1) (ws ++ flat_map (remains h) following)))) l
+    ∙ found-kept a ps kept (report_on h w) (left_texts h following) whole (e ∙ ap (kept_at a) k ∙ own-found a (report_on h w)) rest
   where
     own-found : (a : ℕ) (g : List ℕ) → kept_at a (record { place = a; text = g } ∷ []) ≡ Some g
     own-found a g = ap (λ b. cond b (Some g) None) (same-place a)
@@ -156,13 +156,13 @@ all-from : (h : List Trace) (ws : List Watching) (a : ℕ) (kept : List Report) 
 unfolding in_places
 all-from h [] a kept same = refl
 all-from h (w ∷ ws) a kept same =
-    let behind = zip (range_with_len (a + 1) (length ws)) ws in
+    let following = zip (range_with_len (a + 1) (length ws)) ws in
     let ks = range_with_len 0 (length h) in
     let own : kept_at a kept ≡ kept_at a (own_reports h (a, w)) =
-    same a (omega arith) ∙ without-second a (λ k. reported h k (a, w)) (λ k. flat_map (reported h k) behind) (λ k. none-behind a h k (a + 1) ws (omega arith)) ks in
-    let others : (q : ℕ) → a + 1 ≤ q → kept_at q kept ≡ kept_at q (reports_in_turn h behind) =
-    λ q le. same q (omega (arith, le)) ∙ without-first q (λ k. reported h k (a, w)) (λ k. flat_map (reported h k) behind) (λ k. other-one q a _ _ (differ a q (λ e. absurd (omega (arith, le, e))))) ks in
-    first-of h a w behind (range_with_len (a + 1) (length ws)) kept (reports_on h ws) _ _ refl own (one-of h a w) (all-from h ws (a + 1) kept others)
+    same a (omega arith) ∙ without-second a (λ k. reported h k (a, w)) (λ k. flat_map (reported h k) following) (λ k. none-following a h k (a + 1) ws (omega arith)) ks in
+    let others : (q : ℕ) → a + 1 ≤ q → kept_at q kept ≡ kept_at q (reports_in_turn h following) =
+    λ q le. same q (omega (arith, le)) ∙ without-first q (λ k. reported h k (a, w)) (λ k. flat_map (reported h k) following) (λ k. other-one q a _ _ (differ a q (λ e. absurd (omega (arith, le, e))))) ks in
+    first-of h a w following (range_with_len (a + 1) (length ws)) kept (reports_on h ws) _ _ refl own (one-of h a w) (all-from h ws (a + 1) kept others)
 
 pub all-reported : (h : List Trace) (ws left : List Watching) (kept : List Report) → Hears h ws left [] kept →
     in_places (range_with_len 0 (length ws)) kept (texts_now left) ≡ reports_on h ws
@@ -177,8 +177,8 @@ next-there xs i d lt = rw (drop_more xs i d lt) refl
 pub next-gone : (xs : List (List ℕ)) (i : ℕ) → length xs ≤ i → (take 1 (drop i xs) ≡ []) × (drop 1 (drop i xs) ≡ drop i xs)
 next-gone xs i le = (grind (arith, common_steps), grind (arith, common_steps))
 
-pub next-behind : (xs : List (List ℕ)) (i : ℕ) → drop (i + 1) xs ≡ drop 1 (drop i xs)
-next-behind xs i = sym (drop-drop 1 i xs)
+pub next-following : (xs : List (List ℕ)) (i : ℕ) → drop (i + 1) xs ≡ drop 1 (drop i xs)
+next-following xs i = sym (drop-drop 1 i xs)
 
 -- the search for a report
 pub kept-none : (q : ℕ) (rs : List Report) (i : ℕ) (found : Option (List ℕ)) → length rs ≤ i → found ≡ kept_at q (drop i rs) → found ≡ None
@@ -209,12 +209,12 @@ all-summed ws i texts le e = let long = length-map ws (λ (w : Watching). w.text
 
 -- the places in turn
 pub place-on : (count place : ℕ) (kept : List Report) (left more texts : List (List ℕ)) (rest whole : List (List ℕ)) → place < count →
-    texts ≡ rest ++ kept_or_next (kept_at place kept) left → more ≡ next_behind (kept_at place kept) left →
+    texts ≡ rest ++ kept_or_next (kept_at place kept) left → more ≡ next_following (kept_at place kept) left →
     rest ++ in_places (range_with_len place (count - place)) kept left ≡ whole → texts ++ in_places (range_with_len (place + 1) (count - (place + 1))) kept more ≡ whole
 unfolding in_places
 place-on count place kept left more texts rest whole lt et em e =
     let next : count - place ≡ suc (count - (place + 1)) = omega (arith, lt) in
-    rw (et, em) (append_assoc rest (kept_or_next (kept_at place kept) left) (in_places (range_with_len (place + 1) (count - (place + 1))) kept (next_behind (kept_at place kept) left))
+    rw (et, em) (append_assoc rest (kept_or_next (kept_at place kept) left) (in_places (range_with_len (place + 1) (count - (place + 1))) kept (next_following (kept_at place kept) left))
     ∙ sym (ap (λ n. rest ++ in_places (range_with_len place n) kept left) next) ∙ e)
 
 pub places-over : (count place : ℕ) (kept : List Report) (left texts whole : List (List ℕ)) → count ≤ place → texts ++ in_places (range_with_len place (count - place)) kept left ≡ whole → texts ≡ whole
@@ -225,6 +225,6 @@ places-over count place kept left texts whole le e =
 pub places-begun : (count : ℕ) (kept : List Report) (left : List (List ℕ)) → in_places (range_with_len 0 (count - 0)) kept left ≡ in_places (range_with_len 0 count) kept left
 places-begun count kept left = let all : count - 0 ≡ count = omega arith in rw all refl
 
-pub ruleset in_turn = (next-there, next-gone, next-behind, kept-none, kept-here, kept-later, one-more, all-summed, place-on, places-over, places-begun)
+pub ruleset in_turn = (next-there, next-gone, next-following, kept-none, kept-here, kept-later, one-more, all-summed, place-on, places-over, places-begun)
 
 pub ruleset all_reported = (all-reported)

@@ -31,11 +31,11 @@ front_more t start now left kept k at next f l r n =
     let more : take (k + 1) start.left ≡ take k start.left ++ take 1 rest = take-add k 1 start.left in
     let stay : still_listening t (take (k + 1) start.left) ≡ front ++ still_listening t (take 1 rest) = ap (still_listening t) more ∙ flat_map-append (stays t) (take k start.left) (take 1 rest) in
     let report : reports_at t (take (k + 1) start.left) ≡ reports ++ reports_at t (take 1 rest) = ap (reports_at t) more ∙ flat_map-append (leaves t) (take k start.left) (take 1 rest) in
-    let behind : drop (at + 1) now.left ≡ drop (k + 1) start.left = sym (drop-drop 1 at now.left) ∙ ap (drop 1) dropped ∙ drop-drop 1 k start.left in
+    let following : drop (at + 1) now.left ≡ drop (k + 1) start.left = sym (drop-drop 1 at now.left) ∙ ap (drop 1) dropped ∙ drop-drop 1 k start.left in
     record {
       left = l ∙ ap (λ xs. (xs ++ still_listening t (take 1 (drop at now.left))) ++ drop (at + 1) now.left) taken
           ∙ ap (λ xs. (front ++ still_listening t (take 1 xs)) ++ drop (at + 1) now.left) dropped
-          ∙ ap (λ xs. (front ++ still_listening t (take 1 rest)) ++ xs) behind ∙ ap (λ xs. xs ++ drop (k + 1) start.left) (sym stay);
+          ∙ ap (λ xs. (front ++ still_listening t (take 1 rest)) ++ xs) following ∙ ap (λ xs. xs ++ drop (k + 1) start.left) (sym stay);
       kept = r ∙ ap (λ xs. now.kept ++ reports_at t (take 1 xs)) dropped ∙ ap (λ xs. xs ++ reports_at t (take 1 rest)) f.kept
           ∙ append_assoc start.kept reports (reports_at t (take 1 rest)) ∙ ap (λ xs. start.kept ++ xs) (sym report);
       next = n ∙ ap (λ xs. at + length (still_listening t (take 1 xs))) dropped ∙ ap (λ m. m + length (still_listening t (take 1 rest))) f.next
@@ -49,13 +49,13 @@ front_lacks t start now next k at f l =
     let rest = drop k start.left in
     let dropped : drop at now.left ≡ rest = ap (drop at) f.left ∙ drop_at front rest at (sym f.next) in
     let taken : take at now.left ≡ front = ap (take at) f.left ∙ take_at front rest at (sym f.next) in
-    let behind : drop (at + l.more) now.left ≡ drop (k + l.more) start.left = sym (drop-drop l.more at now.left) ∙ ap (drop l.more) dropped ∙ drop-drop l.more k start.left in
+    let following : drop (at + l.more) now.left ≡ drop (k + l.more) start.left = sym (drop-drop l.more at now.left) ∙ ap (drop l.more) dropped ∙ drop-drop l.more k start.left in
     record {
       first = k;
       more = l.more;
       one = l.one;
       left = l.left ∙ ap (λ xs. (xs ++ map (told_one t) (take l.more (drop at now.left))) ++ drop (at + l.more) now.left) taken
-          ∙ ap (λ xs. (front ++ map (told_one t) (take l.more xs)) ++ drop (at + l.more) now.left) dropped ∙ ap (λ xs. (front ++ map (told_one t) (take l.more rest)) ++ xs) behind;
+          ∙ ap (λ xs. (front ++ map (told_one t) (take l.more xs)) ++ drop (at + l.more) now.left) dropped ∙ ap (λ xs. (front ++ map (told_one t) (take l.more rest)) ++ xs) following;
       kept = l.kept ∙ f.kept;
     }
 

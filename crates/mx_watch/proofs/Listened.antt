@@ -34,7 +34,7 @@ begun-heard n s m l = let all : n - 0 ≡ n = omega arith in rw all refl
 pub goes-on : (s t : State) (m k : HostModel) (trace : Trace) → turn s m ≡ went_on t k trace → GoesOn tt (s, m) (t, k)
 goes-on s t m k trace e = ap beside_world (went-free s t m k trace e) ∙ sym (step-end no_flags false s m)
 
-traces-left : (n i : ℕ) (s t : State) (m k : HostModel) (trace : Trace) → i < n → turn s m ≡ went_on t k trace → traces window_machine (n - i) s m ≡ trace ∷ traces window_machine (n - (i + 1)) t k
+pub traces-left : (n i : ℕ) (s t : State) (m k : HostModel) (trace : Trace) → i < n → turn s m ≡ went_on t k trace → traces window_machine (n - i) s m ≡ trace ∷ traces window_machine (n - (i + 1)) t k
 unfolding traces
 traces-left n i s t m k trace l e = rw (left-after n i l) (ap (traces_after (traces window_machine (n - (i + 1)))) e)
 
@@ -51,7 +51,7 @@ ends-by more pc (went_on s m trace) end e = let wrong : Err end ≡ Ok tt = e �
 ends-by more pc (halts status s m) end e = refl
 ends-by more pc (stops reason s m) end e = refl
 
-traces-ended : (n i : ℕ) (s t : State) (m k : HostModel) (end : End) → i < n → (Err end, t, k) ≡ run_step no_flags false s m → traces window_machine (n - i) s m ≡ []
+pub traces-ended : (n i : ℕ) (s t : State) (m k : HostModel) (end : End) → i < n → (Err end, t, k) ≡ run_step no_flags false s m → traces window_machine (n - i) s m ≡ []
 unfolding traces run_step
 traces-ended n i s t m k end l e =
     rw (left-after n i l) (ends-by (traces window_machine (n - (i + 1))) s.pc (turn s m) end (ap (λ (a : Answered (Result (Unit {0}) End)). a.0) e))

@@ -16,8 +16,8 @@ no-longer : (x : ℕ) (xs : List ℕ) → x ∷ xs ≡ xs → ⊥
 no-longer x xs e = let same = ap (λ (l : List ℕ). length l) e in omega (arith, same)
 
 -- a goes after k, which is less
-behind : (a k x : ℕ) (xs : List ℕ) → k < a → insert_key nat_cmp (x ∷ xs) a ≡ x ∷ xs → insert_key nat_cmp (k ∷ x ∷ xs) a ≡ k ∷ x ∷ xs
-behind a k x xs l e =
+following : (a k x : ℕ) (xs : List ℕ) → k < a → insert_key nat_cmp (x ∷ xs) a ≡ x ∷ xs → insert_key nat_cmp (k ∷ x ∷ xs) a ≡ k ∷ x ∷ xs
+following a k x xs l e =
     ap (λ r. match_ordering r (a ∷ k ∷ x ∷ xs) (k ∷ x ∷ xs) (k ∷ insert_key nat_cmp (x ∷ xs) a)) (sym (nat_cmp_is a k Greater l)) ∙ ap (λ ys. k ∷ ys) e
 
 not-first : (a k x : ℕ) (xs : List ℕ) (q : Ordering) → MatchOrdering q (a < x) (a ≡ x) (x < a) → k < x → match_ordering q (a ∷ x ∷ xs) (x ∷ xs) (x ∷ insert_key nat_cmp xs a) ≡ x ∷ xs → k < a
@@ -36,7 +36,7 @@ further a k x xs ys Greater rest e = ap (λ zs. x ∷ zs) (rest (tail-of x (inse
 
 still-by : (a k x : ℕ) (xs : List ℕ) (r : Ordering) → MatchOrdering r (k < x) (k ≡ x) (x < k) → (insert_key nat_cmp xs a ≡ xs → insert_key nat_cmp (insert_key nat_cmp xs k) a ≡ insert_key nat_cmp xs k) → insert_key nat_cmp (x ∷ xs) a ≡ x ∷ xs →
     insert_key nat_cmp (match_ordering r (k ∷ x ∷ xs) (x ∷ xs) (x ∷ insert_key nat_cmp xs k)) a ≡ match_ordering r (k ∷ x ∷ xs) (x ∷ xs) (x ∷ insert_key nat_cmp xs k)
-still-by a k x xs Less o rest e = behind a k x xs (not-first a k x xs (nat_cmp a x) (ranks a x) o e) e
+still-by a k x xs Less o rest e = following a k x xs (not-first a k x xs (nat_cmp a x) (ranks a x) o e) e
 still-by a k x xs Equal o rest e = e
 still-by a k x xs Greater o rest e = further a k x xs (insert_key nat_cmp xs k) (nat_cmp a x) rest e
 

@@ -37,7 +37,7 @@ pub data Lacks (h : List Trace) (between new : RunWorld) (start now : Listening)
   in_telling : (g : List Trace) (t : Trace) → h ≡ g ++ t ∷ [] → new ≡ between → ToldSome t (watched g start) now →
       Lacks h between new start now
 
--- A run of at most n steps that these watchers were told of stopped for want of memory: so many steps were made, and they
+-- A run of at most n steps that these watchers were told of stopped because memory ran out: so many steps were made, and they
 -- were told the traces of these, up to where it ran out. So those that are left are left, and the reports are kept.
 pub record StopsTold (n : ℕ) (old new : RunWorld) (start : Listening) (left : List Watching) (reports : List Report) : Type 0 where
   pub made : ℕ

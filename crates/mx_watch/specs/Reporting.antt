@@ -1,4 +1,4 @@
--- The reports of all watchers, in the order in which they stood in the list at the start.
+-- The reports of all watchers, in the order in which they were in the list at the start.
 use Rattle.std.specs.Prelude.{ℕ, ◌==◌, if◌then◌else◌, List, [], ◌∷◌, ◌++◌, Option, None, Some, take, drop, map}
 use Rattle.mx_code.specs.declared.trace.Trace.{Trace}
 use Rattle.mx_watch.specs.Hearing.{heard}
@@ -28,11 +28,11 @@ abbrev pub kept_or_next : Option (List ℕ) → List (List ℕ) → List (List �
 kept_or_next (Some text) left = text ∷ []
 kept_or_next None left = take 1 left
 
-abbrev pub next_behind : Option (List ℕ) → List (List ℕ) → List (List ℕ)
-next_behind (Some text) left = left
-next_behind None left = drop 1 left
+abbrev pub next_following : Option (List ℕ) → List (List ℕ) → List (List ℕ)
+next_following (Some text) left = left
+next_following None left = drop 1 left
 
 -- so for each place
 unfoldable pub in_places : List ℕ → List Report → List (List ℕ) → List (List ℕ)
 in_places [] kept left = []
-in_places (p ∷ ps) kept left = kept_or_next (kept_at p kept) left ++ in_places ps kept (next_behind (kept_at p kept) left)
+in_places (p ∷ ps) kept left = kept_or_next (kept_at p kept) left ++ in_places ps kept (next_following (kept_at p kept) left)

@@ -2,13 +2,13 @@
 -- `before` and `after` the states of the machine.
 use Rattle.std.specs.Prelude.{ℕ, ◌≡◌, ◌≢◌, IsTrue, false, List, Option, Result, Ok, Err}
 use Rattle.mx_host.specs.HostModel.{HostModel, tells, contents}
-use Rattle.mx_plan.specs.Plan.{Comes}
 use Rattle.mx_plan.specs.Wild.{Course, ends, meets_wild}
 use Rattle.mx_core.specs.Bounds.{as_list_state}
 use Rattle.mx_core.specs.State.{State}
 use Rattle.mx_code.specs.declared.trace.Trace.{Trace}
 use Rattle.mx_run.specs.AccompaniedRuns.{list_run}
-use Rattle.mx_run.specs.RunPlans.{running, step_plan}
+use Rattle.mx_run.specs.Clauses.{CarriesOutOnMachine}
+use Rattle.mx_run.specs.RunPlans.{step_plan}
 use Rattle.mx_run.specs.Runs.{no_flags}
 use Rattle.mx_run.specs.Turns.{went_on, turn}
 use Rattle.mx_run.specs.WildRuns.{window_machine, list_machine}
@@ -31,7 +31,7 @@ abbrev pub UnlessWild : {A W : Type 0} → Course A W → Type 0 → Type 0
 UnlessWild (ends a w) P = P
 UnlessWild (meets_wild w) P = Unit {0}
 
--- the traces of the list machine in at most n steps from the list that a state stands for
+-- the traces of the list machine in at most n steps from the list that a state represents
 abbrev pub list_traces : Option HostModel → State → ℕ → List Trace
 list_traces old before n = traces list_machine n (as_list_state before) (contents old)
 
@@ -48,7 +48,7 @@ HearsAsList old before n result watchers left earlier later =
 abbrev pub StepsTo : Option HostModel → Option HostModel → State → State → Result Trace End → Type 0
 StepsTo old new before after (Ok trace) = IsTrue (tells old) → turn before (contents old) ≡ went_on after (contents new) trace
 StepsTo old new before after (Err end) =
-    IsTrue (tells old) → Comes running (before, contents old) (after, contents new) (Err OutOfMemory) (Err end) (step_plan no_flags false)
+    CarriesOutOnMachine old new before after (Err OutOfMemory) (Err end) (step_plan no_flags false)
 
 -- the watchers that are left, and the reports
 abbrev pub left_with_reports : Listening → List Watching × List Report

@@ -57,8 +57,8 @@ impl Watcher for Cover {
         if is_remembered(&self.remembered, t.pc) {
             return Ok(Wish::More);
         }
-        match self.addresses.insert(t.pc) {
-            Ok(_) => {
+        match add_address(&mut self.addresses, t.pc) {
+            Ok(()) => {
                 remember(&mut self.remembered, t.pc);
                 Ok(Wish::More)
             }
@@ -72,6 +72,20 @@ impl Watcher for Cover {
         add_count(&mut text, self.addresses.len() as u64)?;
         text.push(b'\n')?;
         Ok(text)
+    }
+}
+
+/// Adds an address. It is a call, so that what it needs is not made ready for an address that is remembered.
+///
+/// Errors: out of memory; then nothing changed.
+#[inline(never)]
+fn add_address(addresses: &mut BTreeSet<u64>, a: u64) -> Result<(), NoMemory>
+    ensures keys { OnOk result (addresses.new.keys ≡ insert_key nat_cmp addresses.old.keys a) }
+    ensures same { OnErr result (addresses.new.keys ≡ addresses.old.keys) }
+{
+    match addresses.insert(a) {
+        Ok(_) => Ok(()),
+        Err(_) => Err(NoMemory),
     }
 }
 

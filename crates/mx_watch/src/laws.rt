@@ -24,14 +24,14 @@ pub fn codes_are_counted()
 /// A new cover has the addresses of the traces, each once: they ascend, and an address is among them exactly where
 /// it is that of a trace. So their number is that of the different addresses.
 #[tactic(auto, using(crate::proofs::AddressLaws::address_laws))]
-pub fn addresses_stand_once()
+pub fn addresses_come_once()
     ensures ascending { (h : List Trace) → IsStrictlySortedBy nat_cmp (addresses_after [] h) }
     ensures those { (h : List Trace) (a : ℕ) → Contains (addresses_after [] h) a ↔ Contains (addresses_of h) a }
 {}
 
 /// New `Writes` have the writes of the traces to their part of memory, in turn.
 #[tactic(auto, using(crate::proofs::WriteLaws::write_laws))]
-pub fn writes_stand_in_turn()
+pub fn writes_come_in_turn()
     ensures { (from to : ℕ) (h : List Trace) →
         writes_after from to [] h ≡ flat_map (λ t. write_of from to t.pc t.writes) h }
 {}

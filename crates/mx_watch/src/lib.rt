@@ -14,12 +14,12 @@ mod writes;
 
 pub use cover::Cover;
 pub use laws::{
-    addresses_stand_once, all_are_reported_in_order, codes_are_counted, each_hears_its_front,
-    reports_are_on_what_was_heard, writes_stand_in_turn,
+    addresses_come_once, all_are_reported_in_order, codes_are_counted, each_hears_its_front,
+    reports_are_on_what_was_heard, writes_come_in_turn,
 };
 pub use profile::Profile;
 pub use reporting::{Texts, collect_reports};
-pub use running::watched_run;
+pub use running::{run_with_watchers, trace_step};
 pub use telling::{Report, Reports};
 pub use watcher::{Watcher, Wish};
 pub use watching::watch;

@@ -2,7 +2,7 @@
 
 ghost use Rattle.std.specs.Prelude.{◌≡◌, ◌++◌, IfOk, OnOk, drop, map};
 ghost use Rattle.std.specs.List.{range_with_len};
-ghost use Rattle.mx_watch.specs.Reporting.{in_places, kept_at, kept_or_next, next_behind, texts_now};
+ghost use Rattle.mx_watch.specs.Reporting.{in_places, kept_at, kept_or_next, next_following, texts_now};
 
 use crate::Watcher;
 use crate::telling::{Report, Reports, report_at};
@@ -67,7 +67,7 @@ fn add_report(
 ) -> Result<usize, NoMemory>
     ensures texts { OnOk result (texts.new ≡
         texts.old ++ kept_or_next (kept_at place kept.now) (drop next left.now)) }
-    ensures next { IfOk result (λ n. drop n left.now ≡ next_behind (kept_at place kept.now) (drop next left.now)) }
+    ensures next { IfOk result (λ n. drop n left.now ≡ next_following (kept_at place kept.now) (drop next left.now)) }
 {
     match find_kept_text(alloc, kept, place)? {
         Some(text) => {

@@ -1,6 +1,6 @@
 //! A run of the machine over a host that watchers are told of.
 
-ghost use Rattle.std.specs.Prelude.{◌≡◌, ◌≢◌, [], false, length, map};
+ghost use Rattle.std.specs.Prelude.{◌≡◌, ◌≢◌, [], false, length, map, Err, IsTrue, Ok};
 ghost use Rattle.mx_host.specs.Keeping.{Keeps};
 ghost use Rattle.mx_core.specs.Kept.{state_of};
 ghost use Rattle.mx_run.specs.AccompaniedRuns.{CarriesOutAccompanied};
@@ -15,7 +15,7 @@ ghost use Rattle.mx_watch.specs.WatchedRuns.{HearsAsList, HearsFrom, HearsFromLi
 use crate::Watcher;
 use crate::telling::{Reports, tell_all};
 use crate::watching::first_places;
-use mx_core::{Machine, Trace};
+use mx_core::{Machine, Trace, machines_are_whole, machines_keep_the_invariant};
 use mx_host::Host;
 use mx_run::{End, TurnAnswer, run_freely, turn};
 use std::alloc::Global;
@@ -28,7 +28,7 @@ use std::alloc::Global;
 /// it, they are as the run leaves them then, and the watchers were told all steps before it; where a watcher or a report
 /// lacked it, the steps up to there were made, and the watchers were told them, the last step only the first ones. One
 /// whose report lacked memory is left. With no watchers it takes no more memory than the run.
-pub fn watched_run<H: Host>(
+pub fn run_with_watchers<H: Host>(
     alloc: Global,
     machine: &mut Machine,
     host: &mut H,
@@ -36,10 +36,8 @@ pub fn watched_run<H: Host>(
     watchers: &mut Vec<Box<dyn Watcher>>,
     kept: &mut Reports,
 ) -> End
-    ensures plan { CarriesOutAccompanied (H.told host.old) (H.told host.new) (state_of machine.old) (state_of machine.new)
-        n result }
-    ensures run { IsRun (H.told host.old) (H.told host.new) (H.faults host.old) (H.faults host.new) (state_of machine.old)
-        (state_of machine.new) n no_flags false result }
+    ensures plan { CarriesOutAccompanied H.told host.old host.new machine.old machine.new n result }
+    ensures run { IsRun H.told H.faults host.old host.new machine.old machine.new n no_flags false result }
     ensures spared { watchers.old.items ≡ [] → SparesMemory n (state_of machine.old) → result ≢ End.OutOfMemory }
     ensures stops { StopsHearing (H.told host.old) (H.told host.new) (state_of machine.old) (state_of machine.new) n result
         (starting (map meaning watchers.old.items) kept.old) (map meaning watchers.new.items) kept.new }
@@ -72,10 +70,8 @@ fn listen<H: Host>(
     kept: &mut Reports,
 ) -> End
     requires { length places.now.items ≡ length watchers.now.items }
-    ensures plan { CarriesOutAccompanied (H.told host.old) (H.told host.new) (state_of machine.old) (state_of machine.new)
-        n result }
-    ensures run { IsRun (H.told host.old) (H.told host.new) (H.faults host.old) (H.faults host.new) (state_of machine.old)
-        (state_of machine.new) n no_flags false result }
+    ensures plan { CarriesOutAccompanied H.told host.old host.new machine.old machine.new n result }
+    ensures run { IsRun H.told H.faults host.old host.new machine.old machine.new n no_flags false result }
     ensures stops { StopsHearing (H.told host.old) (H.told host.new) (state_of machine.old) (state_of machine.new) n result
         (listening places.old.items (map meaning watchers.old.items) kept.old)
         (map meaning watchers.new.items) kept.new }
@@ -86,21 +82,71 @@ fn listen<H: Host>(
         (listening places.old.items (map meaning watchers.old.items) kept.old)
         (map meaning watchers.new.items) kept.new }
 {
+    let mut trace = no_trace();
+    let mut end = End::Spent;
     for _made in 0..n {
-        match next_trace(alloc, machine, host) {
-            Ok(trace) => match tell_all(watchers, places, kept, &trace) {
-                Ok(()) => {}
-                Err(_) => return End::OutOfMemory,
-            },
-            Err(end) => return end,
+        if !next_trace(alloc, machine, host, &mut trace, &mut end) {
+            return end;
+        }
+        match tell_all(watchers, places, kept, &trace) {
+            Ok(()) => {}
+            Err(_) => return End::OutOfMemory,
         }
     }
     End::Spent
 }
 
-/// A step of a run without flags: its trace, or the end of the run.
+/// The trace of no step.
+fn no_trace() -> Trace {
+    Trace {
+        pc: 0,
+        word: 0,
+        dest: None,
+        reads: None,
+        writes: None,
+        next: 0,
+    }
+}
+
+/// A step of a run without flags. Whether it went on: then `trace` is its trace, and else `end` is the end of the run. Most
+/// steps are usual ones.
+#[inline(always)]
+fn next_trace<H: Host>(
+    alloc: Global,
+    machine: &mut Machine,
+    host: &mut H,
+    trace: &mut Trace,
+    end: &mut End,
+) -> bool
+    ensures went { IsTrue result →
+        StepsTo (H.told host.old) (H.told host.new) (state_of machine.old) (state_of machine.new) (Ok trace.new) }
+    ensures ended { result ≡ false →
+        StepsTo (H.told host.old) (H.told host.new) (state_of machine.old) (state_of machine.new) (Err end.new) }
+    ensures has_window { HasWindow (state_of machine.old) }
+    ensures bound { IsLater 1 (state_of machine.old) (state_of machine.new) }
+    ensures keeps { Keeps (H.told host.old) (H.told host.new) (H.faults host.old) (H.faults host.new) }
+{
+    machines_keep_the_invariant(machine);
+    machines_are_whole(machine);
+    if machine.step_if_usual(trace) {
+        return true;
+    }
+    match trace_step(alloc, machine, host) {
+        Ok(other) => {
+            *trace = other;
+            true
+        }
+        Err(why) => {
+            *end = why;
+            false
+        }
+    }
+}
+
+/// A step of any kind in such a run, or a file trap: its trace, or the end of the run.
+#[inline(never)]
 #[tactic(auto, using(mx_run::proofs::FreeRuns::turned))]
-fn next_trace<H: Host>(alloc: Global, machine: &mut Machine, host: &mut H) -> Result<Trace, End>
+pub fn trace_step<H: Host>(alloc: Global, machine: &mut Machine, host: &mut H) -> Result<Trace, End>
     ensures told { StepsTo (H.told host.old) (H.told host.new) (state_of machine.old) (state_of machine.new) result }
     ensures has_window { HasWindow (state_of machine.old) }
     ensures bound { IsLater 1 (state_of machine.old) (state_of machine.new) }

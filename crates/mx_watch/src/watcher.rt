@@ -6,7 +6,7 @@ ghost use Rattle.mx_watch.specs.Watching.{Watching, later, wish_if};
 use mx_core::Trace;
 use mx_word::{Bytes, NoMemory};
 
-/// What a watcher wants after a trace: to be told more, or nothing more.
+/// Whether a watcher goes on after a trace: it is told more, or nothing more.
 #[derive(Clone, Copy)]
 pub enum Wish {
     More,

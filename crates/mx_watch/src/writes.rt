@@ -84,7 +84,9 @@ fn note(writes: &mut Sequence<Write>, from: u64, to: u64, t: &Trace) -> Result<(
     }
 }
 
-/// Notes a write from an address, if it is to one from `from` on and below `to`.
+/// Notes a write from an address, if it is to one from `from` on and below `to`. It is a call, so that what it needs is not
+/// made ready for a step that writes nothing.
+#[inline(never)]
 fn note_inside(
     writes: &mut Sequence<Write>,
     from: u64,

@@ -2,10 +2,11 @@
 use Rattle.std.specs.Prelude.{ℕ, List, ◌++◌, codes}
 use Rattle.mx_json.specs.Json.{string}
 use Rattle.mx_wire.specs.declared.replies.Refused.{Refused}
-use Rattle.mx_wire.specs.declared.replies.Refused.TheVariants.{NoJson, NoRequest, NoMethod, NoMemory, Failed}
+use Rattle.mx_wire.specs.declared.replies.Refused.TheVariants.{NoJson, TooEarly, NoRequest, NoMethod, NoMemory, Failed}
 
 unfoldable pub number_of : Refused → List ℕ
 number_of NoJson = codes "-32700"
+number_of TooEarly = codes "-32002"
 number_of NoRequest = codes "-32600"
 number_of NoMethod = codes "-32601"
 number_of NoMemory = codes "-32603"

@@ -12,7 +12,9 @@ use std::alloc::Global;
 pub enum Refused {
     /// What came is no JSON.
     NoJson,
-    /// The session was shut down.
+    /// The session has not begun.
+    TooEarly,
+    /// The session does not take such a request any more.
     NoRequest,
     /// There is no such request.
     NoMethod,
@@ -29,6 +31,7 @@ fn number_of(refused: Refused) -> &'static [u8]
 {
     match refused {
         Refused::NoJson => b"-32700",
+        Refused::TooEarly => b"-32002",
         Refused::NoRequest => b"-32600",
         Refused::NoMethod => b"-32601",
         Refused::NoMemory => b"-32603",

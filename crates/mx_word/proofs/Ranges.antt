@@ -23,10 +23,10 @@ bytes-front zero bytes h = tt
 bytes-front (suc n) [] h = tt
 bytes-front (suc n) (b ∷ bytes) h = (h.0, bytes-front n bytes h.1)
 
-pub bytes-behind : (n : ℕ) (bytes : List ℕ) → AreBytes bytes → AreBytes (drop n bytes)
-bytes-behind zero bytes h = h
-bytes-behind (suc n) [] h = tt
-bytes-behind (suc n) (b ∷ bytes) h = bytes-behind n bytes h.1
+pub bytes-after : (n : ℕ) (bytes : List ℕ) → AreBytes bytes → AreBytes (drop n bytes)
+bytes-after zero bytes h = h
+bytes-after (suc n) [] h = tt
+bytes-after (suc n) (b ∷ bytes) h = bytes-after n bytes h.1
 
 -- four bytes more, in front
 pub take-four : (n a b c d : ℕ) (more : List ℕ) → take (4 + n) (a ∷ b ∷ c ∷ d ∷ more) ≡ a ∷ b ∷ c ∷ d ∷ take n more

@@ -3,7 +3,7 @@
 use Rattle.std.specs.Prelude.{ℕ, ◌+◌, ◌-◌, ◌*◌, ◌/◌, ◌%◌, ◌^◌, ℤ, pos, negsuc, List, Option, None, Some, nat_lt, nat_le, if◌then◌else◌}
 use Rattle.std.specs.Int.{w32, w64, to_be_bytes, from_be_bytes}
 
--- the signed value of an octa: those from 2^63 on stand for themselves less 2^64
+-- the signed value of an octa: those from 2^63 on mean themselves less 2^64
 abbrev pub signed_value : ℕ → ℤ
 signed_value x = if nat_lt x (2 ^ 63) then pos x else negsuc (2 ^ 64 - 1 - x)
 

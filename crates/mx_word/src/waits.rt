@@ -35,7 +35,7 @@ pub enum WaitKind {
     Far,
 }
 
-/// A reference that waits for a label: what it waits for, the address of the octa or the instruction that it stands
+/// A reference that waits for a label: what it waits for, the address of the octa or the instruction that it is
 /// in, the line of the source, from 1, and the kind, which says where its value goes.
 #[derive(Drop)]
 pub struct Wait {
@@ -45,5 +45,5 @@ pub struct Wait {
     pub kind: WaitKind,
 }
 
-/// A list of waiting references, in the order of their making.
+/// A list of waiting references, in the order in which they were made.
 pub type Waits = Sequence<Wait>;

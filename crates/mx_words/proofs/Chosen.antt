@@ -37,8 +37,8 @@ either c all true one others g h hg hh = hg
 either c all false one others g h hg hh = hh
 
 -- the words after a word
-pub behind-word : (all : List Word) (p : ℕ) (word : Word) (words : List Word) → drop p all ≡ word ∷ words → drop (p + 1) all ≡ words
-behind-word all p word words is =
+pub after-word : (all : List Word) (p : ℕ) (word : Word) (words : List Word) → drop p all ≡ word ∷ words → drop (p + 1) all ≡ words
+after-word all p word words is =
     sym (drop-drop 1 p all) ∙ ap (drop 1) is
 
 -- an option, and what follows it
@@ -46,14 +46,14 @@ pub option-followed : (c : Command) (all : List Word) (s : Settings) (p : ℕ) (
     drop p all ≡ word ∷ words → is_option word ≡ true → options_from c s p (word ∷ words) ≡ followed c all (option_read c s p word words)
 unfolding options_from
 option-followed c all s p word [] rest dash =
-    let none : drop (p + 1) all ≡ [] = behind-word all p word [] rest in
+    let none : drop (p + 1) all ≡ [] = after-word all p word [] rest in
     rw dash (either c all (is_console c word) _ _ _ _ (unless-followed c all (console_clashes s) p (with_console s) _ (rw none refl))
     (either c all (is_report c word) _ _ _ _ (unless-followed c all (report_clashes s) p (with_report s) _ (rw none refl))
     (either c all (is_last c word) _ _ _ _ (valued-unless c all (last_clashes s) p _ (last_read s (p + 1) []) refl)
     (either c all (is_dump c word) _ _ _ _ (rw none refl) (either c all (is_ring c word) _ _ _ _ refl (either c all (is_steps c word) _ _ _ _ refl refl))))))
 option-followed c all s p word (value ∷ words) rest dash =
-    let more : drop (p + 1) all ≡ value ∷ words = behind-word all p word (value ∷ words) rest in
-    let others : drop (p + 1 + 1) all ≡ words = behind-word all (p + 1) value words more in
+    let more : drop (p + 1) all ≡ value ∷ words = after-word all p word (value ∷ words) rest in
+    let others : drop (p + 1 + 1) all ≡ words = after-word all (p + 1) value words more in
     rw dash (either c all (is_console c word) _ _ _ _ (unless-followed c all (console_clashes s) p (with_console s) _ (rw more refl))
     (either c all (is_report c word) _ _ _ _ (unless-followed c all (report_clashes s) p (with_report s) _ (rw more refl))
     (either c all (is_last c word) _ _ _ _

@@ -81,55 +81,55 @@ steps-step Show s p value words is = cc is
 steps-step Multi s p value words is = refl
 
 -- options in front of a file
-played : (c : Command) (s : Settings) (p : ℕ) (words : List Word) (file : Word) (behind : List Word) → runs_file c ≡ true → s.report ≡ false → s.last ≡ 0 →
-    options_from c s p (codes "-i" ∷ (words ++ file ∷ behind)) ≡ options_from c (with_console s) (p + 1) (words ++ file ∷ behind)
-played c s p [] file behind is alone unset = console-step c s p file behind is ∙ no-clash (console_clashes s) p _ (no-option s.report s.last alone unset)
-played c s p (w ∷ words) file behind is alone unset = console-step c s p w (words ++ file ∷ behind) is ∙ no-clash (console_clashes s) p _ (no-option s.report s.last alone unset)
+played : (c : Command) (s : Settings) (p : ℕ) (words : List Word) (file : Word) (following : List Word) → runs_file c ≡ true → s.report ≡ false → s.last ≡ 0 →
+    options_from c s p (codes "-i" ∷ (words ++ file ∷ following)) ≡ options_from c (with_console s) (p + 1) (words ++ file ∷ following)
+played c s p [] file following is alone unset = console-step c s p file following is ∙ no-clash (console_clashes s) p _ (no-option s.report s.last alone unset)
+played c s p (w ∷ words) file following is alone unset = console-step c s p w (words ++ file ∷ following) is ∙ no-clash (console_clashes s) p _ (no-option s.report s.last alone unset)
 
-told : (c : Command) (s : Settings) (p : ℕ) (words : List Word) (file : Word) (behind : List Word) → runs_file c ≡ true → s.interactive ≡ false → s.last ≡ 0 →
-    options_from c s p (codes "--report" ∷ (words ++ file ∷ behind)) ≡ options_from c (with_report s) (p + 1) (words ++ file ∷ behind)
-told c s p [] file behind is alone unset = report-step c s p file behind is ∙ no-clash (report_clashes s) p _ (no-option s.interactive s.last alone unset)
-told c s p (w ∷ words) file behind is alone unset = report-step c s p w (words ++ file ∷ behind) is ∙ no-clash (report_clashes s) p _ (no-option s.interactive s.last alone unset)
+told : (c : Command) (s : Settings) (p : ℕ) (words : List Word) (file : Word) (following : List Word) → runs_file c ≡ true → s.interactive ≡ false → s.last ≡ 0 →
+    options_from c s p (codes "--report" ∷ (words ++ file ∷ following)) ≡ options_from c (with_report s) (p + 1) (words ++ file ∷ following)
+told c s p [] file following is alone unset = report-step c s p file following is ∙ no-clash (report_clashes s) p _ (no-option s.interactive s.last alone unset)
+told c s p (w ∷ words) file following is alone unset = report-step c s p w (words ++ file ∷ following) is ∙ no-clash (report_clashes s) p _ (no-option s.interactive s.last alone unset)
 
-dumped : (c : Command) (s : Settings) (p : ℕ) (words : List Word) (file : Word) (behind : List Word) → takes_steps c ≡ true →
-    options_from c s p (codes "--dump" ∷ (words ++ file ∷ behind)) ≡ options_from c (with_dump s) (p + 1) (words ++ file ∷ behind)
-dumped c s p [] file behind is = dump-step c s p file behind is
-dumped c s p (w ∷ words) file behind is = dump-step c s p w (words ++ file ∷ behind) is
+dumped : (c : Command) (s : Settings) (p : ℕ) (words : List Word) (file : Word) (following : List Word) → takes_steps c ≡ true →
+    options_from c s p (codes "--dump" ∷ (words ++ file ∷ following)) ≡ options_from c (with_dump s) (p + 1) (words ++ file ∷ following)
+dumped c s p [] file following is = dump-step c s p file following is
+dumped c s p (w ∷ words) file following is = dump-step c s p w (words ++ file ∷ following) is
 
 moved : (c : Command) (t : Settings) (p q : ℕ) (words : List Word) → p ≡ q → options_from c t p words ≡ options_from c t q words
 moved c t p q words is = rw is refl
 
-pub options-read : (c : Command) (s t : Settings) (words : List Word) → Options c s words t → (p : ℕ) (file : Word) (behind : List Word) →
-    options_from c s p (words ++ file ∷ behind) ≡ options_from c t (p + length words) (file ∷ behind)
-options-read _ _ _ _ (none c s) p file behind = moved c s p (p + 0) (file ∷ behind) (omega arith)
-options-read _ _ _ _ (console c s t words takes alone back rest) p file behind =
-    played c s p words file behind takes alone back
-    ∙ options-read c (with_console s) t words rest (p + 1) file behind
-    ∙ moved c t _ _ (file ∷ behind) (omega arith)
-options-read _ _ _ _ (report c s t words takes alone back rest) p file behind =
-    told c s p words file behind takes alone back
-    ∙ options-read c (with_report s) t words rest (p + 1) file behind
-    ∙ moved c t _ _ (file ∷ behind) (omega arith)
-options-read _ _ _ _ (last c s t value n words takes alone told_none is rest) p file behind =
-    last-step c s p value (words ++ file ∷ behind) takes
+pub options-read : (c : Command) (s t : Settings) (words : List Word) → Options c s words t → (p : ℕ) (file : Word) (following : List Word) →
+    options_from c s p (words ++ file ∷ following) ≡ options_from c t (p + length words) (file ∷ following)
+options-read _ _ _ _ (none c s) p file following = moved c s p (p + 0) (file ∷ following) (omega arith)
+options-read _ _ _ _ (console c s t words takes alone back rest) p file following =
+    played c s p words file following takes alone back
+    ∙ options-read c (with_console s) t words rest (p + 1) file following
+    ∙ moved c t _ _ (file ∷ following) (omega arith)
+options-read _ _ _ _ (report c s t words takes alone back rest) p file following =
+    told c s p words file following takes alone back
+    ∙ options-read c (with_report s) t words rest (p + 1) file following
+    ∙ moved c t _ _ (file ∷ following) (omega arith)
+options-read _ _ _ _ (last c s t value n words takes alone told_none is rest) p file following =
+    last-step c s p value (words ++ file ∷ following) takes
     ∙ no-clash (last_clashes s) p _ (neither s.interactive s.report alone told_none)
-    ∙ ap (λ v. valued v (p + 1) (λ m. options_from c (with_last s m) (p + 2) (words ++ file ∷ behind))) is
-    ∙ options-read c (with_last s n) t words rest (p + 2) file behind
-    ∙ moved c t _ _ (file ∷ behind) (omega arith)
-options-read _ _ _ _ (dump c s t words takes rest) p file behind =
-    dumped c s p words file behind takes
-    ∙ options-read c (with_dump s) t words rest (p + 1) file behind
-    ∙ moved c t _ _ (file ∷ behind) (omega arith)
-options-read _ _ _ _ (ring c s t value n words takes is rest) p file behind =
-    ring-step c s p value (words ++ file ∷ behind) takes
-    ∙ ap (λ v. valued v (p + 1) (λ m. options_from c (with_ring s m) (p + 2) (words ++ file ∷ behind))) is
-    ∙ options-read c (with_ring s n) t words rest (p + 2) file behind
-    ∙ moved c t _ _ (file ∷ behind) (omega arith)
-options-read _ _ _ _ (steps c s t value n words takes is rest) p file behind =
-    steps-step c s p value (words ++ file ∷ behind) takes
-    ∙ ap (λ v. valued v (p + 1) (λ m. options_from c (with_steps s m) (p + 2) (words ++ file ∷ behind))) is
-    ∙ options-read c (with_steps s n) t words rest (p + 2) file behind
-    ∙ moved c t _ _ (file ∷ behind) (omega arith)
+    ∙ ap (λ v. valued v (p + 1) (λ m. options_from c (with_last s m) (p + 2) (words ++ file ∷ following))) is
+    ∙ options-read c (with_last s n) t words rest (p + 2) file following
+    ∙ moved c t _ _ (file ∷ following) (omega arith)
+options-read _ _ _ _ (dump c s t words takes rest) p file following =
+    dumped c s p words file following takes
+    ∙ options-read c (with_dump s) t words rest (p + 1) file following
+    ∙ moved c t _ _ (file ∷ following) (omega arith)
+options-read _ _ _ _ (ring c s t value n words takes is rest) p file following =
+    ring-step c s p value (words ++ file ∷ following) takes
+    ∙ ap (λ v. valued v (p + 1) (λ m. options_from c (with_ring s m) (p + 2) (words ++ file ∷ following))) is
+    ∙ options-read c (with_ring s n) t words rest (p + 2) file following
+    ∙ moved c t _ _ (file ∷ following) (omega arith)
+options-read _ _ _ _ (steps c s t value n words takes is rest) p file following =
+    steps-step c s p value (words ++ file ∷ following) takes
+    ∙ ap (λ v. valued v (p + 1) (λ m. options_from c (with_steps s m) (p + 2) (words ++ file ∷ following))) is
+    ∙ options-read c (with_steps s n) t words rest (p + 2) file following
+    ∙ moved c t _ _ (file ∷ following) (omega arith)
 
 pub order-read : (words : List Word) (o : Order) → Orders words o → order_of words ≡ Ok o
 order-read _ _ (run s options source arguments set file) =

@@ -1,6 +1,6 @@
 pub mod Places
 pub mod Chosen
-pub mod Behind
+pub mod AfterOptions
 pub mod ReadOptions
 pub mod Parsed
 pub mod Complete

@@ -3,7 +3,7 @@ use Rattle.std.proofs.Common.{◌≡◌, ℕ, ◌+◌, ◌<◌, ◌≤◌, true,
 use Rattle.mx_words.specs.Values.{Word, is_option}
 use Rattle.mx_words.specs.Orders.{options_from}
 use Rattle.mx_words.specs.OneOption.{option_at}
-use Rattle.mx_words.specs.Files.{behind}
+use Rattle.mx_words.specs.Files.{after_options}
 use Rattle.mx_words.specs.declared.order.Command.{Command}
 use Rattle.mx_words.specs.declared.order.WordsFault.{WordsFault}
 use Rattle.mx_words.specs.declared.settings.Settings.{Settings}
@@ -28,13 +28,13 @@ module _ {A : Type 0} (f : A → Word) where
 
   -- no option at a place
   pub at-file : (c : Command) (s : Settings) (p : ℕ) (xs : List A) (w d : A) → p < length xs → w ≡ get_or xs p d → is_option (f w) ≡ false →
-      options_from c s p (drop p (map f xs)) ≡ behind c s p (drop p (map f xs))
+      options_from c s p (drop p (map f xs)) ≡ after_options c s p (drop p (map f xs))
   at-file c s p xs w d lt here dash =
       let from : drop p (map f xs) ≡ f w ∷ drop (p + 1) (map f xs) = word-at f xs p d lt ∙ ap (λ v. f v ∷ drop (p + 1) (map f xs)) (sym here) in
       rw from (not-option c s p (f w) (drop (p + 1) (map f xs)) dash)
 
   pub at-end : (c : Command) (s : Settings) (p : ℕ) (xs : List A) → length xs ≤ p →
-      options_from c s p (drop p (map f xs)) ≡ behind c s p (drop p (map f xs))
+      options_from c s p (drop p (map f xs)) ≡ after_options c s p (drop p (map f xs))
   at-end c s p xs le = rw (no-word f xs p le) (no-file c s p)
 
 pub ruleset reading = (option-read, option-refused, at-file, at-end)

@@ -18,11 +18,11 @@ record Parted (c : Command) (s : Settings) (p : ℕ) (words : List Word) (o : Or
   options : List Word
   after : Settings
   file : Word
-  behind : List Word
-  whole : words ≡ options ++ file ∷ behind
+  following : List Word
+  whole : words ≡ options ++ file ∷ following
   set : Options c s options after
   no_dash : is_option file ≡ false
-  ordered : file_at c after (p + length options) file behind ≡ Ok o
+  ordered : file_at c after (p + length options) file following ≡ Ok o
 
 refused : {A : Type 0} (e : WordsFault) (o : Order) → ◌≡◌ {A = Ordered} (Err e) (Ok o) → A
 refused e o is = cc is
@@ -33,13 +33,13 @@ ok a b e = cc e
 no-options : (c : Command) (s : Settings) (p : ℕ) (word : Word) (words : List Word) (o : Order) → is_option word ≡ false →
     file_at c s p word words ≡ Ok o → Parted c s p (word ∷ words) o
 no-options c s p word words o dash is =
-    record { options = []; after = s; file = word; behind = words; whole = refl; set = none c s; no_dash = dash; ordered = file_at-moved (omega arith) ∙ is }
+    record { options = []; after = s; file = word; following = words; whole = refl; set = none c s; no_dash = dash; ordered = file_at-moved (omega arith) ∙ is }
   where
     file_at-moved : p + 0 ≡ p → file_at c s (p + 0) word words ≡ file_at c s p word words
     file_at-moved same = rw same refl
 
-file_at-same : (c : Command) (t : Settings) (p q : ℕ) (file : Word) (behind : List Word) → p ≡ q → file_at c t p file behind ≡ file_at c t q file behind
-file_at-same c t p q file behind is = rw is refl
+file_at-same : (c : Command) (t : Settings) (p q : ℕ) (file : Word) (following : List Word) → p ≡ q → file_at c t p file following ≡ file_at c t q file following
+file_at-same c t p q file following is = rw is refl
 
 -- what follows an option that clashes with none before it
 not-clashing : (clashes : Bool) (p : ℕ) (more : Ordered) (o : Order) → unless clashes p more ≡ Ok o → (clashes ≡ false) × (more ≡ Ok o)
@@ -64,11 +64,11 @@ with-played c s p word words o is alone rest =
       options = codes "-i" ∷ rest.options;
       after = rest.after;
       file = rest.file;
-      behind = rest.behind;
+      following = rest.following;
       whole = cc (named, rest.whole);
       set = console c s rest.after rest.options parts.0 alone.0 alone.1 rest.set;
       no_dash = rest.no_dash;
-      ordered = file_at-same c rest.after _ _ rest.file rest.behind (omega arith) ∙ rest.ordered;
+      ordered = file_at-same c rest.after _ _ rest.file rest.following (omega arith) ∙ rest.ordered;
     }
 
 with-reported : (c : Command) (s : Settings) (p : ℕ) (word : Word) (words : List Word) (o : Order) → is_report c word ≡ true → (s.interactive ≡ false) × (s.last ≡ 0) →
@@ -80,11 +80,11 @@ with-reported c s p word words o is alone rest =
       options = codes "--report" ∷ rest.options;
       after = rest.after;
       file = rest.file;
-      behind = rest.behind;
+      following = rest.following;
       whole = cc (named, rest.whole);
       set = report c s rest.after rest.options parts.0 alone.0 alone.1 rest.set;
       no_dash = rest.no_dash;
-      ordered = file_at-same c rest.after _ _ rest.file rest.behind (omega arith) ∙ rest.ordered;
+      ordered = file_at-same c rest.after _ _ rest.file rest.following (omega arith) ∙ rest.ordered;
     }
 
 with-backed : (c : Command) (s : Settings) (p : ℕ) (word value : Word) (n : ℕ) (words : List Word) (o : Order) → is_last c word ≡ true → (s.interactive ≡ false) × (s.report ≡ false) → last_value value ≡ Ok n →
@@ -96,11 +96,11 @@ with-backed c s p word value n words o is alone good rest =
       options = codes "--last" ∷ value ∷ rest.options;
       after = rest.after;
       file = rest.file;
-      behind = rest.behind;
+      following = rest.following;
       whole = cc (named, rest.whole);
       set = last c s rest.after value n rest.options parts.0 alone.0 alone.1 good rest.set;
       no_dash = rest.no_dash;
-      ordered = file_at-same c rest.after _ _ rest.file rest.behind (omega arith) ∙ rest.ordered;
+      ordered = file_at-same c rest.after _ _ rest.file rest.following (omega arith) ∙ rest.ordered;
     }
 
 with-dumped : (c : Command) (s : Settings) (p : ℕ) (word : Word) (words : List Word) (o : Order) → is_dump c word ≡ true →
@@ -112,11 +112,11 @@ with-dumped c s p word words o is rest =
       options = codes "--dump" ∷ rest.options;
       after = rest.after;
       file = rest.file;
-      behind = rest.behind;
+      following = rest.following;
       whole = cc (named, rest.whole);
       set = dump c s rest.after rest.options parts.0 rest.set;
       no_dash = rest.no_dash;
-      ordered = file_at-same c rest.after _ _ rest.file rest.behind (omega arith) ∙ rest.ordered;
+      ordered = file_at-same c rest.after _ _ rest.file rest.following (omega arith) ∙ rest.ordered;
     }
 
 with-ringed : (c : Command) (s : Settings) (p : ℕ) (word value : Word) (n : ℕ) (words : List Word) (o : Order) → is_ring c word ≡ true → ring_value value ≡ Ok n →
@@ -128,11 +128,11 @@ with-ringed c s p word value n words o is good rest =
       options = codes "--ring" ∷ value ∷ rest.options;
       after = rest.after;
       file = rest.file;
-      behind = rest.behind;
+      following = rest.following;
       whole = cc (named, rest.whole);
       set = ring c s rest.after value n rest.options parts.0 good rest.set;
       no_dash = rest.no_dash;
-      ordered = file_at-same c rest.after _ _ rest.file rest.behind (omega arith) ∙ rest.ordered;
+      ordered = file_at-same c rest.after _ _ rest.file rest.following (omega arith) ∙ rest.ordered;
     }
 
 with-stepped : (c : Command) (s : Settings) (p : ℕ) (word value : Word) (n : ℕ) (words : List Word) (o : Order) → is_steps c word ≡ true → steps_value value ≡ Ok n →
@@ -144,11 +144,11 @@ with-stepped c s p word value n words o is good rest =
       options = codes "--steps" ∷ value ∷ rest.options;
       after = rest.after;
       file = rest.file;
-      behind = rest.behind;
+      following = rest.following;
       whole = cc (named, rest.whole);
       set = steps c s rest.after value n rest.options parts.0 good rest.set;
       no_dash = rest.no_dash;
-      ordered = file_at-same c rest.after _ _ rest.file rest.behind (omega arith) ∙ rest.ordered;
+      ordered = file_at-same c rest.after _ _ rest.file rest.following (omega arith) ∙ rest.ordered;
     }
 
 -- one word, which has to be the file
@@ -234,15 +234,15 @@ bare _ _ _ _ file on makes (steps c s t value n words takes is rest) = absurd (c
 run-order : (words : List Word) (o : Order) → Parted Run defaults 1 words o → Orders (codes "run" ∷ words) o
 run-order words o parts =
     let is : run_order Run parts.after (1 + length parts.options) ≡ o = ok _ _ parts.ordered in
-    rw (parts.whole, ← is) (run parts.after parts.options parts.file parts.behind parts.set parts.no_dash)
+    rw (parts.whole, ← is) (run parts.after parts.options parts.file parts.following parts.set parts.no_dash)
 
 sim-order : (words : List Word) (o : Order) → Parted Sim defaults 1 words o → Orders (codes "sim" ∷ words) o
 sim-order words o parts =
     let is : run_order Sim parts.after (1 + length parts.options) ≡ o = ok _ _ parts.ordered in
-    rw (parts.whole, ← is) (sim parts.after parts.options parts.file parts.behind parts.set parts.no_dash)
+    rw (parts.whole, ← is) (sim parts.after parts.options parts.file parts.following parts.set parts.no_dash)
 
-asm-from : (s : Settings) (file : Word) (behind : List Word) (o : Order) → is_option file ≡ false → defaults ≡ s → object_after s 1 behind ≡ Ok o →
-    Orders (codes "asm" ∷ file ∷ behind) o
+asm-from : (s : Settings) (file : Word) (following : List Word) (o : Order) → is_option file ≡ false → defaults ≡ s → object_after s 1 following ≡ Ok o →
+    Orders (codes "asm" ∷ file ∷ following) o
 asm-from s file [] o dash is ordered = refused _ o ordered
 asm-from s file (object ∷ []) o dash is ordered = rw (← ok _ _ ordered, ← is) (asm file object dash)
 asm-from s file (object ∷ other ∷ others) o dash is ordered = refused _ o ordered
@@ -250,36 +250,36 @@ asm-from s file (object ∷ other ∷ others) o dash is ordered = refused _ o or
 asm-order : (words : List Word) (o : Order) → Parted Asm defaults 1 words o → Orders (codes "asm" ∷ words) o
 asm-order words o parts =
     let none_set : (parts.options ≡ []) × (defaults ≡ parts.after) = bare Asm defaults parts.after parts.options refl refl refl parts.set in
-    let whole : words ≡ parts.file ∷ parts.behind = parts.whole ∙ ap (λ l. l ++ parts.file ∷ parts.behind) none_set.0 in
-    let ordered : object_after parts.after 1 parts.behind ≡ Ok o = ap (λ l. object_after parts.after (1 + length l) parts.behind) (sym none_set.0) ∙ parts.ordered in
-    rw whole (asm-from parts.after parts.file parts.behind o parts.no_dash none_set.1 ordered)
+    let whole : words ≡ parts.file ∷ parts.following = parts.whole ∙ ap (λ l. l ++ parts.file ∷ parts.following) none_set.0 in
+    let ordered : object_after parts.after 1 parts.following ≡ Ok o = ap (λ l. object_after parts.after (1 + length l) parts.following) (sym none_set.0) ∙ parts.ordered in
+    rw whole (asm-from parts.after parts.file parts.following o parts.no_dash none_set.1 ordered)
 
-list-from : (s : Settings) (file : Word) (behind : List Word) (o : Order) → is_option file ≡ false → defaults ≡ s → none_after (run_order Show s 1) 1 behind ≡ Ok o →
-    Orders (codes "type" ∷ file ∷ behind) o
+list-from : (s : Settings) (file : Word) (following : List Word) (o : Order) → is_option file ≡ false → defaults ≡ s → none_after (run_order Show s 1) 1 following ≡ Ok o →
+    Orders (codes "type" ∷ file ∷ following) o
 list-from s file [] o dash is ordered = rw (← ok _ _ ordered, ← is) (list file dash)
 list-from s file (other ∷ others) o dash is ordered = refused _ o ordered
 
 list-order : (words : List Word) (o : Order) → Parted Show defaults 1 words o → Orders (codes "type" ∷ words) o
 list-order words o parts =
     let none_set : (parts.options ≡ []) × (defaults ≡ parts.after) = bare Show defaults parts.after parts.options refl refl refl parts.set in
-    let whole : words ≡ parts.file ∷ parts.behind = parts.whole ∙ ap (λ l. l ++ parts.file ∷ parts.behind) none_set.0 in
-    let ordered : none_after (run_order Show parts.after 1) 1 parts.behind ≡ Ok o =
-    ap (λ l. none_after (run_order Show parts.after (1 + length l)) (1 + length l) parts.behind) (sym none_set.0) ∙ parts.ordered in
-    rw whole (list-from parts.after parts.file parts.behind o parts.no_dash none_set.1 ordered)
+    let whole : words ≡ parts.file ∷ parts.following = parts.whole ∙ ap (λ l. l ++ parts.file ∷ parts.following) none_set.0 in
+    let ordered : none_after (run_order Show parts.after 1) 1 parts.following ≡ Ok o =
+    ap (λ l. none_after (run_order Show parts.after (1 + length l)) (1 + length l) parts.following) (sym none_set.0) ∙ parts.ordered in
+    rw whole (list-from parts.after parts.file parts.following o parts.no_dash none_set.1 ordered)
 
 gen-order : (words : List Word) (o : Order) → Parted Gen defaults 1 words o → Orders (codes "gen" ∷ words) o
-gen-order words o parts = from parts.behind (blocks_value parts.file) refl parts.whole parts.ordered
+gen-order words o parts = from parts.following (blocks_value parts.file) refl parts.whole parts.ordered
   where
-    from : (behind : List Word) (v : Result ℕ ℕ) → blocks_value parts.file ≡ v → words ≡ parts.options ++ parts.file ∷ behind →
-        blocks_at parts.after (1 + length parts.options) v behind ≡ Ok o → Orders (codes "gen" ∷ words) o
-    from behind (Err kind) is whole ordered = refused _ o ordered
+    from : (following : List Word) (v : Result ℕ ℕ) → blocks_value parts.file ≡ v → words ≡ parts.options ++ parts.file ∷ following →
+        blocks_at parts.after (1 + length parts.options) v following ≡ Ok o → Orders (codes "gen" ∷ words) o
+    from following (Err kind) is whole ordered = refused _ o ordered
     from [] (Ok n) is whole ordered = rw (whole, ← ok _ _ ordered) (gen parts.after parts.options parts.file n parts.set parts.no_dash is)
     from (other ∷ others) (Ok n) is whole ordered = refused _ o ordered
 
 multi-order : (words : List Word) (o : Order) → Parted Multi defaults 1 words o → Orders (codes "multi" ∷ words) o
-multi-order words o parts = from parts.behind parts.whole parts.ordered
+multi-order words o parts = from parts.following parts.whole parts.ordered
   where
-    from : (behind : List Word) → words ≡ parts.options ++ parts.file ∷ behind → processors_after parts.after (1 + length parts.options) behind ≡ Ok o →
+    from : (following : List Word) → words ≡ parts.options ++ parts.file ∷ following → processors_after parts.after (1 + length parts.options) following ≡ Ok o →
         Orders (codes "multi" ∷ words) o
     from [] whole ordered = refused _ o ordered
     from (object ∷ []) whole ordered = rw (whole, ← ok _ _ ordered) (multi parts.after parts.options parts.file object parts.set parts.no_dash)

@@ -6,9 +6,9 @@ use Rattle.mx_words.specs.declared.order.Command.{Command}
 use Rattle.mx_words.specs.declared.settings.Settings.{Settings}
 
 -- the file of a command, which begins the words from a place on
-abbrev pub behind : Command → Settings → ℕ → List Word → Ordered
-behind c s place [] = Err (fault 7 place)
-behind c s place (word ∷ words) = file_at c s place word words
+abbrev pub after_options : Command → Settings → ℕ → List Word → Ordered
+after_options c s place [] = Err (fault 7 place)
+after_options c s place (word ∷ words) = file_at c s place word words
 
 -- the N of `gen`, which begins the words from a place on
 abbrev pub blocks_after : Settings → ℕ → List Word → Ordered

@@ -39,10 +39,10 @@ pub struct Order {
     pub rest: usize,
     /// `gen`: how many blocks it makes, 1 to 10,000.
     pub number: u64,
-    /// `run`, `sim`: whether the reports of watchers are written at the end; not in an order that wants the console.
+    /// `run`, `sim`: whether the reports of watchers are written at the end; not in an order for the console.
     pub report: bool,
     /// `run`, `sim`: how many steps are taken back at the end at most, 1 to 1,024, or 0 where none is; 0 in an order that
-    /// wants the console or reports.
+    /// is for the console or has reports.
     pub last: u64,
     /// `multi`: the place of the schedule among the words.
     pub schedule: usize,

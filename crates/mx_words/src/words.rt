@@ -95,14 +95,14 @@ fn read_command(command: Command, words: &[String]) -> Result<Order, WordsFault>
 }
 
 /// What follows the options.
-#[tactic(auto, using(crate::proofs::Behind::behinds))]
+#[tactic(auto, using(crate::proofs::AfterOptions::following_words))]
 fn file(
     command: Command,
     settings: Settings,
     words: &[String],
     at: usize,
 ) -> Result<Order, WordsFault>
-    ensures value { result ≡ files.behind command settings at (drop at (map string_bytes words.now)) }
+    ensures value { result ≡ files.after_options command settings at (drop at (map string_bytes words.now)) }
     ensures lies { IfOk result (spec.LiesIn (length words.now)) }
 {
     if at >= words.len() {
@@ -138,7 +138,7 @@ fn run_order(command: Command, settings: Settings, at: usize) -> Order
 }
 
 /// An order to list the object at a place: no word follows it.
-#[tactic(auto, using(crate::proofs::Behind::behinds))]
+#[tactic(auto, using(crate::proofs::AfterOptions::following_words))]
 fn show_order(settings: Settings, words: &[String], at: usize) -> Result<Order, WordsFault>
     requires { at < length words.now }
     ensures value { result ≡ spec.none_after (spec.run_order Command.Show settings at) at
@@ -155,7 +155,7 @@ fn show_order(settings: Settings, words: &[String], at: usize) -> Result<Order, 
 }
 
 /// An order to assemble the source at a place: one word follows it.
-#[tactic(auto, using(crate::proofs::Behind::behinds))]
+#[tactic(auto, using(crate::proofs::AfterOptions::following_words))]
 fn asm_order(settings: Settings, words: &[String], at: usize) -> Result<Order, WordsFault>
     requires { at < length words.now }
     ensures value { result ≡ spec.object_after settings at (drop (at + 1) (map string_bytes words.now)) }
@@ -177,7 +177,7 @@ fn asm_order(settings: Settings, words: &[String], at: usize) -> Result<Order, W
 }
 
 /// An order to run the object after the schedule at a place on several processors: no word follows it.
-#[tactic(auto, using(crate::proofs::Behind::behinds))]
+#[tactic(auto, using(crate::proofs::AfterOptions::following_words))]
 fn multi_order(settings: Settings, words: &[String], at: usize) -> Result<Order, WordsFault>
     requires { at < length words.now }
     ensures value { result ≡ spec.processors_after settings at (drop (at + 1) (map string_bytes words.now)) }
@@ -211,7 +211,7 @@ fn multi_order(settings: Settings, words: &[String], at: usize) -> Result<Order,
 }
 
 /// An order to generate as many blocks as the word at a place says: no word follows it.
-#[tactic(auto, using(crate::proofs::Behind::behinds))]
+#[tactic(auto, using(crate::proofs::AfterOptions::following_words))]
 fn gen_order(settings: Settings, words: &[String], at: usize) -> Result<Order, WordsFault>
     requires { at < length words.now }
     ensures value { result ≡ files.blocks_after settings at (drop at (map string_bytes words.now)) }

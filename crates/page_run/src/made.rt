@@ -51,7 +51,7 @@ struct Streams {
 }
 
 /// What was written on both streams so far.
-fn written_so_far(host: &MemHost) -> Streams {
+fn read_written(host: &MemHost) -> Streams {
     Streams {
         output: host.output().len(),
         errors: host.errors().len(),
@@ -98,7 +98,7 @@ impl Made {
             return Ok(());
         };
         let pc = recorder.machine().pc();
-        let before = written_so_far(recorder.host());
+        let before = read_written(recorder.host());
         let (record, _trace) = recorder.next()?;
         if let End::Stopped { .. } = recorder.end() {
             return Ok(());

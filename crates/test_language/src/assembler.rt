@@ -209,7 +209,7 @@ static REFUSALS: [(&str, (u32, u16, u32)); 18] = [
     ("Main JMP x\n BZ $0,x\n BZ $0,x\nx IS #80000", (4, 85, 2)),
     ("Main JMP x\nx IS $1", (2, 84, 1)),
     ("Main JMP x\nx IS 6", (2, 89, 1)),
-    // an unknown symbol with a prefix, a predefined one, and one that stands twice
+    // an unknown symbol with a prefix, a predefined one, and one that is there twice
     (" PREFIX p:\n:Main TRAP 0,Halt,0", (2, 17, 0)),
     ("Halt IS 0", (1, 31, 0)),
     ("x IS 1\nx IS 2", (2, 30, 0)),

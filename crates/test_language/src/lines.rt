@@ -112,7 +112,7 @@ static BARE: [(&str, usize); 4] = [
     (" SWYM; ;SWYM", 6),
 ];
 
-/// Lines, and places from which on no statement stands.
+/// Lines, and places from which on there is no statement.
 static EMPTY: [(&str, usize); 9] = [
     ("", 0),
     ("* note", 0),

@@ -69,7 +69,7 @@ fn placed_after(
     }
 }
 
-/// The tetra that stands alone in these bytes.
+/// The tetra that is alone in these bytes.
 fn tetra(bytes: &[u8]) -> Result<u32, u16> {
     match bytes {
         [a, b, c, d] => Ok(tetra_of([*a, *b, *c, *d])),
@@ -117,7 +117,7 @@ fn first_faults(rt: HostRuntime) {
 }
 
 #[test]
-fn predefined_symbols_behind_a_prefix(rt: HostRuntime) {
+fn predefined_symbols_after_a_prefix(rt: HostRuntime) {
     words_are(&rt, rt.alloc(), ":p:", &Gregs::new(), 0, &PREFIXED);
 }
 

@@ -90,7 +90,7 @@ const TRIPPING: &str =
     " LOC #20\n SWYM\n LOC #100\nMain SETL $1,#4000\n PUT rA,$1\n SETL $2,77\n PUT rJ,$2\n \
      NEG $0,0,1\n SRU $0,$0,1\n ADD $255,$0,1";
 
-/// RESUME at #114 inserts ADDU $0,$0,1 as if it stood at #1fc.
+/// RESUME at #114 inserts ADDU $0,$0,1 as if it were at #1fc.
 const INSERTING: &str =
     " LOC #100\nMain SETL $2,1\n INCML $2,#2300\n PUT rX,$2\n SETL $3,#200\n PUT rW,$3\n RESUME 0\n \
      LOC #1fc\n SWYM\n SET $255,$0\n TRAP 0,Halt,0";

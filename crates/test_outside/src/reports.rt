@@ -245,7 +245,7 @@ fn full_ones_leave(rt: &impl Abort, alloc: Global) -> Result<bool, Fail> {
 }
 
 #[test]
-fn reports_stand_behind_the_message(rt: HostRuntime) -> Result<(), Fail> {
+fn reports_follow_the_message(rt: HostRuntime) -> Result<(), Fail> {
     for row in &ROWS {
         see(comes(&rt, rt.alloc(), row)?, row.1)?;
     }

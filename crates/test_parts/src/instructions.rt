@@ -1,5 +1,5 @@
 //! Values from outside: a model of the instructions that was written apart from this crate, in
-//! Python's whole numbers and lists of bits. Each name stands with either of its codes.
+//! Python's whole numbers and lists of bits. Each name is there with either of its codes.
 
 use mx_alu::{Answer, Event, Extra, alu, truth};
 use std::process::Abort;

@@ -309,7 +309,7 @@ fn cut_taken_otherwise(alloc: Global) -> Result<Option<usize>, NoMemory> {
 }
 
 /// Bytes after the object of `hello.mms`, and the fault that is met.
-static BEHIND: [(&[u8], (u16, u64)); 2] = [
+static AFTER: [(&[u8], (u16, u64)); 2] = [
     (&[0, 0, 0, 0], (64, 128)),
     (&[0x98, 12, 0, 10], (63, 124)),
 ];
@@ -319,7 +319,7 @@ static BEHIND: [(&[u8], (u16, u64)); 2] = [
 fn cut_objects(rt: HostRuntime) {
     let alloc = rt.alloc();
     assert_eq!(rt; cut_taken_otherwise(alloc), Ok(None));
-    for (more, fault) in &BEHIND {
+    for (more, fault) in &AFTER {
         assert_eq!(rt; size_taken_otherwise(alloc, &HELLO, more, *fault), Ok(None));
     }
     // a count that is wrong by one

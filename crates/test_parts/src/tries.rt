@@ -248,14 +248,14 @@ fn faults_are_met_in_their_order(rt: HostRuntime) {
 }
 
 /// What reading many of the same bytes, and some after them, answers.
-fn of_many(alloc: Global, bytes: &[u8], times: u32, behind: &[u8]) -> Option<StabFault> {
+fn of_many(alloc: Global, bytes: &[u8], times: u32, following: &[u8]) -> Option<StabFault> {
     let mut all = Vec::new(alloc);
     for _turn in 0..times {
         if all.extend_from_slice(bytes).is_err() {
             return Some(StabFault::OutOfMemory);
         }
     }
-    if all.extend_from_slice(behind).is_err() {
+    if all.extend_from_slice(following).is_err() {
         return Some(StabFault::OutOfMemory);
     }
     read(alloc, all.as_slice()).err()
@@ -284,9 +284,9 @@ static LONG: [(&[u8], u32, &[u8], Option<StabFault>); 7] = [
 
 #[test]
 fn long_tries_are_read(rt: HostRuntime) {
-    for (bytes, times, behind, fault) in &LONG {
+    for (bytes, times, following, fault) in &LONG {
         assert_eq!(rt;
-            of_many(rt.alloc(), bytes, *times, behind),
+            of_many(rt.alloc(), bytes, *times, following),
             *fault,
             "{times} times"
         );

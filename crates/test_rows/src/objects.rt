@@ -146,7 +146,7 @@ static BEFORE: [u32; 8] = [
 ];
 
 #[test]
-fn refused_sources_leave_what_stood_before(rt: HostRuntime) -> Result<(), Fail> {
+fn refused_sources_leave_what_was_there(rt: HostRuntime) -> Result<(), Fail> {
     let due = due_refused(3, 39, 0, b"line 3: 39 UnknownOpcode\n");
     assert!(rt; assembles(rt.alloc(), " LOC #100\nMain SWYM\n FROB", due, &BEFORE)?);
     Ok(())

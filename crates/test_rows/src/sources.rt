@@ -103,7 +103,7 @@ fn push_times(source: &mut String, text: &str, count: u32) -> Result<(), Fail> {
     Ok(())
 }
 
-/// What is before a text, the text and how often it stands, what follows it, and the refusal, if there
+/// What is before a text, the text and how often it is there, what follows it, and the refusal, if there
 /// is one: the line, the number of the fault, and the message.
 type Limit = (
     &'static str,
@@ -165,10 +165,10 @@ static LIMITS: [Limit; 10] = [
 
 /// Whether a limit is kept.
 fn is_kept(alloc: Global, limit: &Limit) -> Result<bool, Fail> {
-    let (before, text, count, behind, over) = limit;
+    let (before, text, count, following, over) = limit;
     let mut source = String::from_str(alloc, before)?;
     push_times(&mut source, text, *count)?;
-    source.push_str(behind)?;
+    source.push_str(following)?;
     let due = match over {
         None => due_done(0, b""),
         Some((line, fault, told)) => due_refused(*line, *fault, 0, told),

@@ -231,7 +231,7 @@ const RESUMED: &str = "\n GETA $3,2F\n PUT rW,$3\n RESUME 0\n2H SET $255,$0\n TR
 
 /// What is before it, and the status.
 static INSERTING: [(&str, u8); 3] = [
-    // ADDU $0,$0,1, as if it stood before the place of rW
+    // ADDU $0,$0,1, as if it were before the place of rW
     ("Main SETL $2,1\n INCML $2,#2300\n PUT rX,$2", 2),
     // the same with rY and rZ as operands
     (

@@ -16,7 +16,7 @@ enum Call {
     Tell(u16),
 }
 
-/// What a call answers; a read shows the four bytes of the buffer, where dots stood before.
+/// What a call answers; a read shows the four bytes of the buffer, where there were dots before.
 #[derive(Clone, Copy, Debug, PartialEq)]
 enum Answer {
     Done,

@@ -109,7 +109,7 @@ static OTHERS: [Computed; 14] = [
 
 /// An instruction with a destination makes it local before it does anything else.
 static DESTINATIONS: [Going; 10] = [
-    // $10 is the first that is not local, $12 and $254 stand higher, $255 is global
+    // $10 is the first that is not local, $12 and $254 are higher, $255 is global
     (
         0x200a_0203,
         Some(10),

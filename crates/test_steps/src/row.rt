@@ -11,7 +11,7 @@ use mx_word::{Bytes, Symbols};
 use std::alloc::Global;
 use std::test::Fail;
 
-/// The instruction of a row stands here, and the next one after it.
+/// The instruction of a row is here, and the next one after it.
 pub const AT: u64 = 0x1000_0004;
 
 pub const NEXT: u64 = 0x1000_0008;

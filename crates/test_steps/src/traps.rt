@@ -10,12 +10,12 @@ use mx_trap::{TrapAnswer, TrapStop, touches, trap};
 use std::alloc::Global;
 use std::process::Abort;
 
-/// Where the arguments stand, and the buffer after them.
+/// Where the arguments are, and the buffer after them.
 const ARGS: u64 = 0x2000_0000_0000_0000;
 
 const BUFFER: u64 = ARGS + 16;
 
-/// Where texts stand: `out`, `none`, and `hi` with a newline.
+/// Where texts are: `out`, `none`, and `hi` with a newline.
 const OUT: u64 = ARGS + 64;
 
 const NONE: u64 = ARGS + 72;
@@ -127,7 +127,7 @@ static NO_CALLS: [(u32, u64, TrapAnswer, &str); 2] = [
     ),
 ];
 
-/// Where the call stands, where $255 points, Y, and whether it touches Stack_Segment, with
+/// Where the call is, where $255 points, Y, and whether it touches Stack_Segment, with
 /// p = #5fffffffffffffff and q = 1 at `ARGS`.
 static TOUCHES: [(u64, u64, u8, bool); 11] = [
     (0, ARGS, 6, false),
@@ -225,7 +225,7 @@ fn start(rt: &impl Abort, alloc: Global, input: &[u8], failing: u64) -> MemHost 
     MemHost::new(alloc, input, failing).expect(rt, "memory")
 }
 
-/// What $255 has for these arguments: p alone, or where both stand.
+/// What $255 has for these arguments: p alone, or where both are.
 fn argument(rt: &impl Abort, memory: &mut Memory, y: u8, p: u64, q: u64) -> u64 {
     match y {
         2 | 7 | 9 | 10 => p,

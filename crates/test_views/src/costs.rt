@@ -1,8 +1,7 @@
 //! The costs of instructions, row by row, from the book's table (TAOCP 1, Fascicle 1, Table 1).
 
 use mx_core::Trace;
-use mx_count::Counts;
-use mx_watch::Watcher;
+use mx_count::{Counts, format_sheet, make_sheet};
 use mx_word::Bytes;
 use std::alloc::Global;
 
@@ -67,9 +66,10 @@ fn trace_of(row: &Row) -> Trace {
 
 /// The sheet of an empty source and a step.
 fn sheet_of(alloc: Global, row: &Row) -> Option<Bytes> {
-    let mut counts = Counts::new(alloc, b"").ok()?;
-    counts.tell(&trace_of(row)).ok()?;
-    counts.summary().ok()
+    let mut counts = Counts::new(alloc);
+    counts.add_step(&trace_of(row)).ok()?;
+    let sheet = make_sheet(alloc, b"", counts.as_slice()).ok()?;
+    format_sheet(alloc, &sheet).ok()
 }
 
 /// The last row of the sheet that is due.

@@ -188,7 +188,7 @@ fn listed_words(rt: HostRuntime) {
     }
 }
 
-/// An example as a source: in an example `;` stands for the end of a line.
+/// An example as a source: in an example `;` means the end of a line.
 fn source_of(alloc: Global, example: &str) -> Result<Bytes, NoMemory> {
     let mut source = Bytes::new(alloc);
     for b in example.as_bytes() {

@@ -1,8 +1,7 @@
 //! Sheets of traces made by hand. The sums are worked out by hand.
 
 use mx_core::Trace;
-use mx_count::Counts;
-use mx_watch::Watcher;
+use mx_count::{Counts, format_sheet, make_sheet};
 use mx_word::Bytes;
 use std::alloc::Global;
 
@@ -65,9 +64,9 @@ static FAR_DOWN: &str = "
           1          0          1          0  all steps
 ";
 
-/// The sheet of a source and traces.
-fn sheet_of(alloc: Global, source: &str, rows: &[Row]) -> Option<Bytes> {
-    let mut counts = Counts::new(alloc, source.as_bytes()).ok()?;
+/// The counts of traces.
+fn counts_of(alloc: Global, rows: &[Row]) -> Option<Counts> {
+    let mut counts = Counts::new(alloc);
     for row in rows {
         let trace = Trace {
             pc: row.0,
@@ -77,9 +76,16 @@ fn sheet_of(alloc: Global, source: &str, rows: &[Row]) -> Option<Bytes> {
             writes: None,
             next: row.2,
         };
-        counts.tell(&trace).ok()?;
+        counts.add_step(&trace).ok()?;
     }
-    counts.summary().ok()
+    Some(counts)
+}
+
+/// The sheet of a source and traces.
+fn sheet_of(alloc: Global, source: &[u8], rows: &[Row]) -> Option<Bytes> {
+    let counts = counts_of(alloc, rows)?;
+    let sheet = make_sheet(alloc, source, counts.as_slice()).ok()?;
+    format_sheet(alloc, &sheet).ok()
 }
 
 /// Whether this is the sheet.
@@ -92,14 +98,14 @@ fn is_sheet(sheet: Option<Bytes>, text: &str) -> bool {
 
 #[test]
 fn lines_have_the_steps_of_their_tetras(rt: HostRuntime) {
-    assert!(rt; is_sheet(sheet_of(rt.alloc(), SOURCE, &TURNS), COUNTED));
+    assert!(rt; is_sheet(sheet_of(rt.alloc(), SOURCE.as_bytes(), &TURNS), COUNTED));
 }
 
 #[test]
 fn steps_elsewhere_are_in_the_sum(rt: HostRuntime) {
     assert!(rt;
         is_sheet(
-            sheet_of(rt.alloc(), " LOC #100\nMain SETL $0,3\n", &FAR),
+            sheet_of(rt.alloc(), b" LOC #100\nMain SETL $0,3\n", &FAR),
             FAR_COUNTED
         )
     );
@@ -115,29 +121,17 @@ fn far_down(alloc: Global, empty: usize, line: &str) -> Option<Bytes> {
     Some(source)
 }
 
-/// The sheet of a source and of one step at 0.
-fn one_step(alloc: Global, source: &Bytes, word: u32) -> Option<Bytes> {
-    let mut counts = Counts::new(alloc, source.as_slice()).ok()?;
-    let trace = Trace {
-        pc: 0,
-        word,
-        dest: None,
-        reads: None,
-        writes: None,
-        next: 4,
-    };
-    counts.tell(&trace).ok()?;
-    counts.summary().ok()
-}
+/// One step at 0.
+static ONE_STEP: [Row; 1] = [(0, 0xfd00_0000, 4)];
 
 /// Whether the sheet of a step at line 10,000 ends so.
 fn ends_with(alloc: Global, last: &str) -> Option<bool> {
     let source = far_down(alloc, 9999, "Main SWYM 0\n")?;
-    let sheet = one_step(alloc, &source, 0xfd00_0000)?;
+    let sheet = sheet_of(alloc, source.as_slice(), &ONE_STEP)?;
     Some(sheet.as_slice().ends_with(last.as_bytes()))
 }
 
 #[test]
-fn numbers_of_lines_stand_apart(rt: HostRuntime) {
+fn numbers_of_lines_are_apart(rt: HostRuntime) {
     assert_eq!(rt; ends_with(rt.alloc(), FAR_DOWN), Some(true));
 }

@@ -413,6 +413,6 @@ fn a_tetra_of_a_refused_line_is_joined(rt: HostRuntime) {
 }
 
 #[test]
-fn carets_behind_characters(rt: HostRuntime) {
+fn carets_after_characters(rt: HostRuntime) {
     assert!(rt; are_told(list_faults(rt.alloc(), CHARACTERS), CHARACTERS_TOLD));
 }

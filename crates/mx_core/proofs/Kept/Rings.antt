@@ -1,4 +1,4 @@
--- Each operation on a register stack that is a ring: it stays a ring, and the list that it stands for does the same.
+-- Each operation on a register stack that is a ring: it stays a ring, and the list that it represents does the same.
 use Rattle.std.proofs.Common.{◌≡◌, ℕ, ◌+◌, ◌^◌, ◌≤◌, ◌<◌, ◌&&◌, ◌||◌, not, Bool, true, false, length, min, arith, refl, sym, ◌∙◌, ap, ⊎_elim}
 use Rattle.std.proofs.lemmas.Bool.{cases_lt}
 use Rattle.std.proofs.lemmas.Bool.Decides.{nat_tests}

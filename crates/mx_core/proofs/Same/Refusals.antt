@@ -49,7 +49,7 @@ same-stack op.Unsave s (windowed w) i f = ap (λ b. reason_where b BadFrame) f
 same-stack operation s (windowed w) i f = refl
 same-stack operation s (listed r) i f = refl
 
--- HANDLERS, which stand outside the stack area
+-- HANDLERS, which are outside the stack area
 
 abbrev pub is_outside : Option Tripping → Bool
 is_outside None = true

@@ -1,4 +1,4 @@
--- What a machine over a window and the one over the list that it stands for both read.
+-- What a machine over a window and the one over the list that it represents both read.
 use Rattle.std.proofs.Common.{◌≡◌, ℕ, ◌==◌, Bool, true, false, cond, refl, sym, ◌∙◌, ap}
 use Rattle.mx_ring.specs.Stack.{Stack, listed, windowed, as_listed, visible, hidden_octas, register, set_overfills, in_stack_area, stack_octa, stack_index}
 use Rattle.mx_ring.specs.Window.{as_list}

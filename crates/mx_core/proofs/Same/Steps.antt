@@ -167,6 +167,6 @@ pub step-listed : (s : State) (w : Window) → IsMachine s w → IsQuiet s → s
 unfolding step
 step-listed s w m q = not-negative s w (is_negative s.pc) m q.untouched q.not_wild
 
--- two machines that stand for the same list go on alike, whatever is in their stack areas from rS on
+-- two machines that represent the same list go on alike, whatever is in their stack areas from rS on
 pub step-unread : (s t : State) (w x : Window) → IsMachine s w → IsMachine t x → IsQuiet s → IsQuiet t → as_list_state s ≡ as_list_state t → as_list_step (step s) ≡ as_list_step (step t)
 step-unread s t w x m n q r e = sym (step-listed s w m q) ∙ ap (λ (u : State). step u) e ∙ step-listed t x n r

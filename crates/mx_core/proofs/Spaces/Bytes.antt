@@ -75,13 +75,13 @@ here : (octa a b : ℕ) → b < 256 → byte_of (with_part Byte octa a b) a ≡ 
 here octa a b l = byte-within octa (8 * (8 - 1 - a % 8 / 1 * 1)) 8 b (8 * (7 - a % 8)) 0 0 (omega arith) refl ∙ (omega arith)
 
 beside : (octa a b q : ℕ) → q / 8 ≡ a / 8 → (q ≡ a → ⊥) → byte_of (with_part Byte octa a b) q ≡ byte_of octa q
-beside octa a b q e ne = ⊎_elim (λ l. before l) (λ l. behind l) (cases_lt q a)
+beside octa a b q e ne = ⊎_elim (λ l. before l) (λ l. following l) (cases_lt q a)
   where
     before : q < a → byte_of (with_part Byte octa a b) q ≡ byte_of octa q
     before l = byte-above octa (8 * (8 - 1 - a % 8 / 1 * 1)) 8 b (8 * (7 - q % 8)) (8 * (7 - q % 8) - (8 * (8 - 1 - a % 8 / 1 * 1) + 8)) (omega arith)
 
-    behind : a ≤ q → byte_of (with_part Byte octa a b) q ≡ byte_of octa q
-    behind l = byte-below octa (8 * (8 - 1 - a % 8 / 1 * 1)) 8 b (8 * (7 - q % 8)) (8 * (8 - 1 - a % 8 / 1 * 1) - (8 + 8 * (7 - q % 8))) (omega arith)
+    following : a ≤ q → byte_of (with_part Byte octa a b) q ≡ byte_of octa q
+    following l = byte-below octa (8 * (8 - 1 - a % 8 / 1 * 1)) 8 b (8 * (7 - q % 8)) (8 * (8 - 1 - a % 8 / 1 * 1) - (8 + 8 * (7 - q % 8))) (omega arith)
 
 byte-stored : (f : ℕ → ℕ) → Octawise f → (a b q : ℕ) → b < 256 → byte_of (stored_at f a (with_part Byte (f a) a b) q) q ≡ cond (eqb q a) b (byte_in f q)
 byte-stored f same a b q l = ⊎_elim (λ e. at e) (λ ne. near ne) (cases_eq q a)

@@ -80,7 +80,7 @@ store-stack s (Some store) =
     let x : ℕ = with_part store.part (octa s store.at) store.at store.value in
     ⊎_elim (λ e. inside x e (ap (λ (u : State). u.stack) (octa-in-stack s store.at x e))) (λ e. outside e (ap (λ (u : State). u.stack) (octa-on-page s store.at x e))) (cases_Bool (in_stack_area store.at))
 
--- an octa of the area is put at an index, maybe the one that stood there
+-- an octa of the area is put at an index, maybe the one that was there
 record IsPut (y : Stack) (i : ℕ) (z : Stack) : Type 0 where
   octa : ℕ
   is : z ≡ with_stack_octa y i octa

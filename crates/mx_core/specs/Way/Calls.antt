@@ -81,12 +81,12 @@ is_made (Err reason) = false
 abbrev pub makes_page : State → ℕ → Result State Reason → Bool
 makes_page s a made = is_made made && begins_page s a
 
--- a call carries an operation out
-abbrev pub CarriesOut : Operation → Instruction → Result (Unit {0}) Stop → Kept → Kept → Type 0
-CarriesOut operation i result old new = Makes (λ s. outcome s (deed_of operation s i)) result old new
+-- a call performs an operation
+abbrev pub Performs : Operation → Instruction → Result (Unit {0}) Stop → Kept → Kept → Type 0
+Performs operation i result old new = Makes (λ s. outcome s (deed_of operation s i)) result old new
 
-abbrev pub CarriesOutWithMemory : Operation → Instruction → Result (Unit {0}) Stop → Kept → Kept → Type 0
-CarriesOutWithMemory operation i result old new = MakesWithMemory (λ s. outcome s (deed_of operation s i)) result old new
+abbrev pub PerformsWithMemory : Operation → Instruction → Result (Unit {0}) Stop → Kept → Kept → Type 0
+PerformsWithMemory operation i result old new = MakesWithMemory (λ s. outcome s (deed_of operation s i)) result old new
 
 -- a state, unless it is refused for a reason
 abbrev pub unless : Bool → Reason → State → Result State Reason
@@ -103,6 +103,13 @@ settled_with s k x specials next =
 
 unfoldable pub settled : State → ℕ → ℕ → ℕ → Result State Reason
 settled s k x next = settled_with s k x [] next
+
+-- an operation does no more than that: $X gets a value, and the machine goes on after the instruction; or it goes on at an address
+abbrev pub OnlySets : Operation → Instruction → ℕ → Kept → Type 0
+OnlySets operation i x old = outcome (state_of old) (deed_of operation (state_of old) i) ≡ settled (state_of old) (x_of i) x (next_of i)
+
+abbrev pub OnlyGoes : Operation → Instruction → ℕ → Kept → Type 0
+OnlyGoes operation i to old = outcome (state_of old) (deed_of operation (state_of old) i) ≡ Ok (onward (state_of old) to)
 
 -- a trip to a handler, once $k and special registers have their values: it is refused where the handler does not begin
 -- with an instruction

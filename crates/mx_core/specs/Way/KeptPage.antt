@@ -1,5 +1,5 @@
 -- Steps along the page of instructions that memory keeps. An instruction there is told by its number, from 0 to 1,023; the
--- number 1,024 stands for the address after the page.
+-- number 1,024 means the address after the page.
 use Rattle.std.specs.Prelude.{ℕ, ◌≡◌, ◌≢◌, ◌≤◌, ◌+◌, ◌*◌, ◌%◌, ◌^◌, Result, Ok}
 use Rattle.mx_mem.specs.Memory.{IsCode, KeepsCode}
 use Rattle.mx_code.specs.Instructions.{operation_in, z_of}

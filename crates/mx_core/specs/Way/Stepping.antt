@@ -1,5 +1,5 @@
 -- What a step answers, with the state that it leaves.
-use Rattle.std.specs.Prelude.{ℕ, ◌≡◌, ◌==◌, Bool, true, false, not, ◌&&◌, if◌then◌else◌, Option, None, Some}
+use Rattle.std.specs.Prelude.{ℕ, ◌≡◌, ◌≢◌, ◌==◌, Bool, true, false, not, ◌&&◌, if◌then◌else◌, Option, None, Some}
 use Rattle.std.specs.Option.{option_map, is_some}
 use Rattle.mx_mem.specs.declared.part.Part.TheVariants.{Octa}
 use Rattle.mx_ring.specs.Stack.{Stack, register}
@@ -8,9 +8,11 @@ use Rattle.mx_code.specs.LoadsAndStores.{touch}
 use Rattle.mx_core.specs.Effects.{Store, data_address}
 use Rattle.mx_code.specs.Instructions.{x_of}
 use Rattle.mx_code.specs.declared.instruction.Instruction.{Instruction}
+use Rattle.mx_core.specs.Kept.{Kept, state_of}
 use Rattle.mx_core.specs.State.{State, begins_page, is_negative}
-use Rattle.mx_core.specs.Step.{Stepped, went, calls, stopped, fetched, store_touch}
+use Rattle.mx_core.specs.Step.{Stepped, went, calls, stopped, fetched, step, store_touch}
 use Rattle.mx_code.specs.declared.trace.Touch.{Touch}
+use Rattle.mx_code.specs.declared.trace.Trace.{Trace}
 use Rattle.mx_code.specs.declared.operation.Operation.{Operation}
 use Rattle.mx_code.specs.declared.operation.Operation.TheVariants as op
 use Rattle.mx_core.specs.declared.sight.Sight.{Sight}
@@ -31,9 +33,20 @@ advanced s (went t trace) = (advance.Went, t)
 advanced s (calls call) = (advance.Trap, s)
 advanced s (stopped reason) = (advance.Stopped reason, s)
 
+-- a call makes a step of the old machine, with its trace and without it, unless it is out of memory
+abbrev pub HasStepped : Step → Kept → Kept → Type 0
+HasStepped result old new = result ≢ answer.OutOfMemory → (result, state_of new) ≡ step_answer (state_of old) (step (state_of old))
+
+abbrev pub HasAdvanced : Advance → Kept → Kept → Type 0
+HasAdvanced result old new = result ≢ advance.OutOfMemory → (result, state_of new) ≡ advanced (state_of old) (step (state_of old))
+
 -- what an instruction does to its destination and to memory
 abbrev pub sight_of : Deed → Sight
 sight_of d = record { dest = d.destination; reads = d.effect.load; writes = option_map store_touch d.effect.store }
+
+-- a trace has what an instruction does
+abbrev pub ShowsSight : Trace → Sight → Type 0
+ShowsSight t g = (t.dest ≡ g.dest) × (t.reads ≡ g.reads) × (t.writes ≡ g.writes)
 
 -- whether an operation loads, stores or exchanges
 abbrev pub moves_memory : Operation → Bool

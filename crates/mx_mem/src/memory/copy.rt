@@ -12,7 +12,7 @@ use std::cell::Cell;
 use std::collections::BTreeMap;
 
 impl Memory {
-    /// A memory in which the same stands, with pages of its own. It takes the time for as many pages.
+    /// A memory that holds the same, with pages of its own. It takes the time for as many pages.
     ///
     /// Errors: out of memory alone.
     pub fn copy(&self) -> Result<Memory, NoMemory>

@@ -177,9 +177,10 @@ impl Ring {
     }
 
     /// How many of them are hidden still after POP.
-    fn count_staying_at_pop(&self) -> usize
-        ensures { result ≡ length (octas_of self.now.hidden)
+    pub(super) fn count_staying_at_pop(&self) -> usize
+        ensures count { result ≡ length (octas_of self.now.hidden)
             - (hole_in (octas_of self.now.hidden) + 1) - self.now.hidden.spilled }
+        ensures bounds { IsRing self.now }
     {
         match hole(self.hidden.octas()) {
             Some(hole) => (self.hidden.len() - (hole + 1)).saturating_sub(

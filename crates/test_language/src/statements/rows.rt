@@ -85,7 +85,7 @@ pub(crate) static FAULTY: [(&str, Result<u32, u16>); 20] = [
     (" BYTE 256,1/0", Err(43)),
     (" BYTE 1/0,256", Err(12)),
     (" TRAP 256,$1", Err(43)),
-    // what an address wants comes after the operands, a multiple before the reach
+    // what an address needs comes after the operands, a multiple before the reach
     (" BZ 5,#602", Err(41)),
     (" BZ $1,#6000000000000002", Err(46)),
     (" GETA $1,3", Err(46)),

@@ -41,7 +41,7 @@ static NAMES: [&str; 8] = [
     ".",
 ];
 
-/// What every write to slot 6 fails on, for the lack of room.
+/// What every write to slot 6 fails on, because there is no room.
 static FULL: &str = "/dev/full";
 
 /// What is drawn: some slots, modes and kinds more often than others.
@@ -146,7 +146,7 @@ fn len_of(slot: u16, draw: usize) -> usize {
     if slot < 3 { 0 } else { draw % 9 }
 }
 
-/// The call that a state stands for.
+/// The call that a state means.
 fn call_of(state: u64) -> Call {
     let draw = (state >> 33) as usize;
     let slot = SLOTS[draw / 16 % 16];

@@ -8,7 +8,7 @@ use mx_load::Loader;
 use mx_ring::RingSize;
 use mx_run::End;
 use mx_start::start;
-use mx_watch::{Cover, Profile, Reports, Watcher, Writes, watched_run};
+use mx_watch::{Cover, Profile, Reports, Watcher, Writes, run_with_watchers};
 use mx_word::{Bytes, Symbols};
 use std::alloc::Global;
 use std::process::Abort;
@@ -89,7 +89,7 @@ fn is_reported(
     let mut machine = machine(rt, alloc, program);
     let mut host = host(rt, alloc);
     let mut kept = Reports::new(alloc);
-    let run = watched_run(
+    let run = run_with_watchers(
         alloc,
         &mut machine,
         &mut host,
@@ -158,7 +158,7 @@ fn kept_of(
     let mut machine = machine(rt, alloc, &PRINTS);
     let mut host = host(rt, alloc);
     let mut kept = Reports::new(alloc);
-    let end = watched_run(alloc, &mut machine, &mut host, 100, watchers, &mut kept);
+    let end = run_with_watchers(alloc, &mut machine, &mut host, 100, watchers, &mut kept);
     (end, watchers.len(), are_reports(kept.as_slice(), want))
 }
 

@@ -1,5 +1,5 @@
 //! Rows of operations, computed by a model of its own: one growing list of registers, where those of
-//! the running routine stand last.
+//! the running routine are last.
 
 use mx_ring::{RingFault, Saved};
 

@@ -106,6 +106,20 @@ static USUAL: [(u64, u64); 5] = [
     (0x120, 0xfd00_0000_fd00_0000),
 ];
 
+/// MULU twice, DIV and DIVU, of registers that are local but once.
+static PRODUCTS: [(u64, u64); 3] = [
+    (0x100, 0xe301_0007_1b02_01ff),
+    (0x108, 0x1b02_0203_1d02_0205),
+    (0x110, 0x1f01_0203_fd00_0000),
+];
+
+/// A call in a call, the first at a local register and the second at none; then both return, with no result.
+static SMALL_CALLS: [(u64, u64); 3] = [
+    (0x100, 0xe300_0005_e302_0007),
+    (0x108, 0xf201_0001_e300_0009),
+    (0x110, 0xf204_0001_f800_0000),
+];
+
 /// A jump to itself.
 static JUMPS: [(u64, u64); 1] = [(0x100, 0xf000_0000_0000_0000)];
 
@@ -145,8 +159,10 @@ fn each_kind_of_step_comes_back(rt: HostRuntime) -> Result<(), Fail> {
 
 #[test]
 fn exchanges_and_inserted_steps_come_back(rt: HostRuntime) -> Result<(), Fail> {
-    let rows: [Row; 5] = [
+    let rows: [Row; 7] = [
         (&USUAL, 9),
+        (&PRODUCTS, 6),
+        (&SMALL_CALLS, 7),
         (&EXCHANGES, 6),
         (&SPILLED_EXCHANGES, 10),
         (&INSERTS, 10),

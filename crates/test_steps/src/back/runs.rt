@@ -41,7 +41,7 @@ fn stop(pc: u64, reason: u16) -> End {
 }
 
 #[test]
-fn runs_keep_the_steps_behind_a_trap(rt: HostRuntime) -> Result<(), Fail> {
+fn runs_keep_the_steps_after_a_trap(rt: HostRuntime) -> Result<(), Fail> {
     let rows: [(Program, End, usize); 4] = [
         (&SETS, stop(0x108, 110), 2),
         (&TELLS, stop(0x108, 110), 1),

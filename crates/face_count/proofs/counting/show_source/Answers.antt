@@ -1,5 +1,4 @@
-use Rattle.mx_count.specs.Runs.{data_of, in_form, mapped, source_counted}
-use Rattle.mx_count.specs.declared.counts.Form.TheVariants.{Octas, Text}
+use Rattle.mx_count.specs.Runs.{by_lines, by_text, source_counted}
 use Rattle.face_count.specs.CountPages.{json_page, sheet_page, shown_source}
 use Rattle.face_count.proofs.Shown.{count-faults, count-keeps, count-shown}
 use Rattle.face_count.proofs.counting.show_source.Goals as goal
@@ -8,14 +7,14 @@ pub returns-then-is_json-clause-told : goal.returns-then-is_json-clause-told
 unfolding shown_source
 returns-then-is_json-clause-told g c =
     let kept = count-keeps _ _ _ _ c.count_lines-counted.result.outcome _ c.count_lines-counted.ensures.no_host_fault c.count_lines-counted.ensures.no_missing_file (c.put_made.ensures.onward c.count_lines-counted.result.outcome c.source_json_page-page.ensures.outcome) in
-    rw c.if-is_json.true (count-shown _ _ _ (λ kind m. mapped (data_of c.args.source.now) (source_counted kind c.args.order.now c.args.given.now (in_form Octas c.args.source.now) c.args.source.now m))
+    rw c.if-is_json.true (count-shown _ _ _ (λ kind m. source_counted kind c.args.order.now c.args.given.now (by_lines c.args.source.now) c.args.source.now m)
     json_page _ _ _ _ c.count_lines-counted.ensures.keeps.telling c.count_lines-counted.ensures.told c.source_json_page-page.ensures.page c.source_json_page-page.ensures.enough c.put_made.ensures.told c.put_made.ensures.lacking kept.growing)
 
 pub returns-clause-told : goal.returns-clause-told
 unfolding shown_source
 returns-clause-told g c =
     let kept = count-keeps _ _ _ _ c.count_source-counted.result.outcome _ c.count_source-counted.ensures.no_host_fault c.count_source-counted.ensures.no_missing_file (c.put_made-2.ensures.onward c.count_source-counted.result.outcome c.source_table_page.ensures.outcome) in
-    rw c.if-is_json.false (count-shown _ _ _ (λ kind m. source_counted kind c.args.order.now c.args.given.now (in_form Text c.args.source.now) c.args.source.now m)
+    rw c.if-is_json.false (count-shown _ _ _ (λ kind m. source_counted kind c.args.order.now c.args.given.now (by_text c.args.source.now) c.args.source.now m)
     sheet_page _ _ _ _ c.count_source-counted.ensures.keeps.telling c.count_source-counted.ensures.told c.source_table_page.ensures.page c.source_table_page.ensures.enough c.put_made-2.ensures.told c.put_made-2.ensures.lacking kept.growing)
 
 pub returns-then-is_json-clause-causes : goal.returns-then-is_json-clause-causes

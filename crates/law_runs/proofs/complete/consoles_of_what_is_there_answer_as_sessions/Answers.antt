@@ -1,8 +1,6 @@
-use Rattle.law_runs.proofs.SparedPrograms.{source-spared, object-spared, sat-spared}
+use Rattle.law_runs.proofs.SparedPrograms.{program-spared, sat-spared}
 use Rattle.law_runs.proofs.complete.consoles_of_what_is_there_answer_as_sessions.Goals as goal
 
-pub returns-clause-source : goal.returns-clause-source
-returns-clause-source c = λ kind words o image s m h none i k. sat-spared kind words o image s m (source-spared kind words o image m h none) i k
-
-pub returns-clause-object : goal.returns-clause-object
-returns-clause-object c = λ kind words o image s m h none i k. sat-spared kind words o image s m (object-spared kind words o image m h none) i k
+pub returns : goal.returns
+returns c = λ p s k.
+    sat-spared p.kind p.words p.order p.image s p.host (program-spared p.kind p.words p.order p.form p.image p.host p.there p.none) k.0 k.1

@@ -1,6 +1,6 @@
 use Rattle.std.proofs.Common.{IsTrue, false, ◌-◌, ◌≡◌}
 use Rattle.mx_host.specs.HostModel.{tells, contents}
-use Rattle.mx_plan.specs.Clauses.{Stands}
+use Rattle.mx_plan.specs.Clauses.{KeepsHost}
 use Rattle.mx_core.specs.Kept.{state_of}
 use Rattle.mx_run.specs.AccompaniedRuns.{list_run}
 use Rattle.mx_run.specs.Runs.{IsLater}
@@ -18,7 +18,7 @@ invariant-loop-made g l = record {
   made : IsTrue (tells (g.H.Host.told l.fn.host)) →
       Made l._made (state_of l.machine, contents (g.H.Host.told l.host)) (state_of l.fn.machine, contents (g.H.Host.told l.fn.host));
   bound : IsLater l._made (state_of l.fn.machine) (state_of l.machine);
-  stands : Stands (g.H.Host.told l.fn.host) (g.H.Host.told l.host) (g.H.Host.faults l.fn.host) (g.H.Host.faults l.host);
+  keeps : KeepsHost (g.H.Host.told l.fn.host) (g.H.Host.told l.host) (g.H.Host.faults l.fn.host) (g.H.Host.faults l.host);
   fits : AreNotesOf l.back (state_of l.machine);
   kept : IsTrue (tells (g.H.Host.told l.fn.host)) →
       states_kept (turns_of (l.n - l._made) (state_of l.machine) (contents (g.H.Host.told l.host))) (states_before l.back (state_of l.machine))

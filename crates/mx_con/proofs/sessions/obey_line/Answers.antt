@@ -1,7 +1,7 @@
 use Rattle.mx_con.proofs.ListedSessions.{command-part, continue-both}
 use Rattle.mx_con.proofs.Parts.{part-with, part-alone}
 use Rattle.mx_con.proofs.SessionSteps.{unknown-comes, step-comes, quit-comes, shown-state, shown-flags, answered-part}
-use Rattle.mx_plan.proofs.Standing.{stands-all}
+use Rattle.mx_plan.proofs.KeptHosts.{keeps_host-all}
 use Rattle.mx_con.proofs.sessions.obey_line.Goals as goal
 
 pub returns-in_default-clause-part : goal.returns-in_default-clause-part
@@ -17,7 +17,7 @@ returns-in-Continue-clause-part g c = rw (c.in-Some.is, c.in-Continue.is) (part-
 
 pub returns-in-Quit-clause-part : goal.returns-in-Quit-clause-part
 returns-in-Quit-clause-part g c =
-    rw (c.in-Some.is, c.in-Quit.is) (command-part c.args.steps _ _ tt c.requires (part-alone (stands-all _ _) (λ e. absurd (cc)) (λ t. quit-comes c.args.steps _ _)))
+    rw (c.in-Some.is, c.in-Quit.is) (command-part c.args.steps _ _ tt c.requires (part-alone (keeps_host-all _ _) (λ e. absurd (cc)) (λ t. quit-comes c.args.steps _ _)))
 
 pub returns-in-State-clause-part : goal.returns-in-State-clause-part
 returns-in-State-clause-part g c =

@@ -19,10 +19,10 @@ pub returns-in-Err-clause-front : goal.returns-in-Err-clause-front
 returns-in-Err-clause-front g c = λ t e. session-begun c.args.steps _ _ _ _ _ _ _ (session-over c.args.steps c.in-Err.end _ _ (c.in-Err.ensures.part.told t).window) e
 
 pub returns-in-Ok-clause-keeps : goal.returns-in-Ok-clause-keeps
-returns-in-Ok-clause-keeps g c = session-keeps _ _ _ _ c.args.steps _ _ _ _ _ (λ t. session-limit c.args.steps _ _ _ (c.in-Ok.ensures.part.told t).window) c.in-Ok.ensures.part.stands
+returns-in-Ok-clause-keeps g c = session-keeps _ _ _ _ c.args.steps _ _ _ _ _ (λ t. session-limit c.args.steps _ _ _ (c.in-Ok.ensures.part.told t).window) c.in-Ok.ensures.part.keeps
 
 pub returns-in-Err-clause-keeps : goal.returns-in-Err-clause-keeps
-returns-in-Err-clause-keeps g c = session-keeps _ _ _ _ c.args.steps _ _ _ _ _ (λ t. session-over c.args.steps c.in-Err.end _ _ (c.in-Err.ensures.part.told t).window) c.in-Err.ensures.part.stands
+returns-in-Err-clause-keeps g c = session-keeps _ _ _ _ c.args.steps _ _ _ _ _ (λ t. session-over c.args.steps c.in-Err.end _ _ (c.in-Err.ensures.part.told t).window) c.in-Err.ensures.part.keeps
 
 pub returns-in-Ok-clause-listed : goal.returns-in-Ok-clause-listed
 returns-in-Ok-clause-listed g c = λ t ne u. session-limit-listed c.args.steps _ _ _ _ _ (c.in-Ok.ensures.part.told t) u

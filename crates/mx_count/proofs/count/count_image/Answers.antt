@@ -1,25 +1,32 @@
-use Rattle.std.proofs.Common.{refl, ap}
-use Rattle.mx_count.specs.Counting.{counting_as}
-use Rattle.mx_count.specs.Runs.{reporting}
-use Rattle.mx_count.specs.declared.count.Counted.{Counted}
+use Rattle.std.proofs.Common.{refl}
+use Rattle.std.proofs.lemmas.Result.{err_from_is_err_and}
+use Rattle.mx_count.specs.Runs.{by_counts}
 use Rattle.mx_count.proofs.CountedRuns.{started-told, unstarted-told}
 use Rattle.mx_count.proofs.LeftHosts.{started-left, unstarted-left}
 use Rattle.mx_count.proofs.count.count_image.Goals as goal
 
-pub returns-in-Ok-clause-told : goal.returns-in-Ok-clause-told
-returns-in-Ok-clause-told g c =
-    let counts = c.args.counts in
-    started-told _ _ _ _ c.args.order.now c.args.arguments.now (reporting (counting_as counts.form counts.source counts.loads counts.table).text) _ _
-    (c.in-Ok.ensures.window (λ e. absurd (cc))) (c.in-Ok.ensures.list (λ e. absurd (cc))) c.count_machine.ensures.told
+-- ---- a machine starts
 
-pub returns-in-Err-clause-told : goal.returns-in-Err-clause-told
-returns-in-Err-clause-told g c =
-    let counts = c.args.counts in
-    unstarted-told _ _ _ _ c.args.order.now c.args.arguments.now (reporting (counting_as counts.form counts.source counts.loads counts.table).text) _ c.in-Err.outcome refl
-    (ap (λ (r : Counted). r.outcome) c.without_sheet.ensures) c.without_sheet.ensures (λ ne. c.in-Err.ensures.window (λ e. ne (cc e))) (λ ne. c.in-Err.ensures.list (λ e. ne (cc e)))
+pub returns-clause-told : goal.returns-clause-told
+returns-clause-told g c =
+    started-told _ _ _ _ c.args.order.now c.args.arguments.now by_counts _ _
+    (c.in_ok-machine.ensures.window (λ e. absurd (cc))) (c.in_ok-machine.ensures.list (λ e. absurd (cc))) c.count_machine.ensures.told
 
-pub returns-in-Ok-clause-left : goal.returns-in-Ok-clause-left
-returns-in-Ok-clause-left g c = λ t. started-left _ _ _ _ _ (c.in-Ok.ensures.window (λ e. absurd (cc))) (c.count_machine.ensures.left t)
+pub returns-clause-left : goal.returns-clause-left
+returns-clause-left g c = λ t. started-left _ _ _ _ _ (c.in_ok-machine.ensures.window (λ e. absurd (cc))) (c.count_machine.ensures.left t)
 
-pub returns-in-Err-clause-left : goal.returns-in-Err-clause-left
-returns-in-Err-clause-left g c = λ t. unstarted-left c.args.order.now c.args.arguments.now _ _
+-- ---- none does
+
+pub returns-in_err-machine-clause-told : goal.returns-in_err-machine-clause-told
+returns-in_err-machine-clause-told g c =
+    let p = err_from_is_err_and c.from_residual.result c.from_residual.ensures.1 in
+    rw (p.1, p.2) (unstarted-told _ _ _ _ c.args.order.now c.args.arguments.now by_counts _ c.in_err-machine.field-0.0 refl refl refl
+    (λ ne. c.in_err-machine.ensures.window (λ e. ne (cc e))) (λ ne. c.in_err-machine.ensures.list (λ e. ne (cc e))))
+
+pub returns-in_err-machine-clause-left : goal.returns-in_err-machine-clause-left
+returns-in_err-machine-clause-left g c = λ t. unstarted-left c.args.order.now c.args.arguments.now _ _
+
+pub returns-in_err-machine-clause-machine : goal.returns-in_err-machine-clause-machine
+returns-in_err-machine-clause-machine g c =
+    let p = err_from_is_err_and c.from_residual.result c.from_residual.ensures.1 in
+    rw (p.1, p.2) ((λ e. absurd (c.in_err-machine.ensures.no_host_fault (cc)), λ e. absurd (c.in_err-machine.ensures.no_missing_file (cc)), c.in_err-machine.ensures.no_usage))

@@ -19,5 +19,5 @@ returns-clause-causes g c = (
   whole-rose _ _ _ _ _ _ _ c.whole_outcome.ensures (assemble-served _ _) c.assemble.ensures,
   whole-absent _ _ _ _ _ _ _ c.whole_outcome.ensures c.assemble.ensures,
   whole-words _ _ _ _ _ _ _ c.whole_outcome.ensures c.assemble.ensures,
-  whole-keeps _ _ _ _ _ _ (whole-told _ _ _ _ _ c.whole_outcome.ensures c.assemble.ensures.told) c.assemble.ensures.stands,
+  whole-keeps _ _ _ _ _ _ (whole-told _ _ _ _ _ c.whole_outcome.ensures c.assemble.ensures.told) c.assemble.ensures.keeps,
 )

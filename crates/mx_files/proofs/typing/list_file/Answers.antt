@@ -22,5 +22,5 @@ returns-clause-causes g c = (
   whole-rose _ _ _ _ _ _ _ c.whole_outcome.ensures (list-served _) c.list_whole.ensures,
   whole-absent _ _ _ _ _ _ _ c.whole_outcome.ensures c.list_whole.ensures,
   whole-words _ _ _ _ _ _ _ c.whole_outcome.ensures c.list_whole.ensures,
-  whole-keeps _ _ _ _ _ _ (whole-told _ _ _ _ _ c.whole_outcome.ensures c.list_whole.ensures.told) c.list_whole.ensures.stands,
+  whole-keeps _ _ _ _ _ _ (whole-told _ _ _ _ _ c.whole_outcome.ensures c.list_whole.ensures.told) c.list_whole.ensures.keeps,
 )

@@ -7,4 +7,4 @@ use Rattle.mx_hover.proofs.completions.add_predefined.Goals as goal
 pub returns : goal.returns
 returns c =
     subst (λ (l : List (List ℕ)). OnOk c.add_names.result (c.add_names.new.values ≡ c.args.values.now ++ l))
-    (named (spec.item_if c.args.word.now (codes "21")) _ _ _ c.predefined_words.ensures) c.add_names.ensures
+    (named (spec.item_if c.args.word.now (codes "21")) _ _ _ c.list_predefined_words.ensures) c.add_names.ensures

@@ -1,9 +1,9 @@
 use Rattle.mx_mmo.proofs.Complete.{object-only}
-use Rattle.mx_mmo.proofs.Sound.{object-stands}
+use Rattle.mx_mmo.proofs.Sound.{object-sound}
 use Rattle.mx_mmo.proofs.laws.reading_is_the_grammar.Goals as goal
 
 pub returns-clause-found : goal.returns-clause-found
-returns-clause-found c = object-stands
+returns-clause-found c = object-sound
 
 pub returns-clause-only : goal.returns-clause-only
 returns-clause-only c = object-only

@@ -5,7 +5,7 @@ use Rattle.mx_multi.proofs.queue.leave_out_halted.Goals as goal
 
 pub pack-packed-requires-clause-names : goal.pack-packed-requires-clause-names
 pack-packed-requires-clause-names c =
-    rw (c.halted_flags-halted.ensures.count, c.pack-place.ensures.rest, c.as_mut_slice-names.ensures.value) (names-drop _ c.args.queue.now.at _ c.requires.names)
+    rw (c.pack-place.ensures.rest, c.as_mut_slice-names.ensures.value) (names-drop _ c.args.queue.now.at _ c.requires.names)
 
 pub returns-clause-names : goal.returns-clause-names
 returns-clause-names c =
@@ -22,8 +22,7 @@ returns-clause-names c =
     c.truncate.ensures.items
     ∙ ap (take c.pack-packed.result) (written _ _ _ (omega (arith, count, still, same)))
     ∙ both-packed _ _ _ _ _ _ _ _ (omega (arith, few, count, same, inside)) all front.packed front.rest back.packed
-    ∙ ap (running c.halted_flags-halted.result.now) lent.value
-    ∙ ap (λ h. running h c.args.queue.now.names.items) c.halted_flags-halted.ensures.flags
+    ∙ ap (running c.args.halted.now) lent.value
 
 pub returns-clause-place : goal.returns-clause-place
 returns-clause-place c =
@@ -39,5 +38,4 @@ returns-clause-place c =
     let all : length c.pack-place.new.names ≤ c.len-length.result = omega (arith, count, same, long) in
     ap (drop c.pack-place.result) (c.truncate.ensures.items ∙ ap (take c.pack-packed.result) (written _ _ _ (omega (arith, count, still, same))))
     ∙ place-packed _ _ _ _ _ _ _ _ (omega (arith, few, count, same, inside)) all front.packed front.rest back.packed
-    ∙ ap (λ ns. running c.halted_flags-halted.result.now (drop c.args.queue.now.at ns)) lent.value
-    ∙ ap (λ h. running h (drop c.args.queue.now.at c.args.queue.now.names.items)) c.halted_flags-halted.ensures.flags
+    ∙ ap (λ ns. running c.args.halted.now (drop c.args.queue.now.at ns)) lent.value

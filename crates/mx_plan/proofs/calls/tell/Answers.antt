@@ -1,5 +1,5 @@
-use Rattle.mx_plan.proofs.Standing.{stands-kept}
+use Rattle.mx_plan.proofs.KeptHosts.{keeps_host-kept}
 use Rattle.mx_plan.proofs.calls.tell.Goals as goal
 
-pub returns-clause-stands : goal.returns-clause-stands
-returns-clause-stands g c = stands-kept _ _ _ _ c.tell_slot.ensures.keeps
+pub returns-clause-keeps : goal.returns-clause-keeps
+returns-clause-keeps g c = keeps_host-kept _ _ _ _ c.tell_slot.ensures.keeps

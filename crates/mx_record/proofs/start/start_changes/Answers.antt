@@ -4,8 +4,8 @@ use Rattle.mx_record.proofs.Stacks.{none-found}
 use Rattle.mx_record.proofs.Starting.{leads-start}
 use Rattle.mx_record.proofs.start.start_changes.Goals as goal
 
-pub stacked_changes-requires-clause-found : goal.stacked_changes-requires-clause-found
-stacked_changes-requires-clause-found c =
+pub find_stacked_changes-requires-clause-found : goal.find_stacked_changes-requires-clause-found
+find_stacked_changes-requires-clause-found c =
     none-found (state_of c.args.machine.now).stack _ (octa_of c.new-registers.result) c.machines_keep_the_invariant.ensures.over c.machines_keep_the_invariant.ensures.ring c.requires
 
 pub returns-clause-record : goal.returns-clause-record

@@ -1,6 +1,6 @@
 use Rattle.std.proofs.Common.{IsTrue, ◌-◌}
 use Rattle.mx_host.specs.HostModel.{tells, contents}
-use Rattle.mx_plan.specs.Clauses.{Stands}
+use Rattle.mx_plan.specs.Clauses.{KeepsHost}
 use Rattle.mx_core.specs.Kept.{state_of}
 use Rattle.mx_run.specs.FlagMaps.{flags_at}
 use Rattle.mx_run.specs.RunCourses.{RestsBoth}
@@ -15,5 +15,5 @@ invariant-loop-turn g l = record {
       (run_plan l.n (flags_at l.flags) l.pass) (state_of l.fn.machine, contents (g.H.Host.told l.fn.host));
   spared : SparesMemory l.n (state_of l.fn.machine) → SparesMemory (l.n - l.turn) (state_of l.machine);
   bound : IsLater l.turn (state_of l.fn.machine) (state_of l.machine);
-  stands : Stands (g.H.Host.told l.fn.host) (g.H.Host.told l.host) (g.H.Host.faults l.fn.host) (g.H.Host.faults l.host);
+  keeps : KeepsHost (g.H.Host.told l.fn.host) (g.H.Host.told l.host) (g.H.Host.faults l.fn.host) (g.H.Host.faults l.host);
 }

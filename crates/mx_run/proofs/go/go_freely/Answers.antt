@@ -1,5 +1,5 @@
 use Rattle.std.proofs.Common.{sym, subst, IsTrue}
-use Rattle.mx_plan.proofs.Standing.{stands-then}
+use Rattle.mx_plan.proofs.KeptHosts.{keeps_host-then}
 use Rattle.mx_run.proofs.Walked.{not-last, all-made, fewer-left, walk-goes-on, walk-ends, walk-spends, walk-spares-on, walk-spares-end, walk-later, walk-later-on, walk-later-end}
 use Rattle.mx_run.proofs.go.go_freely.Goals as goal
 
@@ -11,7 +11,7 @@ returns-then-left-eq0 g c =
       both = λ t. walk-spends _ _ _ _ _ _ _ _ c.requires walk.most (all-made _ _ c.if-left-eq0.true) walk.goes (was.both t);
       spared = λ h e. absurd (cc);
       bound = walk-later _ _ _ _ _ _ was.few walk.most was.bound walk.goes;
-      stands = was.stands;
+      keeps = was.keeps;
     }
 
 pub loop-left-preserved : goal.loop-left-preserved
@@ -21,11 +21,11 @@ loop-left-preserved g c =
     let walk = c.advance_many-walk.ensures.goes in
     let e = c.in-Ok.ensures in
     record {
-      both = λ t. walk-goes-on _ _ _ _ _ _ _ _ _ _ _ c.requires some walk e.has_window (was.both t) (e.step.told (subst IsTrue (sym was.stands.0) t));
+      both = λ t. walk-goes-on _ _ _ _ _ _ _ _ _ _ _ c.requires some walk e.has_window (was.both t) (e.step.told (subst IsTrue (sym was.keeps.0) t));
       spared = λ h. walk-spares-on _ _ _ _ _ _ some walk e.step.spared (was.spared h);
       few = fewer-left _ _ _ was.few;
       bound = walk-later-on _ _ _ _ _ _ _ was.few some was.bound walk e.step.bound;
-      stands = stands-then _ _ _ _ _ _ was.stands e.step.stands;
+      keeps = keeps_host-then _ _ _ _ _ _ was.keeps e.step.keeps;
     }
 
 pub returns-in-Err : goal.returns-in-Err
@@ -35,8 +35,8 @@ returns-in-Err g c =
     let walk = c.advance_many-walk.ensures.goes in
     let e = c.in-Err.ensures in
     record {
-      both = λ t. walk-ends _ _ _ _ _ _ _ _ _ _ _ c.requires some walk e.has_window (was.both t) (e.step.told (subst IsTrue (sym was.stands.0) t));
+      both = λ t. walk-ends _ _ _ _ _ _ _ _ _ _ _ c.requires some walk e.has_window (was.both t) (e.step.told (subst IsTrue (sym was.keeps.0) t));
       spared = λ h. walk-spares-end _ _ _ _ _ _ some walk e.step.spared (was.spared h);
       bound = walk-later-end _ _ _ _ _ _ _ was.few some was.bound walk e.step.bound;
-      stands = stands-then _ _ _ _ _ _ was.stands e.step.stands;
+      keeps = keeps_host-then _ _ _ _ _ _ was.keeps e.step.keeps;
     }

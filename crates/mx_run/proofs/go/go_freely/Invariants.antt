@@ -1,6 +1,6 @@
 use Rattle.std.proofs.Common.{IsTrue, true, ◌≤◌, ◌-◌}
 use Rattle.mx_host.specs.HostModel.{tells, contents}
-use Rattle.mx_plan.specs.Clauses.{Stands}
+use Rattle.mx_plan.specs.Clauses.{KeepsHost}
 use Rattle.mx_core.specs.Kept.{state_of}
 use Rattle.mx_run.specs.FlagMaps.{flags_at}
 use Rattle.mx_run.specs.RunCourses.{RestsBoth}
@@ -16,7 +16,7 @@ invariant-loop-left g l = record {
   spared : SparesMemory l.n (state_of l.fn.machine) → SparesMemory l.left (state_of l.machine);
   few : l.left ≤ l.n;
   bound : IsLater (l.n - l.left) (state_of l.fn.machine) (state_of l.machine);
-  stands : Stands (g.H.Host.told l.fn.host) (g.H.Host.told l.host) (g.H.Host.faults l.fn.host) (g.H.Host.faults l.host);
+  keeps : KeepsHost (g.H.Host.told l.fn.host) (g.H.Host.told l.host) (g.H.Host.faults l.fn.host) (g.H.Host.faults l.host);
 }
 
 abbrev pub decreases-loop-left : goal.decreases-loop-left

@@ -8,4 +8,4 @@ returns-clause-plan g c = λ t. (free-run _ _ _ _ _ c.new-flags.ensures (c.go_fr
 pub returns-clause-run : goal.returns-clause-run
 returns-clause-run g c =
     let e = c.go_freely.ensures in
-    run-is _ _ _ _ _ _ _ _ _ _ (λ t. free-run _ _ _ _ _ c.new-flags.ensures (e.both t)) e.bound e.stands
+    run-is _ _ _ _ _ _ _ _ _ _ (λ t. free-run _ _ _ _ _ c.new-flags.ensures (e.both t)) e.bound e.keeps

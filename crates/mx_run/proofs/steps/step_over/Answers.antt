@@ -1,5 +1,5 @@
 use Rattle.std.proofs.Common.{◌≡◌, refl, subst}
-use Rattle.mx_plan.proofs.Standing.{stands-all}
+use Rattle.mx_plan.proofs.KeptHosts.{keeps_host-all}
 use Rattle.mx_core.specs.Kept.{state_of}
 use Rattle.mx_core.specs.Step.{step}
 use Rattle.mx_core.specs.Way.Stepping.{advanced}
@@ -16,7 +16,7 @@ returns-in-Went-clause-step g c =
       told = λ t. free-went _ _ _ _ c.requires.free came;
       spared = λ n h. went-spares n _ _ came h;
       bound = advanced-later _ _ _ came;
-      stands = stands-all _ _;
+      keeps = keeps_host-all _ _;
     }
 
 pub returns-in-OutOfMemory-clause-step : goal.returns-in-OutOfMemory-clause-step
@@ -26,5 +26,5 @@ returns-in-OutOfMemory-clause-step g c =
       told = λ t. free-lacking _ _ _ c.requires.free lacks;
       spared = λ n h. needs-none n _ lacks h;
       bound = unmade-later _ _ refl;
-      stands = stands-all _ _;
+      keeps = keeps_host-all _ _;
     }

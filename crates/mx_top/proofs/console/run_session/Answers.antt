@@ -8,7 +8,7 @@ use Rattle.mx_word.proofs.Fronts.{front-self}
 use Rattle.mx_top.specs.Runs.{session_outcome}
 use Rattle.mx_top.specs.Endings as end
 use Rattle.mx_top.specs.MachineWork as work
-use Rattle.mx_top.proofs.Caused.{fails-behind}
+use Rattle.mx_top.proofs.Caused.{fails-after}
 use Rattle.mx_top.proofs.Dumped.{same-dumped, undumped-fault}
 use Rattle.mx_top.proofs.Followed.{to-dumped}
 use Rattle.mx_top.proofs.ListedPlans.{session-listed}
@@ -57,5 +57,5 @@ returns g c =
             (rw c.new-runner.ensures.machine at (c.session.ensures.listed t (λ e. some ne (c.session_outcome.ensures.memory (cc (e, c.in_default.end-is)))) untouched)) (told.causes.3.growing there)
             (same-dumped c.args.order.now.dump c.session_outcome.result after) ((rw c.machine.ensures at (told.plan (some ne) there)).ending ne);
       };
-      causes = fails-behind g.H.Host.told g.H.Host.faults _ _ _ _ c.session.ensures.keeps told.causes;
+      causes = fails-after g.H.Host.told g.H.Host.faults _ _ _ _ c.session.ensures.keeps told.causes;
     }

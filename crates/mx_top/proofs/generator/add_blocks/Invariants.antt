@@ -1,5 +1,5 @@
 use Rattle.std.proofs.Common.{◌≡◌, ◌++◌}
-use Rattle.law_gen.specs.Generator as spec
+use Rattle.mx_gen.specs.Generator as spec
 use Rattle.mx_top.proofs.generator.add_blocks.Given as goal
 
 -- as many blocks as turns are there

@@ -9,7 +9,7 @@ use Rattle.mx_top.proofs.ListedPlans.{kept-listed}
 use Rattle.mx_top.proofs.Followed.{to-back}
 use Rattle.mx_top.proofs.MachinePlans.{kept-follows, works-lacks, works-taking}
 use Rattle.mx_top.proofs.TakenBack.{nothing-kept, nothing-beside, same-back}
-use Rattle.mx_top.proofs.Caused.{fails-behind, fails-lacking}
+use Rattle.mx_top.proofs.Caused.{fails-after, fails-lacking}
 use Rattle.mx_top.proofs.last.run_back.Goals as goal
 
 pub returns-in-Err : goal.returns-in-Err
@@ -36,5 +36,5 @@ returns g c =
             (nothing-beside _ _ _ _ _ _ c.in-Ok.ensures.none (c.run_kept-end.ensures.kept_listed t (λ e. some ne (c.outcome_of.ensures.memory e)) c.requires)) (told.causes.3.growing there)
             (λ u a. same-back c.args.order.now.dump c.args.order.now.last c.outcome_of.result _ after u a) ((told.plan (some ne) there).ending ne);
       });
-      causes = fails-behind g.H.Host.told g.H.Host.faults _ _ _ _ c.run_kept-end.ensures.run.keeps told.causes;
+      causes = fails-after g.H.Host.told g.H.Host.faults _ _ _ _ c.run_kept-end.ensures.run.keeps told.causes;
     }

@@ -4,7 +4,7 @@ use Rattle.mx_files.proofs.FileClauses.{part-keeps}
 use Rattle.mx_top.specs.Runs.{reached}
 use Rattle.mx_top.proofs.LastStates.{count-taken, works-taken}
 use Rattle.mx_top.proofs.TakenBack.{unbacked-plan, backed-plan, broken-plan, untaken}
-use Rattle.mx_top.proofs.Caused.{fails-behind, fails-lines}
+use Rattle.mx_top.proofs.Caused.{fails-after, fails-lines}
 use Rattle.mx_top.proofs.last.tell_back.Goals as goal
 
 pub returns-then-not-is_taken_back : goal.returns-then-not-is_taken_back
@@ -22,7 +22,7 @@ returns-in-Ok g c =
       lacked = λ e. absurd (untaken _ e taken);
       plan = λ ne.
           backed-plan _ _ _ _ _ _ _ _ _ _ _ taken (c.in-Ok.ensures.reached ∙ ap (reached _) all) (works-taken _ _ _ _ _ _ _ all c.in-Ok.ensures.written) (c.tell_end-in-Ok.ensures.plan ne);
-      causes = fails-behind g.H.Host.told g.H.Host.faults _ _ _ _ (part-keeps _ _ _ _ _ _ c.in-Ok.ensures.written) c.tell_end-in-Ok.ensures.causes;
+      causes = fails-after g.H.Host.told g.H.Host.faults _ _ _ _ (part-keeps _ _ _ _ _ _ c.in-Ok.ensures.written) c.tell_end-in-Ok.ensures.causes;
     }
 
 pub returns-in-Err : goal.returns-in-Err

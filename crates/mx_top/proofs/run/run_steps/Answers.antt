@@ -5,7 +5,7 @@ use Rattle.mx_core.specs.Kept.{Kept, state_of}
 use Rattle.mx_outcome.specs.declared.outcome.Outcome.TheVariants.{OutOfMemory}
 use Rattle.mx_top.specs.Endings as end
 use Rattle.mx_top.specs.MachineWork as work
-use Rattle.mx_top.proofs.Caused.{fails-behind}
+use Rattle.mx_top.proofs.Caused.{fails-after}
 use Rattle.mx_top.proofs.Dumped.{same-dumped}
 use Rattle.mx_top.proofs.Followed.{to-dumped}
 use Rattle.mx_top.proofs.ListedPlans.{run-listed}
@@ -32,5 +32,5 @@ returns g c =
             (rw c.new-runner.ensures.machine at (c.go-end.ensures.run.listed t (λ e. some ne (c.outcome_of.ensures.memory e)) untouched)) (told.causes.3.growing there)
             (same-dumped c.args.order.now.dump c.outcome_of.result after) ((rw c.machine.ensures at (told.plan (some ne) there)).ending ne);
       };
-      causes = fails-behind g.H.Host.told g.H.Host.faults _ _ _ _ c.go-end.ensures.run.keeps told.causes;
+      causes = fails-after g.H.Host.told g.H.Host.faults _ _ _ _ c.go-end.ensures.run.keeps told.causes;
     }

@@ -12,7 +12,7 @@ use Rattle.mx_run.specs.WildRuns.{list_machine}
 use Rattle.mx_top.specs.Processors.{multi_outcome}
 use Rattle.mx_top.proofs.TurnsMade.{turns-follow, turns-listed}
 use Rattle.mx_top.proofs.TurnsTold.{turned-well}
-use Rattle.mx_top.proofs.Caused.{fails-behind}
+use Rattle.mx_top.proofs.Caused.{fails-after}
 use Rattle.mx_top.proofs.schedules.run_started.Goals as goal
 
 pub returns : goal.returns
@@ -37,5 +37,5 @@ returns g c = λ image e.
             (subst (λ (j : Joint). GoAsLists (turns list_machine schedule steps schedule (as_list_joint j) old) c.run_turns-end.result after here) e (c.run_turns-end.ensures.turns.listed t (some ne) c.requires.untouched))
             (told.causes.3.growing there) ((told.plan (turned-well steps c.run_turns-end.result (some ne)) there).ending ne);
       };
-      causes = fails-behind g.H.Host.told g.H.Host.faults _ _ _ _ c.run_turns-end.ensures.turns.keeps told.causes;
+      causes = fails-after g.H.Host.told g.H.Host.faults _ _ _ _ c.run_turns-end.ensures.turns.keeps told.causes;
     }

@@ -84,7 +84,7 @@ returns-clause-product g c = record {
         heard = product_traces window_machine (map string_bytes c.args.words.now) (contents (g.H.Host.told c.args.host.now));
         works = plan-comes (contents (g.H.Host.told c.args.host.now)) _ _ (work_plan (map string_bytes c.args.words.now) (order_of (map string_bytes c.args.words.now))) _ (traces-of window_machine (map string_bytes c.args.words.now) (contents (g.H.Host.told c.args.host.now))) (said.both.window t);
         reports = inr ((e.worked, some-due _ _ _ e.asked (subst (λ n. 1 ≤ n) many e.watched)), (refl, refl));
-        told = record { between = _; spoken = c.write_message.result; message = c.write_message.ensures.plan there; behind = inl (alone _ _) };
+        told = record { between = _; spoken = c.write_message.result; message = c.write_message.ensures.plan there; following = inl (alone _ _) };
       };
   answer = λ t ne. absurd (ne (c.write_message.ensures.same ne));
   left_over = λ t ne. absurd (ne (c.write_message.ensures.same ne));

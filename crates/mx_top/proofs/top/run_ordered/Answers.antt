@@ -1,6 +1,6 @@
 use Rattle.std.proofs.Common.{Err, ap, map}
 use Rattle.std.specs.Prelude.{string_bytes}
-use Rattle.mx_top.proofs.Caused.{fails-behind}
+use Rattle.mx_top.proofs.Caused.{fails-after}
 use Rattle.mx_top.proofs.Heard.{begun-heard, unbegun-heard}
 use Rattle.mx_top.proofs.WorkParts.{begun-both, unbegun-both}
 use Rattle.mx_top.proofs.top.run_ordered.Goals as goal
@@ -10,7 +10,7 @@ use Rattle.mx_top.proofs.top.run_ordered.Goals as goal
 pub returns-in-Ok-clause-part : goal.returns-in-Ok-clause-part
 returns-in-Ok-clause-part g c = record {
   both = begun-both _ _ _ _ _ _ _ _ c.in-Ok.ensures.causes.3.telling c.in-Ok.ensures.window c.in-Ok.ensures.list c.run_machine.ensures.part.both;
-  causes = fails-behind g.H.Host.told g.H.Host.faults _ _ _ _ c.in-Ok.ensures.causes.3 c.run_machine.ensures.part.causes;
+  causes = fails-after g.H.Host.told g.H.Host.faults _ _ _ _ c.in-Ok.ensures.causes.3 c.run_machine.ensures.part.causes;
 }
 
 pub returns-in-Ok-clause-heard : goal.returns-in-Ok-clause-heard

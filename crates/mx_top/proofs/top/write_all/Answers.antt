@@ -7,7 +7,7 @@ returns-clause-plan g c = λ t. record {
   between = _;
   spoken = c.write_message-told.result;
   message = c.write_message-told.ensures.plan t;
-  behind = c.put_reports.ensures.plan (subst IsTrue (sym c.write_message-told.ensures.keeps.keeps.telling) t);
+  following = c.put_reports.ensures.plan (subst IsTrue (sym c.write_message-told.ensures.keeps.keeps.telling) t);
 }
 
 pub returns-clause-keeps : goal.returns-clause-keeps

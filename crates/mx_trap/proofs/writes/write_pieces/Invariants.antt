@@ -1,7 +1,7 @@
 use Rattle.std.proofs.Common.{IsTrue, ◌≡◌, ◌≤◌, ◌-◌, length}
 use Rattle.mx_host.specs.HostModel.{tells, contents}
 use Rattle.mx_plan.specs.Calls.{host}
-use Rattle.mx_plan.specs.Clauses.{Stands}
+use Rattle.mx_plan.specs.Clauses.{KeepsHost}
 use Rattle.mx_plan.specs.Plan.{IsRest}
 use Rattle.mx_trap.specs.Requests.{bytes_from}
 use Rattle.mx_trap.specs.Moves.{written}
@@ -15,7 +15,7 @@ invariant-loop-moved g l = record {
       (written l.slot (bytes_from (g.M.Space.contents l.memory).bytes l.at l.size)) (contents (g.H.Host.told l.fn.host));
   inside : l.moved ≤ l.size;
   buffer : length l.buffer ≡ 4096;
-  stands : Stands (g.H.Host.told l.fn.host) (g.H.Host.told l.host) (g.H.Host.faults l.fn.host) (g.H.Host.faults l.host);
+  keeps : KeepsHost (g.H.Host.told l.fn.host) (g.H.Host.told l.host) (g.H.Host.faults l.fn.host) (g.H.Host.faults l.host);
 }
 
 abbrev pub decreases-loop-moved : goal.decreases-loop-moved

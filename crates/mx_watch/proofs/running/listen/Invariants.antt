@@ -1,6 +1,6 @@
 use Rattle.std.proofs.Common.{IsTrue, false, ◌≡◌, ◌-◌, length, map}
 use Rattle.mx_host.specs.HostModel.{tells, contents}
-use Rattle.mx_plan.specs.Clauses.{Stands}
+use Rattle.mx_plan.specs.Clauses.{KeepsHost}
 use Rattle.mx_core.specs.Bounds.{as_list_state}
 use Rattle.mx_core.specs.Kept.{state_of}
 use Rattle.mx_run.specs.Runs.{IsLater, no_flags}
@@ -34,5 +34,5 @@ invariant-loop-made g l = record {
       (listening l.fn.places.items (map (λ b. (goal.Watcher-dyn g (b.vtable, b.value)).meaning b.value) l.fn.watchers.items) l.fn.kept));
   same : length l.places.items ≡ length l.watchers.items;
   bound : IsLater l._made (state_of l.fn.machine) (state_of l.machine);
-  stands : Stands (g.H.Host.told l.fn.host) (g.H.Host.told l.host) (g.H.Host.faults l.fn.host) (g.H.Host.faults l.host);
+  keeps : KeepsHost (g.H.Host.told l.fn.host) (g.H.Host.told l.host) (g.H.Host.faults l.fn.host) (g.H.Host.faults l.host);
 }

@@ -11,7 +11,7 @@ use Rattle.mx_core.proofs.Results.Stores.{store_plain, stored-ok}
 use Rattle.mx_core.proofs.machine.Machine.store_if_usual.Goals as goal
 
 pub returns-then-store_if_near-clause-made : goal.returns-then-store_if_near-clause-made
-returns-then-store_if_near-clause-made c = λ _.
+returns-then-store_if_near-clause-made g c = λ _.
     let s = state_of c.args.self.now in
     let t = state_of c.store_if_near.new.self in
     let a = c.data_address-a.result in
@@ -24,7 +24,7 @@ returns-then-store_if_near-clause-made c = λ _.
     (c.go_to.ensures ∙ ap (λ n. onward t n) c.next.ensures ∙ ap (λ (u : State). onward u (next_of c.args.i.now)) after)
 
 pub returns-then-store_if_near-clause-stores : goal.returns-then-store_if_near-clause-stores
-returns-then-store_if_near-clause-stores c = λ _.
+returns-then-store_if_near-clause-stores g c = λ _.
     let s = state_of c.args.self.now in
     let t = state_of c.store_if_near.new.self in
     let a = c.data_address-a.result in

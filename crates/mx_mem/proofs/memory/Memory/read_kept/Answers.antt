@@ -34,7 +34,7 @@ returns-clause-value c = λ h.
     let page = get_or_read i.pages.items c.args.place c.index.result.now kept.1 c.index.ensures (0, []) in
     let octa : 4 * k / 8 % 512 ≡ a / 8 % 512 = omega (arith, at, h) in
     let low : 4 * k % 8 ≡ a % 8 = omega (arith, at, h) in
-    c.numbered_tetra.ensures.value h
+    c.read_numbered_tetra.ensures.value h
     ∙ ap (λ (p : ℕ × List ℕ). tetra_of (get_or p.1 (4 * k / 8 % 512) 0) (4 * k)) page
     ∙ ap (λ j. tetra_of (get_or (get_or i.pages.items c.args.place (0, [])).1 j 0) (4 * k)) octa
     ∙ ap (λ o. tetra_of o (4 * k)) (sym there)

@@ -19,7 +19,7 @@ stored c = with_part c.args.part (octa_on (view_of c.self.inside.pages.items c.s
 within : (c : goal.After-self-1) → c.in-Some.place < length c.self.inside.pages.items
 within c = rw c.deref.ensures.value at c.in-Some.ensures.within
 
--- the octa that stood there, in its page
+-- the octa that was there, in its page
 before : (c : goal.After-self-1) → get_or c.index_mut.result.now.1 (c.args.a / 8 % 512) 0 ≡ octa_on (view_of c.self.inside.pages.items c.self.inside.places.entries) c.args.a
 before c =
     let page = get_or_read c.self.inside.pages.items c.in-Some.place c.index_mut.result.now (within c) c.index_mut.ensures.value (0, []) in

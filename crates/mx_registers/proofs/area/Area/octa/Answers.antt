@@ -1,6 +1,6 @@
 use Rattle.std.proofs.Common.{◌≤◌, ◌<◌, ◌^◌, length, arith, sym, ◌∙◌}
 use Rattle.std.proofs.lemmas.List.{get_or_read}
-use Rattle.mx_registers.proofs.Areas.{filled-kept, filled-behind}
+use Rattle.mx_registers.proofs.Areas.{filled-kept, filled-after}
 use Rattle.mx_registers.proofs.area.Area.octa.Goals as goal
 
 pub returns-then-i-len : goal.returns-then-i-len
@@ -12,5 +12,5 @@ returns-then-i-len c =
 pub returns-else-i-len : goal.returns-else-i-len
 returns-else-i-len c =
     let octas = c.self.inside.octas.items in
-    let behind : length octas ≤ c.args.i = omega (arith, c.len.ensures, c.if-i-len.false, c.self.inside.octas.ok) in
-    rw (← c.self.view_is) (sym (filled-behind (2 ^ 20) c.args.i octas behind))
+    let following : length octas ≤ c.args.i = omega (arith, c.len.ensures, c.if-i-len.false, c.self.inside.octas.ok) in
+    rw (← c.self.view_is) (sym (filled-after (2 ^ 20) c.args.i octas following))

@@ -11,7 +11,7 @@ pub returns-then-is_empty-clause-run : goal.returns-then-is_empty-clause-run
 returns-then-is_empty-clause-run g c =
     let e = c.go_freely.ensures in
     let none = c.is_empty.ensures.only c.if-is_empty.true in
-    rw (← c.self.view_is) (run-is _ _ _ _ _ _ _ _ _ _ (λ t. free-both _ _ _ _ _ _ none (e.both t)) e.bound e.stands)
+    rw (← c.self.view_is) (run-is _ _ _ _ _ _ _ _ _ _ (λ t. free-both _ _ _ _ _ _ none (e.both t)) e.bound e.keeps)
 
 pub returns-else-is_empty-clause-plan : goal.returns-else-is_empty-clause-plan
 returns-else-is_empty-clause-plan g c = rw (← c.self.view_is) (λ t. (c.go_by_flags.ensures.both t).window)
@@ -19,4 +19,4 @@ returns-else-is_empty-clause-plan g c = rw (← c.self.view_is) (λ t. (c.go_by_
 pub returns-else-is_empty-clause-run : goal.returns-else-is_empty-clause-run
 returns-else-is_empty-clause-run g c =
     let e = c.go_by_flags.ensures in
-    rw (← c.self.view_is) (run-is _ _ _ _ _ _ _ _ _ _ e.both e.bound e.stands)
+    rw (← c.self.view_is) (run-is _ _ _ _ _ _ _ _ _ _ e.both e.bound e.keeps)

@@ -1,5 +1,0 @@
-use Rattle.law_gen.proofs.Meaning.{not-refused, not-refused-run}
-use Rattle.law_gen.proofs.laws.generated_sources_are_accepted.Goals as goal
-
-pub returns : goal.returns
-returns c = record { assembled = not-refused; run = not-refused-run }

@@ -1,6 +1,0 @@
-use Rattle.law_gen.proofs.SourceRead.{generated-read}
-use Rattle.law_gen.proofs.Meaning.{statements-of}
-use Rattle.law_gen.proofs.laws.generated_sources_are_read.Goals as goal
-
-pub returns : goal.returns
-returns c = record { entries = generated-read; statements = statements-of }

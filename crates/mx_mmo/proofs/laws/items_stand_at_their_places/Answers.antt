@@ -1,5 +1,0 @@
-use Rattle.mx_mmo.proofs.Sound.{items-at}
-use Rattle.mx_mmo.proofs.laws.items_stand_at_their_places.Goals as goal
-
-pub returns : goal.returns
-returns c = items-at

@@ -1,9 +1,0 @@
-use Rattle.std.proofs.Common.{◌≡◌, length}
-use Rattle.mx_type.specs.Lambda.{lambda_behind}
-use Rattle.mx_view.proofs.cells.lambda_behind.Given as goal
-
-abbrev pub invariant-loop-rest : goal.invariant-loop-rest
-invariant-loop-rest l = lambda_behind l.fn.lambda l.items ≡ lambda_behind l.behind l.rest
-
-abbrev pub decreases-loop-rest : goal.decreases-loop-rest
-decreases-loop-rest l = length l.rest
