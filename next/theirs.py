@@ -1,0 +1,6 @@
+import sys,re
+# theirs.py FILE: keeps THEIRS side of every conflict in FILE
+for p in sys.argv[1:]:
+    s=open(p).read()
+    s=re.sub(r'<<<<<<< .*?\n.*?=======\n(.*?)>>>>>>> .*?\n',lambda m:m.group(1),s,flags=re.S)
+    open(p,'w').write(s)
