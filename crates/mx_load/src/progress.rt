@@ -2,7 +2,7 @@
 
 ghost use Rattle.std.specs.Prelude.{◌≡◌, ◌≢◌, ◌≤◌, ◌+◌, ◌==◌, true, Ok, Err, if◌then◌else◌};
 ghost use Rattle.mx_mmo.specs.Meaning as spec;
-ghost use Rattle.mx_mmo.specs.Meaning.{nothing, after_load, with_image, with_name, noted, take_item};
+ghost use Rattle.mx_mmo.specs.Meaning.{nothing, after_load, lined, with_image, with_name, noted, take_item};
 ghost use Rattle.mx_mmo.specs.Valid.{Fits};
 ghost use Rattle.mx_load.specs.Faults.{told, given};
 ghost use Rattle.mx_load.specs.Status.{GoesOn, loading_of};
@@ -71,7 +71,8 @@ impl Progress {
         }
     }
 
-    /// Notes the line in force for the tetra at lambda, and goes on to the next line.
+    /// Notes the line in force, where one is, for the tetra at lambda, and goes on to the next line. Mostly none is.
+    #[inline(always)]
     fn count_line(&mut self) -> Result<(), LoadFault>
         ensures { GoesOn result self.old self.new
             (λ s. Ok (record s { image = noted s s.image; line = spec.next_line s.line })) }
@@ -79,12 +80,25 @@ impl Progress {
         if self.line == 0 {
             return Ok(());
         }
+        self.note_line()
+    }
+
+    /// Notes the number of the line in force for the tetra at lambda, also where it is 0, and goes on to the next line.
+    /// It is a call, so that a tetra without a line pays for none of it.
+    #[inline(never)]
+    fn note_line(&mut self) -> Result<(), LoadFault>
+        ensures { GoesOn result self.old self.new (λ s. Ok (record s {
+          image = record s.image { line_of = lined s.image.line_of s.lambda s.line };
+          line = spec.next_line s.line;
+        })) }
+    {
         self.image.note(self.lambda, self.line)?;
         self.line = next_line(self.line);
         Ok(())
     }
 
     /// Goes on after the tetra that was joined at lambda.
+    #[inline(always)]
     fn advance(&mut self) -> Result<(), LoadFault>
         ensures { GoesOn result self.old self.new (λ s. after_load s (Ok s.image)) }
     {
