@@ -15,6 +15,8 @@ use Rattle.mx_run.specs.WildRuns.{MachineKind, window_machine, list_machine}
 use Rattle.mx_run.specs.declared.end.End.{End}
 use Rattle.mx_watch.specs.Traces.{traces}
 use Rattle.mx_watch.specs.WatchedRuns.{UnlessWild, list_traces}
+use Rattle.mx_view.specs.Loads.{loads_of}
+use Rattle.mx_view.specs.declared.cells.Cell.{Cell}
 use Rattle.mx_words.specs.declared.order.Order.{Order}
 use Rattle.mx_begin.specs.Begun.{image_in, started}
 use Rattle.mx_begin.specs.Ends.{outcome_of}
@@ -24,7 +26,7 @@ use Rattle.mx_outcome.specs.declared.outcome.Outcome.{Outcome}
 use Rattle.mx_outcome.specs.declared.outcome.Outcome.TheVariants.{OutOfMemory}
 use Rattle.mx_count.specs.Counting.{counts_in, counts_with, kept_tally}
 use Rattle.mx_count.specs.Runs.{AnswerForms, CountAnswer, CountsBoth, CountsByKind, CountsRun, EndsAsCounted, EndsCounted, RunCounts, by_counts, by_lines, by_text, counted_run_from, counted_to, halting_after, halting_steps, image_counted, lines_in, mapped, meaning_counted, ran, run_counts, run_outcome, source_counted, start_counted, steps_counted, text_in}
-use Rattle.mx_count.specs.Sheets.{Counts, source_sheet, tallies_in}
+use Rattle.mx_count.specs.Sheets.{Counts, sheet_data, source_sheet, tallies_in}
 use Rattle.mx_count.specs.Tallies.{added, tally_in}
 use Rattle.mx_count.specs.declared.count.Counted.{Counted}
 use Rattle.mx_count.specs.declared.counts.Entry.{Entry}
@@ -174,14 +176,14 @@ text-remade : (source : List ℕ) → Remakes text_in (by_lines source) (by_text
 text-remade source = record { without = λ outcome. refl; with_steps = λ outcome h. refl }
 
 -- as data
-pub lines-told : (old new : Option HostModel) (o : Order) (arguments : List (List ℕ)) (source : List ℕ) (r : Result (Outcome × List Entry) Outcome) (result : CountedLines) →
+pub lines-told : (old new : Option HostModel) (o : Order) (arguments : List (List ℕ)) (source : List ℕ) (image : Image) (r : Result (Outcome × List Entry) Outcome) (result : CountedLines) →
     (result.outcome ≢ OutOfMemory → run_outcome r ≢ OutOfMemory) → (result.outcome ≢ OutOfMemory → result ≡ lines_in source (run_counts r)) →
-    CountsRun old new r (λ kind m. source_counted kind o arguments by_counts source m) →
-    CountsByKind old new result.outcome result (λ kind m. source_counted kind o arguments (by_lines source) source m)
-lines-told old new o arguments source r result enough is told =
-    told-as old new result.outcome result (λ kind m. mapped (lines_in source) (source_counted kind o arguments by_counts source m)) (λ kind m. source_counted kind o arguments (by_lines source) source m)
-    (λ kind m. meaning-same (lines_in source) by_counts (by_lines source) (lines-remade source) kind o arguments (image_in Source source) m)
-    (mapped-told old new (run_outcome r) result.outcome (run_counts r) result (lines_in source) (λ kind m. source_counted kind o arguments by_counts source m) enough is told)
+    CountsRun old new r (λ kind m. image_counted kind o arguments by_counts image m) →
+    CountsByKind old new result.outcome result (λ kind m. image_counted kind o arguments (by_lines source) image m)
+lines-told old new o arguments source image r result enough is told =
+    told-as old new result.outcome result (λ kind m. mapped (lines_in source) (image_counted kind o arguments by_counts image m)) (λ kind m. image_counted kind o arguments (by_lines source) image m)
+    (λ kind m. image-same (lines_in source) by_counts (by_lines source) (lines-remade source) kind o arguments image m)
+    (mapped-told old new (run_outcome r) result.outcome (run_counts r) result (lines_in source) (λ kind m. image_counted kind o arguments by_counts image m) enough is told)
 
 -- as a text
 pub text-told : (old new : Option HostModel) (o : Order) (arguments : List (List ℕ)) (source : List ℕ) (counted : CountedLines) (result : Counted) →
@@ -194,8 +196,8 @@ text-told old new o arguments source counted result enough is told =
     (mapped-told old new counted.outcome result.outcome counted result text_in (λ kind m. source_counted kind o arguments (by_lines source) source m) enough is told)
 
 -- what is made of the counts of a run
-pub lines-with : (source : List ℕ) (outcome : Outcome) (es same : List Entry) (sheet : LineSheet) (result : CountedLines) → result.outcome ≡ outcome →
-    (outcome ≢ OutOfMemory → result ≡ record { outcome = outcome; sheet = Some sheet }) → same ≡ es → sheet ≡ source_sheet source (counts_in same) → result.outcome ≢ OutOfMemory →
+pub lines-with : (source : List ℕ) (loads : List (List Cell)) (outcome : Outcome) (es same : List Entry) (sheet : LineSheet) (result : CountedLines) → loads ≡ loads_of source → result.outcome ≡ outcome →
+    (outcome ≢ OutOfMemory → result ≡ record { outcome = outcome; sheet = Some sheet }) → same ≡ es → sheet ≡ sheet_data source loads (counts_in same) → result.outcome ≢ OutOfMemory →
     result ≡ record { outcome = outcome; sheet = Some (source_sheet source (counts_in es)) }
-lines-with source outcome es same sheet result is value there made ne =
-    value (λ e. ne (is ∙ e)) ∙ (λ i. record { outcome = outcome; sheet = Some ((made ∙ ap (λ (x : List Entry). source_sheet source (counts_in x)) there) i) })
+lines-with source loads outcome es same sheet result lists is value there made ne =
+    value (λ e. ne (is ∙ e)) ∙ (λ i. record { outcome = outcome; sheet = Some ((made ∙ (λ j. sheet_data source (lists j) (counts_in (there j)))) i) })

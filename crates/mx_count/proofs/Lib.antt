@@ -2,6 +2,7 @@ pub mod TallyLaws
 pub mod KeptTallies
 pub mod Summing
 pub mod SheetRows
+pub mod LoadedLoads
 pub mod CountedTraces
 pub mod CountedRuns
 pub mod LeftHosts

@@ -7,21 +7,24 @@ ghost use Rattle.mx_core.specs.Kept.{state_of};
 ghost use Rattle.mx_host.specs.Keeping.{Keeps};
 ghost use Rattle.mx_load.specs.Kept.{image_of};
 ghost use Rattle.mx_run.specs.WildRuns.{list_machine, window_machine};
+ghost use Rattle.mx_view.specs.Loads.{loads_of};
 ghost use Rattle.mx_count.specs.Leaving.{ImageLeaves, IsLeft, RunLeaves, SourceLeaves};
 ghost use Rattle.mx_count.specs.Runs as spec;
 ghost use Rattle.mx_count.specs.Runs.{AreArguments, CountsBoth, CountsByKind, CountsRun, by_counts, by_lines, by_text};
 ghost use Rattle.mx_count.specs.Runs.{run_counts, run_outcome};
 
 use crate::counts::Counts;
-use crate::lines::{CountedLines, LineSheet, make_sheet};
+use crate::lines::{CountedLines, LineSheet, sheet_with};
+use crate::loaded::load_image;
 use crate::sheet::format_sheet;
 use crate::walk::count_steps;
-use mx_begin::{Form, image_in, outcome_of, start_machine};
+use mx_begin::{outcome_of, start_machine};
 use mx_core::Machine;
 use mx_host::Host;
 use mx_load::Image;
 use mx_outcome::Outcome;
-use mx_word::{Bytes, NoMemory};
+use mx_view::Cell;
+use mx_word::{Bytes, NoMemory, Sequence};
 use mx_words::Order;
 use std::alloc::Global;
 
@@ -79,28 +82,6 @@ pub fn count_image<H: Host>(
     count_machine(alloc, host, order.steps, machine)
 }
 
-/// Runs the image of a source, and counts its steps.
-///
-/// Errors: the outcome where the source is refused, and as above.
-fn count_assembled<H: Host>(
-    alloc: Global,
-    host: &mut H,
-    order: &Order,
-    source: &[u8],
-    arguments: &[Bytes],
-) -> Result<(Outcome, Counts), Outcome>
-    requires { AreArguments arguments.now }
-    ensures told { CountsRun (H.told host.old) (H.told host.new) result
-        (λ kind m. spec.source_counted kind order.now arguments.now by_counts source.now m) }
-    ensures left { IsLeft (H.told host.old) (H.told host.new)
-        (λ m k. SourceLeaves order.now arguments.now source.now m k) }
-    ensures machine { IsOfMachine (run_outcome result) }
-    ensures keeps { Keeps (H.told host.old) (H.told host.new) (H.faults host.old) (H.faults host.new) }
-{
-    let image = image_in(alloc, Form::Source, source)?;
-    count_image(alloc, host, order, image, arguments)
-}
-
 /// An outcome without a sheet.
 fn without_lines(outcome: Outcome) -> CountedLines
     ensures { result ≡ record { outcome = outcome; sheet = None } }
@@ -126,8 +107,15 @@ fn with_lines(outcome: Outcome, sheet: LineSheet) -> CountedLines
     }
 }
 
-/// What was counted of a run of a source, line by line.
-fn lines_by(alloc: Global, source: &[u8], outcome: Outcome, counts: &Counts) -> CountedLines
+/// What was counted of a run of a source, whose lines load these tetras, line by line.
+fn lines_by(
+    alloc: Global,
+    source: &[u8],
+    loads: &[Sequence<Cell>],
+    outcome: Outcome,
+    counts: &Counts,
+) -> CountedLines
+    requires { loads.now ≡ loads_of source.now }
     ensures value { result.outcome ≢ Outcome.OutOfMemory →
         result ≡ spec.lines_as source.now outcome counts.now }
     ensures lacking { result.outcome ≢ Outcome.OutOfMemory → outcome ≢ Outcome.OutOfMemory }
@@ -135,9 +123,36 @@ fn lines_by(alloc: Global, source: &[u8], outcome: Outcome, counts: &Counts) -> 
     ensures no_host_fault { outcome ≢ Outcome.HostFault → result.outcome ≢ Outcome.HostFault }
     ensures no_missing_file { outcome ≢ Outcome.NoFile → result.outcome ≢ Outcome.NoFile }
 {
-    match make_sheet(alloc, source, counts.as_slice()) {
+    match sheet_with(alloc, source, loads, counts.as_slice()) {
         Ok(sheet) => with_lines(outcome, sheet),
         Err(_) => without_lines(Outcome::OutOfMemory),
+    }
+}
+
+/// Runs the image of a source, whose lines load these tetras, and counts its steps line by line.
+fn count_image_lines<H: Host>(
+    alloc: Global,
+    host: &mut H,
+    order: &Order,
+    source: &[u8],
+    loads: &[Sequence<Cell>],
+    image: Image,
+    arguments: &[Bytes],
+) -> CountedLines
+    requires given { AreArguments arguments.now }
+    requires loads { loads.now ≡ loads_of source.now }
+    ensures told { CountsByKind (H.told host.old) (H.told host.new) result.outcome result
+        (λ kind m. spec.image_counted kind order.now arguments.now (by_lines source.now) (image_of image) m) }
+    ensures left { IsLeft (H.told host.old) (H.told host.new)
+        (λ m k. ImageLeaves order.now arguments.now (image_of image) m k) }
+    ensures none { result.outcome ≡ Outcome.OutOfMemory → result.sheet ≡ None }
+    ensures no_host_fault { result.outcome ≢ Outcome.HostFault }
+    ensures no_missing_file { result.outcome ≢ Outcome.NoFile }
+    ensures keeps { Keeps (H.told host.old) (H.told host.new) (H.faults host.old) (H.faults host.new) }
+{
+    match count_image(alloc, host, order, image, arguments) {
+        Ok((outcome, counts)) => lines_by(alloc, source, loads, outcome, &counts),
+        Err(outcome) => without_lines(outcome),
     }
 }
 
@@ -163,8 +178,16 @@ pub fn count_lines<H: Host>(
     ensures no_missing_file { result.outcome ≢ Outcome.NoFile }
     ensures keeps { Keeps (H.told host.old) (H.told host.new) (H.faults host.old) (H.faults host.new) }
 {
-    match count_assembled(alloc, host, order, source, arguments) {
-        Ok((outcome, counts)) => lines_by(alloc, source, outcome, &counts),
+    match load_image(alloc, source) {
+        Ok((image, loads)) => count_image_lines(
+            alloc,
+            host,
+            order,
+            source,
+            loads.as_slice(),
+            image,
+            arguments,
+        ),
         Err(outcome) => without_lines(outcome),
     }
 }

@@ -5,6 +5,7 @@ mod count;
 mod counts;
 mod laws;
 mod lines;
+mod loaded;
 mod sheet;
 mod sums;
 mod tally;

@@ -123,7 +123,7 @@ fn add_lines(
 
 /// The sheet of a source, whose lines load these tetras, by what is counted.
 #[tactic(auto, using(crate::proofs::SheetRows::whole))]
-fn sheet_with(
+pub(crate) fn sheet_with(
     alloc: Global,
     source: &[u8],
     loads: &[Sequence<Cell>],

@@ -16,7 +16,7 @@ mod typing;
 pub use emit::assemble_file;
 pub use laws::{files_are_served, files_are_their_plans, files_stop_in_front, files_take_at_most};
 pub use lines::write_line;
-pub use loading::load_source;
+pub use loading::{fault_of_line, load_end, load_line, load_source};
 pub use refusal::{Refusal, SourceFault};
 pub use schedule::read_schedule;
 pub use schedule_laws::schedules_are_judged;

@@ -1,6 +1,6 @@
 //! A source that is loaded line by line.
 
-ghost use Rattle.std.specs.Prelude.{◌≡◌, ◌≢◌, Ok, Err, IfOk, OnOk};
+ghost use Rattle.std.specs.Prelude.{◌≡◌, ◌≢◌, [], Ok, Err, IfOk, OnOk};
 ghost use Rattle.mx_asm.specs.Faults.{no_memory};
 ghost use Rattle.mx_asm.specs.Fitting.{AreFit};
 ghost use Rattle.mx_asm.specs.OnePass.{beginning, line_following};
@@ -64,23 +64,24 @@ fn take_line(
     }
 }
 
-/// Takes a line, and loads its items.
+/// Takes a line, and loads the items that it gives, which are then in `items`.
 #[tactic(auto, using(crate::proofs::LoadedItems::judging))]
-fn load_line(
-    alloc: Global,
+pub fn load_line(
     assembler: &mut Assembler,
     loader: &mut Loader,
+    items: &mut Items,
     text: &[u8],
     line: u32,
 ) -> Result<(), SourceFault>
+    requires none { items.old ≡ [] }
     requires open { loader_spec.answer (status loader.old) ≡ Ok tt }
     ensures open { OnOk result (loader_spec.answer (status loader.new) ≡ Ok tt) }
     ensures loaded { result ≢ Err SourceFault.OutOfMemory →
         spec.loading_status_after result assembler.new (status loader.new)
         ≡ spec.line_loaded line (spec.loading_status assembler.old (status loader.old)) text.now }
+    ensures taken { OnOk result ((items.new, assembler.new) ≡ line_following items.old assembler.old text.now) }
 {
-    let mut items = Items::new(alloc);
-    let answer = take_line(assembler, &mut items, text)?;
+    let answer = take_line(assembler, items, text)?;
     match load_items(loader, items.as_slice()) {
         Ok(()) => match answer {
             Ok(()) => Ok(()),
@@ -91,7 +92,7 @@ fn load_line(
 }
 
 /// Why a line is refused whose items cannot be loaded.
-fn fault_of_line(line: u32, fault: LoadFault) -> SourceFault
+pub fn fault_of_line(line: u32, fault: LoadFault) -> SourceFault
     ensures memory { fault ≡ LoadFault.OutOfMemory → result ≡ SourceFault.OutOfMemory }
     ensures refused { fault ≢ LoadFault.OutOfMemory → result ≡ spec.refused_line line fault }
 {
@@ -119,7 +120,8 @@ fn load_lines(
     let mut line = 1u32;
     while !rest.is_empty() {
         let (first, others) = cut_line(rest);
-        load_line(alloc, assembler, loader, first, line)?;
+        let mut items = Items::new(alloc);
+        load_line(assembler, loader, &mut items, first, line)?;
         line = match line.checked_add(1) {
             Some(next) => next,
             None => return Err(SourceFault::OutOfMemory),
@@ -131,7 +133,7 @@ fn load_lines(
 
 /// Ends a source, and loads its last items.
 #[tactic(auto, using(crate::proofs::LoadedItems::ending))]
-fn load_end(
+pub fn load_end(
     alloc: Global,
     assembler: &mut Assembler,
     loader: &mut Loader,

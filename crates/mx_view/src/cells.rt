@@ -26,7 +26,7 @@ pub enum Wanted {
 }
 
 /// A list of cells.
-pub(crate) type Cells = Sequence<Cell>;
+pub type Cells = Sequence<Cell>;
 
 impl Wanted {
     /// Whether the tetra at this address is shown.
@@ -61,7 +61,7 @@ fn lambda_after(lambda: u64, item: &Item) -> u64
 
 /// Lambda after items, where it was an address before the first of them.
 #[tactic(auto, unfolding(mx_type::specs::Lambda::lambda_following))]
-pub(crate) fn lambda_following(lambda: u64, items: &[Item]) -> u64
+pub fn lambda_following(lambda: u64, items: &[Item]) -> u64
     ensures { result ≡ lambdas.lambda_following lambda items.now }
 {
     let mut following = lambda;
@@ -92,7 +92,7 @@ fn add_cell(cells: &mut Cells, wanted: Wanted, lambda: u64, item: &Item) -> Resu
 
 /// The wanted tetras that items load, where lambda is an address before the first of them.
 #[tactic(auto, using(crate::proofs::CellTurns::turns), unfolding(crate::specs::Cells::cells_of))]
-pub(crate) fn cells_of(
+pub fn cells_of(
     alloc: Global,
     wanted: Wanted,
     lambda: u64,

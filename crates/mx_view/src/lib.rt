@@ -13,7 +13,7 @@ mod told;
 mod turns;
 mod view;
 
-pub use cells::{Cell, Wanted};
+pub use cells::{Cell, Cells, Wanted, cells_of, lambda_following};
 pub use checking::{ToldFault, ToldFaults, tell_faults};
 pub use laws::{
     a_line_shows_each_tetra_once, each_line_is_listed_once_in_order, every_loaded_tetra_is_listed,

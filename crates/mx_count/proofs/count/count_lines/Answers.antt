@@ -1,29 +1,31 @@
-use Rattle.std.proofs.Common.{Ok, Err, sym, ap, ◌∙◌}
+use Rattle.std.proofs.Common.{Err, refl, sym, ap, ◌∙◌}
+use Rattle.mx_count.specs.Runs.{by_lines}
 use Rattle.mx_count.specs.declared.lines.CountedLines.{CountedLines}
-use Rattle.mx_count.proofs.CountedRuns.{lines-told}
+use Rattle.mx_count.proofs.CountedRuns.{meant-told, refused-told}
+use Rattle.mx_count.proofs.LeftHosts.{meant-left, unmeant-left}
 use Rattle.mx_count.proofs.count.count_lines.Goals as goal
 
--- ---- a machine ran
+-- ---- there is an image
 
 pub returns-in-Ok-clause-told : goal.returns-in-Ok-clause-told
 returns-in-Ok-clause-told g c =
-    lines-told _ _ c.args.order.now c.args.arguments.now c.args.source.now (Ok (c.in-Ok.outcome, c.in-Ok.counts)) _ c.lines_by.ensures.lacking c.lines_by.ensures.value c.in-Ok.ensures.told
+    meant-told _ _ _ _ c.args.order.now c.args.arguments.now (by_lines c.args.source.now) c.args.source.now _ (c.in-Ok.ensures.image (λ e. absurd (cc))) c.count_image_lines.ensures.told
 
-pub returns-in-Ok-clause-no_host_fault : goal.returns-in-Ok-clause-no_host_fault
-returns-in-Ok-clause-no_host_fault g c = c.lines_by.ensures.no_host_fault c.in-Ok.ensures.machine.0
+pub returns-in-Ok-clause-left : goal.returns-in-Ok-clause-left
+returns-in-Ok-clause-left g c = λ t. meant-left c.args.order.now c.args.arguments.now _ _ _ _ (c.in-Ok.ensures.image (λ e. absurd (cc))) (c.count_image_lines.ensures.left t)
 
-pub returns-in-Ok-clause-no_missing_file : goal.returns-in-Ok-clause-no_missing_file
-returns-in-Ok-clause-no_missing_file g c = c.lines_by.ensures.no_missing_file c.in-Ok.ensures.machine.1
-
--- ---- none did
+-- ---- there is none
 
 pub returns-in-Err-clause-told : goal.returns-in-Err-clause-told
 returns-in-Err-clause-told g c =
-    lines-told _ _ c.args.order.now c.args.arguments.now c.args.source.now (Err c.in-Err.outcome) _
-    (λ ne e. ne (ap (λ (r : CountedLines). r.outcome) c.without_lines.ensures ∙ e)) (λ ne. c.without_lines.ensures) c.in-Err.ensures.told
+    refused-told _ _ _ _ c.args.order.now c.args.arguments.now (by_lines c.args.source.now) c.args.source.now c.in-Err.outcome refl (ap (λ (r : CountedLines). r.outcome) c.without_lines.ensures) c.without_lines.ensures
+    (λ ne. c.in-Err.ensures.image (λ e. ne (cc e)))
+
+pub returns-in-Err-clause-left : goal.returns-in-Err-clause-left
+returns-in-Err-clause-left g c = λ t. unmeant-left c.args.order.now c.args.arguments.now _ _
 
 pub returns-in-Err-clause-no_host_fault : goal.returns-in-Err-clause-no_host_fault
-returns-in-Err-clause-no_host_fault g c = λ e. c.in-Err.ensures.machine.0 (sym (ap (λ (r : CountedLines). r.outcome) c.without_lines.ensures) ∙ e)
+returns-in-Err-clause-no_host_fault g c = λ e. c.in-Err.ensures.no_host_fault (ap Err (sym (ap (λ (r : CountedLines). r.outcome) c.without_lines.ensures) ∙ e))
 
 pub returns-in-Err-clause-no_missing_file : goal.returns-in-Err-clause-no_missing_file
-returns-in-Err-clause-no_missing_file g c = λ e. c.in-Err.ensures.machine.1 (sym (ap (λ (r : CountedLines). r.outcome) c.without_lines.ensures) ∙ e)
+returns-in-Err-clause-no_missing_file g c = λ e. c.in-Err.ensures.no_missing_file (ap Err (sym (ap (λ (r : CountedLines). r.outcome) c.without_lines.ensures) ∙ e))

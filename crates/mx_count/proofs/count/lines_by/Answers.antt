@@ -4,7 +4,7 @@ use Rattle.mx_count.proofs.count.lines_by.Goals as goal
 
 pub returns-in-Ok-clause-value : goal.returns-in-Ok-clause-value
 returns-in-Ok-clause-value c =
-    lines-with c.args.source.now c.args.outcome c.args.counts.now _ _ _ c.with_lines.ensures.same c.with_lines.ensures.value c.as_slice.ensures c.in-Ok.ensures
+    lines-with c.args.source.now c.args.loads.now c.args.outcome c.args.counts.now _ _ _ c.requires c.with_lines.ensures.same c.with_lines.ensures.value c.as_slice.ensures c.in-Ok.ensures
 
 pub returns-in-Ok-clause-lacking : goal.returns-in-Ok-clause-lacking
 returns-in-Ok-clause-lacking c = λ ne e. ne (c.with_lines.ensures.same ∙ e)
