@@ -63,7 +63,7 @@ fn load_image(alloc: Global, bytes: &[u8]) -> Result<Image, Outcome>
 }
 
 /// The image that the bytes of a file give, or the outcome where they are refused.
-pub fn image_in(alloc: Global, form: Form, bytes: &[u8]) -> Result<Image, Outcome>
+fn image_in(alloc: Global, form: Form, bytes: &[u8]) -> Result<Image, Outcome>
     ensures image { result ≢ Err Outcome.OutOfMemory → map_ok image_of result ≡ spec.image_in form bytes.now }
     ensures no_host_fault { result ≢ Err Outcome.HostFault }
     ensures no_missing_file { result ≢ Err Outcome.NoFile }

@@ -10,4 +10,4 @@ mod images;
 pub use argument::{collect_arguments, word_bytes};
 pub use beginning::{begin, start_machine};
 pub use ending::outcome_of;
-pub use images::{Form, image_in, read_image};
+pub use images::{Form, read_image};
