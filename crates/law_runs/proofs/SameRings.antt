@@ -224,9 +224,9 @@ module _ (blocks ring : Word) (n size : ℕ) (counts : blocks_value blocks ≡ O
       (record { command = refl; file = refl; object = refl; schedule = λ e. refl; arguments = λ h. absurd h; steps = refl; interactive = refl; dump = refl; blocks = refl; last = refl })
 
 -- a worked row: `gen 1` and `gen --ring 512 1`
-gen-row : (m : HostModel) → product list_machine (codes "gen" ∷ codes "1" ∷ []) m ≡ product list_machine (codes "gen" ∷ codes "--ring" ∷ codes "512" ∷ codes "1" ∷ []) m
+row-gen : (m : HostModel) → product list_machine (codes "gen" ∷ codes "1" ∷ []) m ≡ product list_machine (codes "gen" ∷ codes "--ring" ∷ codes "512" ∷ codes "1" ∷ []) m
 unfolding lib.Count.ones
-gen-row m = rings-generated (codes "1") (codes "512") 1 512 refl m refl
+row-gen m = rings-generated (codes "1") (codes "512") 1 512 refl m refl
 
 pub gen-agrees : (blocks ring : Word) (n size : ℕ) (m : HostModel) → blocks_value blocks ≡ Ok n → ring_value ring ≡ Ok size → product list_machine (gen_words blocks) m ≡ product list_machine (gen_ring_words ring blocks) m
 gen-agrees blocks ring n size m counts is = rings-generated blocks ring n size counts m is

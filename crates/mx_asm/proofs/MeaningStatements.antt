@@ -106,9 +106,6 @@ module _ (n : ℕ) (big : 2 ^ 51 ≤ n) where
 
   -- ---- a statement
 
-  abbrev OntoFixes : State → ℕ → Value → List Wait → List Item → Type 0
-  OntoFixes s line value waits items = onto (moved s.lambda value) (fixes line value waits) ≡ Ok items
-
   reg-refused : (r : ℕ) (line : ℕ) (w : Wait) (waits : List Wait) (items : List Item) → fixes line (Reg r) (w ∷ waits) ≡ Ok items → ⊥
   unfolding fixes
   reg-refused r line w waits items h = absurd (cc)

@@ -15,7 +15,6 @@ use Rattle.mx_code.specs.declared.instruction.Instruction.{Instruction}
 use Rattle.mx_code.specs.Operations.{has_destination}
 use Rattle.mx_core.specs.State.{State, special_register, locals, global_start, with_special, with_octa, is_negative}
 use Rattle.mx_core.specs.Step.{Stepped, went, calls, stopped, fetched, completed, made, step}
-use Rattle.mx_core.specs.Way.Stepping.{advanced}
 use Rattle.mx_code.specs.declared.operation.Operation.{Operation}
 use Rattle.mx_code.specs.declared.operation.Operation.TheVariants as op
 use Rattle.mx_code.specs.declared.reason.Reason.{Reason}
@@ -108,12 +107,3 @@ step-if false s x h = h
 pub step-count : (s : State) → CountsOne s (step s)
 unfolding step
 step-count s = step-if (is_negative s.pc) s _ (made-count s (operation_in (fetched s)))
-
--- the same of what a call of a step made
-advanced-count : (s u : State) (x : Stepped) → CountsOne s x → (advance.Went, u) ≡ advanced s x → u.steps ≡ (s.steps + 1) % 2 ^ 64
-advanced-count s u (went t trace) h e = ap (λ p. p.1.steps) e ∙ h
-advanced-count s u (calls call) h e = absurd (cc (ap (λ p. p.0) e))
-advanced-count s u (stopped reason) h e = absurd (cc (ap (λ p. p.0) e))
-
-pub went-count : (s u : State) → (advance.Went, u) ≡ advanced s (step s) → u.steps ≡ (s.steps + 1) % 2 ^ 64
-went-count s u e = advanced-count s u (step s) (step-count s) e

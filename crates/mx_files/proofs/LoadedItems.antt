@@ -70,7 +70,3 @@ pub ruleset ending = (end-whole, end-faulty)
 pub image-is : (l : Result Loading LoadFault) (image : Kept) → Ok (image_of image) ≡ image_in l → ◌≡◌ {A = Result Image Refusal} (Ok (image_of image)) (image_loaded l)
 image-is (Ok s) image e = cc
 image-is (Err fault) image e = absurd (cc)
-
-pub image-fails : (l : Result Loading LoadFault) (fault : LoadFault) → Err fault ≡ image_in l → ◌≡◌ {A = Result Image Refusal} (Err (refused_at 0 (number_of fault))) (image_loaded l)
-image-fails (Ok s) fault e = absurd (cc)
-image-fails (Err f) fault e = cc

@@ -61,9 +61,6 @@ nothing = Head []
 abbrev pub read_all : List ℕ → Read
 read_all stream = reads nothing stream
 
-abbrev pub frames_of : List ℕ → List Frame
-frames_of stream = (reads nothing stream).frames
-
 -- how many bytes may be asked for
 abbrev pub wanted : Coming → ℕ
 wanted (Head head) = 1

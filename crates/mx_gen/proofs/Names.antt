@@ -1,9 +1,7 @@
 -- The names of the program, and the symbols that are defined after this many blocks.
-use Rattle.std.proofs.Common.{◌≡◌, ℕ, ◌+◌, ◌^◌, ◌<◌, ◌≤◌, Bool, true, false, cond, List, [], ◌∷◌, length, codes, None, Some, Result, Ok, Err, bytes_eq, refl, ap, ◌∙◌, arith, is_some, rules}
+use Rattle.std.proofs.Common.{◌≡◌, ℕ, ◌+◌, ◌^◌, ◌<◌, ◌≤◌, true, false, cond, List, [], ◌∷◌, length, codes, None, Some, Ok, bytes_eq, refl, ap, ◌∙◌, arith, is_some, rules}
 use Rattle.mx_gen.proofs.Words.{decimal, AllByRecursion, AllDigits, le-ltb, nat_tests, decimal_is_IsNumeral, decimal_injective, Symbol, Value, Pure, special_registers, predefined_names, predefined_value, NameTable, value_in, pure_of, first_value, value_of_name, symbols_with, Name, symbol_form, label_fault, block_name}
 use Rattle.std.proofs.lemmas.Slice.Eq.{bytes_eq-Decides}
-use Rattle.mx_names.specs.declared.fault.NameFault.{NameFault}
-use Rattle.mx_names.specs.declared.fault.NameFault.TheVariants.{Twice, Predefined, NameTooLong}
 use Rattle.mx_names.proofs.Entries.{value-inserted, length-inserted}
 use Rattle.mx_names.proofs.Known.{all-inserted}
 use Rattle.mx_gen.proofs.Operands.{short-digits}
@@ -51,15 +49,6 @@ unfolding predefined_value predefined_names special_registers
 halt-predefined = refl
 
 -- ---- values of names
-
-abbrev form_unless : List ℕ → Bool → Result (List ℕ) NameFault
-form_unless full long = cond long (Err NameTooLong) (Ok full)
-
-abbrev defined_unless : Bool → Result (Unit {0}) NameFault
-defined_unless twice = cond twice (Err Twice) (Ok tt)
-
-abbrev answer_unless : Bool → Bool → Result (Unit {0}) NameFault
-answer_unless predefined twice = cond predefined (Err Predefined) (defined_unless twice)
 
 module _ (symbols : List Symbol) (backs : List Value) (at : ℕ) where
   abbrev names : NameTable

@@ -74,10 +74,6 @@ module _ (k : Known) where
   unfolding shapes_of shape_spans
   incl-tetra n low = rw (lt-ltb n (2 ^ 16) low) refl
 
-  -- a symbol that is not known yet
-  future : (text full : List ℕ) → symbol_form k.names text ≡ Ok full → value_of_name k.names full ≡ None → reference_of k (name text) ≡ Some (awaited.Name full)
-  future text full form none = ap (awaited_name k.names) form ∙ ap (name_unless_known full) none
-
   pub call-tetra : (text full : List ℕ) → symbol_form k.names text ≡ Ok full → value_of_name k.names full ≡ None → Tetras k 0xf2 (reg 1 ∷ name text ∷ []) (tetra_wyde 0xf2 1 0) (Some (awaited.Name full, Near))
   unfolding shapes_of shape_spans
   call-tetra text full form none = cc

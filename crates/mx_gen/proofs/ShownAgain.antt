@@ -1,6 +1,6 @@
 -- A text of an instruction is assembled to the tetra that it shows.
 use Rattle.std.proofs.Common.{◌≡◌, ◌↔◌, ℕ, ◌+◌, ◌%◌, ◌^◌, ◌<◌, ◌≤◌, Bool, true, false, not, Option, None, Some, Ok, refl, sym, ap, ◌∙◌, arith, subst, rules}
-use Rattle.mx_gen.proofs.ShownWords.{IsOk, opcode_kind, is_backward, is_immediate, Code, Shape, Rel, Jump, Placed, Label, Answer, Known, no_targets, plain_tetra, relative_word, form, tetra_wyde, tetra_whole, StatementTree, known_at_place, with_tetra, encoding, IsRead, operation_with, field_code, field_x, field_yz, field_xyz, shape, target, lowest_code, shown_fields, IsShownPart, TargetStays, IsPlaceable}
+use Rattle.mx_gen.proofs.ShownWords.{IsOk, opcode_kind, is_backward, is_immediate, Code, Shape, Rel, Jump, Placed, Label, Answer, Known, no_targets, plain_tetra, form, StatementTree, known_at_place, with_tetra, encoding, IsRead, operation_with, field_code, shape, target, lowest_code, shown_fields, IsShownPart, TargetStays, IsPlaceable}
 use Rattle.mx_ops.specs.declared.op.Op.{Op}
 use Rattle.mx_text.proofs.LowestCodes.{name-found}
 use Rattle.mx_gen.proofs.Parts.{code-below}
@@ -23,13 +23,6 @@ module _ (k : Known) (line : ℕ) (label : Option Label) (word low : ℕ) where
 
   abbrev placed_as : Shape → Answer Placed
   placed_as s = with_tetra k line label (form no_targets k s low (trees s word k.at))
-
-  -- the answer for a branch and for a jump
-  abbrev branch_answer : Answer ℕ
-  branch_answer = relative_word (tetra_wyde low (field_x word) 0) (2 ^ 16) k.at (target (field_code word) k.at (field_yz word) (2 ^ 16))
-
-  abbrev jump_answer : Answer ℕ
-  jump_answer = relative_word (tetra_whole low 0) (2 ^ 24) k.at (target (field_code word) k.at (field_xyz word) (2 ^ 24))
 
   -- what a shape comes to, where it comes to bytes
   abbrev Comes : Shape → Placed → Type 0

@@ -6,7 +6,7 @@ use Rattle.std.proofs.lemmas.List.{length-append, length-replicate}
 use Rattle.std.proofs.lemmas.List.Elements.{All-append, All-replicate}
 use Rattle.mx_host.specs.declared.slots.Slot.{Slot}
 use Rattle.mx_host.specs.declared.slots.Slot.TheVariants.{Closed}
-use Rattle.mx_host.specs.HostModel.{HostModel, start_slots, standard_streams, to_input, to_output, to_errors, slot_at, HasStartSlots, Leads}
+use Rattle.mx_host.specs.HostModel.{HostModel, start_slots, standard_streams, to_output, slot_at, HasStartSlots, Leads}
 
 -- the lists that the start's slots are made of
 pub start_slots-is : (a b slots : List Slot) → a ≡ [] ++ standard_streams → b ≡ a ++ replicate 255 Closed → slots ≡ b ++ standard_streams → slots ≡ start_slots
@@ -33,22 +33,6 @@ start_slots-leads n = around-leads n 255
 
 -- ---- where the tool's slots lead at the start
 
-pub slot_at-start_input : (m : HostModel) → HasStartSlots m → slot_at m 258 ≡ to_input
-unfolding start_slots
-slot_at-start_input m h = rw h refl
-
 pub slot_at-start_output : (m : HostModel) → HasStartSlots m → slot_at m 259 ≡ to_output
 unfolding start_slots
 slot_at-start_output m h = rw h refl
-
-pub slot_at-start_errors : (m : HostModel) → HasStartSlots m → slot_at m 260 ≡ to_errors
-unfolding start_slots
-slot_at-start_errors m h = rw h refl
-
-pub slot_at-start_source : (m : HostModel) → HasStartSlots m → slot_at m 256 ≡ Closed
-unfolding start_slots
-slot_at-start_source m h = rw h refl
-
-pub slot_at-start_object : (m : HostModel) → HasStartSlots m → slot_at m 257 ≡ Closed
-unfolding start_slots
-slot_at-start_object m h = rw h refl

@@ -8,7 +8,7 @@ use Rattle.std.specs.Map.{lookup}
 use Rattle.std.proofs.lemmas.Bool.{cases_eq}
 use Rattle.std.proofs.lemmas.Grind.{common_steps}
 use Rattle.mx_mem.specs.Dropping.{page_of, IsTakenAway, without_page, pages_without, count_without_page}
-use Rattle.mx_mem.specs.Held.{view_of, octas_in, number_in, Indexed, Bounded}
+use Rattle.mx_mem.specs.Held.{view_of, octas_in, number_in, Indexed}
 use Rattle.mx_mem.specs.Memory.{Stored, octa_at, octa_on, octa_in, has_page, page_on, count_on, stored_at, with_page}
 use Rattle.mx_mem.proofs.Fits.{Fits}
 use Rattle.mx_mem.proofs.Views.{octa_at-view, has_page-view, page_count-view, nonzero-paged}
@@ -151,13 +151,6 @@ all-left P pages left i sw l h k m = ⊎_elim (λ e. here e) (λ ne. subst P (sy
     here e =
         let at : i + 1 < length pages = omega (arith, room, e) in
         subst P (sym (ap (λ j. get_or left j (0, [])) e ∙ sw.here at)) (h (length pages - 1) (omega (arith, l)))
-
-pub removed-bounded : (pages left : List (ℕ × List ℕ)) (i : ℕ) → Swaps pages i left → i < length pages → Bounded pages → Bounded left
-removed-bounded pages left i sw l b = record {
-  whole = all-left (λ p. length p.1 ≡ 512) pages left i sw l b.whole;
-  below = all-left (λ p. p.0 < 2 ^ 51) pages left i sw l b.below;
-  few = omega (arith, sw.shorter, b.few);
-}
 
 -- WHAT IS LEFT, as contracts see it
 

@@ -1,28 +1,18 @@
--- What every call of a host keeps, turns of several processors keep; and what they had written where memory ran out is a front
--- of what they write.
-use Rattle.std.proofs.Common.{◌≡◌, ℕ, List, Bool, true, false, cond, subst, sym}
-use Rattle.mx_word.specs.Lists.{IsFront}
+-- What every call of a host keeps, turns of several processors keep.
+use Rattle.std.proofs.Common.{◌≡◌, Bool, true, false, cond, subst, sym}
 use Rattle.mx_host.specs.HostModel.{HostModel}
-use Rattle.mx_plan.specs.Plan.{Comes, end_of}
 use Rattle.mx_plan.specs.Calls.{host}
-use Rattle.mx_plan.specs.Held.{Held, KeepsStreams, OnlyAdds}
-use Rattle.mx_plan.specs.Wild.{Course, world_of}
-use Rattle.mx_plan.proofs.HeldLaws.{held-end, held-on}
-use Rattle.mx_plan.proofs.Streams.{streams-held}
+use Rattle.mx_plan.specs.Held.{Held}
 use Rattle.mx_run.specs.RunPlans.{running}
 use Rattle.mx_run.specs.RunPlans as run
 use Rattle.mx_run.specs.Turns.{turn, turn_answer}
-use Rattle.mx_run.specs.WildRuns.{window_machine}
 use Rattle.mx_run.proofs.HeldRuns.{run-held}
-use Rattle.mx_multi.specs.Joint.{Joint, has_halted, state_at}
+use Rattle.mx_multi.specs.Joint.{has_halted, state_at}
 use Rattle.mx_multi.specs.JointTurns.{JointWorld, joined, turn_of}
-use Rattle.mx_multi.specs.MultiPlans.{MultiCall, starting, turning, looking, multi, turns_plan}
-use Rattle.mx_multi.specs.Turns.{turns}
+use Rattle.mx_multi.specs.MultiPlans.{MultiCall, starting, turning, looking, multi}
 use Rattle.mx_multi.specs.declared.turn.Turn.{Turn}
 use Rattle.mx_multi.specs.declared.turn.Turn.TheVariants.{Idle}
 use Rattle.mx_multi.specs.declared.end.MultiEnd.{MultiEnd}
-use Rattle.mx_multi.specs.declared.end.MultiEnd.TheVariants.{OutOfMemory}
-use Rattle.mx_multi.proofs.TurnPlans.{plan-end}
 
 abbrev Beside : (HostModel → HostModel → Type 0) → JointWorld → JointWorld → Type 0
 Beside Rel v w = Rel v.1 w.1
@@ -65,20 +55,3 @@ multi-held Rel h = record {
         going-turn Rel v.1 w (joined w.0 who (turn_answer (turn (state_at w.0 who) w.1))) (has_halted w.0.halted who) l.runs
         ((run-held Rel h).between run.turning (state_at w.0 who, w.1) (l.state, v.1) l.lacks)
     between looking w v l = absurd l
-
--- what standard output then has
-abbrev pub turns_output : Course MultiEnd JointWorld → List ℕ
-turns_output c = (world_of c).1.output
-
-turns-by-plan : (schedule rest : List ℕ) (n : ℕ) (v : HostModel) (j : Joint) (m : HostModel) → OnlyAdds v (end_of multi (turns_plan schedule n rest) (j, m)).1.1 →
-    IsFront v.output (turns_output (turns window_machine schedule n rest j m))
-turns-by-plan schedule rest n v j m h = subst (λ t. IsFront v.output (turns_output t)) (plan-end schedule n rest (j, m)) h
-
-pub turns-front : (schedule rest : List ℕ) (n : ℕ) (j : Joint) (m : HostModel) → IsFront m.output (turns_output (turns window_machine schedule n rest j m))
-turns-front schedule rest n j m =
-    turns-by-plan schedule rest n m j m (held-end multi (Beside KeepsStreams) (multi-held KeepsStreams streams-held) (turns_plan schedule n rest) (j, m)).growing
-
-pub turns-begun : (schedule rest : List ℕ) (n : ℕ) (j k : Joint) (m h : HostModel) (end : MultiEnd) → Comes multi (j, m) (k, h) OutOfMemory end (turns_plan schedule n rest) → end ≡ OutOfMemory →
-    IsFront h.output (turns_output (turns window_machine schedule n rest j m))
-turns-begun schedule rest n j k m h end c e =
-    turns-by-plan schedule rest n h j m (held-on multi (Beside KeepsStreams) (multi-held KeepsStreams streams-held) (turns_plan schedule n rest) (k, h) (j, m) (c.stopping e)).growing

@@ -1,6 +1,6 @@
 -- One of several processors: it is found at its place, and put there.
 use Rattle.std.proofs.Common.{◌≡◌, ◌<◌, ℕ, zero, suc, List, [], ◌∷◌, length, get_or, set, map, arith, sym, subst, ap, ◌∙◌}
-use Rattle.std.proofs.lemmas.List.{get_or-map, map-set, get_or-set_same, length-set, length-map}
+use Rattle.std.proofs.lemmas.List.{get_or-map, map-set, get_or-set_same, length-set}
 use Rattle.mx_core.specs.Bare.{nothing_shared, shared_of}
 use Rattle.mx_core.specs.Kept.{Kept, state_of}
 use Rattle.mx_core.specs.State.{State}
@@ -25,11 +25,6 @@ module _ (ks : List Kept) (i : ℕ) (inside : i < length ks) where
   put-at y d =
       let long : length (set ks i y) ≡ length ks = length-set ks i y in
       get_or-map state_of (set ks i y) i y d (omega (arith, long, inside)) ∙ ap state_of (get_or-set_same ks i y y inside)
-
-  pub held-alone : (x : Kept) → x ≡ get_or ks i x → AllAlone (map state_of ks) → shared_of (state_of x) ≡ nothing_shared
-  held-alone x e h =
-      let long : length (map state_of ks) ≡ length ks = length-map ks state_of in
-      subst (λ s. shared_of s ≡ nothing_shared) (held-at x (state_of x) e) (alone-at (map state_of ks) i (state_of x) (omega (arith, long, inside)) h)
 
   pub put-apart : (y : Kept) → AllAlone (map state_of ks) → shared_of (state_of y) ≡ nothing_shared → AllAlone (map state_of (set ks i y))
   put-apart y h e = subst AllAlone (sym (map-set state_of ks i y)) (alone-set (map state_of ks) i (state_of y) h e)

@@ -226,6 +226,3 @@ module _ (P Q : List State) (H : List Bool) (M N : Shared) (at : ℕ) (o p : Opt
 
 pub kept-inside : (ks : List Kept) (at : ℕ) → at < length ks → at < length (map state_of ks)
 kept-inside ks at l = let long = length-map ks state_of in omega (arith, long, l)
-
-pub kept-same : (ks ls : List Kept) → length ls ≡ length ks → length (map state_of ls) ≡ length (map state_of ks)
-kept-same ks ls e = length-map ls state_of ∙ e ∙ sym (length-map ks state_of)

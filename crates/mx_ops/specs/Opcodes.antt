@@ -107,10 +107,6 @@ is_backward _ = false
 abbrev pub has_immediate : ℕ → Bool
 has_immediate code = is_immediate (opcode_kind (code + 1))
 
--- whether the code's name has a second code, the next one, for a backward address
-abbrev pub has_backward : ℕ → Bool
-has_backward code = is_backward (opcode_kind (code + 1))
-
 -- The code has this name, and is of this kind.
 pub record IsCodeOf (name : List ℕ) (kind : Kind) (code : ℕ) : Type 0 where
   pub named : opcode_name code ≡ name

@@ -2,7 +2,7 @@
 use Rattle.std.proofs.Common.{ℕ, ◌≤◌, ◌-◌, List, arith}
 use Rattle.mx_host.specs.declared.slots.Mode.{Mode}
 use Rattle.mx_plan.specs.Plan.{returns, calls, bind}
-use Rattle.mx_plan.specs.Calls.{HostPlan, open_plan, close_plan, write_plan, need}
+use Rattle.mx_plan.specs.Calls.{HostPlan, open_plan, close_plan, need}
 use Rattle.mx_plan.specs.Taking.{taken, Spares}
 
 pub spares-bind : {A B : Type 0} (from : ℕ) (s : A → ℕ) (t : B → ℕ) (f : A → HostPlan B) (p : HostPlan A) (n : ℕ) → Spares from s n p →
@@ -19,10 +19,6 @@ spares-returns from s a n h = h
 pub need-spares : (from k n : ℕ) → k ≤ n → Spares from (λ u. k) n need
 unfolding Spares need
 need-spares from k n l = λ r c. (omega arith, omega (arith, l))
-
-pub write-spares : (from slot : ℕ) (bytes : List ℕ) (k n : ℕ) → k ≤ n → Spares from (λ r. k) n (write_plan slot bytes)
-unfolding Spares write_plan
-write-spares from slot bytes k n l = λ r c. (omega arith, omega (arith, l))
 
 pub open-spares : (from slot : ℕ) (name : List ℕ) (mode : Mode) (k n : ℕ) → k ≤ n → Spares from (λ r. k) n (open_plan slot name mode)
 unfolding Spares open_plan

@@ -1,6 +1,6 @@
 -- A list of octas that keeps more of them than count.
 use Rattle.std.proofs.Common.{◌≡◌, ℕ, zero, suc, ◌+◌, ◌-◌, ◌≤◌, ◌<◌, List, [], ◌∷◌, ◌++◌, length, take, drop, set, min, arith, refl, sym, ◌∙◌, ap}
-use Rattle.std.proofs.lemmas.List.{length-append, length-take-le, take-take, take-append-le, take-append-drop, drop-take}
+use Rattle.std.proofs.lemmas.List.{length-append, length-take-le, take-take, take-append-le}
 use Rattle.mx_word.specs.Lists.{with_part}
 use Rattle.mx_registers.proofs.Few.{counted}
 use Rattle.mx_registers.proofs.Returned.{front-of-front}
@@ -40,13 +40,6 @@ counted-more xs os c n y f g =
 -- fewer octas count
 pub fewer : (xs : List ℕ) (c n m : ℕ) → m ≡ min c n → take m xs ≡ take n (take c xs)
 fewer xs c n m e = ap (λ k. take k xs) e ∙ sym (front-of-front xs n c)
-
--- of the octas from a place on the first are those that count
-pub some-count : (xs : List ℕ) (c from n k : ℕ) → c ≤ length xs → k ≤ n → from + k ≤ length (take c xs) → take k (take n (drop from xs)) ≡ take k (drop from (take c xs))
-some-count xs c from n k f g h =
-    let size : length (take c xs) ≡ c = length-take-le c xs f in
-    let sum : from + (c - from) ≡ c = omega arith in
-    take-take k n (drop from xs) g ∙ sym (take-take k (c - from) (drop from xs) (omega arith)) ∙ sym (ap (take k) (ap (λ m. drop from (take m xs)) (sym sum) ∙ drop-take from (c - from) xs))
 
 pub ruleset listed = (first-of-longer, appended, written, counted-more, fewer, length-take-le, length-with_part)
 

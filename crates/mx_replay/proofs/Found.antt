@@ -1,6 +1,6 @@
 -- Steps that are looked for.
 use Rattle.std.proofs.Common.{◌≡◌, ◌<◌, ◌≤◌, ◌+◌, ◌-◌, ◌⊎◌, ℕ, suc, Bool, true, false, Some, None, Ok, inl, inr, arith, refl, sym, subst, ◌∙◌, ap}
-use Rattle.std.specs.Prelude.{Option, ◌&&◌, is_some, not, nat_lt, if◌then◌else◌}
+use Rattle.std.specs.Prelude.{Option, ◌&&◌, not, nat_lt, if◌then◌else◌}
 use Rattle.std.proofs.lemmas.Bool.{cases_lt, ltb-true, ltb-false}
 use Rattle.mx_host.specs.HostModel.{HostModel}
 use Rattle.mx_word.specs.Results.{map_ok}
@@ -133,9 +133,6 @@ pub record NextSoFar (p : Program) (mark : Mark) (until : ℕ) (old now : Visit)
   pub within : old.at ≤ until → now.at ≤ until
   pub stays : until ≤ old.at → now.at ≡ old.at
 
-pub next-begun : (p : Program) (mark : Mark) (until : ℕ) (v : Visit) → IsStep p v → NextSoFar p mark until v v
-next-begun p mark until v s = record { step = s; later = omega arith; none = none-same p mark v.at v.at (omega arith); within = λ l. l; stays = λ l. refl }
-
 pub next-on : (p : Program) (mark : Mark) (until : ℕ) (old v w : Visit) → has_more v until ≡ true → MakesTurn v w → false ≡ mark.turn (state_of v.machine) (turn_from v) → NextSoFar p mark until old v → NextSoFar p mark until old w
 next-on p mark until old v w more h un so =
     let here = more-here v until more in
@@ -183,9 +180,6 @@ pub record LastSoFar (p : Program) (mark : Mark) (from until : ℕ) (now : Visit
   pub within : now.at ≤ until
   pub found : IsLastAfter p mark from now.at last
 
-pub last-begun : (p : Program) (mark : Mark) (until : ℕ) (v : Visit) → v.at ≤ until → IsStep p v → LastSoFar p mark v.at until v None
-last-begun p mark until v l s = record { step = s; later = omega arith; within = l; found = none-same p mark v.at v.at (omega arith) }
-
 last-further : (p : Program) (mark : Mark) (from at until : ℕ) (last : Option ℕ) → at ≤ until → NoneMarked p mark at until → IsLastAfter p mark from at last → IsLastAfter p mark from until last
 last-further p mark from at until None l n h = none-joined p mark from at until h n
 last-further p mark from at until (Some k) l n h = (h.0, omega (arith, h.1, l), h.2, none-joined p mark k at until h.3 n)
@@ -227,17 +221,6 @@ pub record NoneLater (p : Program) (mark : Mark) (until end : ℕ) : Type 0 wher
   pub within : end ≤ until
   pub none : NoneMarked p mark end until
 
-pub later-begun : (p : Program) (mark : Mark) (until : ℕ) → NoneLater p mark until until
-later-begun p mark until = record { within = omega arith; none = none-same p mark until until (omega arith) }
-
-pub later-on : (p : Program) (mark : Mark) (until end from : ℕ) (found : Option ℕ) → is_some found ≡ false → from ≤ end → IsLastAfter p mark from end found → NoneLater p mark until end → NoneLater p mark until from
-later-on p mark until end from None e l h so = record { within = omega (arith, l, so.within); none = none-joined p mark from end until h so.none }
-later-on p mark until end from (Some k) e l h so = absurd (cc)
-
-pub later-found : (p : Program) (mark : Mark) (until end from : ℕ) (found : Option ℕ) → is_some found ≡ true → IsLastAfter p mark from end found → NoneLater p mark until end → IsLast p mark until found
-later-found p mark until end from None e h so = absurd (cc)
-later-found p mark until end from (Some k) e h so = (omega (arith, h.1, so.within), h.2, none-joined p mark k end until h.3 so.none)
-
 start-marked : (p : Program) (mark : Mark) (v : Visit) → IsStart p v → is_marked p mark 0 ≡ mark.start (state_of v.machine)
 unfolding is_marked
 start-marked p mark v s = ap (λ n. marks_start mark (step_of p n)) (sym s.first) ∙ ap (marks_start mark) s.step.shown
@@ -252,10 +235,6 @@ none-up-to p mark until j e n l (inr h) = let first : j ≡ 0 = omega (arith, h)
 pub start-none : (p : Program) (mark : Mark) (v : Visit) (until end : ℕ) → end ≡ 0 → false ≡ mark.start (state_of v.machine) → IsStart p v → NoneLater p mark until end → IsLast p mark until None
 start-none p mark v until end e h s so j l =
     none-up-to p mark until j (start-marked p mark v s ∙ sym h) (subst (λ n. NoneMarked p mark n until) e so.none) l (cases_lt 0 j)
-
-pub last-before : (p : Program) (mark : Mark) (at : ℕ) (found : Option ℕ) → 0 < at → IsLast p mark (at - 1) found → IsLastBefore p mark at found
-last-before p mark at None l h = λ j k. h j (omega (arith, k))
-last-before p mark at (Some k) l h = (omega (arith, l, h.0), h.1, λ j a b. h.2 j a (omega (arith, b)))
 
 pub none-before : (p : Program) (mark : Mark) (at : ℕ) → at ≡ 0 → IsLastBefore p mark at None
 none-before p mark at e j l = absurd (omega (arith, e, l))

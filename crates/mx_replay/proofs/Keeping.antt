@@ -1,17 +1,14 @@
 -- Steps that are kept, and the way to a step along them.
-use Rattle.std.proofs.Common.{◌≡◌, ◌<◌, ◌≤◌, ◌+◌, ◌-◌, ◌⊎◌, ℕ, Bool, true, false, inl, inr, List, [], ◌∷◌, ◌++◌, length, arith, refl, sym, subst, ◌∙◌}
-use Rattle.std.specs.Prelude.{nat_lt, if◌then◌else◌, slice_index_or, option_to_list, Option, None, Some, Result, Ok, Err, IfSome, OnOk, OnErr}
+use Rattle.std.proofs.Common.{◌≡◌, ◌<◌, ◌≤◌, ◌+◌, ◌-◌, ◌⊎◌, ℕ, Bool, true, false, inl, inr, List, [], ◌∷◌, ◌++◌, length, arith, sym, subst, ◌∙◌}
+use Rattle.std.specs.Prelude.{if◌then◌else◌, slice_index_or, option_to_list, Option, None, Some, Result, Ok, Err, IfSome, OnOk, OnErr}
 use Rattle.std.proofs.lemmas.List.{get_or_read}
 use Rattle.std.proofs.lemmas.List.Elements.{All-pop, All-push}
-use Rattle.std.proofs.lemmas.Bool.{cases_lt, ltb-false}
+use Rattle.std.proofs.lemmas.Bool.{cases_lt}
 use Rattle.mx_replay.specs.Keeping.{AreSteps, IsPlaceBefore}
-use Rattle.mx_replay.specs.Programs.{IsReached, is_over}
-use Rattle.mx_replay.specs.Searches.{has_more}
+use Rattle.mx_replay.specs.Programs.{is_over}
 use Rattle.mx_replay.specs.Visits.{IsStep}
 use Rattle.mx_replay.specs.declared.program.Program.{Program}
 use Rattle.mx_replay.specs.declared.visit.Visit.{Visit}
-use Rattle.mx_replay.proofs.Found.{more-here, more-on, no-more-by}
-use Rattle.mx_replay.proofs.Steps.{over-reached}
 
 -- ---- steps that are kept
 
@@ -38,21 +35,6 @@ pub ruleset keeping = (place-before, step-pushed, rest-popped, step-popped)
 -- what is left to do up to a step: the turns, and one more as long as the run goes on
 abbrev pub left_of : Visit → ℕ → ℕ
 left_of v k = (k - v.at) + (if is_over v.end then 0 else 1)
-
-less-by : (k at next due : ℕ) (over : Bool) → at < k → at < due → due ≤ k → at ≤ next → (over ≡ false → next ≡ due) → (k - next) + (if over then 0 else 1) < (k - at) + 1
-less-by k at next due true h d l f e = omega (arith, h, f)
-less-by k at next due false h d l f e = let same = e refl in omega (arith, h, d, l, same)
-
-pub left-less : (v w : Visit) (k due : ℕ) → has_more v k ≡ true → v.at < due → due ≤ k → v.at ≤ w.at → (is_over w.end ≡ false → w.at ≡ due) → left_of w k < left_of v k
-left-less v w k due more d l f e =
-    subst (λ b. left_of w k < (k - v.at) + (if b then 0 else 1)) (sym (more-on v k more)) (less-by k v.at w.at due (is_over w.end) (more-here v k more) d l f e)
-
-arrived-by : (p : Program) (v : Visit) (k : ℕ) → (nat_lt v.at k ≡ false) ⊎ (is_over v.end ≡ true) → v.at ≤ k → IsStep p v → IsStep p v × IsReached p k v.at
-arrived-by p v k (inl e) l s = (s, record { within = l; early = λ h. absurd (omega (arith, h, ltb-false v.at k e)) })
-arrived-by p v k (inr o) l s = (s, over-reached p v k s l o)
-
-pub arrived : (p : Program) (v : Visit) (k : ℕ) → has_more v k ≡ false → v.at ≤ k → IsStep p v → IsStep p v × IsReached p k v.at
-arrived p v k e l s = arrived-by p v k (no-more-by (nat_lt v.at k) (is_over v.end) e) l s
 
 all-by : (at n made k : ℕ) (over : Bool) → at + n ≡ k → made ≤ n → (made < n → over ≡ true) → over ≡ false → (made < n) ⊎ (n ≤ made) → at + made ≡ k
 all-by at n made k over sum few early still (inl l) = let done = early l in absurd (cc)

@@ -130,8 +130,7 @@ impl Ring {
         self.hidden.know_stack();
     }
 
-    /// States that each register, each hidden one and each octa of the stack area is below 2^64. It does
-    /// nothing.
+    /// States that each register, each hidden one and each octa of the stack area is below 2^64. It does nothing.
     #[inline(always)]
     pub fn know_octas(&self)
         ensures locals { AreOctas self.now.visible.locals }
@@ -160,8 +159,7 @@ impl Ring {
         self.visible.is_marginal(k)
     }
 
-    /// Gives $k a value. A register that is neither local nor global becomes local, and those below
-    /// it with the value 0.
+    /// Gives $k a value. A register that is neither local nor global becomes local, and those below it, which are 0.
     ///
     /// Errors: `StackFull` exactly where that would make hidden and local registers pass 2^20; then
     /// nothing changed.
@@ -224,8 +222,7 @@ impl Ring {
         self.visible.truncate(usize::from(l));
     }
 
-    /// G becomes `g`, which is at least 32 and at least L. A register that is global only before or only
-    /// afterwards is 0.
+    /// G becomes `g`, which is at least 32 and at least L. A register that is global only before or only after is 0.
     pub fn set_global_start(&mut self, g: u8)
         requires least { 32 ≤ g }
         requires not_local { local_count (windowed self.old) ≤ g }
@@ -341,8 +338,8 @@ impl Ring {
         }
     }
 
-    /// Brings `hole` hidden registers back, without the octa that is hidden after them. The results
-    /// of POP with `x` follow. Mostly all of these are few.
+    /// Brings `hole` hidden registers back, without the octa after them. The results of POP with `x` follow.
+    /// Mostly all of these are few.
     #[inline(always)]
     fn come_back(&mut self, hole: usize, x: usize)
         requires { hole < hidden_count (windowed self.old) }

@@ -1,24 +1,15 @@
 -- A run only adds to standard output.
-use Rattle.std.proofs.Common.{◌≡◌, ℕ, Bool, refl, subst}
+use Rattle.std.proofs.Common.{ℕ, Bool, subst}
 use Rattle.std.specs.Prelude.{Result}
 use Rattle.mx_word.specs.Lists.{IsFront}
 use Rattle.mx_host.specs.HostModel.{HostModel}
 use Rattle.mx_core.specs.State.{State}
 use Rattle.mx_run.specs.RunPlans.{RunWorld, step_plan, run_plan}
 use Rattle.mx_run.specs.Runs.{FlagsOf, run}
-use Rattle.mx_run.specs.Turns.{Turn, went_on, halts, stops, turn, turn_answer}
-use Rattle.mx_run.specs.WildRuns.{host_after}
+use Rattle.mx_run.specs.Turns.{turn, turn_answer}
 use Rattle.mx_run.specs.declared.end.End.{End}
 use Rattle.mx_run.proofs.HeldRuns.{streams-end, turn-streams}
 use Rattle.mx_run.proofs.PlanEnds.{run_step, step-end, run-end}
-
-after-host : (t : Turn) → (turn_answer t).2 ≡ host_after t
-after-host (went_on s m trace) = refl
-after-host (halts status s m) = refl
-after-host (stops reason s m) = refl
-
-pub turn-front : (s : State) (m : HostModel) → IsFront m.output (host_after (turn s m)).output
-turn-front s m = subst (λ (n : HostModel). IsFront m.output n.output) (after-host (turn s m)) (turn-streams s m).growing
 
 pub answer-front : (s : State) (m : HostModel) → IsFront m.output (turn_answer (turn s m)).2.output
 answer-front s m = (turn-streams s m).growing

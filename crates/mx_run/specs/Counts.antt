@@ -3,7 +3,6 @@ use Rattle.mx_host.specs.HostModel.{HostModel}
 use Rattle.mx_plan.specs.Counts.{unscheduled}
 use Rattle.mx_plan.specs.Wild.{Course, ends, meets_wild, world_of}
 use Rattle.mx_run.specs.RunPlans.{RunWorld}
-use Rattle.mx_run.specs.Runs.{Ended}
 use Rattle.mx_run.specs.Turns.{Turn, went_on, halts, stops}
 use Rattle.mx_run.specs.declared.end.End.{End}
 
@@ -11,9 +10,6 @@ abbrev pub turn_unscheduled : Turn → Turn
 turn_unscheduled (went_on s m trace) = went_on s (unscheduled m) trace
 turn_unscheduled (halts status s m) = halts status s (unscheduled m)
 turn_unscheduled (stops reason s m) = stops reason s (unscheduled m)
-
-abbrev pub ended_unscheduled : Ended → Ended
-ended_unscheduled e = record e { host = unscheduled e.host }
 
 abbrev pub end_unscheduled : Course End RunWorld → Course End RunWorld
 end_unscheduled (ends end w) = ends end (w.0, unscheduled w.1)

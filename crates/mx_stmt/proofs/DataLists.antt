@@ -1,18 +1,12 @@
 -- What a list of data operands places, operand by operand.
-use Rattle.std.proofs.Common.{◌≡◌, ◌<◌, ◌≤◌, ℕ, ◌+◌, ◌%◌, ◌^◌, List, [], ◌∷◌, length, drop, get_or, Ok, Err, arith, ap, sym, ◌∙◌, append-nil}
-use Rattle.mx_stmt.proofs.Words.{drop_more, drop_all, tree_of, trees_of, Data, Target, StmtFault, Answer, and_then, Known, Targets, data_of, data_form, data_target, datum, joined_data, with_rest, no_data, common_steps, nat_tests}
+use Rattle.std.proofs.Common.{◌≡◌, ◌<◌, ◌≤◌, ℕ, ◌+◌, ◌%◌, ◌^◌, List, length, drop, get_or, Ok, Err, arith, ap, sym, ◌∙◌, append-nil}
+use Rattle.mx_stmt.proofs.Words.{drop_more, drop_all, tree_of, trees_of, Data, Target, StmtFault, Answer, and_then, Known, Targets, data_of, data_target, datum, joined_data, with_rest, common_steps, nat_tests}
 use Rattle.mx_expr.specs.declared.tree.Expr.{Expr}
-
-with-nothing : (rest : Answer Data) → with_rest no_data rest ≡ rest
-with-nothing rest = grind arith
 
 with-both : (first second : Data) (rest : Answer Data) → with_rest first (with_rest second rest) ≡ with_rest (joined_data first second) rest
 with-both first second rest = grind (arith, common_steps, nat_tests)
 
 module _ (t : Targets) (k : Known) (line size : ℕ) where
-  pub data-begins : (es : List Expr) → 0 < length es → with_rest no_data (data_of t k line size k.at (trees_of es)) ≡ data_form t k line size (trees_of es)
-  data-begins [] some = absurd (omega arith)
-  data-begins (e ∷ es) some = with-nothing _
 
   data-here : (place i : ℕ) (es : List Expr) (e : Expr) → i < length es → data_of t k line size place (trees_of (drop i es)) ≡ and_then (data_target k size (tree_of (get_or es i e))) (λ target. with_rest (datum t line size place target) (data_of t k line size ((place + size) % 2 ^ 64) (trees_of (drop (i + 1) es))))
   unfolding data_of

@@ -3,12 +3,11 @@ use Rattle.std.proofs.Common.{◌≡◌, ◌<◌, ℕ, ◌+◌, ◌%◌, ◌^◌
 use Rattle.std.specs.Prelude.{IfErr}
 use Rattle.mx_expr.specs.Faults as expressions
 use Rattle.mx_ops.specs.declared.op.Op.TheVariants.{Pseudo as PseudoOp}
-use Rattle.mx_expr.specs.Spelling.{FaultAt}
 use Rattle.mx_stmt.specs.Faults.{fault_number}
 use Rattle.mx_stmt.specs.Data.{data_number}
 use Rattle.mx_stmt.specs.Encoding.{prefix_form}
 use Rattle.mx_stmt.specs.Operands.{field_number, pure_number, register_or_byte}
-use Rattle.mx_stmt.proofs.Words.{cond_both, nat_tests, Value, Awaited, Tree, unary, binary, Valued, value_of, ExprFault, Op, Code, Lda, Set, Pseudo, Shape, Three, Regs, Round, Neg, Mem, MemPure, Free, last_form, last_two, rounded_last, WaitKind, Data, Tetra, Target, Label, StmtFault, Answer, and_then, Known, Targets, knowledge_of, answer_of, operand_value, register_number, register_at, pure_at, field_at, register_or_byte_at, reference_of, target_by, target_at, relative_word, relative_form, address_of, free_at, form, data_target, with_rest, data_of, tetra_data, with_bytes, with_tetra, one_form, one_operand, pseudo_form, op_form, StatementTree, encoding, Fields, IsFault, fault_of}
+use Rattle.mx_stmt.proofs.Words.{cond_both, nat_tests, Value, Awaited, Tree, unary, binary, Valued, value_of, Op, Code, Lda, Set, Pseudo, Shape, Three, Regs, Round, Neg, Mem, MemPure, Free, last_form, last_two, rounded_last, WaitKind, Data, Tetra, Target, Label, StmtFault, Answer, and_then, Known, Targets, knowledge_of, answer_of, operand_value, register_number, register_at, pure_at, field_at, register_or_byte_at, reference_of, target_by, target_at, relative_word, relative_form, address_of, free_at, form, data_target, with_rest, data_of, tetra_data, with_bytes, with_tetra, one_form, one_operand, pseudo_form, op_form, StatementTree, encoding, Fields, IsFault}
 
 -- a fault of an answer has a number above 0
 unfoldable HasNumber : {A : Type 0} → Answer A → Type 0
@@ -173,9 +172,6 @@ pub encoding-number : (t : Targets) (k : Known) (s : StatementTree) (fault : Stm
 encoding-number t k s fault is = fault-number (encoding t k s) fault (number-op t _ s.line s.label s.op s.operands) is
 
 -- ---- reading
-
-first-number : (field : List ℕ) (fault : ExprFault) (place : ℕ) → FaultAt field fault place → 0 < fault_number (fault_of fault)
-first-number field fault place h = search rules
 
 pub read-number : (fields : Fields) (fault : StmtFault) → IsFault fields fault → 0 < fault_number fault
 read-number fields fault h = search rules

@@ -31,12 +31,12 @@ blocks-next i x start text more e f g =
 pub ruleset blocking = (random-none, random-next, blocks-none, blocks-next)
 
 -- the first block of every source
-first-number : random 1 ≡ 0x14057b7ef767814f
+row-number : random 1 ≡ 0x14057b7ef767814f
 unfolding random
-first-number = refl
+row-number = refl
 
-first-depth : depth 0x14057b7ef767814f ≡ 40
-first-depth = refl
+row-depth : depth 0x14057b7ef767814f ≡ 40
+row-depth = refl
 
-first-increment : increment 0x14057b7ef767814f ≡ 33103
-first-increment = refl
+row-increment : increment 0x14057b7ef767814f ≡ 33103
+row-increment = refl

@@ -1,27 +1,25 @@
 -- What a file trap keeps, whatever it asks for.
-use Rattle.std.proofs.Common.{◌≡◌, ◌≢◌, ℕ, ◌+◌, ◌≤◌, IsTrue, Bool, true, false, cond, arith, refl, sym, ◌∙◌, ap}
-use Rattle.std.specs.Prelude.{Option, Result, ◌==◌, not}
+use Rattle.std.proofs.Common.{◌≡◌, ◌≢◌, ℕ, ◌+◌, ◌≤◌, Bool, true, false, cond, arith, refl, sym, ◌∙◌, ap}
+use Rattle.std.specs.Prelude.{Result, ◌==◌, not}
 use Rattle.std.proofs.lemmas.Bool.Decides.{nat_tests}
 use Rattle.mx_word.specs.Lists.{IsFront}
 use Rattle.mx_mem.specs.Space.{Contents, begins_page, is_negative}
 use Rattle.mx_mem.specs.declared.space.SpaceFault.{SpaceFault}
-use Rattle.mx_host.specs.HostModel.{HostModel, tells, contents}
-use Rattle.mx_host.specs.Keeping.{Keeps}
+use Rattle.mx_host.specs.HostModel.{HostModel}
 use Rattle.mx_host.proofs.Still.{still}
 use Rattle.mx_plan.specs.Plan.{Comes}
-use Rattle.mx_plan.specs.Calls.{SpaceCall, putting, space, Both, BothPlan, both}
-use Rattle.mx_plan.specs.Clauses.{KeepsHost}
+use Rattle.mx_plan.specs.Calls.{SpaceCall, putting, space, Both, both}
 use Rattle.mx_plan.specs.Counts.{NoneFailed, unscheduled}
-use Rattle.mx_plan.specs.Held.{Held, KeepsStreams}
+use Rattle.mx_plan.specs.Held.{Held}
 use Rattle.mx_plan.proofs.HeldLaws.{held-end}
 use Rattle.mx_plan.proofs.Spared.{Spares, both-spared, still-same}
-use Rattle.mx_plan.proofs.Streams.{space-held, streams-end, streams-stop, output-front}
+use Rattle.mx_plan.proofs.Streams.{space-held, streams-end}
 use Rattle.mx_alu.specs.declared.call.TrapCall.{TrapCall}
 use Rattle.mx_trap.specs.Apart.{leaves_unscheduled}
 use Rattle.mx_trap.specs.FileTraps.{trap_plan, trap_answer}
 use Rattle.mx_trap.specs.Moves.{Leaves, leaving}
 use Rattle.mx_trap.specs.declared.answer.TrapAnswer.{TrapAnswer}
-use Rattle.mx_trap.specs.declared.answer.TrapAnswer.TheVariants.{Value, Halt, Stopped, OutOfMemory}
+use Rattle.mx_trap.specs.declared.answer.TrapAnswer.TheVariants.{OutOfMemory}
 
 -- ---- the space
 
@@ -96,11 +94,6 @@ trap-front s m call = (streams-end (trap_plan call) (s, m)).growing
 
 pub ruleset adding = (trap-front)
 
--- the slots of the tool
-pub trap-streams : {Rest : Type 0} (s : Contents Rest) (m : HostModel) (call : TrapCall) → KeepsStreams m (trap_answer s m call).2
-unfolding trap_answer
-trap-streams s m call = streams-end (trap_plan call) (s, m)
-
 -- ---- the number of calls
 
 -- what a trap answers and leaves, and the same over the still model
@@ -129,26 +122,3 @@ pub ruleset steady = (trap-same)
 pub trap-told : {Rest : Type 0} (s t : Contents Rest) (m n : HostModel) (value : TrapAnswer) (call : TrapCall) → Comes both (s, m) (t, n) OutOfMemory value (trap_plan call) → value ≢ OutOfMemory → (value, t, n) ≡ trap_answer s m call
 unfolding trap_answer
 trap-told {Rest} s t m n value call c h = ap (λ (u : TrapAnswer × Both Rest). leaving u) (c.ending h)
-
--- what is on standard output, where there is none
-pub trap-begun : {Rest : Type 0} (s t : Contents Rest) (m n : HostModel) (value : TrapAnswer) (call : TrapCall) → Comes both (s, m) (t, n) OutOfMemory value (trap_plan call) → value ≡ OutOfMemory → IsFront n.output (trap_answer s m call).2.output
-unfolding trap_answer
-trap-begun s t m n value call c h = output-front (trap_plan call) (t, n) (s, m) (c.stopping h)
-
--- the slots of the tool, and standard output, either way
-come-streams : {Rest : Type 0} (v w : Both Rest) (value : TrapAnswer) (p : BothPlan TrapAnswer) → Comes both v w OutOfMemory value p → KeepsStreams v.1 w.1
-come-streams {Rest} v w (Value x) p c = rw (ap (λ (t : TrapAnswer × Both Rest). t.1.1) (c.ending (λ e. absurd (cc)))) (streams-end p v)
-come-streams {Rest} v w Halt p c = rw (ap (λ (t : TrapAnswer × Both Rest). t.1.1) (c.ending (λ e. absurd (cc)))) (streams-end p v)
-come-streams {Rest} v w (Stopped why) p c = rw (ap (λ (t : TrapAnswer × Both Rest). t.1.1) (c.ending (λ e. absurd (cc)))) (streams-end p v)
-come-streams {Rest} v w OutOfMemory p c = streams-stop p w v (c.stopping refl)
-
-pub trap-keeps : {Rest : Type 0} (s t : Contents Rest) (old new : Option HostModel) (earlier later : ℕ) (value : TrapAnswer) (p : BothPlan TrapAnswer) →
-    (IsTrue (tells old) → Comes both (s, contents old) (t, contents new) OutOfMemory value p) → KeepsHost old new earlier later → Keeps old new earlier later
-trap-keeps s t old new earlier later value p c h = record {
-  telling = h.0;
-  counting = h.1;
-  input = λ e. (come-streams (s, contents old) (t, contents new) value p (c e)).input;
-  output = λ e. (come-streams (s, contents old) (t, contents new) value p (c e)).output;
-  errors = λ e. (come-streams (s, contents old) (t, contents new) value p (c e)).errors;
-  growing = λ e. (come-streams (s, contents old) (t, contents new) value p (c e)).growing;
-}

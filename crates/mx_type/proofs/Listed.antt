@@ -140,5 +140,3 @@ unfolding items_text
 items-done a text items i whole le left =
     let over : text ++ items_text a (drop i items) ≡ text ++ [] = ap (λ l. text ++ items_text a l) (none-left items i le) in
     sym (append-nil text) ∙ sym over ∙ left
-
-pub ruleset looping = (item-taken, items-done)

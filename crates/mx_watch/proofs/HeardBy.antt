@@ -30,5 +30,3 @@ unfolding heard_by
 nothing-heard ws earlier =
     let same : map (λ (w : ℕ × Watching). w.1) (placed ws) ≡ ws = zip-second (range_with_len 0 (length ws)) ws (length-range_with_len 0 (length ws)) in
     same-pair _ _ _ _ (sym (ap (map (λ (w : ℕ × Watching). w.1)) (all-remain (placed ws)) ∙ same)) (sym (append-nil earlier))
-
-pub ruleset nobody_told = (nothing-heard)

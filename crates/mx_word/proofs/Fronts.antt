@@ -1,6 +1,5 @@
 -- Lists that are at the front of others.
 use Rattle.std.proofs.Common.{◌≡◌, ℕ, List, ◌++◌, [], sym, ◌∙◌, ap, append-nil, append_assoc}
-use Rattle.std.specs.Prelude.{Result, Ok, Err, OnErr}
 use Rattle.mx_word.specs.Lists.{IsFront}
 
 pub front-self : (xs : List ℕ) → IsFront xs xs
@@ -12,8 +11,3 @@ front-through xs ys zs h k = (h.0 ++ k.0, k.1 ∙ ap (λ l. l ++ k.0) h.1 ∙ ap
 -- the same lists by other names
 pub front-of : (a b x y : List ℕ) → b ≡ a → y ≡ x → IsFront a x → IsFront b y
 front-of a b x y p q h = (h.0, q ∙ h.1 ∙ ap (λ o. o ++ h.0) (sym p))
-
--- the same where a result is an error
-pub front-on_err : {A E : Type 0} (r : Result A E) (a b x y : List ℕ) → y ≡ x → IsFront a x → OnErr r (b ≡ a) → OnErr r (IsFront b y)
-front-on_err (Ok v) a b x y q h k = tt
-front-on_err (Err e) a b x y q h k = front-of a b x y k q h

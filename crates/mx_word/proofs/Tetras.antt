@@ -40,9 +40,6 @@ pub eight-bytes : (a b c d e f g h : ℕ) → AreBytes (a ∷ b ∷ c ∷ d ∷ 
 eight-bytes a b c d e f g h s =
     be_bytes_8 (a ∷ b ∷ c ∷ d ∷ e ∷ f ∷ g ∷ h ∷ []) (octa_from_bytes (a ∷ b ∷ c ∷ d ∷ e ∷ f ∷ g ∷ h ∷ [])) refl (eight-below a b c d e f g h s) refl
 
-pub eight-fit : (a b c d e f g h : ℕ) → AreBytes (a ∷ b ∷ c ∷ d ∷ e ∷ f ∷ g ∷ h ∷ []) → octa_from_bytes (a ∷ b ∷ c ∷ d ∷ e ∷ f ∷ g ∷ h ∷ []) < 2 ^ 64
-eight-fit a b c d e f g h s = omega arith
-
 pub tetra-back : (t : ℕ) → t < 2 ^ 32 → tetra_from_bytes (tetra_to_bytes t) ≡ t
 tetra-back t h = from_be_bytes-to_be_bytes_4 t h
 

@@ -1,5 +1,5 @@
 -- What a call that stops leaves, and where it may be out of memory.
-use Rattle.std.proofs.Common.{◌≡◌, ◌≢◌, Bool, true, false, Result, Ok, Err, refl, ap, subst}
+use Rattle.std.proofs.Common.{◌≡◌, Bool, Result, Ok, Err, ap, subst}
 use Rattle.std.specs.Result.{OnErr}
 use Rattle.mx_core.specs.Way.Calls.{Left, left, LacksMemoryOnlyWhere}
 use Rattle.mx_core.specs.State.{State}
@@ -21,13 +21,6 @@ lasts needed s t whole (Ok done) e = tt
 lasts needed s t whole (Err (Stopped reason)) e = tt
 lasts needed s t (Ok u) (Err OutOfMemory) e = let f = ap (λ (p : Left). p.0) e in absurd (cc)
 lasts needed s t (Err reason) (Err OutOfMemory) e = let f = ap (λ (p : Left). p.0) e in absurd (cc)
-
--- where no memory is needed it is not out of memory
-pub lacks_where : (needed : Bool) (r : Result (Unit {0}) Stop) → (needed ≡ false → r ≢ Err OutOfMemory) → LacksMemoryOnlyWhere needed r
-lacks_where needed (Ok done) h = tt
-lacks_where needed (Err (Stopped reason)) h = tt
-lacks_where true (Err OutOfMemory) h = refl
-lacks_where false (Err OutOfMemory) h = absurd (h refl refl)
 
 pub lacks_as : (a b : Bool) (r : Result (Unit {0}) Stop) → a ≡ b → LacksMemoryOnlyWhere a r → LacksMemoryOnlyWhere b r
 lacks_as a b r e h = subst (λ (c : Bool). LacksMemoryOnlyWhere c r) e h
