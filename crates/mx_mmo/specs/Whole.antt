@@ -1,7 +1,8 @@
 -- What whole byte lists are: an object, or the first fault.
 -- (The grammar of objects: MMIXware, the part on MMIXAL, "Binary MMO output". Which fault is the first: a rule of
 -- this program.)
-use Rattle.std.specs.Prelude.{◌≡◌, ℕ, zero, suc, ◌+◌, nat_lt, List, [], ◌∷◌, ◌++◌, length, drop, Option, Some, None, Result, Ok, Err, if◌then◌else◌}
+use Rattle.std.specs.Prelude.{◌≡◌, ◌≢◌, ◌≤◌, ℕ, zero, suc, ◌+◌, nat_lt, List, [], ◌∷◌, ◌++◌, length, drop, Option, Some, None, Result, Ok, Err, if◌then◌else◌}
+use Rattle.std.specs.List.{concat}
 use Rattle.mx_mmo.specs.Object.{IsObject}
 use Rattle.mx_mmo.specs.Reading.{Due, first_item}
 use Rattle.mx_mmo.specs.Replies.{ReaderModel, phase_after, tail_of, limit}
@@ -10,7 +11,7 @@ use Rattle.mx_mmo.specs.declared.items.Item.{Item}
 use Rattle.mx_mmo.specs.declared.items.Tail.{Tail}
 use Rattle.mx_mmo.specs.declared.items.Object.{Object}
 use Rattle.mx_mmo.specs.declared.faults.MmoFault.{MmoFault}
-use Rattle.mx_mmo.specs.declared.faults.MmoFault.TheVariants.{TooLong}
+use Rattle.mx_mmo.specs.declared.faults.MmoFault.TheVariants.{TooLong, OutOfMemory}
 use Rattle.mx_mmo.specs.declared.due.Phase.{Phase}
 use Rattle.mx_mmo.specs.declared.due.Phase.TheVariants.{Start}
 
@@ -104,6 +105,10 @@ passed_limit (Ok left) = Err (TooLong limit)
 -- what pieces come to that go past the limit: the fault of an item before the one that does, or that there are too many bytes
 abbrev pub passed_pieces : List (List ℕ) → Result Object MmoFault
 passed_pieces pieces = passed_limit (items_of Start 0 (pieces_within 0 pieces)).1
+
+-- what holds of an answer where all bytes of the pieces are taken: they are not too many, and memory did not run out
+abbrev pub IfAllTaken : List (List ℕ) → Result Object MmoFault → Type 0 → Type 0
+IfAllTaken pieces result P = length (concat pieces) ≤ limit → result ≢ Err OutOfMemory → P
 
 -- the bytes are this object in the grammar, and its trie begins where the items end
 pub record SpellsObject (bytes : List ℕ) (object : Object) : Type 0 where

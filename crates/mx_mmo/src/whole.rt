@@ -10,7 +10,7 @@ ghost use Rattle.mx_mmo.specs.Valid.{AreBytes, Valid};
 ghost use Rattle.mx_mmo.specs.declared.items.Item.{Item};
 ghost use Rattle.mx_mmo.specs.declared.items.Object.{Object};
 ghost use Rattle.mx_mmo.specs.declared.due.Phase.{Phase};
-ghost use Rattle.mx_mmo.specs.Whole.{SpellsObject, extended, fed, items_of, left_of, object_fault, object_of};
+ghost use Rattle.mx_mmo.specs.Whole.{IfAllTaken, SpellsObject, extended, fed, items_of, left_of, object_fault, object_of};
 ghost use Rattle.mx_mmo.specs.Whole.{passed_pieces, walk_on, with_more, with_rest, with_tail};
 
 use crate::{Items, MmoFault, Object, Phase, Reader};
@@ -127,8 +127,7 @@ fn read_pieces(alloc: Global, pieces: &[Bytes]) -> Result<Object, MmoFault>
 /// fault. Only rows of tests call it.
 pub fn read(alloc: Global, pieces: &[Bytes]) -> Result<Object, MmoFault>
     // However the bytes are cut into pieces, the object is that of all bytes, and so is the fault.
-    ensures exact { length (concat pieces.now) ≤ limit → result ≢ Err MmoFault.OutOfMemory →
-        result ≡ object_of (concat pieces.now) }
+    ensures exact { IfAllTaken pieces.now result (result ≡ object_of (concat pieces.now)) }
     // Too many bytes are refused as such, unless an item in the pieces before has a fault.
     ensures long { limit < length (concat pieces.now) → result ≢ Err MmoFault.OutOfMemory →
         result ≡ passed_pieces pieces.now }
@@ -136,10 +135,9 @@ pub fn read(alloc: Global, pieces: &[Bytes]) -> Result<Object, MmoFault>
     ensures found { IfOk result (λ object. SpellsObject (concat pieces.now) object) }
     // What is in the grammar is read.
     ensures only { (object : Object) → SpellsObject (concat pieces.now) object →
-        length (concat pieces.now) ≤ limit → result ≢ Err MmoFault.OutOfMemory → result ≡ Ok object }
+        IfAllTaken pieces.now result (result ≡ Ok object) }
     // A fault is the first one.
-    ensures fault { length (concat pieces.now) ≤ limit → result ≢ Err MmoFault.OutOfMemory →
-        IfErr result (λ f. object_fault (concat pieces.now) ≡ Some f) }
+    ensures fault { IfAllTaken pieces.now result (IfErr result (λ f. object_fault (concat pieces.now) ≡ Some f)) }
 {
     read_pieces(alloc, pieces)
 }
