@@ -121,3 +121,7 @@ abbrev pub CountsOrder : Option HostModel → Option HostModel → Outcome → B
 CountsOrder old new result is_json words =
     (o : Order) → order_of words ≡ Ok o → is_usage result ≡ false →
     AnswersByKind old new result (λ kind m. shown_count is_json kind o (word_at words o.file) (arguments words o) m)
+
+-- the same of the words after `count`
+abbrev pub CountsWords : Option HostModel → Option HostModel → Outcome → List Word → Type 0
+CountsWords old new result words = CountsOrder old new result (asks_json words) (run_words (words_after words))

@@ -183,9 +183,7 @@ fn count_rest<H: Host>(alloc: Global, host: &mut H, is_json: bool, words: &[Stri
 /// Does what the words after `count` order: the source is run as `mmixware run` runs it, or the object as `mmixware sim` does, and what
 /// is counted is shown as a table, or, after `--json`, as a line of JSON. It answers the outcome of the run, which its message tells.
 pub fn count<H: Host>(alloc: Global, host: &mut H, words: &[String]) -> Outcome
-    ensures told { CountsOrder (H.told host.old) (H.told host.new) result
-        (spec.asks_json (map string_bytes words.now))
-        (spec.run_words (spec.words_after (map string_bytes words.now))) }
+    ensures told { spec.CountsWords (H.told host.old) (H.told host.new) result (map string_bytes words.now) }
     ensures causes { FaultsOnlyBy H.told H.faults host.old host.new result }
 {
     let [word, rest @ ..] = words else {

@@ -135,8 +135,8 @@ pub fn put_made<H: Host>(alloc: Global, host: &mut H, page: Result<Page, NoMemor
     ensures told { IfOk page (λ page. Answers (H.told host.old) (H.told host.new) Outcome.OutOfMemory result
         (λ m. page_put page m)) }
     ensures lacking { IfErr page (λ none. result ≡ Outcome.OutOfMemory) }
-    ensures onward { (outcome : OutcomeOf) → IfOk page (λ page. page.outcome ≡ outcome) →
-        FaultsOnward H.told H.faults host.old host.new outcome result }
+    ensures onward { (o : OutcomeOf) → IfOk page (λ page. page.outcome ≡ o) →
+        FaultsOnward H.told H.faults host.old host.new o result }
 {
     match page {
         Ok(page) => put_page(alloc, host, &page),

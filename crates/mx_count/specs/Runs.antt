@@ -189,6 +189,15 @@ CountsByKind old new outcome result f = CountsBoth old new outcome result (f win
 abbrev pub CountsRun : Option HostModel → Option HostModel → Result (Outcome × List Entry) Outcome → (MachineKind → HostModel → CountAnswer RunCounts) → Type 0
 CountsRun old new result f = CountsByKind old new (run_outcome result) (run_counts result) f
 
+-- what is counted of the run of an image as an order says, with these arguments
+abbrev pub CountsImage : Option HostModel → Option HostModel → Result (Outcome × List Entry) Outcome → Order → List (List ℕ) → Image → Type 0
+CountsImage old new result o arguments image = CountsRun old new result (λ kind m. image_counted kind o arguments by_counts image m)
+
+-- and of the run of a source, in one of the forms of an answer
+abbrev pub CountsSource : {A : Type 0} → Option HostModel → Option HostModel → Outcome → A → (List ℕ → AnswerForms A) → Order → List (List ℕ) → List ℕ → Type 0
+CountsSource old new outcome result by o arguments source =
+    CountsByKind old new outcome result (λ kind m. source_counted kind o arguments (by source) source m)
+
 -- over a host that tells its contents, unless there was no memory, later entries have what earlier ones had, and the traces of the run
 -- of at most n steps
 abbrev pub CountsTraces : Option HostModel → State → ℕ → End → List Entry → List Entry → Type 0

@@ -10,7 +10,8 @@ ghost use Rattle.mx_run.specs.WildRuns.{list_machine, window_machine};
 ghost use Rattle.mx_view.specs.Loads.{loads_of};
 ghost use Rattle.mx_count.specs.Leaving.{ImageLeaves, IsLeft, RunLeaves, SourceLeaves};
 ghost use Rattle.mx_count.specs.Runs as spec;
-ghost use Rattle.mx_count.specs.Runs.{AreArguments, CountsBoth, CountsByKind, CountsRun, by_counts, by_lines, by_text};
+ghost use Rattle.mx_count.specs.Runs.{AreArguments, CountsBoth, CountsByKind, CountsImage, CountsSource};
+ghost use Rattle.mx_count.specs.Runs.{by_counts, by_lines, by_text};
 ghost use Rattle.mx_count.specs.Runs.{run_counts, run_outcome};
 
 use crate::counts::Counts;
@@ -71,8 +72,7 @@ pub fn count_image<H: Host>(
     arguments: &[Bytes],
 ) -> Result<(Outcome, Counts), Outcome>
     requires { AreArguments arguments.now }
-    ensures told { CountsRun (H.told host.old) (H.told host.new) result
-        (λ kind m. spec.image_counted kind order.now arguments.now by_counts (image_of image) m) }
+    ensures told { CountsImage (H.told host.old) (H.told host.new) result order.now arguments.now (image_of image) }
     ensures left { IsLeft (H.told host.old) (H.told host.new)
         (λ m k. ImageLeaves order.now arguments.now (image_of image) m k) }
     ensures machine { IsOfMachine (run_outcome result) }
@@ -169,8 +169,8 @@ pub fn count_lines<H: Host>(
     arguments: &[Bytes],
 ) -> CountedLines
     requires { AreArguments arguments.now }
-    ensures told { CountsByKind (H.told host.old) (H.told host.new) result.outcome result
-        (λ kind m. spec.source_counted kind order.now arguments.now (by_lines source.now) source.now m) }
+    ensures told { CountsSource (H.told host.old) (H.told host.new) result.outcome result by_lines
+        order.now arguments.now source.now }
     ensures left { IsLeft (H.told host.old) (H.told host.new)
         (λ m k. SourceLeaves order.now arguments.now source.now m k) }
     ensures none { result.outcome ≡ Outcome.OutOfMemory → result.sheet ≡ None }
@@ -232,8 +232,8 @@ pub fn count_source<H: Host>(
     arguments: &[Bytes],
 ) -> Counted
     requires { AreArguments arguments.now }
-    ensures told { CountsByKind (H.told host.old) (H.told host.new) result.outcome result
-        (λ kind m. spec.source_counted kind order.now arguments.now (by_text source.now) source.now m) }
+    ensures told { CountsSource (H.told host.old) (H.told host.new) result.outcome result by_text
+        order.now arguments.now source.now }
     ensures left { IsLeft (H.told host.old) (H.told host.new)
         (λ m k. SourceLeaves order.now arguments.now source.now m k) }
     ensures none { result.outcome ≡ Outcome.OutOfMemory → result.sheet ≡ None }

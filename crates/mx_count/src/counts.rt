@@ -2,7 +2,7 @@
 
 ghost use Rattle.std.specs.Prelude.{◌≡◌, ◌<◌, ◌++◌, ◌∷◌, [], ℕ, Bool, length, slice_set, if◌then◌else◌};
 ghost use Rattle.std.specs.Prelude.{IfOk, IfSome, IsTrue, OnErr, OnOk};
-ghost use Rattle.mx_count.specs.Counting.{IsAt, kept_tally};
+ghost use Rattle.mx_count.specs.Counting.{AddsStep, IsAt, kept_tally};
 ghost use Rattle.mx_count.specs.Tallies as tallies;
 
 use crate::tally::{Tally, add_tallies, empty_tally, step_tally};
@@ -62,8 +62,7 @@ impl Counts {
     /// Errors: out of memory; then nothing is counted.
     #[tactic(auto, using(crate::proofs::KeptTallies::counted))]
     pub fn add_step(&mut self, t: &Trace) -> Result<(), NoMemory>
-        ensures ok { (test : ℕ → Bool) → OnOk result (kept_tally test self.new
-            ≡ tallies.added (kept_tally test self.old) (tallies.tally_if test t.now)) }
+        ensures ok { AddsStep result self.old self.new t.now }
         ensures err { (test : ℕ → Bool) → OnErr result (kept_tally test self.new ≡ kept_tally test self.old) }
     {
         let tally = step_tally(t);

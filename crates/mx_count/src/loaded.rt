@@ -40,9 +40,8 @@ fn load_next(
 ) -> Result<(), SourceFault>
     requires open { loader_spec.answer (status loader.old) ≡ Ok tt }
     ensures open { OnOk result (loader_spec.answer (status loader.new) ≡ Ok tt) }
-    ensures loaded { result ≢ Err SourceFault.OutOfMemory →
-        loading.loading_status_after result assembler.new (status loader.new)
-        ≡ loading.line_loaded line (loading.loading_status assembler.old (status loader.old)) text.now }
+    ensures loaded { loading.LoadsLine result assembler.old (status loader.old)
+        assembler.new (status loader.new) line text.now }
     ensures load { OnOk result (
         loads.new ≡ loads.old ++ loads_spec.load_at lambda.old assembler.old text.now ∷ []) }
     ensures lambda { OnOk result (

@@ -1,5 +1,5 @@
 -- A source that is run: it is taken line by line, and the items of each line are loaded as they come.
-use Rattle.std.specs.Prelude.{ℕ, ◌+◌, Bool, true, false, List, [], ◌∷◌, fold, Result, Ok, Err}
+use Rattle.std.specs.Prelude.{ℕ, ◌≡◌, ◌≢◌, ◌+◌, Bool, true, false, List, [], ◌∷◌, fold, Result, Ok, Err}
 use Rattle.mx_line.specs.Lines.{lines_of}
 use Rattle.mx_mmo.specs.Image.{Image}
 use Rattle.mx_mmo.specs.Meaning.{Loading, nothing}
@@ -103,6 +103,16 @@ abbrev pub end_after : Result (Unit {0}) SourceFault → Result Loading LoadFaul
 end_after (Ok u) loading = image_loaded loading
 end_after (Err (Refusing refusal)) loading = Err refusal
 end_after (Err NoRoom) loading = Err (refused_at 0 0)
+
+-- a call loads a line, unless memory ran out: `assembly` and `loading` are what it began with, `later` and `loaded` what it left
+abbrev pub LoadsLine : Result (Unit {0}) SourceFault → Result Assembly Refused → Result Loading LoadFault → Result Assembly Refused → Result Loading LoadFault → ℕ → List ℕ → Type 0
+LoadsLine result assembly loading later loaded line text =
+    result ≢ Err NoRoom → loading_status_after result later loaded ≡ line_loaded line (loading_status assembly loading) text
+
+-- and the end of a source
+abbrev pub LoadsEnd : Result (Unit {0}) SourceFault → Result Assembly Refused → Result Loading LoadFault → Result Loading LoadFault → Type 0
+LoadsEnd result assembly loading loaded =
+    result ≢ Err NoRoom → end_after result loaded ≡ end_loaded (Ok (loading_status assembly loading))
 
 -- the refusal in a status
 abbrev pub refusal_in : Result Assembly Refused → Result (Unit {0}) Refusal

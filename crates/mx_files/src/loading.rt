@@ -76,9 +76,8 @@ pub fn load_line(
     requires none { items.old ≡ [] }
     requires open { loader_spec.answer (status loader.old) ≡ Ok tt }
     ensures open { OnOk result (loader_spec.answer (status loader.new) ≡ Ok tt) }
-    ensures loaded { result ≢ Err SourceFault.OutOfMemory →
-        spec.loading_status_after result assembler.new (status loader.new)
-        ≡ spec.line_loaded line (spec.loading_status assembler.old (status loader.old)) text.now }
+    ensures loaded { spec.LoadsLine result assembler.old (status loader.old)
+        assembler.new (status loader.new) line text.now }
     ensures taken { OnOk result ((items.new, assembler.new) ≡ line_following items.old assembler.old text.now) }
 {
     let answer = take_line(assembler, items, text)?;
@@ -139,9 +138,7 @@ pub fn load_end(
     loader: &mut Loader,
 ) -> Result<(), SourceFault>
     requires open { loader_spec.answer (status loader.old) ≡ Ok tt }
-    ensures { result ≢ Err SourceFault.OutOfMemory →
-        spec.end_after result (status loader.new)
-        ≡ spec.end_loaded (Ok (spec.loading_status assembler.old (status loader.old))) }
+    ensures { spec.LoadsEnd result assembler.old (status loader.old) (status loader.new) }
 {
     let mut items = Items::new(alloc);
     match assembler.finish(&mut items) {

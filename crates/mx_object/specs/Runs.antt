@@ -1,6 +1,6 @@
 -- What an object comes to that is run and counted: the outcome, the host as it then is, and the sheet where a machine ran. The machine
 -- is that over a ring of registers, or that over an unbounded list.
-use Rattle.std.specs.Prelude.{ℕ, ◌≡◌, List, None, Some, Result, Ok, Err}
+use Rattle.std.specs.Prelude.{ℕ, ◌≡◌, List, Option, None, Some, Result, Ok, Err}
 use Rattle.mx_word.specs.declared.symbols.Symbol.{Symbol}
 use Rattle.mx_host.specs.HostModel.{HostModel}
 use Rattle.mx_mmo.specs.Image.{Image}
@@ -12,7 +12,7 @@ use Rattle.mx_outcome.specs.declared.outcome.Outcome.{Outcome}
 use Rattle.mx_outcome.specs.declared.outcome.Outcome.TheVariants.{BadObject}
 use Rattle.mx_count.specs.Counting.{counts_in}
 use Rattle.mx_count.specs.Leaving.{ImageLeaves}
-use Rattle.mx_count.specs.Runs.{AnswerForms, CountAnswer, RunCounts, by_counts, image_counted, mapped}
+use Rattle.mx_count.specs.Runs.{AnswerForms, CountAnswer, CountsByKind, RunCounts, by_counts, image_counted, mapped}
 use Rattle.mx_count.specs.Sheets.{tallies_in}
 use Rattle.mx_count.specs.declared.counts.Entry.{Entry}
 use Rattle.mx_object.specs.Addresses.{addresses_of, items_in}
@@ -63,6 +63,11 @@ object_with counting kind o arguments bytes m = loaded_with counting kind o argu
 
 abbrev pub object_counted : MachineKind → Order → List (List ℕ) → List ℕ → HostModel → CountAnswer CountedObject
 object_counted kind o arguments bytes m = object_with by_run kind o arguments bytes m
+
+-- `old` and `new` are what the host told before and after: this is counted of the run of an object as an order says
+abbrev pub CountsObject : Option HostModel → Option HostModel → CountedObject → Order → List (List ℕ) → List ℕ → Type 0
+CountsObject old new result o arguments bytes =
+    CountsByKind old new result.outcome result (λ kind m. object_counted kind o arguments bytes m)
 
 abbrev pub object_traced : MachineKind → Order → List (List ℕ) → List ℕ → HostModel → CountAnswer CountedObject
 object_traced kind o arguments bytes m = object_with by_steps kind o arguments bytes m

@@ -7,7 +7,7 @@ ghost use Rattle.mx_count.specs.Leaving.{ImageLeaves, IsLeft};
 ghost use Rattle.mx_count.specs.Runs.{AreArguments, CountsByKind};
 ghost use Rattle.mx_object.specs.Listing.{listed_of};
 ghost use Rattle.mx_object.specs.Runs as spec;
-ghost use Rattle.mx_object.specs.Runs.{ObjectLeaves};
+ghost use Rattle.mx_object.specs.Runs.{CountsObject, ObjectLeaves};
 
 use crate::counting::{ObjectSheet, sheet_in};
 use crate::tetras::ListedTetras;
@@ -139,8 +139,7 @@ pub fn count_object<H: Host>(
     arguments: &[Bytes],
 ) -> CountedObject
     requires { AreArguments arguments.now }
-    ensures told { CountsByKind (H.told host.old) (H.told host.new) result.outcome result
-        (λ kind m. spec.object_counted kind order.now arguments.now bytes.now m) }
+    ensures told { CountsObject (H.told host.old) (H.told host.new) result order.now arguments.now bytes.now }
     ensures left { IsLeft (H.told host.old) (H.told host.new)
         (λ m k. ObjectLeaves order.now arguments.now bytes.now m k) }
     ensures none { result.outcome ≡ Outcome.OutOfMemory → result.sheet ≡ None }

@@ -118,6 +118,10 @@ abbrev pub CarriesOutRun : {H A : Type 0} → (H → Option HostModel) → H →
 CarriesOutRun told old new before after none result plan =
     CarriesOutOnMachine (told old) (told new) (state_of before) (state_of after) none result plan
 
+-- a run of at most n steps
+abbrev pub MakesRun : {H : Type 0} → (H → Option HostModel) → H → H → Kept → Kept → ℕ → FlagsOf → Bool → End → Type 0
+MakesRun told old new before after n f pass result = CarriesOutRun told old new before after OutOfMemory result (run_plan n f pass)
+
 abbrev pub IsTurn : {H : Type 0} → (H → Option HostModel) → (H → ℕ) → H → H → Kept → Kept → TurnAnswer → Type 0
 IsTurn told faults old new before after result =
     IsTurnBetween (told old) (told new) (faults old) (faults new) (state_of before) (state_of after) result

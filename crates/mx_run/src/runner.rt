@@ -3,11 +3,11 @@
 ghost use Rattle.std.specs.Prelude.{◌≡◌, ◌≢◌, ◌/◌, false, IsOk, OnOk, OnErr};
 ghost use Rattle.std.specs.Borrow.{sem};
 ghost use Rattle.mx_core.specs.Kept.{state_of};
-ghost use Rattle.mx_run.specs.Clauses.{CarriesOutRun, IsRun, IsTurn};
+ghost use Rattle.mx_run.specs.Clauses.{IsRun, IsTurn, MakesRun};
 ghost use Rattle.mx_run.specs.FlagMaps as maps;
 ghost use Rattle.mx_run.specs.FlagMaps.{flags_at};
 ghost use Rattle.mx_run.specs.Lending.{LendsMachine};
-ghost use Rattle.mx_run.specs.RunPlans.{SparesMemory, run_plan};
+ghost use Rattle.mx_run.specs.RunPlans.{SparesMemory};
 ghost use Rattle.mx_run.specs.Runs.{no_flags};
 
 use crate::go::{go_by_flags, go_freely};
@@ -113,8 +113,8 @@ impl Runner {
     /// written to standard output is a front of what the run writes.
     #[tactic(auto)]
     pub fn go<H: Host>(&mut self, host: &mut H, n: u64, pass: bool) -> End
-        ensures plan { CarriesOutRun H.told host.old host.new self.old.machine self.new.machine End.OutOfMemory
-            result (run_plan n (flags_at self.old.flags) pass) }
+        ensures plan { MakesRun H.told host.old host.new self.old.machine self.new.machine n
+            (flags_at self.old.flags) pass result }
         ensures spared { SparesMemory n (state_of self.old.machine) → result ≢ End.OutOfMemory }
         ensures run { IsRun H.told H.faults host.old host.new self.old.machine self.new.machine n
             (flags_at self.old.flags) pass result }
