@@ -70,7 +70,7 @@ fn load_lines(
     ensures loaded { result ≢ Err SourceFault.OutOfMemory →
         loading.loading_status_after result assembler.new (status loader.new)
         ≡ loading.lines_loaded 1 (lines_of text.now)
-            (loading.loading_status assembler.old (status loader.old)) }
+        (loading.loading_status assembler.old (status loader.old)) }
     ensures loads { OnOk result (
         loads.new ≡ loads.old ++ loads_spec.loads_in_turn 0 assembler.old (lines_of text.now)) }
 {
