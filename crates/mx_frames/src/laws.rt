@@ -40,6 +40,6 @@ pub fn columns_ascend_with_their_places()
 /// A place in front of a character, or at the end of its line, is the one that its column leads to.
 #[tactic(auto, using(crate::proofs::Units::laws))]
 pub fn columns_lead_back_to_their_places()
-    ensures { (line : List ℕ) (place : ℕ) → place ≤ length line → columns.is_boundary line place ≡ true →
-        columns.place_of line (columns.column_of line place) ≡ place }
+    ensures { (l : List ℕ) (p : ℕ) → p ≤ length l → columns.is_boundary l p ≡ true →
+        columns.place_of l (columns.column_of l p) ≡ p }
 {}

@@ -42,8 +42,8 @@ pub fn a_notice_answers_no_request()
 
 /// The answer to a request, whatever it is, is a result or an error with the mark of the request.
 pub fn an_answer_carries_the_mark_of_its_request()
-    ensures { (s : Session) (id : Data) (method : Method) (message : Data) (body : List ℕ) →
-        IsAnswer s id method message body → IsReplyTo id body }
+    ensures { (s : Session) (id : Data) (m : Method) (given : Data) (body : List ℕ) →
+        IsAnswer s id m given body → IsReplyTo id body }
 {}
 
 /// Before `initialize` each other request is refused, with the number that the protocol has for it.

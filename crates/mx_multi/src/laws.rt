@@ -25,6 +25,6 @@ pub fn processors_start_as_lists()
 /// turn is made after it.
 #[tactic(auto, using(crate::proofs::Folded::folding))]
 pub fn turns_fold_the_schedule()
-    ensures { (kind : MachineKind) (schedule : List ℕ) (n : ℕ) (j : Joint) (m : HostModel)
-        → FoldsFrom kind schedule schedule n (j, m) (turns kind schedule n schedule j m) }
+    ensures { (k : MachineKind) (whos : List ℕ) (n : ℕ) (j : Joint) (m : HostModel)
+        → FoldsFrom k whos whos n (j, m) (turns k whos n whos j m) }
 {}

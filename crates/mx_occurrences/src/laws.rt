@@ -20,6 +20,6 @@ pub fn places_of_names_ascend()
 
 /// The names of an operand field are those of its expressions, in their order.
 pub fn names_of_a_field_are_those_of_its_trees()
-    ensures { (before course : Course) (line end : ℕ) (field : List ℕ) (list : List Tree) →
-        AreThoseOfTrees before course line end field list }
+    ensures { (p q : Course) (line end : ℕ) (field : List ℕ) (es : List Tree) →
+        AreThoseOfTrees p q line end field es }
 {}
