@@ -25,6 +25,6 @@ pub fn processors_start_as_lists()
 /// turn is made after it.
 #[tactic(auto, using(crate::proofs::Folded::folding))]
 pub fn turns_fold_the_schedule()
-    ensures { (k : MachineKind) (whos : List ℕ) (n : ℕ) (j : Joint) (m : HostModel)
-        → FoldsFrom k whos whos n (j, m) (turns k whos n whos j m) }
+    ensures { (k : MachineKind) (ws : List ℕ) (n : ℕ) (j : Joint) (m : HostModel)
+        → FoldsFrom k ws ws n (j, m) (turns k ws n ws j m) }
 {}
