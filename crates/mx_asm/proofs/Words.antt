@@ -82,7 +82,7 @@ pub use Rattle.mx_stmt.specs.declared.placed.Placed.{Placed}
 pub use Rattle.mx_stmt.specs.declared.statement.Label.{Label}
 pub use Rattle.mx_stmt.specs.declared.statement.Label.TheVariants.{Local, Name}
 pub use Rattle.mx_word.proofs.Ranges.{bytes-after, bytes-append, bytes-front, bytes-zeros}
-pub use Rattle.mx_word.proofs.Tetras.{eight-bytes, eight-fit, four-fit, octa-back, tetra-back, tetra-sum}
+pub use Rattle.mx_word.proofs.Tetras.{eight-bytes, four-fit, octa-back, tetra-back, tetra-sum}
 pub use Rattle.mx_word.specs.Octas.{byte_in, byte_of, bytes_with_tetra, in_half, tetra_byte, with_tetra}
 pub use Rattle.mx_word.specs.Ranges.{AreBytes, AreOctas}
 pub use Rattle.mx_word.specs.Symbols.{InByteOrder, IsNamed, IsValue}

@@ -6,7 +6,7 @@ pub use Rattle.std.proofs.lemmas.List.{drop-drop, drop_at, length-replicate, tak
 pub use Rattle.std.specs.List.{AllByRecursion, concat}
 pub use Rattle.mx_word.proofs.Comparisons.{all-tests, both-tests, both-true, is-least, is-less, not-less, other-number, other-test, same-number}
 pub use Rattle.mx_word.proofs.Ranges.{bytes-after, bytes-append, bytes-front, drop-four, take-four}
-pub use Rattle.mx_word.proofs.Tetras.{eight-bytes, eight-fit, four-bytes, four-fit, octa-back, tetra-back, top-byte}
+pub use Rattle.mx_word.proofs.Tetras.{eight-bytes, four-bytes, four-fit, octa-back, tetra-back, top-byte}
 pub use Rattle.mx_word.specs.Words.{octa_from_bytes, octa_to_bytes, tetra_from_bytes, tetra_to_bytes}
 pub use Rattle.mx_mmo.specs.FaultTable.{EndsWith, FaultOf, HasFields, ItemFault, MayBeBetween, TetraFault}
 pub use Rattle.mx_mmo.specs.Object.{EndsSpec, IsNoLop, IsObject, IsSkipped, Spelled, Spells, SpellsAddress}
