@@ -7,7 +7,6 @@ with-both : (first second : Data) (rest : Answer Data) → with_rest first (with
 with-both first second rest = grind (arith, common_steps, nat_tests)
 
 module _ (t : Targets) (k : Known) (line size : ℕ) where
-
   data-here : (place i : ℕ) (es : List Expr) (e : Expr) → i < length es → data_of t k line size place (trees_of (drop i es)) ≡ and_then (data_target k size (tree_of (get_or es i e))) (λ target. with_rest (datum t line size place target) (data_of t k line size ((place + size) % 2 ^ 64) (trees_of (drop (i + 1) es))))
   unfolding data_of
   data-here place i es e within = ap (λ l. data_of t k line size place (trees_of l)) (drop_more es i e within)
