@@ -95,7 +95,7 @@ shown_count is_json kind o name given m = shown_after is_json kind o given (file
 abbrev pub AnswersByKind : Option HostModel → Option HostModel → Outcome → (MachineKind → HostModel → Answer) → Type 0
 AnswersByKind old new result f = AnswersAs old new result (f window_machine) × AnswersAsList old new result (f list_machine)
 
--- the same of a host: `told` is what it tells, `old` and `new` are the host before and after
+-- the same of a host: `told` is what it tells, `old` and `new` are the host before and after; f goes by the kind of the machine
 abbrev pub ShowsByKind : {H : Type 0} → (H → Option HostModel) → H → H → Outcome → (MachineKind → HostModel → Answer) → Type 0
 ShowsByKind told old new result f = AnswersByKind (told old) (told new) result f
 

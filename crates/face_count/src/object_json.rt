@@ -257,7 +257,7 @@ fn add_object_head(text: &mut Bytes, counted: &CountedObject) -> Result<(), NoMe
     add_elsewhere(text, &counted.sheet)
 }
 
-/// Goes on with its outcome.
+/// The head of such a run, and its outcome.
 #[tactic(auto, unfolding(crate::specs::ObjectJson::object_front))]
 fn add_object_front(
     alloc: Global,

@@ -66,7 +66,8 @@ with_refusal refused faults is_cut = record { refused = refused; faults = faults
 abbrev pub told_found : List ℕ → Option Refusal → Found → ToldFaults
 told_found source refused f = with_refusal refused (told_lines source f.lines ++ told_if source f.whole) f.is_cut
 
--- those of a source that is refused so when it is run; 90 is PagesFull
+-- those of a source that is refused so when it is run; where that is PagesFull, which has the number 90, no line is at fault by
+-- itself, and it is the only fault that is told
 abbrev pub faults_by : List ℕ → Option Refusal → ToldFaults
 faults_by source None = with_refusal None [] false
 faults_by source (Some r) =
