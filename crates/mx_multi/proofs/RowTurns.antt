@@ -78,3 +78,17 @@ pub walked-row : (names : List ℕ) (n left made most who at place next : ℕ) (
 walked-row names n left made most who at place next j k l f g all h inside row e r s =
     let same : most ≡ made = omega (arith, g, all) in
     walked-part names n left made most who at place next j k l f g h inside row (e ∙ ap (λ m. place_after (length names) place m) same) r s
+
+-- ---- one turn that was asked for
+
+pub walked-one : (names : List ℕ) (n left made who at place next : ℕ) (j k l : Joint) → left ≤ n → 1 ≤ left → made ≤ 1 → 1 ≤ made → place < length names → IsRow names place 1 who →
+    next ≡ place_after (length names) place 1 → Along names (n - left) at place j k → Stretch made who k l → Along names (n - (left - 1)) at next j l
+walked-one names n left made who at place next j k l f g few some inside row e r s =
+    let one : made ≡ 1 = omega (arith, few, some) in
+    walked-part names n left 1 1 who at place next j k l f (omega arith) g inside row e r (subst (λ m. Stretch m who k l) one s)
+
+pub walked-none : (names : List ℕ) (n left made who at place : ℕ) (j k l : Joint) → made ≡ 0 → Along names (n - left) at place j k → Stretch made who k l → Along names (n - left) at place j l
+unfolding Stretch
+walked-none names n left made who at place j k l e r s =
+    let none : Stretch zero who k l = subst (λ m. Stretch m who k l) e s in
+    subst (λ x. Along names (n - left) at place j x) none r

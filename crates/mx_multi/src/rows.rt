@@ -100,25 +100,9 @@ fn find_row(names: &[u8], at: usize, most: u64) -> Row
     row
 }
 
-/// The turns of one processor that come first, from a place on, at most this many. Mostly it is one, which takes one look.
-#[tactic(auto, using(crate::proofs::Rounds::rounds))]
-#[inline(always)]
-fn next_row(names: &[u8], at: usize, most: u64) -> Row
-    requires positive { 1 ≤ most }
-    requires inside { at < length names.now }
-    ensures some { 1 ≤ result.length }
-    ensures few { result.length ≤ most }
-    ensures row { IsRow names.now at result.length (get_or names.now at 0) }
-    ensures next { result.next ≡ place_after (length names.now) at result.length }
-{
-    let next = next_of(names.len(), at);
-    if names[next] != names[at] {
-        return Row { length: 1, next };
-    }
-    find_row(names, at, most)
-}
-
-/// Makes at most this many turns by names, from a place on, as far as each goes on: how many are left, and where.
+/// Makes at most this many turns by names, from a place on, as far as each goes on: how many are left, and where. A turn whose next one is
+/// of another processor is made at once, since a schedule may have many of them. It is a call, so that what such a turn needs stays in registers.
+#[inline(never)]
 pub(crate) fn walk_rows(seats: &mut Seats, names: &[u8], at: usize, n: u64) -> Walked
     requires names { AreNames (length seats.now.machines) names.now }
     requires inside { at < length names.now }
@@ -132,15 +116,26 @@ pub(crate) fn walk_rows(seats: &mut Seats, names: &[u8], at: usize, n: u64) -> W
     let mut place = at;
     let mut left = n;
     while left > 0 {
-        let row = next_row(names, place, left);
-        let length = row.length;
-        let made = seats.walk(names[place], length);
-        left -= made;
-        if made < length {
-            let at = pass(names.len(), place, made);
-            return Walked { left, at };
+        let who = names[place];
+        let next = next_of(names.len(), place);
+        if names[next] == who {
+            let row = find_row(names, place, left);
+            let length = row.length;
+            let walked = seats.walk_row(who, length);
+            left -= walked;
+            if walked < length {
+                let at = pass(names.len(), place, walked);
+                return Walked { left, at };
+            }
+            place = row.next;
+            continue;
         }
-        place = row.next;
+        let made = seats.walk(who, 1);
+        if made == 0 {
+            return Walked { left, at: place };
+        }
+        left -= 1;
+        place = next;
     }
     Walked { left, at: place }
 }

@@ -245,6 +245,19 @@ impl Seats {
         self.walk_here(most)
     }
 
+    /// The same by a call.
+    #[inline(never)]
+    pub(crate) fn walk_row(&mut self, who: u8, most: u64) -> u64
+        requires inside { who < length self.now.machines }
+        requires runs { has_halted self.now.halted who ≡ false }
+        ensures few { result ≤ most }
+        ensures turns { Stretch result who (seated self.old) (seated self.new) }
+        ensures halted { self.new.halted ≡ self.old.halted }
+        ensures count { length self.new.machines ≡ length self.old.machines }
+    {
+        self.walk(who, most)
+    }
+
     /// A turn of the processor that has the memory and has not halted.
     fn turn_here<H: Host>(&mut self, alloc: Global, host: &mut H) -> Turn
         requires { has_halted self.now.halted self.now.at ≡ false }
