@@ -1,11 +1,12 @@
 -- What `check` has to say of a source: its faults, and then its warnings, unless none are asked for, as a text, as JSON, or as lines of
 -- the form that the GNU coding standards have for messages of compilers ("Formatting Error Messages").
-use Rattle.std.specs.Prelude.{ℕ, ◌+◌, ◌==◌, ◌&&◌, nat_le, nat_lt, not, Bool, is_some, List, [], ◌∷◌, ◌++◌, take, Option, None, Some, if◌then◌else◌, codes, decimal}
+use Rattle.std.specs.Prelude.{ℕ, ◌+◌, ◌==◌, ◌&&◌, nat_le, nat_lt, not, Bool, true, false, is_some, List, [], ◌∷◌, ◌++◌, take, Option, None, Some, if◌then◌else◌, codes, decimal}
 use Rattle.std.specs.List.{flat_map, list_any}
 use Rattle.mx_face.specs.Pages.{outcome_of}
 use Rattle.mx_face.specs.RefusalJson.{refusal_members}
 use Rattle.mx_face.specs.Visible.{visible_text}
 use Rattle.mx_face.specs.declared.page.Page.{Page}
+use Rattle.mx_files.specs.declared.refusal.Refusal.{Refusal}
 use Rattle.mx_json.specs.Json.{array, flag, number_if, object_of, quoted, string, string_if}
 use Rattle.mx_object.specs.Listing.{begins_as_object}
 use Rattle.mx_outcome.specs.Messages.{numbered_fault}
@@ -171,6 +172,11 @@ unfoldable pub warnings_lines : List ℕ → List Warning → List ℕ
 warnings_lines name warnings = flat_map (warning_line name) warnings
 
 -- ---- the page
+
+-- a source that is not refused when it is run
+abbrev pub is_accepted : Option Refusal → Bool
+is_accepted None = true
+is_accepted (Some refused) = false
 
 -- the warnings of a source, unless none are asked for
 unfoldable pub warnings_in : Bool → List ℕ → List Warning

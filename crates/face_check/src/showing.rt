@@ -13,34 +13,58 @@ use crate::gnu::add_lines;
 use crate::json::add_check;
 use crate::warning_lines::add_warnings;
 use mx_face::{Page, outcome_of, put_page, read_source, tell, visible_text};
+use mx_files::Refusal;
 use mx_host::Host;
 use mx_object::is_object;
 use mx_outcome::Outcome;
 use mx_view::{Sheet, list_faults, tell_faults};
-use mx_warn::{Warnings, tell_warnings, warnings_text};
+use mx_warn::{Warnings, tell_warnings_of, warnings_text_of};
 use mx_word::{Bytes, NoMemory};
 use std::alloc::Global;
 
-/// The warnings of a source, unless none are asked for.
-#[tactic(auto, unfolding(crate::specs::CheckPages::warnings_in))]
-fn warnings_in(alloc: Global, no_warnings: bool, source: &[u8]) -> Result<Warnings, NoMemory>
+/// Whether there is no refusal.
+fn is_accepted(refused: Option<Refusal>) -> bool
+    ensures { result ≡ spec.is_accepted refused }
+{
+    match refused {
+        None => true,
+        Some(_) => false,
+    }
+}
+
+/// The warnings of a source that is refused so when it is run, unless none are asked for: it is not assembled again to know
+/// whether it is.
+#[tactic(auto, unfolding(crate::specs::CheckPages::warnings_in), using(crate::proofs::Accepted::acceptance))]
+fn warnings_in(
+    alloc: Global,
+    no_warnings: bool,
+    refused: Option<Refusal>,
+    source: &[u8],
+) -> Result<Warnings, NoMemory>
+    requires { refused ≡ refusal_in source.now }
     ensures { IfOk result (λ told. told ≡ spec.warnings_in no_warnings source.now) }
 {
     if no_warnings {
         return Ok(Warnings::new(alloc));
     }
-    tell_warnings(alloc, source)
+    tell_warnings_of(alloc, is_accepted(refused), source)
 }
 
-/// The warnings of a source as a text, unless none are asked for.
-#[tactic(auto, unfolding(crate::specs::CheckPages::warnings_after))]
-fn warnings_after(alloc: Global, no_warnings: bool, source: &[u8]) -> Result<Bytes, NoMemory>
+/// The same as a text.
+#[tactic(auto, unfolding(crate::specs::CheckPages::warnings_after), using(crate::proofs::Accepted::acceptance))]
+fn warnings_after(
+    alloc: Global,
+    no_warnings: bool,
+    refused: Option<Refusal>,
+    source: &[u8],
+) -> Result<Bytes, NoMemory>
+    requires { refused ≡ refusal_in source.now }
     ensures { IfOk result (λ text. text ≡ spec.warnings_after no_warnings source.now) }
 {
     if no_warnings {
         return Ok(Bytes::new(alloc));
     }
-    warnings_text(alloc, source)
+    warnings_text_of(alloc, is_accepted(refused), source)
 }
 
 /// Whether a byte is 0.
@@ -119,7 +143,7 @@ fn list_all(alloc: Global, no_warnings: bool, source: &[u8]) -> Result<Sheet, No
     ensures refused { IfOk result (λ sheet. sheet.refused ≡ refusal_in source.now) }
 {
     let mut sheet = list_faults(alloc, source)?;
-    let warnings = warnings_after(alloc, no_warnings, source)?;
+    let warnings = warnings_after(alloc, no_warnings, sheet.refused, source)?;
     sheet.text.extend(warnings.as_slice())?;
     Ok(sheet)
 }
@@ -131,7 +155,7 @@ fn check_as_json(alloc: Global, no_warnings: bool, source: &[u8]) -> Result<Shee
     ensures refused { IfOk result (λ sheet. sheet.refused ≡ refusal_in source.now) }
 {
     let told = tell_faults(alloc, source)?;
-    let warnings = warnings_in(alloc, no_warnings, source)?;
+    let warnings = warnings_in(alloc, no_warnings, told.refused, source)?;
     let mut text = Bytes::new(alloc);
     add_check(alloc, &mut text, &told, warnings.as_slice())?;
     Ok(Sheet {
@@ -166,7 +190,7 @@ fn list_all_lines(
     ensures refused { IfOk result (λ sheet. sheet.refused ≡ refusal_in source.now) }
 {
     let mut sheet = faults_as_lines(alloc, name, source)?;
-    let warnings = warnings_in(alloc, no_warnings, source)?;
+    let warnings = warnings_in(alloc, no_warnings, sheet.refused, source)?;
     add_warnings(&mut sheet.text, name, warnings.as_slice())?;
     Ok(sheet)
 }

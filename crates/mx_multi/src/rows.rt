@@ -100,8 +100,9 @@ fn find_row(names: &[u8], at: usize, most: u64) -> Row
     row
 }
 
-/// Makes at most this many turns by names, from a place on, as far as each goes on: how many are left, and where. A turn whose next one is
-/// of another processor is made at once, since a schedule may have many of them. It is a call, so that what such a turn needs stays in registers.
+/// Makes at most this many turns by names, from a place on, as far as each goes on: how many are left, and where. A turn
+/// before one of another processor is made at once, and no row is looked for. This is a call, so that what such turns need
+/// stays in the registers of the host's processor.
 #[inline(never)]
 pub(crate) fn walk_rows(seats: &mut Seats, names: &[u8], at: usize, n: u64) -> Walked
     requires names { AreNames (length seats.now.machines) names.now }

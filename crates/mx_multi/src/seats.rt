@@ -245,7 +245,7 @@ impl Seats {
         self.walk_here(most)
     }
 
-    /// The same by a call.
+    /// The same as a call: a loop over turns that are made one by one has less to keep.
     #[inline(never)]
     pub(crate) fn walk_row(&mut self, who: u8, most: u64) -> u64
         requires inside { who < length self.now.machines }

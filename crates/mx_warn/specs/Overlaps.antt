@@ -10,11 +10,13 @@ use Rattle.mx_slips.specs.declared.marks.Mark.{Mark}
 use Rattle.mx_warn.specs.Cells.{has_instruction, overlap}
 use Rattle.mx_slips.specs.Marks.{line_number, mark_of}
 
--- both place a byte; one of them has an instruction, or the byte is in a further tetra of the earlier line
+-- one of them has an instruction, or a byte of a line is in a further tetra of the earlier one
+abbrev pub is_unmeant : SourceLine → SourceLine → Bool
+is_unmeant line earlier = has_instruction earlier || has_instruction line || overlap (drop 1 earlier.cells) line.cells
+
+-- both place a byte, which is not meant
 abbrev pub shares : SourceLine → SourceLine → Bool
-shares line earlier =
-    overlap earlier.cells line.cells
-    && (has_instruction earlier || has_instruction line || overlap (drop 1 earlier.cells) line.cells)
+shares line earlier = overlap earlier.cells line.cells && is_unmeant line earlier
 
 abbrev pub is_placed_by : SourceLine → SourceLine → Bool
 is_placed_by line earlier = nat_lt earlier.number line.number && shares line earlier

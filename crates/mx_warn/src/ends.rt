@@ -23,6 +23,7 @@ fn goes_on(tetra: u32) -> bool
 }
 
 /// Whether a cell is the next one after an address.
+#[inline(always)]
 fn is_after(address: u64, cell: Cell) -> bool
     ensures { result ≡ spec.is_after address cell }
 {
@@ -30,6 +31,7 @@ fn is_after(address: u64, cell: Cell) -> bool
 }
 
 /// Whether one of these cells is the next one after an address.
+#[inline(always)]
 fn is_loaded_after(address: u64, cells: &[Cell]) -> bool
     ensures { result ≡ spec.is_loaded_after address cells.now }
 {
@@ -37,6 +39,7 @@ fn is_loaded_after(address: u64, cells: &[Cell]) -> bool
 }
 
 /// Whether a line has data in the tetra after an address.
+#[inline(always)]
 fn is_data_after(address: u64, line: &SourceLine) -> bool
     ensures { result ≡ spec.is_data_after address line.now }
 {

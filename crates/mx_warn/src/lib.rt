@@ -14,5 +14,5 @@ mod warnings;
 mod widths;
 
 pub use telling::{tell_warnings, tell_warnings_of};
-pub use texts::{add_other, warnings_text};
+pub use texts::{add_other, warnings_text, warnings_text_of};
 pub use warnings::{Kind, Warning, Warnings};

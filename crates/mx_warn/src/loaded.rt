@@ -51,6 +51,7 @@ fn share_byte(weight: u32, tetra: u32, other: u32) -> bool
 }
 
 /// Whether a byte is 0 in neither tetra.
+#[inline(never)]
 fn has_shared_byte(tetra: u32, other: u32) -> bool
     ensures { result ≡ spec.share_bytes tetra other }
 {
@@ -61,6 +62,7 @@ fn has_shared_byte(tetra: u32, other: u32) -> bool
 }
 
 /// Whether a byte is placed by both cells.
+#[inline(always)]
 fn is_overlapping(cell: Cell, other: Cell) -> bool
     ensures { result ≡ spec.overlaps cell other }
 {
@@ -68,6 +70,7 @@ fn is_overlapping(cell: Cell, other: Cell) -> bool
 }
 
 /// Whether a byte of a cell is placed by another one, too.
+#[inline(always)]
 fn is_overlapped(cell: Cell, others: &[Cell]) -> bool
     ensures { result ≡ list_any (spec.overlaps cell) others.now }
 {
@@ -75,6 +78,7 @@ fn is_overlapped(cell: Cell, others: &[Cell]) -> bool
 }
 
 /// Whether a byte is placed by cells of both lists.
+#[inline(always)]
 pub(crate) fn has_overlap(cells: &[Cell], others: &[Cell]) -> bool
     ensures { result ≡ spec.overlap cells.now others.now }
 {

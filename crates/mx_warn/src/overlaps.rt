@@ -17,19 +17,27 @@ fn later_cells(cells: &[Cell]) -> &[Cell]
     }
 }
 
+/// Whether one of two lines has an instruction, or a byte of the later one is in a further tetra of the earlier one. It is a
+/// call, since few lines share a byte.
+#[inline(never)]
+fn is_unmeant(line: &SourceLine, earlier: &SourceLine) -> bool
+    ensures { result ≡ spec.is_unmeant line.now earlier.now }
+{
+    has_instruction(earlier)
+        || has_instruction(line)
+        || has_overlap(later_cells(earlier.cells.as_slice()), line.cells.as_slice())
+}
+
 /// Whether a byte of a line is in a further tetra of an earlier line, or in any where one of them has an instruction.
+#[inline(always)]
 fn is_sharing(line: &SourceLine, earlier: &SourceLine) -> bool
     ensures { result ≡ spec.shares line.now earlier.now }
 {
-    let cells = line.cells.as_slice();
-    let placed = earlier.cells.as_slice();
-    has_overlap(placed, cells)
-        && (has_instruction(earlier)
-            || has_instruction(line)
-            || has_overlap(later_cells(placed), cells))
+    has_overlap(earlier.cells.as_slice(), line.cells.as_slice()) && is_unmeant(line, earlier)
 }
 
 /// Whether an earlier line places a byte of a line.
+#[inline(always)]
 fn is_placed_by(line: &SourceLine, earlier: &SourceLine) -> bool
     ensures { result ≡ spec.is_placed_by line.now earlier.now }
 {

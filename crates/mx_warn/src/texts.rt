@@ -2,9 +2,11 @@
 
 ghost use Rattle.std.specs.Prelude.{◌≡◌, ◌++◌, IfOk, OnOk};
 ghost use Rattle.std.specs.List.{flat_map};
+ghost use Rattle.std.specs.Result.{is_ok};
+ghost use Rattle.mx_files.specs.Sources.{source_meaning};
 ghost use Rattle.mx_warn.specs.Texts as spec;
 
-use crate::telling::tell_warnings;
+use crate::telling::{tell_warnings, tell_warnings_of};
 use crate::warnings::Warning;
 use mx_slips::take_front;
 use mx_text::add_decimal;
@@ -108,6 +110,15 @@ fn add_warnings(text: &mut Bytes, told: &[Warning]) -> Result<(), NoMemory>
     Ok(())
 }
 
+/// These warnings as a text.
+fn text_of(alloc: Global, told: &[Warning]) -> Result<Bytes, NoMemory>
+    ensures { IfOk result (λ text. text ≡ flat_map spec.warning_text told.now) }
+{
+    let mut text = Bytes::new(alloc);
+    add_warnings(&mut text, told)?;
+    Ok(text)
+}
+
 /// The warnings of a source as a text: each with its line, a caret under what is odd, and a sentence that says what is odd
 /// and how to fix it.
 ///
@@ -116,7 +127,16 @@ pub fn warnings_text(alloc: Global, source: &[u8]) -> Result<Bytes, NoMemory>
     ensures { IfOk result (λ text. text ≡ spec.warnings_text source.now) }
 {
     let told = tell_warnings(alloc, source)?;
-    let mut text = Bytes::new(alloc);
-    add_warnings(&mut text, told.as_slice())?;
-    Ok(text)
+    text_of(alloc, told.as_slice())
+}
+
+/// The same of a source of which it is known whether it is refused.
+///
+/// Errors: out of memory.
+pub fn warnings_text_of(alloc: Global, is_accepted: bool, source: &[u8]) -> Result<Bytes, NoMemory>
+    requires { is_accepted ≡ is_ok (source_meaning source.now) }
+    ensures { IfOk result (λ text. text ≡ spec.warnings_text source.now) }
+{
+    let told = tell_warnings_of(alloc, is_accepted, source)?;
+    text_of(alloc, told.as_slice())
 }

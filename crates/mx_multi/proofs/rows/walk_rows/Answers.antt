@@ -8,6 +8,9 @@ use Rattle.mx_multi.proofs.rows.walk_rows.Goals as goal
 pub loop-left-init : goal.loop-left-init
 loop-left-init c = record { few = omega arith; inside = c.requires.inside; turns = none-yet _ _ _ _; halted = refl; count = refl }
 
+pub bounds-names-next : goal.bounds-names-next
+bounds-names-next c = next-below _ _ _ _ c.loop-left.invariant.inside c.next_of-next.ensures
+
 -- ---- a turn before one of another processor
 
 pub walk-made-requires-clause-inside : goal.walk-made-requires-clause-inside
@@ -26,13 +29,13 @@ loop-left-preserved c =
     record {
       few = (let few = was.few in omega (arith, few));
       inside = next-below _ _ _ _ was.inside next;
-      turns = walked-one _ _ _ _ _ _ _ _ _ _ _ was.few (omega (arith, c.loop-left-test.true)) e.few (omega (arith, c.if-made-0.false)) was.inside (row-one _ _ was.inside) next was.turns e.turns;
+      turns = walked-one _ _ _ _ _ _ _ _ _ _ _ was.few (omega (arith, c.loop-left-test.true)) e.few (omega (arith, c.if-made-eq0.false)) was.inside (row-one _ _ was.inside) next was.turns e.turns;
       halted = e.halted ∙ was.halted;
       count = e.count ∙ was.count;
     }
 
-pub returns-then-made-0-clause-turns : goal.returns-then-made-0-clause-turns
-returns-then-made-0-clause-turns c = walked-none _ _ _ _ _ _ _ _ _ _ c.if-made-0.true c.loop-left.invariant.turns c.walk-made.ensures.turns
+pub returns-then-made-eq0-clause-turns : goal.returns-then-made-eq0-clause-turns
+returns-then-made-eq0-clause-turns c = walked-none _ _ _ _ _ _ _ _ _ _ c.if-made-eq0.true c.loop-left.invariant.turns c.walk-made.ensures.turns
 
 -- ---- a row
 
@@ -44,8 +47,8 @@ walk_row-walked-requires-clause-runs c =
     let was = c.loop-left.invariant in
     subst (λ hs. has_halted hs (get_or c.args.names.now c.loop-left.place 0) ≡ false) (sym was.halted) (c.requires.run.runs _ was.inside)
 
-pub loop-left-preserved-then : goal.loop-left-preserved-then
-loop-left-preserved-then c =
+pub loop-left-preserved-then-names-next : goal.loop-left-preserved-then-names-next
+loop-left-preserved-then-names-next c =
     let was = c.loop-left.invariant in
     let row = c.find_row-row.ensures in
     let e = c.walk_row-walked.ensures in
