@@ -24,8 +24,8 @@ use mx_ops::codes::RJ;
 
 impl Machine {
     /// One step without its trace, where its instruction is a frequent one that gives a register a value, stores or goes
-    /// elsewhere, and nothing is unusual about it; and a note by which it is taken back. Where there is no note nothing
-    /// changed. It takes memory for the note of a call or a return alone.
+    /// elsewhere, and nothing is unusual about it. Whether it was made: then the note is one by which it is taken back, and
+    /// else nothing changed. The note is written where it is kept. It takes memory for the note of a call or a return alone.
     #[inline(always)]
     pub fn advance_noted(&mut self, note: &mut Note) -> bool
         ensures made { IsTrue result →
