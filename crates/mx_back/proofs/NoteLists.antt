@@ -1,5 +1,5 @@
 -- Notes in one list that goes round.
-use Rattle.std.proofs.Common.{◌≡◌, ℕ, zero, suc, ◌+◌, ◌-◌, ◌%◌, ◌≤◌, ◌<◌, min, Bool, true, false, ◌==◌, List, [], ◌∷◌, ◌++◌, Some, length, take, drop, set, get_or, reverse, slice_get, arith, refl, sym, ◌∙◌, ap, ⊎_elim}
+use Rattle.std.proofs.Common.{◌≡◌, ℕ, zero, suc, ◌+◌, ◌-◌, ◌%◌, ◌≤◌, ◌<◌, min, Bool, false, ◌==◌, List, [], ◌∷◌, ◌++◌, Some, length, take, drop, set, get_or, reverse, slice_get, arith, refl, sym, ◌∙◌, ap, ⊎_elim}
 use Rattle.std.proofs.lemmas.Bool.{cases_lt}
 use Rattle.std.proofs.lemmas.Bool.Decides.{nat_tests}
 use Rattle.std.proofs.lemmas.List.{append-nil, append_assoc, drop_all, drop_more, drop-set-lt, length-append, length-drop, length-reverse, length-set, length-take, length-take-le, length_push, reverse-append, take_all, take-append-drop, take-append-le, take_more, take_more_set, take-set, take-take}
@@ -112,9 +112,6 @@ count-ring list place kept all most =
     length-take-le kept (reverse newer ++ reverse older) (omega (arith, all, most, long, length-append (reverse newer) (reverse older), length-reverse newer, length-reverse older))
 
 -- FOR THE CODE
-
-pub is-none : (b : Bool) (count : ℕ) → b ≡ (count == 0) → b ≡ true → count ≡ 0
-is-none b count e f = let none : (count == 0) ≡ true = sym e ∙ f in grind (arith, nat_tests)
 
 pub is-some : (b : Bool) (count : ℕ) → b ≡ (count == 0) → b ≡ false → 0 < count
 is-some b count e f = let some : (count == 0) ≡ false = sym e ∙ f in grind (arith, nat_tests)
