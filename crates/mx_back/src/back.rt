@@ -87,7 +87,13 @@ impl Back {
         ensures same { result ≡ false → self.new ≡ self.old }
         ensures fits { AreNotesOf self.new (state_of m.new) }
     {
-        self.notes.advance(m)
+        match m.advance_noted() {
+            Some(note) => {
+                self.notes.push(note);
+                true
+            }
+            None => false,
+        }
     }
 
     /// Nothing is kept any more. It takes no memory.
