@@ -1,6 +1,6 @@
 #!/usr/bin/env python3
 """adopt.py CLONE: gives the clone what `rt ci` kept on this machine of crates with the same text, so that `rt check` and `rt plant` do not prove those below anew."""
-import importlib.machinery, importlib.util, os, sys
+import importlib.machinery, importlib.util, os, shutil, sys
 os.chdir(sys.argv[1])
 loader = importlib.machinery.SourceFileLoader("rtmain", "/usr/local/bin/rt")
 spec = importlib.util.spec_from_loader("rtmain", loader)
@@ -11,6 +11,8 @@ crates = rt.crates_of(os.getcwd())
 kept = rt.Kept(crates)
 done = []
 missing = set()
+# (what is in out/ already would be taken for damage, and the kept entry dropped)
+for c in crates: shutil.rmtree(f"{c.folder}/out", ignore_errors=True)
 for c in crates:
     if any(b.name in missing for b in c.below()):
         missing.add(c.name); continue
