@@ -1,9 +1,10 @@
 -- What notes represent, and what calls of `back` come to.
-use Rattle.std.proofs.Common.{◌≡◌, ℕ, zero, suc, ◌-◌, ◌≤◌, List, [], ◌∷◌, None, Some, length, take, drop, slice_get, arith, refl, sym, subst, ◌∙◌, ap}
+use Rattle.std.proofs.Common.{◌≡◌, Bool, true, false, IsTrue, ℕ, zero, suc, ◌-◌, ◌≤◌, List, [], ◌∷◌, None, Some, length, take, drop, slice_get, arith, refl, sym, subst, ◌∙◌, ap}
 use Rattle.std.proofs.lemmas.List.{length-drop}
 use Rattle.mx_core.specs.State.{State}
 use Rattle.mx_core.specs.Undoing.{StateWas, FitsState, TakesBack, state_undone}
 use Rattle.mx_back.specs.History.{states_before, AreNotesOf, Backed, none, more}
+use Rattle.mx_back.specs.NoteLists.{AddsNote}
 
 states-take : (k : ℕ) (notes : List StateWas) (s : State) → states_before (take k notes) s ≡ take k (states_before notes s)
 unfolding states_before
@@ -51,6 +52,12 @@ went-kept inner d n notes s t e f h = ap (λ ns. states_before ns t) f ∙ ap (�
 
 pub went-fits : (inner d : List StateWas) (n : StateWas) (notes : List StateWas) (s t : State) → inner ≡ notes → d ≡ take 1024 (n ∷ inner) → TakesBack n t s → AreNotesOf notes s → AreNotesOf d t
 went-fits inner d n notes s t e f h a = subst (λ ns. AreNotesOf ns t) (sym (f ∙ ap (λ ns. take 1024 (n ∷ ns)) e)) (went_fits 1024 n notes s t h a)
+
+-- whether or not a step was made
+pub advanced-fits : (made : Bool) (inner d notes : List StateWas) (s t : State) → inner ≡ notes → (IsTrue made → AddsNote inner d s t) → (made ≡ false → t ≡ s) → (made ≡ false → d ≡ inner) → AreNotesOf notes s → AreNotesOf d t
+advanced-fits true inner d notes s t e adds kept same a = let n = adds refl in went-fits inner d n.note notes s t e n.added n.back a
+advanced-fits false inner d notes s t e adds kept same a =
+    subst (λ ns. AreNotesOf ns t) (sym (same refl ∙ e)) (subst (λ u. AreNotesOf notes u) (sym (kept refl)) a)
 
 pub popped-fits : (inner notes : List StateWas) (n : StateWas) (s : State) → inner ≡ notes → Some n ≡ slice_get inner 0 → AreNotesOf notes s → FitsState n s
 popped-fits inner notes n s e f a = first-fits notes n s (f ∙ ap (λ ns. slice_get ns 0) e) a

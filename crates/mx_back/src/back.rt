@@ -87,13 +87,7 @@ impl Back {
         ensures same { result ≡ false → self.new ≡ self.old }
         ensures fits { AreNotesOf self.new (state_of m.new) }
     {
-        match m.advance_noted() {
-            Some(note) => {
-                self.notes.push(note);
-                true
-            }
-            None => false,
-        }
+        self.notes.advance(m)
     }
 
     /// Nothing is kept any more. It takes no memory.

@@ -1,10 +1,12 @@
-//! Notes of steps, the newest first, in two lists.
+//! Notes of steps, the newest first, in one list that goes round.
 
-ghost use Rattle.std.specs.Prelude.{◌≡◌, ◌≤◌, ◌<◌, ◌+◌, ◌∷◌, [], ◌==◌, ℕ, IfOk, drop, length, nat_le, slice_get, take};
-ghost use Rattle.std.specs.Vec.{vec_capacity};
-ghost use Rattle.mx_back.specs.NoteLists.{PopsNote, notes_of};
+ghost use Rattle.std.specs.Prelude.{◌≡◌, ◌≤◌, ◌<◌, ◌+◌, ◌%◌, ◌∷◌, [], ◌==◌, IfOk, IsTrue, drop, false, length, slice_get, take};
+ghost use Rattle.mx_core.specs.Kept.{state_of};
+ghost use Rattle.mx_core.specs.Step.{step};
+ghost use Rattle.mx_core.specs.Way.Stepping.{advanced};
+ghost use Rattle.mx_back.specs.NoteLists.{AddsNote};
 
-use mx_core::Note;
+use mx_core::{Advance, Machine, Note};
 use mx_word::NoMemory;
 use std::alloc::Global;
 use std::marker::Model;
@@ -13,12 +15,13 @@ use std::mem;
 /// How many notes are kept at most.
 const MOST: usize = 1024;
 
-/// At most 1,024 notes. They are in two lists, with room for as many in each: the newer ones, and those before them. Once the
-/// newer ones are 1,024 they take the place of the others, which go. So a note is added without a look for the oldest one.
+/// At most 1,024 notes. They are in one list of 1,024 that goes round: up to a place are the newer ones, and from it on
+/// those before them, in each part the newest last. A note is written at that place, where the oldest one was: what a call
+/// had noted is given back just then, so that the next call is given the same memory.
 #[derive(Drop)]
 pub(crate) struct Notes {
-    newer: Vec<Note>,
-    older: Vec<Note>,
+    list: Vec<Note>,
+    place: usize,
     kept: usize,
 }
 
@@ -41,11 +44,10 @@ impl Notes {
     pub(crate) fn new(alloc: Global) -> Result<Notes, NoMemory>
         ensures { IfOk result (λ notes. notes ≡ []) }
     {
-        let newer = Vec::with_capacity(alloc, MOST)?;
-        let older = Vec::with_capacity(alloc, MOST)?;
+        let list = no_notes(alloc)?;
         Ok(Notes {
-            newer,
-            older,
+            list,
+            place: 0,
             kept: 0,
         })
     }
@@ -59,16 +61,13 @@ impl Notes {
     }
 
     /// Adds a note. Where there were 1,024, the oldest one goes.
-    #[inline(always)]
     pub(crate) fn push(&mut self, note: Note)
         ensures { self.new ≡ take 1024 (note ∷ self.old) }
     {
-        let Ok(()) = self.newer.push(note) else {
-            unreachable!()
-        };
+        self.list[self.place] = note;
+        self.place = next_place(self.place);
         let kept = (self.kept + 1).min(MOST);
         self.kept = kept;
-        turn_if_full(&mut self.newer, &mut self.older);
     }
 
     /// Takes the newest note, if there is one.
@@ -79,8 +78,29 @@ impl Notes {
         if is_none(self.kept) {
             return None;
         }
+        let place = previous_place(self.place);
+        self.place = place;
         self.kept -= 1;
-        pop_newest(&mut self.newer, &mut self.older)
+        Some(mem::replace(&mut self.list[place], Note::of_none()))
+    }
+
+    /// One step of the machine as its `advance_noted` makes it, whose note is written where the oldest one was. Whether it was
+    /// made: then its note is added, and else nothing changed.
+    #[inline(always)]
+    pub(crate) fn advance(&mut self, m: &mut Machine) -> bool
+        ensures made { IsTrue result →
+            (Advance.Went, state_of m.new) ≡ advanced (state_of m.old) (step (state_of m.old)) }
+        ensures adds { IsTrue result → AddsNote self.old self.new (state_of m.old) (state_of m.new) }
+        ensures kept { result ≡ false → state_of m.new ≡ state_of m.old }
+        ensures same { result ≡ false → self.new ≡ self.old }
+    {
+        if !m.advance_noted(&mut self.list[self.place]) {
+            return false;
+        }
+        self.place = next_place(self.place);
+        let kept = (self.kept + 1).min(MOST);
+        self.kept = kept;
+        true
     }
 
     /// There are no notes any more. They take up their memory until others take their place.
@@ -91,42 +111,35 @@ impl Notes {
     }
 }
 
-/// Where there are 1,024 newer ones, they take the place of the older ones.
-#[inline(always)]
-fn turn_if_full(newer: &mut Vec<Note>, older: &mut Vec<Note>)
-    requires most { length newer.old.items ≤ 1024 }
-    ensures same { (kept : ℕ) → kept ≤ 1024
-        → notes_of newer.new.items older.new.items kept ≡ notes_of newer.old.items older.old.items kept }
-    ensures there { (kept : ℕ) → kept ≤ 1024 → kept ≤ length newer.old.items + length older.old.items
-        → kept ≤ length newer.new.items + length older.new.items }
-    ensures fewer { length newer.new.items < 1024 }
-    ensures newer_room { 1024 ≤ vec_capacity newer.old → 1024 ≤ vec_capacity older.old → 1024 ≤ vec_capacity newer.new }
-    ensures older_room { 1024 ≤ vec_capacity newer.old → 1024 ≤ vec_capacity older.old → 1024 ≤ vec_capacity older.new }
+/// As many notes of no step as are kept at most.
+///
+/// Errors: `NoMemory` where there is no memory for them.
+fn no_notes(alloc: Global) -> Result<Vec<Note>, NoMemory>
+    ensures { IfOk result (λ notes. length notes.items ≡ 1024) }
 {
-    if !is_full(newer) {
-        return;
+    let mut notes = Vec::with_capacity(alloc, MOST)?;
+    for _turn in 0..MOST {
+        notes.push(Note::of_none())?;
     }
-    turn(newer, older);
+    Ok(notes)
 }
 
-/// Whether a list has 1,024 notes.
+/// The place after another one: after the last of 1,024 comes the first.
 #[inline(always)]
-fn is_full(notes: &Vec<Note>) -> bool
-    ensures { result ≡ nat_le 1024 (length notes.now.items) }
+fn next_place(place: usize) -> usize
+    requires { place < 1024 }
+    ensures { result ≡ (place + 1) % 1024 }
 {
-    notes.len() >= MOST
+    (place + 1) % MOST
 }
 
-/// The newer ones take the place of the older ones.
-#[inline(never)]
-fn turn(newer: &mut Vec<Note>, older: &mut Vec<Note>)
-    ensures none { newer.new.items ≡ [] }
-    ensures moved { older.new.items ≡ newer.old.items }
-    ensures newer_room { vec_capacity newer.new ≡ vec_capacity older.old }
-    ensures older_room { vec_capacity older.new ≡ vec_capacity newer.old }
+/// The place before another one: before the first of 1,024 comes the last.
+fn previous_place(place: usize) -> usize
+    requires { place < 1024 }
+    ensures value { (result + 1) % 1024 ≡ place }
+    ensures range { result < 1024 }
 {
-    older.clear();
-    mem::swap(newer, older);
+    (place + MOST - 1) % MOST
 }
 
 /// Whether a number is 0.
@@ -134,19 +147,4 @@ fn is_none(count: usize) -> bool
     ensures { result ≡ (count == 0) }
 {
     count == 0
-}
-
-/// Takes the newest note of two lists.
-fn pop_newest(newer: &mut Vec<Note>, older: &mut Vec<Note>) -> Option<Note>
-    ensures gives { (kept : ℕ) → kept < length newer.old.items + length older.old.items
-        → PopsNote result (notes_of newer.old.items older.old.items (kept + 1)) (notes_of newer.new.items older.new.items kept) }
-    ensures there { length newer.old.items + length older.old.items ≤ length newer.new.items + length older.new.items + 1 }
-    ensures fewer { length newer.new.items ≤ length newer.old.items }
-    ensures newer_room { vec_capacity newer.new ≡ vec_capacity newer.old }
-    ensures older_room { vec_capacity older.new ≡ vec_capacity older.old }
-{
-    match newer.pop() {
-        Some(note) => Some(note),
-        None => older.pop(),
-    }
 }

@@ -88,11 +88,12 @@ pub record Deed : Type 0 where
   pub refused : Option Reason
   pub is_wild : Bool
 
--- whether an effect loads or stores in Stack_Segment
+-- whether an effect loads in Stack_Segment
 abbrev pub loads_in_segment : Option Touch → Bool
 loads_in_segment None = false
 loads_in_segment (Some t) = is_in_stack_segment t.at
 
+-- whether it stores there
 abbrev pub stores_in_segment : Option Store → Bool
 stores_in_segment None = false
 stores_in_segment (Some store) = is_in_stack_segment store.at

@@ -112,7 +112,7 @@ impl Machine {
         ensures code { KeepsPlace self.old self.new }
     {
         let word = self.read_at(place, index);
-        match self.usual_at(index, word) {
+        match self.usual_at::<0>(index, word) {
             Usual::Gives(x) => self.settle_at(index, Instruction::new(index, word).x(), x),
             Usual::GoesBy(d) => lead_by(index, d),
             Usual::GoesOn => lead_on(index),

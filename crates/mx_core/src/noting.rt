@@ -14,7 +14,7 @@ ghost use Rattle.mx_core.specs.Undoing.{TakesBack};
 
 use crate::bounds::machines_hold_octas;
 use crate::machine::is_in_stack_area;
-use crate::overwritten::{CallWas, OctaWas, UsualWas};
+use crate::overwritten::{CallWas, OctaWas, Overwritten, UsualWas};
 use crate::sight::Sight;
 use crate::undoing::machines_are_paged;
 use crate::{Machine, Reason, Step, Touch, Trace};
@@ -39,6 +39,19 @@ impl Model for Note {
     ghost use Rattle.mx_core.specs.Way.NoteParts.{note_in};
 
     ghost view = { note_in };
+}
+
+impl Note {
+    /// The note of no step.
+    pub fn of_none() -> Note {
+        Note {
+            was: Was::Usual(UsualWas {
+                pc: 0,
+                steps: 0,
+                overwritten: Overwritten::Nothing,
+            }),
+        }
+    }
 }
 
 /// What a step of any kind may have overwritten, or the little that a usual one did, or a call of few registers.

@@ -1,6 +1,6 @@
 //! Usual steps that are less frequent, and noted: products and quotients, calls and returns.
 
-ghost use Rattle.std.specs.Prelude.{◌≡◌, ◌≢◌, ◌%◌, false, None, IfSome};
+ghost use Rattle.std.specs.Prelude.{◌≡◌, ◌%◌, false, IfSome, IsTrue};
 ghost use Rattle.mx_registers.specs.Registers as registers;
 ghost use Rattle.mx_ring.specs.Notes.{call_noted, spilled_by};
 ghost use Rattle.mx_ring.specs.Stack.{visible};
@@ -24,171 +24,169 @@ use mx_alu::Answer;
 use mx_code::{Instruction, Operation};
 use mx_ops::codes::{RH, RJ, RR};
 use mx_ring::CallNote;
-use std::alloc::Global;
 
 impl Machine {
     /// MULU, DIV, DIVU, PUSHJ, PUSHGO and POP, where nothing is unusual about them, and a note. They are apart from the loop
     /// over more frequent ones. It is given words and no reference, so that a frequent instruction need not be in memory.
     #[inline(never)]
-    pub(crate) fn perform_rare_noted(&mut self, at: u64, word: u32) -> Option<Note>
+    pub(crate) fn perform_rare_noted(&mut self, at: u64, word: u32, note: &mut Note) -> bool
         requires { (state_of self.old).pc % 4 ≡ 0 }
-        ensures made { result ≢ None → MakesState (λ s. outcome s (deed_at s (instruction at word))) self.old self.new }
-        ensures back { IfSome result (λ note. TakesBack note (state_of self.new) (state_of self.old)) }
-        ensures kept { result ≡ None → state_of self.new ≡ state_of self.old }
+        ensures made { IsTrue result → MakesState (λ s. outcome s (deed_at s (instruction at word))) self.old self.new }
+        ensures back { IsTrue result → TakesBack note.new (state_of self.new) (state_of self.old) }
+        ensures kept { result ≡ false → (state_of self.new ≡ state_of self.old) × (note.new ≡ note.old) }
     {
-        self.perform_rare(&Instruction::new(at, word))
-    }
-
-    /// The same of an instruction.
-    #[inline(always)]
-    fn perform_rare(&mut self, i: &Instruction) -> Option<Note>
-        requires { (state_of self.old).pc % 4 ≡ 0 }
-        ensures made { result ≢ None → MakesState (λ s. outcome s (deed_at s i.now)) self.old self.new }
-        ensures back { IfSome result (λ note. TakesBack note (state_of self.new) (state_of self.old)) }
-        ensures kept { result ≡ None → state_of self.new ≡ state_of self.old }
-    {
+        let i = Instruction::new(at, word);
         match i.operation() {
-            Operation::Compute => self.compute_noted(i),
-            Operation::PushJump => self.push_jump_noted(i),
-            Operation::PushGo => self.push_go_noted(i),
-            Operation::Pop => self.pop_noted(i),
-            _ => None,
+            Operation::Compute => self.compute_noted(&i, note),
+            Operation::PushJump => self.push_jump_noted(&i, note),
+            Operation::PushGo => self.push_go_noted(&i, note),
+            Operation::Pop => self.pop_noted(&i, note),
+            _ => false,
         }
     }
 
     /// MULU, DIV and DIVU in plain cases.
     #[inline(always)]
-    fn compute_noted(&mut self, i: &Instruction) -> Option<Note>
+    fn compute_noted(&mut self, i: &Instruction, note: &mut Note) -> bool
         requires compute { operation_in i.now ≡ Operation.Compute }
         requires aligned { (state_of self.old).pc % 4 ≡ 0 }
-        ensures made { result ≢ None → MakesState (λ s. outcome s (deed_of Operation.Compute s i.now)) self.old self.new }
-        ensures back { IfSome result (λ note. TakesBack note (state_of self.new) (state_of self.old)) }
-        ensures kept { result ≡ None → state_of self.new ≡ state_of self.old }
+        ensures made { IsTrue result → MakesState (λ s. outcome s (deed_of Operation.Compute s i.now)) self.old self.new }
+        ensures back { IsTrue result → TakesBack note.new (state_of self.new) (state_of self.old) }
+        ensures kept { result ≡ false → (state_of self.new ≡ state_of self.old) × (note.new ≡ note.old) }
     {
         let (y, z) = (self.y_operand(i), self.z_operand(i));
         match plain_answer::<1>(i.code(), y, z, self.extra()) {
-            Some(a) => self.give_answer_noted(i, &a),
-            None => None,
+            Some(a) => self.give_answer_noted(i, &a, note),
+            None => false,
         }
     }
 
     /// $X, rH and rR get what an answer tells, and the machine goes on, where $X is local or global.
     #[inline(always)]
-    fn give_answer_noted(&mut self, i: &Instruction, a: &Answer) -> Option<Note>
+    fn give_answer_noted(&mut self, i: &Instruction, a: &Answer, note: &mut Note) -> bool
         requires { (state_of self.old).pc % 4 ≡ 0 }
-        ensures made { result ≢ None → MakesState
+        ensures made { IsTrue result → MakesState
             (λ s. settled_with s (x_of i.now) a.now.x (told_specials a.now) (next_of i.now)) self.old self.new }
-        ensures back { IfSome result (λ note. TakesBack note (state_of self.new) (state_of self.old)) }
-        ensures kept { result ≡ None → state_of self.new ≡ state_of self.old }
+        ensures back { IsTrue result → TakesBack note.new (state_of self.new) (state_of self.old) }
+        ensures kept { result ≡ false → (state_of self.new ≡ state_of self.old) × (note.new ≡ note.old) }
     {
         if self.is_marginal(i.x()) {
-            return None;
+            return false;
         }
-        self.give_seen(i, a)
+        self.give_seen(i, a, note)
     }
 
     /// The same, of $X that is local or global.
     #[inline(always)]
-    fn give_seen(&mut self, i: &Instruction, a: &Answer) -> Option<Note>
+    fn give_seen(&mut self, i: &Instruction, a: &Answer, note: &mut Note) -> bool
         requires aligned { (state_of self.old).pc % 4 ≡ 0 }
         requires seen { registers.is_marginal (visible (state_of self.old).stack) (x_of i.now) ≡ false }
-        ensures made { result ≢ None → MakesState
+        ensures made { IsTrue result → MakesState
             (λ s. settled_with s (x_of i.now) a.now.x (told_specials a.now) (next_of i.now)) self.old self.new }
-        ensures back { IfSome result (λ note. TakesBack note (state_of self.new) (state_of self.old)) }
-        ensures kept { result ≡ None → state_of self.new ≡ state_of self.old }
+        ensures back { IsTrue result → TakesBack note.new (state_of self.new) (state_of self.old) }
+        ensures kept { result ≡ false → (state_of self.new ≡ state_of self.old) × (note.new ≡ note.old) }
     {
         let k = widen(i.x());
         let x = self.x_register(i);
         let (h, r) = (self.special(RH), self.special(RR));
-        let note = self.usual_note(Overwritten::Results(k, x, h, r));
+        let was = self.usual_note(Overwritten::Results(k, x, h, r));
         match self.give(i, a) {
-            Ok(()) => Some(note),
-            Err(_) => None,
+            Ok(()) => {
+                *note = was;
+                true
+            }
+            Err(_) => false,
         }
     }
 
     /// PUSHJ.
     #[tactic(auto, using(crate::proofs::Results::Others::push_jump_outcome))]
     #[inline(always)]
-    fn push_jump_noted(&mut self, i: &Instruction) -> Option<Note>
-        ensures made { result ≢ None → MakesState (λ s. outcome s (deed_of Operation.PushJump s i.now)) self.old self.new }
-        ensures back { IfSome result (λ note. TakesBack note (state_of self.new) (state_of self.old)) }
-        ensures kept { result ≡ None → state_of self.new ≡ state_of self.old }
+    fn push_jump_noted(&mut self, i: &Instruction, note: &mut Note) -> bool
+        ensures made { IsTrue result → MakesState (λ s. outcome s (deed_of Operation.PushJump s i.now)) self.old self.new }
+        ensures back { IsTrue result → TakesBack note.new (state_of self.new) (state_of self.old) }
+        ensures kept { result ≡ false → (state_of self.new ≡ state_of self.old) × (note.new ≡ note.old) }
     {
-        self.push_noted(i, i.near_address())
+        self.push_noted(i, i.near_address(), note)
     }
 
     /// PUSHGO.
     #[tactic(auto, using(crate::proofs::Results::Others::push_go_outcome))]
     #[inline(always)]
-    fn push_go_noted(&mut self, i: &Instruction) -> Option<Note>
-        ensures made { result ≢ None → MakesState (λ s. outcome s (deed_of Operation.PushGo s i.now)) self.old self.new }
-        ensures back { IfSome result (λ note. TakesBack note (state_of self.new) (state_of self.old)) }
-        ensures kept { result ≡ None → state_of self.new ≡ state_of self.old }
+    fn push_go_noted(&mut self, i: &Instruction, note: &mut Note) -> bool
+        ensures made { IsTrue result → MakesState (λ s. outcome s (deed_of Operation.PushGo s i.now)) self.old self.new }
+        ensures back { IsTrue result → TakesBack note.new (state_of self.new) (state_of self.old) }
+        ensures kept { result ≡ false → (state_of self.new ≡ state_of self.old) × (note.new ≡ note.old) }
     {
-        self.push_noted(i, self.data_address(i))
+        self.push_noted(i, self.data_address(i), note)
     }
 
     /// Few registers are hidden, and the machine goes to an address.
     #[inline(always)]
-    fn push_noted(&mut self, i: &Instruction, address: u64) -> Option<Note>
-        ensures made { result ≢ None → MakesState (λ s. push_outcome s i.now address) self.old self.new }
-        ensures back { IfSome result (λ note. TakesBack note (state_of self.new) (state_of self.old)) }
-        ensures kept { result ≡ None → state_of self.new ≡ state_of self.old }
+    fn push_noted(&mut self, i: &Instruction, address: u64, note: &mut Note) -> bool
+        ensures made { IsTrue result → MakesState (λ s. push_outcome s i.now address) self.old self.new }
+        ensures back { IsTrue result → TakesBack note.new (state_of self.new) (state_of self.old) }
+        ensures kept { result ≡ false → (state_of self.new ≡ state_of self.old) × (note.new ≡ note.old) }
     {
         match self.ring.note_push(i.x()) {
-            Some(ring) => self.push_with(i, address, ring),
-            None => None,
+            Some(ring) => self.push_with(i, address, ring, note),
+            None => false,
         }
     }
 
     /// The same with the ring's part of the note.
     #[inline(always)]
-    fn push_with(&mut self, i: &Instruction, address: u64, ring: CallNote) -> Option<Note>
+    fn push_with(&mut self, i: &Instruction, address: u64, ring: CallNote, note: &mut Note) -> bool
         requires noted { ring ≡ call_noted (work.Push (x_of i.now)) self.old.ring }
         requires unspilled { spilled_by (work.Push (x_of i.now)) self.old.ring ≡ 0 }
-        ensures made { result ≢ None → MakesState (λ s. push_outcome s i.now address) self.old self.new }
-        ensures back { IfSome result (λ note. TakesBack note (state_of self.new) (state_of self.old)) }
-        ensures kept { result ≡ None → state_of self.new ≡ state_of self.old }
+        ensures made { IsTrue result → MakesState (λ s. push_outcome s i.now address) self.old self.new }
+        ensures back { IsTrue result → TakesBack note.new (state_of self.new) (state_of self.old) }
+        ensures kept { result ≡ false → (state_of self.new ≡ state_of self.old) × (note.new ≡ note.old) }
     {
         machines_keep_the_invariant(self);
-        let Some(note) = self.call_note(ring) else {
-            return None;
+        let Some(was) = self.call_note(ring) else {
+            return false;
         };
         match self.push_to(i, address) {
-            Ok(()) => Some(note),
-            Err(_) => None,
+            Ok(()) => {
+                *note = was;
+                true
+            }
+            Err(_) => false,
         }
     }
 
     /// POP, where few registers take part in it.
     #[inline(always)]
-    fn pop_noted(&mut self, i: &Instruction) -> Option<Note>
-        ensures made { result ≢ None → MakesState (λ s. outcome s (deed_of Operation.Pop s i.now)) self.old self.new }
-        ensures back { IfSome result (λ note. TakesBack note (state_of self.new) (state_of self.old)) }
-        ensures kept { result ≡ None → state_of self.new ≡ state_of self.old }
+    fn pop_noted(&mut self, i: &Instruction, note: &mut Note) -> bool
+        ensures made { IsTrue result → MakesState (λ s. outcome s (deed_of Operation.Pop s i.now)) self.old self.new }
+        ensures back { IsTrue result → TakesBack note.new (state_of self.new) (state_of self.old) }
+        ensures kept { result ≡ false → (state_of self.new ≡ state_of self.old) × (note.new ≡ note.old) }
     {
         match self.ring.note_pop() {
-            Some(ring) => self.pop_with(i, ring),
-            None => None,
+            Some(ring) => self.pop_with(i, ring, note),
+            None => false,
         }
     }
 
     /// The same with the ring's part of the note.
     #[inline(always)]
-    fn pop_with(&mut self, i: &Instruction, ring: CallNote) -> Option<Note>
+    fn pop_with(&mut self, i: &Instruction, ring: CallNote, note: &mut Note) -> bool
         requires { ring ≡ call_noted (work.Pop (x_of i.now)) self.old.ring }
-        ensures made { result ≢ None → MakesState (λ s. outcome s (deed_of Operation.Pop s i.now)) self.old self.new }
-        ensures back { IfSome result (λ note. TakesBack note (state_of self.new) (state_of self.old)) }
-        ensures kept { result ≡ None → state_of self.new ≡ state_of self.old }
+        ensures made { IsTrue result → MakesState (λ s. outcome s (deed_of Operation.Pop s i.now)) self.old self.new }
+        ensures back { IsTrue result → TakesBack note.new (state_of self.new) (state_of self.old) }
+        ensures kept { result ≡ false → (state_of self.new ≡ state_of self.old) × (note.new ≡ note.old) }
     {
         machines_keep_the_invariant(self);
-        let Some(note) = self.call_note(ring) else {
-            return None;
+        let Some(was) = self.call_note(ring) else {
+            return false;
         };
         match self.pop(i) {
-            Ok(()) => Some(note),
-            Err(_) => None,
+            Ok(()) => {
+                *note = was;
+                true
+            }
+            Err(_) => false,
         }
     }
 
@@ -204,28 +202,18 @@ impl Machine {
           ring = ring;
         })) }
     {
-        into_note(
-            self.alloc,
-            CallWas {
-                pc: self.pc,
-                steps: self.steps,
-                mark: self.mark,
-                link: self.special(RJ),
-                ring,
-            },
-        )
-    }
-}
-
-/// The note of a call, or nothing where memory is lacking.
-#[inline(always)]
-fn into_note(alloc: Global, was: CallWas) -> Option<Note>
-    ensures { IfSome result (λ n. n ≡ undoing.called was) }
-{
-    match Box::new(alloc, was) {
-        Ok(was) => Some(Note {
-            was: Was::Call(was),
-        }),
-        Err(_) => None,
+        let was = CallWas {
+            pc: self.pc,
+            steps: self.steps,
+            mark: self.mark,
+            link: self.special(RJ),
+            ring,
+        };
+        match Box::new(self.alloc, was) {
+            Ok(was) => Some(Note {
+                was: Was::Call(was),
+            }),
+            Err(_) => None,
+        }
     }
 }

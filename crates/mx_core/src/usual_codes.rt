@@ -12,9 +12,10 @@ use mx_code::Instruction;
 
 impl Machine {
     /// What the instruction of a tetra does, known by its number on the page that is kept. In each case the code is a literal, so that what is done at it is settled
-    /// when the program is compiled. Cut into several functions, it would no longer become one table of jumps.
+    /// when the program is compiled. Cut into several functions, it would no longer become one table of jumps. Each caller has
+    /// one of its own, by its number: one that is called at two places would not become a part of the loop over steps.
     #[inline(always)]
-    pub(crate) fn usual_at(&self, index: u64, word: u32) -> Usual
+    pub(crate) fn usual_at<const CALLER: usize>(&self, index: u64, word: u32) -> Usual
         requires { IsHere self.now index }
         ensures { IsUsual result (state_of self.now) (instruction (address_in self.now index) word) }
     {

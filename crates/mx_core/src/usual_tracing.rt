@@ -7,6 +7,7 @@ ghost use Rattle.mx_core.specs.Kept.{state_of};
 ghost use Rattle.mx_core.specs.Step.{fetched, step};
 ghost use Rattle.mx_core.specs.Way.Calls.{KeepsWhereNot, MakesWhereTold};
 ghost use Rattle.mx_core.specs.Way.Stepping.{ShowsSight, may_store, sight_of, step_answer};
+ghost use Rattle.mx_core.specs.Way.UsualDeeds.{IsUsual};
 
 use crate::sight::Sight;
 use crate::usual::Usual;
@@ -78,7 +79,7 @@ impl Machine {
         ensures kept { KeepsWhereNot result self.old self.new }
     {
         let i = Instruction::new(at, word);
-        match self.usual::<1>(&i) {
+        match self.usual(&i) {
             Usual::Gives(x) => self.settle_if_room(&i, x),
             Usual::GoesBy(d) => {
                 self.go_to(add_tetras(at, d));
@@ -90,6 +91,26 @@ impl Machine {
             }
             Usual::Apart(_) => self.perform_apart_usual(&i),
             Usual::Other => self.perform_rare_usual(at, word),
+        }
+    }
+
+    /// What an instruction does, told by its operation as what the trace says of it is.
+    #[inline(always)]
+    fn usual(&self, i: &Instruction) -> Usual
+        ensures { IsUsual result (state_of self.now) i.now }
+    {
+        match i.operation() {
+            Operation::Compute => self.usual_compute(i),
+            Operation::Negate => self.usual_negate(i),
+            Operation::Wyde => self.with_wyde(i),
+            Operation::ConditionalSet => self.usual_choose(i),
+            Operation::Load(_) => self.usual_load(i),
+            Operation::Address => self.near_one(i),
+            Operation::Get => self.usual_get(i),
+            Operation::Branch => self.usual_branch(i),
+            Operation::Jump => self.usual_jump(i),
+            Operation::Store(_) | Operation::Put => Usual::Apart(i.code()),
+            _ => Usual::Other,
         }
     }
 

@@ -53,7 +53,7 @@ whole_told w s g work = record {
 abbrev pub note_told : Window → State → Sight → Option RingWork → StateWas
 note_told w s g work = whole (whole_told w s g work)
 
--- a note is one by a sight and a work that tell a deed
+-- a note is made of what was seen of an instruction and of its call of the register stack, and these are what a deed comes to
 pub record TellsDeed (n : StateWas) (w : Window) (s : State) (d : Deed) : Type 0 where
   pub sight : Sight
   pub work : Option RingWork

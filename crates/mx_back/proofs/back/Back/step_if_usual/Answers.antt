@@ -1,11 +1,12 @@
 use Rattle.mx_core.specs.Kept.{state_of}
-use Rattle.mx_back.proofs.Histories.{went-kept, went-fits}
+use Rattle.mx_back.proofs.Histories.{went-kept, advanced-fits}
 use Rattle.mx_back.proofs.back.Back.step_if_usual.Goals as goal
 
-pub returns-in-Some-clause-kept : goal.returns-in-Some-clause-kept
-returns-in-Some-clause-kept c = λ t.
-    went-kept c.self.inside.notes c.push.new.self c.in-Some.note c.args.self.now (state_of c.args.m.now) (state_of c.advance_noted.new.self) c.self.view_is c.push.ensures c.in-Some.ensures.back
+pub returns-clause-kept : goal.returns-clause-kept
+returns-clause-kept c = λ t.
+    let a = c.advance.ensures.adds t in
+    went-kept c.self.inside.notes c.advance.new.self a.note c.args.self.now (state_of c.args.m.now) (state_of c.advance.new.m) c.self.view_is a.added a.back
 
-pub returns-in-Some-clause-fits : goal.returns-in-Some-clause-fits
-returns-in-Some-clause-fits c =
-    went-fits c.self.inside.notes c.push.new.self c.in-Some.note c.args.self.now (state_of c.args.m.now) (state_of c.advance_noted.new.self) c.self.view_is c.push.ensures c.in-Some.ensures.back c.requires
+pub returns-clause-fits : goal.returns-clause-fits
+returns-clause-fits c =
+    advanced-fits c.advance.result c.self.inside.notes c.advance.new.self c.args.self.now (state_of c.args.m.now) (state_of c.advance.new.m) c.self.view_is c.advance.ensures.adds c.advance.ensures.kept c.advance.ensures.same c.requires

@@ -9,8 +9,8 @@ use Rattle.mx_core.proofs.Undone.Usual.{growth-back}
 use Rattle.mx_core.proofs.machine.Machine.grow_noted.Goals as goal
 
 pub returns-then-settle_if_room-clause-back : goal.returns-then-settle_if_room-clause-back
-returns-then-settle_if_room-clause-back c =
+returns-then-settle_if_room-clause-back c = λ _.
     let s : State = state_of c.args.self.now in
     let marginal : is_marginal (visible s.stack) (x_of c.new-i.result) ≡ true = ap (λ (i : Instruction). is_marginal (visible s.stack) (x_of i)) c.new-i.ensures ∙ c.requires.marginal in
-    growth-back _ c.args.self.now _ _ _ _ _ c.args.x _ c.usual_note-note.ensures (c.widen.ensures.value ∙ c.l.ensures) c.widen.ensures.range c.know_ring.ensures marginal (c.may_spill.ensures c.if-may_spill.false) c.x.ensures c.requires.at_pc c.requires.aligned
+    growth-back _ c.args.self.now _ _ _ _ _ c.args.x _ c.usual_note-was.ensures (c.widen.ensures.value ∙ c.l.ensures) c.widen.ensures.range c.know_ring.ensures marginal (c.may_spill.ensures c.if-may_spill.false) c.x.ensures c.requires.at_pc c.requires.aligned
     (c.settle_if_room.ensures.made c.if-settle_if_room.true)
